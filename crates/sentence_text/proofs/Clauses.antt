@@ -1,5 +1,8 @@
 -- What one clause of the reader says, clause by clause.
-use Rattle.std.proofs.Common.{◌≡◌, true, Result, Ok, Err, IfOk}
+use Rattle.std.proofs.Common.{◌≡◌, true, Result, Ok, Err, IfOk, String, string_bytes, ap, ◌∙◌}
+use Rattle.std.specs.declared.alloc.Global.{Global}
+use Rattle.std.specs.declared.alloc.AllocError.{AllocError}
+use Rattle.cqe_base.specs.Canonical.{canonical}
 use Rattle.cqe_base.specs.declared.sentence.Sentence.{Sentence}
 use Rattle.cqe_base.specs.Formula.{Formula, formula_of, is_sentence_of}
 use Rattle.cqe_base.specs.Schema.{DatabaseSchema, Text}
@@ -29,3 +32,7 @@ pub isnt_refused : (schema : DatabaseSchema) (text : Text) (r : Result Sentence 
 isnt_refused schema text (Ok s) h a is = tt
 isnt_refused schema text (Err errors.Memory) h a is = tt
 isnt_refused schema text (Err (errors.Text e)) h a is = let read = sentences_read schema text a is in cc
+
+pub is_read_back : (schema : DatabaseSchema) (a : Formula) (r : Result (String Global) AllocError) → IfOk r (λ text. string_bytes text ≡ canonical schema a) → reading schema (canonical schema a) ≡ Ok a → IfOk r (λ text. reading schema (string_bytes text) ≡ Ok a)
+is_read_back schema a (Ok text) h read = ap (reading schema) h ∙ read
+is_read_back schema a (Err e) h read = tt
