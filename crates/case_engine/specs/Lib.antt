@@ -1,0 +1,3 @@
+pub mod Statements
+pub mod Script
+pub mod Case

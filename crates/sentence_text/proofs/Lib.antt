@@ -1,0 +1,11 @@
+pub mod Appended
+pub mod Chains
+pub mod Columns
+pub mod Cut
+pub mod GrammarIsRead
+pub mod GrammarLaws
+pub mod Laws
+pub mod LongestToken
+pub mod ByNumber
+pub mod Operands
+pub mod TokenLaws

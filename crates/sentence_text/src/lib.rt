@@ -1,0 +1,18 @@
+//! Reads the text of a sentence, and writes a sentence as text.
+#![tactic(auto)]
+
+mod error;
+mod lexer;
+mod names;
+mod parser;
+mod printer;
+mod reader;
+mod scope;
+mod token;
+
+pub use cqe_base::text::TextError;
+pub use error::ReadError;
+pub use lexer::{TokenIter, tokens};
+pub use parser::read_sentence;
+pub use printer::print_sentence;
+pub use token::Token;
