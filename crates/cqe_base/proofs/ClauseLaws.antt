@@ -8,9 +8,9 @@ use Rattle.std.proofs.lemmas.Bool.{or_parts, or_from, both_ways}
 use Rattle.std.proofs.lemmas.List.Sums.{sum_by-cons}
 use Rattle.cqe_base.specs.declared.world.Fact.{Fact}
 use Rattle.cqe_base.specs.Facts.{fact_cmp}
-use Rattle.cqe_base.specs.Ground.{Ground, Grounds, ground_true, ground_false, ground_atom, ground_not, ground_all, ground_some, ground_implies, ground_iff, no_grounds, more_grounds}
+use Rattle.cqe_base.specs.Ground.{Ground, Grounds, ground_true, ground_false, ground_atom, ground_not, ground_all, ground_some, ground_implies, ground_iff, no_grounds, more_grounds, ground_nodes, part_nodes}
 use Rattle.cqe_base.specs.SignedGround.{SignedGround, all_signed_true}
-use Rattle.cqe_base.specs.GroundParts.{ground_nodes, nodes_of_parts, nodes_of_list}
+use Rattle.cqe_base.specs.GroundParts.{nodes_of_list}
 use Rattle.cqe_base.specs.Literal.{Positive, variable_of, ClausesBelow, HaveNoRepeat}
 use Rattle.cqe_base.specs.ClauseForm.{same_fact, NumberedFact, Numbering, is_numbered, numbering_after, numbering_after_parts, clauses_of, signed_literal, numbering_of, numbering_after_list, clauses_of_list, first_numbering, world_of}
 use Rattle.cqe_base.specs.MachineLaws.{ResolutionIsSound, RefutationIsSound, ModelsAreWorlds, ModelGivesWorld, ClauseFormIsPrefix, NumberingGoesOn, ClauseFormUsesItsVariables, ClauseFormHasNoRepeat, VariablesAreFew, NumberedFactsAreFew}
@@ -149,7 +149,7 @@ mutual
   variables-few (ground_implies a b) n = let h = variables-few a n in let k = variables-few b (numbering_after a n) in omega arith
   variables-few (ground_iff a b) n = let h = variables-few a n in let k = variables-few b (numbering_after a n) in omega arith
 
-  pub variables-few_parts : (parts : Grounds) (n : Numbering) → (numbering_after_parts parts n).variables ≤ n.variables + nodes_of_parts parts
+  pub variables-few_parts : (parts : Grounds) (n : Numbering) → (numbering_after_parts parts n).variables ≤ n.variables + part_nodes parts
   variables-few_parts no_grounds n = omega arith
   variables-few_parts (more_grounds a rest) n = let h = variables-few a n in let k = variables-few_parts rest (numbering_after a n) in omega arith
 
