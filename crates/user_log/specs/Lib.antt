@@ -1,3 +1,4 @@
 pub mod Replies
 pub mod Kept
 pub mod Asked
+pub mod UserLogs
