@@ -1,2 +1,3 @@
 pub mod Sizes
 pub mod Keeping
+pub mod Asking

@@ -8,14 +8,8 @@ use Rattle.cqe_base.specs.declared.user.Mark.TheVariants.{Yes, No, Refused, Unde
 use Rattle.cqe_base.specs.Schema.{DatabaseSchema}
 use Rattle.cqe_base.specs.Formula.{Formula, nodes}
 use Rattle.cqe_base.specs.Entailment.{Signed}
+use Rattle.user_log.specs.Nodes.{told_nodes}
 use Rattle.cqe_base.specs.History.{UserProfile, AnsweredQuery, History, told_by, told, known, log, signed_nodes, view_size}
-
--- what a mark adds to the nodes of the log
-abbrev pub told_nodes : DatabaseSchema → Mark → Formula → ℕ
-told_nodes schema Yes query = nodes schema query
-told_nodes schema No query = 1 + nodes schema query
-told_nodes schema Refused query = 0
-told_nodes schema Undecided query = 0
 
 told-push : (entries : History) (entry : AnsweredQuery) → told (entries ++ entry ∷ []) ≡ told entries ++ told_by entry.mark entry.query
 unfolding told

@@ -2,3 +2,4 @@ pub mod Replies
 pub mod Kept
 pub mod Asked
 pub mod UserLogs
+pub mod Nodes

@@ -1,17 +1,19 @@
 //! A user's entries, with the view of their log and their sizes.
 
-ghost use Rattle.std.specs.Prelude.{◌≡◌, ◌≤◌, ◌<◌, ◌+◌, ◌++◌, ◌∷◌, [], ◌&&◌, true, false, length, map, sum_by, IfOk, OnOk, OnErr};
+ghost use Rattle.std.specs.Prelude.{◌≡◌, ◌≤◌, ◌<◌, ◌+◌, ◌++◌, ◌∷◌, [], ◌&&◌, true, false, Bool, length, map, sum_by, IfOk, OnOk, OnErr};
 ghost use Rattle.cqe_base.specs.Formula.{formula_of, nodes, is_sentence_of};
-ghost use Rattle.cqe_base.specs.History.{profile_of, answered_query_of, log, view_size};
+ghost use Rattle.cqe_base.specs.History.{profile_of, answered_query_of, log, view_size, told_by, signed_nodes};
 ghost use Rattle.cqe_base.specs.Censor.{rule};
 ghost use Rattle.cqe_base.specs.Run.{is_full, is_too_large};
 ghost use Rattle.cqe_base.specs.Limits.{KeepsLimits};
 ghost use Rattle.entailment.specs.Views.{schema_of, log_of};
+ghost use Rattle.entailment.specs.Logs.{log_nodes};
+ghost use Rattle.user_log.specs.Nodes.{told_nodes};
 ghost use Rattle.user_log.specs.Kept.{IsKept, IsKept-prop};
 
 use crate::{Reply, Weighed};
 use censors::{decide, examine};
-use cqe_base::laws::{law_findings_decide, law_legal_grows, law_limits};
+use cqe_base::laws::{law_findings_decide, law_legal_grows, law_limits, law_reading};
 use cqe_base::schema::Schema;
 use cqe_base::sentence::{Sentence, nodes};
 use cqe_base::user::{Entry, Mark, User};
@@ -48,7 +50,7 @@ pub struct UserLog<'w> {
 
 impl<'w> UserLog<'w> {
     ghost use Rattle.user_log.specs.UserLogs.{kept_schema, kept_world, kept_user, kept_history, IsOfSame};
-    ghost use Rattle.user_log.specs.Asked.{open_reply, IsWeighed, IsAsked};
+    ghost use Rattle.user_log.specs.Asked.{IsAnswer, IsWeighed, IsAsked};
     ghost use Rattle.user_log.specs.Replies.{reply_of};
 
     /// The log of a user who has asked nothing.
@@ -112,8 +114,7 @@ impl<'w> UserLog<'w> {
         requires { length ≤ 4096 }
         ensures { result ≡ is_full (kept_history self.now) length }
     {
-        self.entries.len() >= ENTRIES
-            || self.text_bytes.saturating_add(length as u64) > TEXT_BYTES
+        self.entries.len() >= ENTRIES || self.text_bytes.saturating_add(length as u64) > TEXT_BYTES
     }
 
     /// Whether the query, or the view with it, is too large.
@@ -137,6 +138,82 @@ impl<'w> UserLog<'w> {
         let truth = holds(self.schema, self.world, query);
         Ok(decide(self.user.method, &findings, truth))
     }
+
+    /// Adds the entry of a text that was weighed, with the mark that answers it. A refusal changes nothing.
+    pub fn add(
+        &mut self,
+        alloc: Global,
+        text: &str,
+        query: Sentence,
+        mark: Mark,
+    ) -> Result<(), AllocError>
+        requires few { length text.now ≤ 4096 }
+        requires answer { IsAnswer (kept_schema self.old) (kept_world self.old) (kept_user self.old) (kept_history self.old) text.now (formula_of query) mark }
+        ensures same { IsOfSame self.old self.new }
+        ensures added { OnOk result (kept_history self.new
+            ≡ kept_history self.old ++ record { query = formula_of query; mark = mark; length = length text.now } ∷ []) }
+        ensures refused { OnErr result (kept_history self.new ≡ kept_history self.old) }
+    {
+        law_reading();
+        law_limits();
+        law_legal_grows();
+        self.entries.reserve(1)?;
+        let count = told_nodes(self.schema, &query, mark);
+        tell(alloc, &mut self.view, &query, mark)?;
+        let length = text.len() as u32;
+        self.text_bytes += u64::from(length);
+        self.view_nodes += count;
+        self.entries.push_reserved(Entry {
+            query,
+            mark,
+            length,
+        });
+        Ok(())
+    }
+
+    /// The reply to a text by the entries so far. A mark adds its entry; want of memory and a code change nothing.
+    pub fn ask(&mut self, alloc: Global, text: &str) -> Reply
+        requires { length text.now ≤ 4096 }
+        ensures same { IsOfSame self.old self.new }
+        ensures asked { IsAsked (kept_schema self.old) (kept_world self.old) (kept_user self.old) (kept_history self.old) (kept_history self.new) text.now (reply_of result) }
+    {
+        match self.weigh(alloc, text) {
+            Ok(Weighed::Code(code)) => code,
+            Ok(Weighed::Answer(query, mark)) => match self.add(alloc, text, query, mark) {
+                Ok(()) => Reply::Mark(mark),
+                Err(_) => Reply::Memory,
+            },
+            Err(_) => Reply::Memory,
+        }
+    }
+}
+
+/// What a mark adds to the nodes of the log.
+fn told_nodes(schema: &Schema, query: &Sentence, mark: Mark) -> u64
+    requires { nodes schema.now (formula_of query.now) ≤ 20000 }
+    ensures { result ≡ told_nodes schema.now mark (formula_of query.now) }
+{
+    match mark {
+        Mark::Yes => nodes(query, schema),
+        Mark::No => 1 + nodes(query, schema),
+        Mark::Refused | Mark::Undecided => 0,
+    }
+}
+
+/// Appends to a log what a mark tells of its query. A refusal changes nothing.
+fn tell(alloc: Global, view: &mut View<'_>, query: &Sentence, mark: Mark) -> Result<(), AllocError>
+    requires sentence { is_sentence_of (schema_of view.old) (formula_of query.now) ≡ true }
+    requires query { nodes (schema_of view.old) (formula_of query.now) ≤ 20000 }
+    requires room { (yes : Bool) → log_nodes (schema_of view.old) (log_of view.old) + signed_nodes (schema_of view.old) (formula_of query.now) yes ≤ 60000 }
+    ensures schema { schema_of view.new ≡ schema_of view.old }
+    ensures told { OnOk result (log_of view.new ≡ log_of view.old ++ told_by mark (formula_of query.now)) }
+    ensures refused { OnErr result (log_of view.new ≡ log_of view.old) }
+{
+    match mark {
+        Mark::Yes => view.add(alloc, query, true),
+        Mark::No => view.add(alloc, query, false),
+        Mark::Refused | Mark::Undecided => Ok(()),
+    }
 }
 
 /// The nodes of the view of a user who has asked nothing.
@@ -145,7 +222,8 @@ fn known_nodes(schema: &Schema, user: &User) -> u64
     requires { view_size schema.now (profile_of user.now) [] ≤ 40000 }
     ensures { result ≡ view_size schema.now (profile_of user.now) [] }
 {
-    nodes_of_all(schema, user.know.as_slice()) + negated_nodes_of_all(schema, user.secrets.as_slice())
+    nodes_of_all(schema, user.know.as_slice())
+        + negated_nodes_of_all(schema, user.secrets.as_slice())
 }
 
 /// The nodes of these sentences.
