@@ -75,6 +75,8 @@ limits_fit_probes schema user limits = record {
   known_sentences = known_sentences schema user limits.sentences;
   known_small = known_are_small schema user limits;
   known_nodes = let all = view_of_known schema user limits in omega arith;
+  secret_sentences = and_second (list_all (is_sentence_of schema) user.know) _ limits.sentences;
+  secret_nodes = small_goals schema user.secrets limits.small_secrets;
   guarded_sentences = guarded_sentences schema user.method user.secrets (and_second _ _ limits.sentences);
   guarded_nodes = guarded_are_small schema user limits user.method;
 }
