@@ -97,11 +97,11 @@ impl Clauses {
     }
 
     /// The same clauses once more.
-    pub fn copy(&self) -> Result<Clauses, AllocError>
+    pub fn copy(&self, alloc: Global) -> Result<Clauses, AllocError>
         ensures { IfOk result (λ copy. copy ≡ self.now) }
     {
-        let literals = Vec::from_slice(*self.literals.allocator(), self.literals.as_slice())?;
-        let ends = Vec::from_slice(*self.ends.allocator(), self.ends.as_slice())?;
+        let literals = Vec::from_slice(alloc, self.literals.as_slice())?;
+        let ends = Vec::from_slice(alloc, self.ends.as_slice())?;
         Ok(Clauses { literals, ends })
     }
 }
