@@ -1,10 +1,10 @@
 -- Grounding keeps the number of nodes.
-use Rattle.std.proofs.Common.{◌≡◌, ℕ, zero, suc, ◌+◌, ◌*◌, Bool, true, false, List, [], ◌∷◌, ◌++◌, length, map, refl, ap, ◌∙◌, arith}
+use Rattle.std.proofs.Common.{◌≡◌, ℕ, ◌+◌, ◌*◌, Bool, true, false, List, [], ◌∷◌, ◌++◌, length, map, refl, ap, ◌∙◌, arith}
 use Rattle.std.specs.Prelude.{if◌then◌else◌}
 use Rattle.std.proofs.lemmas.List.FromFn.{length-map-range_with_len}
 use Rattle.cqe_base.specs.declared.sentence.Constant.{Constant}
 use Rattle.cqe_base.specs.Schema.{DatabaseSchema, domain_size}
-use Rattle.cqe_base.specs.Formula.{Formula, verum, falsum, atom, equality, inequality, negation, conjunction, disjunction, implication, biconditional, universal, existential, nodes}
+use Rattle.cqe_base.specs.Formula.{verum, falsum, atom, equality, inequality, negation, conjunction, disjunction, implication, biconditional, universal, existential, nodes}
 use Rattle.cqe_base.specs.Truth.{constant_at, constants_of, value_of, same_constant}
 use Rattle.cqe_base.specs.Ground.{Ground, ground_true, ground_false, parts_of, grounded_at, ground_nodes, part_nodes, GroundingKeepsNodes}
 
