@@ -1,0 +1,4 @@
+pub mod FirstLine
+pub mod Returns
+pub mod Searched
+pub mod Windows
