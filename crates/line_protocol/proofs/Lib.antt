@@ -1,4 +1,6 @@
+pub mod Blanks
 pub mod FirstLine
+pub mod RequestCases
 pub mod Returns
 pub mod Searched
 pub mod Windows

@@ -1,3 +1,4 @@
 pub mod Buffer
 pub mod Feeds
 pub mod Reads
+pub mod Requests

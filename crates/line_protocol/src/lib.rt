@@ -7,5 +7,7 @@
 #![tactic(auto)]
 
 mod lines;
+mod request;
 
 pub use lines::{LineBuffer, LineOutcome, read_line};
+pub use request::{Request, read_request};
