@@ -1,4 +1,5 @@
 pub mod Blanks
+pub mod Digits
 pub mod FirstLine
 pub mod RequestCases
 pub mod Returns

@@ -6,8 +6,11 @@
 //! Read `lines`, which reads a line into a `LineBuffer`, then `request`, `reply` and `login`.
 #![tactic(auto)]
 
+mod line_text;
 mod lines;
+mod reply;
 mod request;
 
 pub use lines::{LineBuffer, LineOutcome, read_line};
+pub use reply::{Reply, write_reply};
 pub use request::{Request, read_request};
