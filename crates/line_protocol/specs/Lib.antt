@@ -1,0 +1,5 @@
+pub mod Buffer
+pub mod Feeds
+pub mod Reads
+pub mod Replies
+pub mod Requests

@@ -1,0 +1,16 @@
+//! The line protocol of sessions: the lines of a source, the requests that they make, and the replies to them.
+//!
+//! However a source cuts its bytes, the lines are the same, and each is read as one request by a definition; a reply
+//! is written whole or the sink has failed. Nothing here takes memory.
+//!
+//! Read `lines`, which reads a line into a `LineBuffer`, then `request`, `reply` and `login`.
+#![tactic(auto)]
+
+mod line_text;
+mod lines;
+mod reply;
+mod request;
+
+pub use lines::{LineBuffer, LineOutcome, read_line};
+pub use reply::{Reply, write_reply};
+pub use request::{Request, read_request};

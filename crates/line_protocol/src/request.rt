@@ -1,0 +1,122 @@
+// What a line asks for.
+ghost use Rattle.std.specs.Prelude.{◌≡◌, true, position, is_some, IfSome};
+ghost use Rattle.std.specs.List.{list_all, list_any, before_first, after_first};
+ghost use Rattle.cqe_base.specs.Tokens.{is_blank};
+ghost use Rattle.line_protocol.specs.Requests.{is_login, is_printable, login_of, lone, meaning_of, request_of, worded};
+
+use cqe_base::declarations::is_schema_name;
+
+/// What a line asks for.
+#[derive(Clone, Copy, Debug, PartialEq, Eq)]
+pub enum Request<'a> {
+    /// `login NAME PHRASE`: a name of the form of a constant's, and a phrase of 1 to 256 bytes, blanks among them.
+    Login { user: &'a str, phrase: &'a str },
+    /// `ask TEXT`, or `ask` alone, which asks the empty text.
+    Ask(&'a str),
+    /// `quit`.
+    Quit,
+    /// Any other line, also one with a byte that is neither a tab nor printable ASCII.
+    Other,
+}
+
+/// Reads a line, which is given without its end. One blank ends its first word; further ones belong to the text.
+pub fn read_request(line: &[u8]) -> Request<'_>
+    ensures { meaning_of result ≡ request_of line.now }
+{
+    if !are_printable(line) {
+        return Request::Other;
+    }
+    match split_at_blank(line) {
+        Some((word, text)) => worded(printable_text(word), text),
+        None => lone(printable_text(line)),
+    }
+}
+
+fn worded<'a>(word: &str, text: &'a [u8]) -> Request<'a>
+    requires { list_all is_printable text.now ≡ true }
+    ensures { meaning_of result ≡ worded word.now text.now }
+{
+    match word {
+        "ask" => Request::Ask(printable_text(text)),
+        "login" => login(text),
+        _ => Request::Other,
+    }
+}
+
+fn lone(word: &str) -> Request<'static>
+    ensures { meaning_of result ≡ lone word.now }
+{
+    match word {
+        "ask" => Request::Ask(""),
+        "quit" => Request::Quit,
+        _ => Request::Other,
+    }
+}
+
+fn login(text: &[u8]) -> Request<'_>
+    requires { list_all is_printable text.now ≡ true }
+    ensures { meaning_of result ≡ login_of text.now }
+{
+    let Some((user, phrase)) = split_at_blank(text) else {
+        return Request::Other;
+    };
+    let (user, phrase) = (printable_text(user), printable_text(phrase));
+    if is_login(user, phrase) {
+        Request::Login { user, phrase }
+    } else {
+        Request::Other
+    }
+}
+
+fn is_login(user: &str, phrase: &str) -> bool
+    ensures { result ≡ is_login user.now phrase.now }
+{
+    is_schema_name(user) && !phrase.is_empty() && phrase.len() <= 256
+}
+
+// What stands before the first blank, and what behind it.
+fn split_at_blank(bytes: &[u8]) -> Option<(&[u8], &[u8])>
+    requires { list_all is_printable bytes.now ≡ true }
+    ensures blank { is_some result ≡ list_any is_blank bytes.now }
+    ensures front { IfSome result (λ parts. parts.0.now ≡ before_first is_blank bytes.now) }
+    ensures rest { IfSome result (λ parts. parts.1.now ≡ after_first is_blank bytes.now) }
+    ensures printable { IfSome result (λ parts. (list_all is_printable parts.0.now ≡ true) × (list_all is_printable parts.1.now ≡ true)) }
+{
+    let blank = first_blank(bytes)?;
+    Some((&bytes[..blank], &bytes[blank + 1..]))
+}
+
+fn is_blank(byte: u8) -> bool
+    ensures { result ≡ is_blank byte }
+{
+    byte == b' ' || byte == b'\t'
+}
+
+fn is_printable(byte: u8) -> bool
+    ensures { result ≡ is_printable byte }
+{
+    byte == b'\t' || (b' '..=b'~').contains(&byte)
+}
+
+fn are_printable(bytes: &[u8]) -> bool
+    ensures { result ≡ list_all is_printable bytes.now }
+{
+    bytes.iter().all(|byte| is_printable(*byte))
+}
+
+fn first_blank(bytes: &[u8]) -> Option<usize>
+    ensures { result ≡ position is_blank bytes.now }
+{
+    bytes.iter().position(|byte| is_blank(*byte))
+}
+
+// Printable bytes as the text that they are.
+fn printable_text(bytes: &[u8]) -> &str
+    requires { list_all is_printable bytes.now ≡ true }
+    ensures { result.now ≡ bytes.now }
+{
+    match str::from_utf8(bytes) {
+        Ok(text) => text,
+        Err(_) => unreachable!(),
+    }
+}
