@@ -1,3 +1,4 @@
 pub mod Statements
+pub mod Memory
 pub mod Script
 pub mod Case
