@@ -8,6 +8,7 @@ use Rattle.cqe_base.specs.declared.text.Symbol.TheVariants.{Open, Close, Comma, 
 use Rattle.cqe_base.specs.Schema.{Text, Declaration, is_identifier}
 use Rattle.cqe_base.specs.Tokens.{Token, tokens, end_of_tokens, is_blank}
 use Rattle.cqe_base.specs.Reading.{is_symbol}
+use Rattle.line_protocol.specs.Words.{is_printable}
 
 -- what a line says
 pub data Statement : Type 0 where
@@ -30,10 +31,6 @@ is_comment (b ∷ rest) = b == 35
 -- a line that says nothing may hold any bytes
 abbrev pub is_silent : Text → Bool
 is_silent line = list_all is_blank line || is_comment line
-
--- a tab, or a byte from the space to the tilde
-abbrev pub is_printable : ℕ → Bool
-is_printable b = b == 9 || (nat_le 32 b && nat_le b 126)
 
 -- ---- declarations
 

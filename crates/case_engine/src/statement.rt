@@ -5,11 +5,13 @@ ghost use Rattle.std.specs.List.{list_all, list_any, before_first, after_first};
 ghost use Rattle.std.specs.Char.{is_ascii_digit};
 ghost use Rattle.cqe_base.specs.Tokens.{is_blank};
 ghost use Rattle.cqe_base.specs.Memory.{declaration_of};
+ghost use Rattle.line_protocol.specs.Words.{is_printable};
 ghost use Rattle.case_engine.specs.Said.{said};
-ghost use Rattle.case_engine.specs.Statements.{is_comment, is_silent, is_printable, is_word, listed_names, names_or_none, closed_names, domain_shape, relation_shape, whole_tokens, method_named, decimal_value, budget_number, domain_is, relation_is, method_is, budget_is, worded, lone, spoken, statement_of};
+ghost use Rattle.case_engine.specs.Statements.{is_comment, is_silent, is_word, listed_names, names_or_none, closed_names, domain_shape, relation_shape, whole_tokens, method_named, decimal_value, budget_number, domain_is, relation_is, method_is, budget_is, worded, lone, spoken, statement_of};
 
 use crate::declaration::{Declared, domain_in, relation_in};
 use cqe_base::user::Method;
+use line_protocol::words::{are_printable, is_blank, printable_text, split_at_blank};
 use std::alloc::{AllocError, Global};
 
 /// What a line says. Texts are slices of the line.
@@ -25,13 +27,6 @@ pub enum Statement<'a> {
     Secret(&'a str),
     Budget(u64),
     Ask(&'a str),
-}
-
-/// A space or a tab.
-fn is_blank(byte: u8) -> bool
-    ensures { result ≡ is_blank byte }
-{
-    byte == b' ' || byte == b'\t'
 }
 
 /// Whether a line says nothing.
@@ -55,31 +50,6 @@ fn is_comment(line: &[u8]) -> bool
     match line {
         [first, ..] => *first == b'#',
         [] => false,
-    }
-}
-
-/// A tab, or a byte from the space to the tilde.
-fn is_printable(byte: u8) -> bool
-    ensures { result ≡ is_printable byte }
-{
-    byte == b'\t' || (b' ' <= byte && byte <= b'~')
-}
-
-/// Whether a line has such bytes alone.
-fn are_printable(line: &[u8]) -> bool
-    ensures { result ≡ list_all is_printable line.now }
-{
-    line.iter().all(|byte| is_printable(*byte))
-}
-
-/// Printable bytes as text.
-fn printable_text(bytes: &[u8]) -> &str
-    requires { list_all is_printable bytes.now ≡ true }
-    ensures { result.now ≡ bytes.now }
-{
-    match str::from_utf8(bytes) {
-        Ok(text) => text,
-        Err(_) => unreachable!(),
     }
 }
 
@@ -213,12 +183,8 @@ fn spoken<'a>(alloc: Global, line: &'a [u8]) -> Result<Option<Statement<'a>>, Al
     requires short { length line.now ≤ 4096 }
     ensures { IfOk result (λ found. option_map said found ≡ spoken line.now) }
 {
-    match line.iter().position(|byte| is_blank(*byte)) {
-        Some(at) => worded(
-            alloc,
-            printable_text(&line[..at]),
-            printable_text(&line[at + 1..]),
-        ),
+    match split_at_blank(line) {
+        Some((word, text)) => worded(alloc, printable_text(word), printable_text(text)),
         None => Ok(lone(printable_text(line))),
     }
 }
