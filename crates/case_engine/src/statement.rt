@@ -101,11 +101,7 @@ fn method_named(text: &str) -> Option<Method>
 }
 
 /// The statement of a first word and the text behind the blank that ends it.
-fn worded<'a>(
-    alloc: Global,
-    word: &str,
-    text: &'a str,
-) -> Result<Option<Statement<'a>>, AllocError>
+fn worded<'a>(alloc: Global, word: &str, text: &'a str) -> Result<Option<Statement<'a>>, AllocError>
     requires { length text.now ≤ 4096 }
     ensures { IfOk result (λ found. option_map said found ≡ worded word.now text.now) }
 {
@@ -191,10 +187,7 @@ fn spoken<'a>(alloc: Global, line: &'a [u8]) -> Result<Option<Statement<'a>>, Al
 
 /// What a line says, if it has one of the shapes.
 #[tactic(auto, unfolding(crate::specs::Statements::statement_of))]
-pub fn statement_of<'a>(
-    alloc: Global,
-    line: &'a [u8],
-) -> Result<Option<Statement<'a>>, AllocError>
+pub fn statement_of<'a>(alloc: Global, line: &'a [u8]) -> Result<Option<Statement<'a>>, AllocError>
     requires { length line.now ≤ 4096 }
     ensures { IfOk result (λ found. option_map said found ≡ statement_of line.now) }
 {
