@@ -1,9 +1,9 @@
 -- The limits within which users are served.
-use Rattle.std.specs.Prelude.{◌≡◌, ◌≤◌, ◌+◌, ℕ, Bool, true, false, nat_le, List, [], ◌∷◌, ◌++◌, length, sum_by}
+use Rattle.std.specs.Prelude.{◌≡◌, ◌≤◌, ◌+◌, Bool, true, false, nat_le, [], ◌∷◌, ◌++◌, length, sum_by}
 use Rattle.std.specs.List.{list_all}
 use Rattle.cqe_base.specs.Schema.{DatabaseSchema}
 use Rattle.cqe_base.specs.Formula.{Formula, nodes, is_sentence_of}
-use Rattle.cqe_base.specs.Entailment.{Signed, are_sentences_of}
+use Rattle.cqe_base.specs.Entailment.{are_sentences_of}
 use Rattle.cqe_base.specs.History.{UserProfile, AnsweredQuery, History, known, log, signed_nodes, view_size, is_user_of}
 use Rattle.cqe_base.specs.Censor.{guarded}
 use Rattle.cqe_base.specs.Run.{is_full, is_too_large}
