@@ -17,8 +17,8 @@ use entailment::{Probe, Verdict, View, test};
 use std::alloc::{AllocError, Global};
 use truth_eval::holds;
 
-/// The budget of the probes at admission.
-const ADMISSION_BUDGET: u64 = 4_000_000;
+/// The budget of the probes at admission, in steps of the search.
+pub const ADMISSION_BUDGET: u64 = 4_000_000;
 
 /// Whether a user can be served in a world, and else the first test that fails: for refusal those of the sentences that
 /// he knows, in their order; then the probes of these against the disjunction of the secrets, for lying, or against each

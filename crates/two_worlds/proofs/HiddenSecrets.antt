@@ -1,5 +1,5 @@
 -- Each countermodel of the log against what is guarded for a secret hides it.
-use Rattle.std.proofs.Common.{◌≡◌, ℕ, ◌<◌, Bool, true, false, List, [], ◌∷◌, length, refl, sym, ap, subst, ◌∙◌, arith}
+use Rattle.std.proofs.Common.{◌≡◌, ℕ, ◌<◌, Bool, true, false, List, length, refl, sym, ap, subst, ◌∙◌, arith}
 use Rattle.std.specs.Prelude.{Contains, Option, Some, None, Result, Ok, Err, IfOk, IfSome}
 use Rattle.std.specs.List.{list_any}
 use Rattle.std.proofs.lemmas.Bool.{both_ways}
@@ -13,7 +13,7 @@ use Rattle.cqe_base.specs.Formula.{Formula, falsum}
 use Rattle.cqe_base.specs.Truth.{true_in}
 use Rattle.cqe_base.specs.Entailment.{entails, IsCountermodel}
 use Rattle.cqe_base.specs.History.{UserProfile, History, log, is_user_of}
-use Rattle.cqe_base.specs.Censor.{guarded, guarded_by, entails_some}
+use Rattle.cqe_base.specs.Censor.{guarded, guarded_by}
 use Rattle.cqe_base.specs.Hiding.{IsAlike, AdmittedAreAdmissible}
 use Rattle.cqe_base.specs.OtherWorlds.{secret_at, guard_by, guard_at, IsLegalSomewhere, LogsKeepSecrets, CountermodelsAreAlike, LegalEntriesReplyAlike, FalseDisjunctions}
 use Rattle.two_worlds.specs.Others.{HidesSecret}

@@ -11,7 +11,7 @@ ghost use Rattle.entailment.specs.Logs.{log_nodes};
 ghost use Rattle.entailment.specs.Views.{schema_of, log_of};
 ghost use Rattle.two_worlds.specs.Others.{HidesSecret};
 
-use censors::disjunction;
+use censors::{ADMISSION_BUDGET, disjunction};
 use cqe_base::laws::{law_admissible, law_alike, law_entailment, law_limits, law_logs};
 use cqe_base::schema::Schema;
 use cqe_base::sentence::Sentence;
@@ -19,9 +19,6 @@ use cqe_base::user::{Entry, Mark, Method, User};
 use cqe_base::world::World;
 use entailment::{Probe, Verdict, View, test};
 use std::alloc::{AllocError, Global};
-
-/// The budget of the probe for another world: that of admission.
-const ADMISSION_BUDGET: u64 = 4_000_000;
 
 /// Confidentiality: a legal history of an admitted user of the schema hides his secrets. It computes nothing.
 pub fn law_hides()

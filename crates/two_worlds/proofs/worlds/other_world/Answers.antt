@@ -1,4 +1,4 @@
-use Rattle.std.proofs.Common.{◌≡◌, true, false, map, length, sym, ap, subst, ◌∙◌, arith}
+use Rattle.std.proofs.Common.{true, map, subst, ◌∙◌, arith}
 use Rattle.std.proofs.lemmas.List.{length-map}
 use Rattle.cqe_base.specs.Formula.{formula_of}
 use Rattle.cqe_base.specs.Entailment.{entails, IsCountermodel}

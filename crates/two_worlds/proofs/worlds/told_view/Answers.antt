@@ -2,7 +2,7 @@ use Rattle.std.proofs.Common.{◌≡◌, ◌≤◌, ◌+◌, ◌++◌, true, fal
 use Rattle.cqe_base.specs.Formula.{formula_of, nodes, is_sentence_of}
 use Rattle.cqe_base.specs.History.{profile_of, answered_query_of, told_by, log}
 use Rattle.entailment.specs.Logs.{log_nodes}
-use Rattle.entailment.specs.Views.{schema_of, log_of}
+use Rattle.entailment.specs.Views.{log_of}
 use Rattle.two_worlds.proofs.Told.{history_of, before_and, sizes_at}
 use Rattle.two_worlds.proofs.worlds.told_view.Goals as goal
 
