@@ -2,3 +2,5 @@ pub mod Booleans
 pub mod Growth
 pub mod Closing
 pub mod Declaring
+pub mod Soundness
+pub mod Nothing

@@ -3,6 +3,8 @@
 
 mod case;
 mod declaration;
+mod refusal;
+mod script;
 mod statement;
 
 pub use case::{CaseEnd, run_case};
