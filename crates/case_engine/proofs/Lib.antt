@@ -4,3 +4,4 @@ pub mod Closing
 pub mod Declaring
 pub mod Soundness
 pub mod Nothing
+pub mod Refusing

@@ -3,6 +3,7 @@
 
 mod case;
 mod declaration;
+mod fact;
 mod refusal;
 mod script;
 mod statement;

@@ -1,13 +1,17 @@
 //! What the lines of a script have said so far.
 
-ghost use Rattle.std.specs.Prelude.{◌≡◌, ◌≤◌, ◌++◌, ◌∷◌, [], map, length, true, false, nat_le, Ok, Err, None, IfOk, IfErr, OnOk, string_bytes};
+ghost use Rattle.std.specs.Prelude.{◌≡◌, ◌≤◌, ◌++◌, ◌∷◌, [], map, length, true, false, ◌&&◌, nat_le, nat_lt, Ok, Err, None, IfOk, IfErr, OnOk, string_bytes};
 ghost use Rattle.cqe_base.specs.Memory.{declaration_of};
+ghost use Rattle.cqe_base.specs.Formula.{formula_of, is_sentence_of};
+ghost use Rattle.cqe_base.specs.Reading.{reading};
+ghost use Rattle.cqe_base.specs.FactText.{stated_fact};
 ghost use Rattle.cqe_base.specs.Schema.{schema_refusal, schema_of};
 ghost use Rattle.case_engine.specs.Sound.{IsSound, IsSound-prop};
 ghost use Rattle.case_engine.specs.Scripts.{script_in};
 ghost use Rattle.case_engine.specs.SchemaRefusal.{IsSchemaRefusal};
 
 use crate::declaration::Declared;
+use crate::fact::stated_fact;
 use crate::refusal::LineError;
 use crate::statement::Statement;
 use cqe_base::schema::{Schema, SchemaError};
@@ -15,6 +19,7 @@ use cqe_base::sentence::{Sentence, nodes};
 use cqe_base::text::ScriptKind;
 use cqe_base::user::Method;
 use cqe_base::world::{World, WorldError};
+use sentence_text::{ReadError, read_sentence};
 use std::alloc::{AllocError, Global};
 use user_log::laws::law_views_without_entries;
 
@@ -47,8 +52,9 @@ pub struct Script {
 }
 
 impl Script {
-    ghost use Rattle.case_engine.specs.Script.{empty_script, with_statement, before_asks, declare, with_domain, with_relation, choose, allow, ask_next};
-    ghost use Rattle.case_engine.specs.Said.{said};
+    ghost use Rattle.case_engine.specs.Script.{empty_script, with_statement, before_asks, declare, with_domain, with_relation, with_known, with_secret, choose, allow, ask_next, state, say, script_schema};
+    ghost use Rattle.case_engine.specs.SchemaRefusal.{IsNoSentence};
+    ghost use Rattle.case_engine.specs.Said.{said, IsShortStatement};
     ghost use Rattle.case_engine.specs.ScriptsRead.{script_is, Refuses};
 
     /// No line has said anything.
@@ -69,6 +75,46 @@ impl Script {
             asks: Vec::new(alloc),
             view_nodes: 0,
         })
+    }
+
+    /// One more statement. A refusal changes nothing.
+    pub fn say(&mut self, alloc: Global, statement: Statement<'_>) -> Result<(), LineError>
+        requires { IsShortStatement statement }
+        ensures added { OnOk result (with_statement (script_is self.old) (said statement.entry) ≡ Ok (script_is self.new)) }
+        ensures refused { IfErr result (Refuses (with_statement (script_is self.old) (said statement.entry))) }
+    {
+        match statement {
+            Statement::Silence => Ok(()),
+            Statement::Ask(text) => self.add_ask(alloc, text),
+            Statement::Domain(declared) => {
+                self.stands_before_asks()?;
+                self.add_domain(alloc, declared)
+            }
+            Statement::Relation(declared) => {
+                self.stands_before_asks()?;
+                self.add_relation(alloc, declared)
+            }
+            Statement::Fact(text) => {
+                self.stands_before_asks()?;
+                self.add_fact(alloc, text)
+            }
+            Statement::Method(method) => {
+                self.stands_before_asks()?;
+                self.choose_method(method)
+            }
+            Statement::Know(text) => {
+                self.stands_before_asks()?;
+                self.add_known(alloc, text)
+            }
+            Statement::Secret(text) => {
+                self.stands_before_asks()?;
+                self.add_secret(alloc, text)
+            }
+            Statement::Budget(budget) => {
+                self.stands_before_asks()?;
+                self.allow_budget(budget)
+            }
+        }
     }
 
     /// A declaration stands before the first ask.
@@ -140,6 +186,76 @@ impl Script {
         Ok(())
     }
 
+    /// One more fact.
+    fn add_fact(&mut self, alloc: Global, text: &str) -> Result<(), LineError>
+        requires { length text.now ≤ 4096 }
+        ensures added { OnOk result (state (script_is self.old) (stated_fact (script_schema (script_is self.old)) text.now) ≡ Ok (script_is self.new)) }
+        ensures refused { IfErr result (Refuses (state (script_is self.old) (stated_fact (script_schema (script_is self.old)) text.now))) }
+    {
+        let Some(fact) = stated_fact(alloc, &self.schema, text)? else {
+            return Err(LineError::Refused(ScriptKind::Fact));
+        };
+        match self.facts.insert(&self.schema, fact) {
+            Ok(_) => Ok(()),
+            Err(WorldError::Memory) => Err(LineError::Memory),
+            Err(_) => Err(LineError::Refused(ScriptKind::Fact)),
+        }
+    }
+
+    /// A sentence over the names that stand above.
+    fn read(&self, alloc: Global, text: &str) -> Result<Sentence, LineError>
+        requires { length text.now ≤ 4096 }
+        ensures read { IfOk result (λ s. reading (script_schema (script_is self.now)) text.now ≡ Ok (formula_of s)) }
+        ensures sentence { IfOk result (λ s. is_sentence_of self.now.schema (formula_of s) ≡ true) }
+        ensures refused { IfErr result (IsNoSentence (reading (script_schema (script_is self.now)) text.now)) }
+    {
+        match read_sentence(alloc, &self.schema, text) {
+            Ok(sentence) => Ok(sentence),
+            Err(ReadError::Text(_)) => Err(LineError::Refused(ScriptKind::Sentence)),
+            Err(ReadError::Memory) => Err(LineError::Memory),
+        }
+    }
+
+    /// One more sentence that the user knows.
+    fn add_known(&mut self, alloc: Global, text: &str) -> Result<(), LineError>
+        requires { length text.now ≤ 4096 }
+        ensures added { OnOk result (say (with_known (script_is self.old)) (reading (script_schema (script_is self.old)) text.now) ≡ Ok (script_is self.new)) }
+        ensures refused { IfErr result (Refuses (say (with_known (script_is self.old)) (reading (script_schema (script_is self.old)) text.now))) }
+    {
+        law_views_without_entries();
+        let sentence = self.read(alloc, text)?;
+        let count = nodes(&sentence, &self.schema);
+        if !keeps_limits(
+            count,
+            self.know.len(),
+            KNOWN,
+            self.view_nodes.saturating_add(count),
+        ) {
+            return Err(LineError::Refused(ScriptKind::Limit));
+        }
+        self.know.push(sentence)?;
+        self.view_nodes += count;
+        Ok(())
+    }
+
+    /// One more secret.
+    fn add_secret(&mut self, alloc: Global, text: &str) -> Result<(), LineError>
+        requires { length text.now ≤ 4096 }
+        ensures added { OnOk result (say (with_secret (script_is self.old)) (reading (script_schema (script_is self.old)) text.now) ≡ Ok (script_is self.new)) }
+        ensures refused { IfErr result (Refuses (say (with_secret (script_is self.old)) (reading (script_schema (script_is self.old)) text.now))) }
+    {
+        law_views_without_entries();
+        let sentence = self.read(alloc, text)?;
+        let count = nodes(&sentence, &self.schema);
+        let view_nodes = self.view_nodes.saturating_add(count).saturating_add(1);
+        if !keeps_limits(count, self.secrets.len(), SECRETS, view_nodes) {
+            return Err(LineError::Refused(ScriptKind::Limit));
+        }
+        self.secrets.push(sentence)?;
+        self.view_nodes = view_nodes;
+        Ok(())
+    }
+
     /// One more ask, which stands behind a method and a secret.
     fn add_ask(&mut self, alloc: Global, text: &str) -> Result<(), LineError>
         requires { length text.now ≤ 4096 }
@@ -153,6 +269,13 @@ impl Script {
         self.asks.push(text)?;
         Ok(())
     }
+}
+
+/// Whether a sentence of so many nodes may join so many others, and the view then have so many.
+fn keeps_limits(count: u64, length: usize, most: usize, view_nodes: u64) -> bool
+    ensures { result ≡ (nat_le count 20000 && (nat_lt length most && nat_le view_nodes 40000)) }
+{
+    count <= SENTENCE_NODES && length < most && view_nodes <= VIEW_NODES
 }
 
 /// The schema of declarations.
