@@ -7,3 +7,4 @@ pub mod Sound
 pub mod Scripts
 pub mod ScriptsRead
 pub mod SchemaRefusal
+pub mod Read

@@ -4,6 +4,7 @@
 mod case;
 mod declaration;
 mod fact;
+mod reading;
 mod refusal;
 mod script;
 mod statement;

@@ -13,7 +13,7 @@ ghost use Rattle.case_engine.specs.SchemaRefusal.{IsSchemaRefusal};
 use crate::declaration::Declared;
 use crate::fact::stated_fact;
 use crate::refusal::LineError;
-use crate::statement::Statement;
+use crate::statement::{Statement, statement_of};
 use cqe_base::schema::{Schema, SchemaError};
 use cqe_base::sentence::{Sentence, nodes};
 use cqe_base::text::ScriptKind;
@@ -52,8 +52,9 @@ pub struct Script {
 }
 
 impl Script {
-    ghost use Rattle.case_engine.specs.Script.{empty_script, with_statement, before_asks, declare, with_domain, with_relation, with_known, with_secret, choose, allow, ask_next, state, say, script_schema};
+    ghost use Rattle.case_engine.specs.Script.{empty_script, with_spoken, with_statement, before_asks, declare, with_domain, with_relation, with_known, with_secret, choose, allow, ask_next, state, say, script_schema};
     ghost use Rattle.case_engine.specs.SchemaRefusal.{IsNoSentence};
+    ghost use Rattle.case_engine.specs.Statements.{statement_of};
     ghost use Rattle.case_engine.specs.Said.{said, IsShortStatement};
     ghost use Rattle.case_engine.specs.ScriptsRead.{script_is, Refuses};
 
@@ -75,6 +76,18 @@ impl Script {
             asks: Vec::new(alloc),
             view_nodes: 0,
         })
+    }
+
+    /// One more line, which isn't too long.
+    pub fn take(&mut self, alloc: Global, line: &[u8]) -> Result<(), LineError>
+        requires { length line.now ≤ 4096 }
+        ensures added { OnOk result (with_spoken (script_is self.old) (statement_of line.now) ≡ Ok (script_is self.new)) }
+        ensures refused { IfErr result (Refuses (with_spoken (script_is self.old) (statement_of line.now))) }
+    {
+        match statement_of(alloc, line)? {
+            Some(statement) => self.say(alloc, statement),
+            None => Err(LineError::Refused(ScriptKind::NotALine)),
+        }
     }
 
     /// One more statement. A refusal changes nothing.
