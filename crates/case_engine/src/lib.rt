@@ -1,6 +1,9 @@
 //! The case: a script with one user, read whole, checked, and answered.
 #![tactic(auto)]
 
+mod case;
+mod declaration;
 mod statement;
 
+pub use case::{CaseEnd, run_case};
 pub use statement::Statement;

@@ -36,11 +36,13 @@ abbrev pub KeepsSizes : DatabaseSchema → UserProfile → History → Type 0
 KeepsSizes schema user entries =
     (before : History) (entry : AnsweredQuery) (after : History) → entries ≡ before ++ entry ∷ after → KeepsSizesAt schema user before entry
 
--- what a user knows and what is guarded from him are small enough for his probes
+-- what a user knows, his secrets and what is guarded from him are small enough for his probes
 pub record FitsProbes (schema : DatabaseSchema) (user : UserProfile) : Type 0 where
   pub known_sentences : are_sentences_of schema (known user) ≡ true
   pub known_small : list_all (λ signed. is_small schema signed.0) (known user) ≡ true
   pub known_nodes : sum_by (λ signed. signed_nodes schema signed.0 signed.1) (known user) ≤ 40000
+  pub secret_sentences : list_all (is_sentence_of schema) user.secrets ≡ true
+  pub secret_nodes : list_all (λ secret. nat_le (nodes schema secret) 40000) user.secrets ≡ true
   pub guarded_sentences : list_all (is_sentence_of schema) (guarded user) ≡ true
   pub guarded_nodes : list_all (λ goal. nat_le (nodes schema goal) 40000) (guarded user) ≡ true
 

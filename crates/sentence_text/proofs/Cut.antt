@@ -29,10 +29,8 @@ module _ (text rest : List ℕ) (place blanks at : ℕ) (moved : at ≡ place + 
   pub behind_blanks-total : at + length rest ≡ place + length text
   behind_blanks-total = omega (arith, ap length back, length-drop blanks text, count, prefix_len-le-length is_blank text)
 
-  pub behind_blanks-refusal : refusal_at_end (end_from at 0 rest) (at + length rest) ≡ refusal_at_end (end_from place 0 text) (place + length text)
-  behind_blanks-refusal =
-      let e : end_from at 0 rest ≡ end_from place 0 text = rw (same_behind, moved, count) (sym (blanks-end place text)) in
-      ap (λ n. refusal_at_end n (at + length rest)) e ∙ ap (refusal_at_end (end_from place 0 text)) behind_blanks-total
+  pub behind_blanks-end : end_from at 0 rest ≡ end_from place 0 text
+  behind_blanks-end = rw (same_behind, moved, count) (sym (blanks-end place text))
 
 -- what is left behind the token at the front, and the blanks after it
 module _ (text after rest : List ℕ) (place n blanks at : ℕ) (some : 0 < n) (moved : at ≡ place + n + blanks) (long : n ≡ token_length text) (cut : after ≡ drop n text) (count : blanks ≡ prefix_len is_blank after) (back : rest ≡ drop blanks after) where
@@ -49,12 +47,10 @@ module _ (text after rest : List ℕ) (place n blanks at : ℕ) (some : 0 < n) (
       let t = behind_blanks-total after rest (place + n) blanks at moved count back in
       omega (arith, ap length cut, length-drop n text, long, (token_length-ascii text).0)
 
-  pub behind_token-refusal : refusal_at_end (end_from at 0 rest) (at + length rest) ≡ refusal_at_end (end_from place 0 text) (place + length text)
-  behind_token-refusal =
-      let e : end_from (place + n) 0 after ≡ end_from place 0 text = rw (cut, long) (sym (end-next place text some_token)) in
-      let l : place + n + length after ≡ place + length text = omega (arith, ap length cut, length-drop n text, long, (token_length-ascii text).0) in
-      behind_blanks-refusal after rest (place + n) blanks at moved count back
-      ∙ (ap (λ k. refusal_at_end k (place + n + length after)) e ∙ ap (refusal_at_end (end_from place 0 text)) l)
+  pub behind_token-end : end_from at 0 rest ≡ end_from place 0 text
+  behind_token-end =
+      let next : end_from (place + n) 0 after ≡ end_from place 0 text = rw (cut, long) (sym (end-next place text some_token)) in
+      behind_blanks-end after rest (place + n) blanks at moved count back ∙ next
 
 -- a text without a token at its front has none
 token_length-from_none : (place : ℕ) (text : List ℕ) → tokens_from place 0 text ≡ [] → token_length text ≡ 0

@@ -51,7 +51,7 @@ mark_length-ascii text =
     (one-ascii 40 text (omega arith)) (one-ascii 41 text (omega arith))) (one-ascii 44 text (omega arith))) (one-ascii 58 text (omega arith))) (one-ascii 46 text (omega arith))) (one-ascii 61 text (omega arith)))
     (omega arith, λ k lt. absurd (omega arith))))
 
-blank-ascii : (b : ℕ) → is_blank b ≡ true → b < 128
+pub blank-ascii : (b : ℕ) → is_blank b ≡ true → b < 128
 blank-ascii b h = grind (arith, nat_tests)
 
 name_byte-ascii : (b : ℕ) → is_name_byte b ≡ true → b < 128

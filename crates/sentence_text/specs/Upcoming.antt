@@ -1,5 +1,6 @@
 -- What is still to come of a text.
-use Rattle.std.specs.Prelude.{ℕ, ◌+◌, List, [], ◌∷◌, length, Option, Some, None}
+use Rattle.std.specs.Iterator.{YieldsFirstBy}
+use Rattle.std.specs.Prelude.{◌≡◌, ℕ, ◌+◌, List, [], ◌∷◌, length, Option, Some, None}
 use Rattle.cqe_base.specs.Reading.{Refusal}
 use Rattle.cqe_base.specs.Reading.{refusal_at_end}
 use Rattle.cqe_base.specs.Tokens
@@ -32,9 +33,22 @@ start_or (t ∷ ts) end = t.start
 abbrev pub upcoming_place : Remainder → ℕ
 upcoming_place r = start_or (upcoming_tokens r) (upcoming_end r)
 
--- the refusal where they end
+-- where the text ends
+abbrev pub text_end : Remainder → ℕ
+text_end r = r.place + length r.text
+
+-- the refusal where the tokens end
 abbrev pub upcoming_refusal : Remainder → Refusal
-upcoming_refusal r = refusal_at_end (upcoming_end r) (r.place + length r.text)
+upcoming_refusal r = refusal_at_end (upcoming_end r) (text_end r)
+
+-- what stays as it is while tokens are passed: where they end, and where the text ends
+pub record IsSameSource (old new : Remainder) : Type 0 where
+  pub tokens_end : upcoming_end new ≡ upcoming_end old
+  pub text_end : text_end new ≡ text_end old
+
+-- an iterator over tokens gives the first one that is still to come, and stays over the same text
+abbrev pub PassesToken : Remainder → Option Token → Remainder → Type 0
+PassesToken old token new = YieldsFirstBy token_of upcoming_tokens old token new × IsSameSource old new
 
 -- the tokens with the next one in front
 abbrev pub with_next : Option Token → List Tokens.Token → List Tokens.Token

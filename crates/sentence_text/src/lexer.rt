@@ -3,10 +3,10 @@
 ghost use Rattle.std.specs.Prelude.{◌≡◌, ◌^◌, ◌<◌, ◌≤◌, [], length, take, drop};
 ghost use Rattle.std.specs.Iterator.{YieldsFirstBy, item_count};
 ghost use Rattle.std.specs.List.{prefix_len};
-ghost use Rattle.cqe_base.specs.Tokens.{IsAsciiUpTo, IsLongestToken, is_blank, mark_length, token_length, tokens, end_of_tokens, symbol_of};
+ghost use Rattle.cqe_base.specs.Tokens.{IsAsciiUpTo, is_blank, mark_length, token_length, tokens, end_of_tokens, symbol_of};
 ghost use Rattle.cqe_base.specs.Schema.{is_name_byte};
-ghost use Rattle.cqe_base.specs.Reading.{refusal_at_end};
-ghost use Rattle.sentence_text.specs.Upcoming.{upcoming_tokens, upcoming_place, upcoming_refusal, token_of};
+ghost use Rattle.sentence_text.specs.Slices.{HasTokens};
+ghost use Rattle.sentence_text.specs.Upcoming.{IsSameSource, PassesToken, upcoming_tokens, upcoming_end, upcoming_place, upcoming_refusal, text_end, token_of};
 
 use crate::error::{BAD_CHARACTER, UNEXPECTED};
 use crate::token::Token;
@@ -39,7 +39,10 @@ impl<'a> Model for TokenIter<'a> {
 pub fn tokens(text: &str) -> TokenIter<'_>
     requires { length text.now < 2 ^ 32 }
     ensures tokens { upcoming_tokens result ≡ tokens text.now }
-    ensures refusal { upcoming_refusal result ≡ refusal_at_end (end_of_tokens text.now) (length text.now) }
+    ensures tokens_end { upcoming_end result ≡ end_of_tokens text.now }
+    ensures text_end { text_end result ≡ length text.now }
+    // They are slices of the text, one behind the other, each the longest token that begins where it begins.
+    ensures slices { HasTokens text.now 0 (upcoming_tokens result) (upcoming_end result) }
 {
     let blanks = blank_count(text);
     let (_, rest) = split_ascii(text, blanks);
@@ -52,7 +55,7 @@ pub fn tokens(text: &str) -> TokenIter<'_>
 impl<'a> Iterator for TokenIter<'a> {
     type Item = Token<'a>;
 
-    ghost next_gives = { YieldsFirstBy token_of upcoming_tokens };
+    ghost next_gives = { PassesToken };
 
     ghost remaining = { item_count upcoming_tokens };
 
@@ -63,9 +66,9 @@ impl<'a> Iterator for TokenIter<'a> {
 
 impl<'a> TokenIter<'a> {
     /// The next token, which is passed.
-    pub fn take_token(&mut self) -> Option<Token<'a>>
+    pub(crate) fn take_token(&mut self) -> Option<Token<'a>>
         ensures steps { YieldsFirstBy token_of upcoming_tokens self.old result self.new }
-        ensures refusal { upcoming_refusal self.new ≡ upcoming_refusal self.old }
+        ensures source { IsSameSource self.old self.new }
     {
         let length = token_length(self.rest);
         if length == 0 {
@@ -84,7 +87,7 @@ impl<'a> TokenIter<'a> {
     }
 
     /// Where no token is left, the refusal of a text that should go on.
-    pub fn refusal(&self) -> TextError
+    pub(crate) fn refusal(&self) -> TextError
         requires { upcoming_tokens self.now ≡ [] }
         ensures { result ≡ upcoming_refusal self.now }
     {
@@ -156,7 +159,6 @@ fn mark_length(text: &[u8]) -> usize
 #[tactic(auto, unfolding(cqe_base::specs::Tokens::token_length))]
 fn token_length(text: &str) -> usize
     ensures value { result ≡ token_length text.now }
-    ensures longest { IsLongestToken text.now result }
     ensures ascii { IsAsciiUpTo result text.now }
 {
     match text.as_bytes() {

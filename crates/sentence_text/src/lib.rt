@@ -2,6 +2,7 @@
 #![tactic(auto)]
 
 mod error;
+pub mod laws;
 mod lexer;
 mod names;
 mod parser;
@@ -10,9 +11,11 @@ mod reader;
 mod scope;
 mod token;
 
-pub use cqe_base::text::TextError;
 pub use error::ReadError;
-pub use lexer::{TokenIter, tokens};
+pub use lexer::{TokenIter, symbol_of, tokens};
 pub use parser::read_sentence;
 pub use printer::print_sentence;
 pub use token::Token;
+
+#[cfg(test)]
+mod tests;

@@ -1,6 +1,6 @@
 //! The canonical form of a sentence.
 
-ghost use Rattle.std.specs.Prelude.{◌≡◌, ◌+◌, ◌<◌, ◌≤◌, ◌++◌, string_bytes, OnOk, IfOk, true, codes};
+ghost use Rattle.std.specs.Prelude.{◌≡◌, ◌+◌, ◌<◌, ◌≤◌, ◌++◌, string_bytes, OnOk, IfOk, Ok, true, codes};
 ghost use Rattle.cqe_base.specs.Formula.{formula_of, nesting, is_sentence_of};
 ghost use Rattle.cqe_base.specs.Reading.{reading};
 ghost use Rattle.cqe_base.specs.Canonical.{canonical, enclosing_constructs, domain_name, canonical_within, term_text, terms_text, more_terms, variable_name};
@@ -19,7 +19,11 @@ pub fn print_sentence(
 ) -> Result<String, AllocError>
     requires { is_sentence_of schema.now (formula_of sentence.now) ≡ true }
     ensures text { IfOk result (λ text. string_bytes text ≡ canonical schema.now (formula_of sentence.now)) }
+    // It reads as the sentence, where at most 64 constructs enclose a place of it.
+    ensures read_back { enclosing_constructs (formula_of sentence.now) ≤ 64
+        → IfOk result (λ text. reading schema.now (string_bytes text) ≡ Ok (formula_of sentence.now)) }
 {
+    schema.known();
     law_nesting();
     print_exactly(alloc, schema, sentence)
 }

@@ -105,10 +105,7 @@ impl<'a> Reader<'a> {
         ensures { result ≡ refusal_of_next self.now.schema self.now.refusal self.now.tokens }
     {
         match self.next {
-            Some(token) => TextError {
-                kind: UNEXPECTED,
-                place: token.start,
-            },
+            Some(token) => at_token(UNEXPECTED, token),
             None => self.later.refusal(),
         }
     }
@@ -168,8 +165,15 @@ pub fn unexpected(token: Token<'_>) -> ReadError
 pub fn refused(kind: u8, token: Token<'_>) -> ReadError
     ensures { result ≡ Text (record { kind = kind; place = token.entry.start }) }
 {
-    ReadError::Text(TextError {
+    ReadError::Text(at_token(kind, token))
+}
+
+/// The kind of a refusal, and the start of a token.
+fn at_token(kind: u8, token: Token<'_>) -> TextError
+    ensures { result ≡ record { kind = kind; place = token.entry.start } }
+{
+    TextError {
         kind,
         place: token.start,
-    })
+    }
 }

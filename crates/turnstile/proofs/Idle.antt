@@ -1,12 +1,9 @@
 -- What a pass that isn't in a turn knows.
-use Rattle.std.proofs.Common.{◌≡◌, ℕ, ◌<◌, ◌≤◌, ltb, ◌&&◌, Bool, true, false, true≢false, ltb-true, lt-ltb, List, [], ◌∷◌, ◌++◌, refl, sym, ap, ◌∙◌, subst}
+use Rattle.std.proofs.Common.{◌≡◌, ℕ, ◌<◌, ltb, ◌&&◌, Bool, true, false, true≢false, ltb-true, lt-ltb, List, [], ◌∷◌, refl, sym, ap, ◌∙◌}
 use Rattle.turnstile.specs.declared.view.View.{View}
 use Rattle.turnstile.specs.declared.view.Stage.{Stage}
 use Rattle.turnstile.specs.declared.view.Stage.TheVariants.{Outside, Waiting, Inside}
 use Rattle.turnstile.specs.declared.pass.Pass.{Pass}
-use Rattle.turnstile.specs.History.{Entries, IsPrefix, entries_with, longer, count_of, Interleaves}
-use Rattle.turnstile.specs.Views.{waiting_view, joined_view, AllKnown}
-use Rattle.turnstile.proofs.Histories.{AllBelow, below_front, entries_with_fresh, entries_with_both}
 use Rattle.turnstile.specs.Views.{is_outside, is_idle, shares_in}
 use Rattle.turnstile.specs.Passes.{view_or_spent, view_of}
 
@@ -35,13 +32,3 @@ module _ {S : Type 0} where
   -- what is in hand is one value
   pub same_hand : (a b : S) (xs ys : List (ℕ × S)) → ◌≡◌ {A = List (ℕ × S)} ((0, a) ∷ xs) ((0, b) ∷ ys) → a ≡ b
   same_hand a b xs ys e = ap (λ (p : ℕ × S). p.1) (pair_same (0, a) (0, b) xs ys e)
-
-module _ {I F : Type 0} where
-  -- the pairs that two passes know, together
-  pub met_mine : (v w : View I F) (both : View I F) → both ≡ joined_view v w → AllKnown both.seen both.joined → ((x : ℕ) → count_of x both.drawn ≤ 1) → Interleaves (entries_with v.drawn v.seen) (entries_with w.drawn w.seen) (entries_with both.drawn both.seen)
-  met_mine v w both is known_by apart =
-      let known' = subst (λ (u : View I F). AllKnown u.seen u.joined) is known_by in
-      let apart' = subst (λ (u : View I F). (x : ℕ) → count_of x u.drawn ≤ 1) is apart in
-      let h = entries_with_both v.drawn w.drawn (longer v.seen w.seen) apart' in
-      let h' = subst (λ (t : Entries I × Entries I). Interleaves t.0 t.1 (entries_with (v.drawn ++ w.drawn) (longer v.seen w.seen))) (λ i. (known'.0.1 i, known'.1.0.1 i)) h in
-      subst (λ (u : View I F). Interleaves (entries_with v.drawn v.seen) (entries_with w.drawn w.seen) (entries_with u.drawn u.seen)) (sym is) h'

@@ -1,5 +1,5 @@
 -- Each step keeps the rule of the turnstile.
-use Rattle.std.proofs.Common.{◌≡◌, ◌≢◌, ◌⊎◌, ℕ, zero, suc, ◌+◌, ◌*◌, ◌%◌, ◌^◌, ◌<◌, ◌≤◌, List, [], ◌∷◌, ◌++◌, length, set, slice_index, sum_by, Option, Some, refl, sym, ap, ◌∙◌, subst, inl, inr, ⊎_elim, arith, mod-eq_of_lt}
+use Rattle.std.proofs.Common.{◌≡◌, ◌≢◌, ◌⊎◌, ℕ, zero, suc, ◌+◌, ◌*◌, ◌%◌, ◌^◌, ◌<◌, ◌≤◌, List, [], ◌∷◌, ◌++◌, length, set, slice_index, sum_by, Option, Some, refl, sym, ap, ◌∙◌, subst, inl, inr, ⊎_elim, arith, mod-eq_of_lt, append-nil, append_assoc, Bool, cond, le-leb}
 use mathlib.Core.Logic.{dite}
 use mathlib.Core.Option.{none, some, some-injective, some-ne-none}
 use native.Mathlib.Decide.{ℕ_discrete, dec_le}
@@ -13,7 +13,6 @@ use Rattle.turnstile.specs.Views.{tickets_at, held_tickets, spent_view, opening_
 use Rattle.turnstile.specs.Rule.{Fits, HasTurn, IsHome, IsOut, TurnstileRule}
 use Rattle.turnstile.specs.Plays.{Drew, Looked, WentOn, Compared}
 use Rattle.turnstile.proofs.Sums.{set_there, sum_set, sum_at, sum_two, sum_some, count_of-append, count_of-here, counts_more, counts_less, counts_same, counted_within, counted_most}
-use Rattle.std.proofs.Common.{append-nil, append_assoc, Bool, cond, le-leb}
 use Rattle.std.proofs.lemmas.List.Sums.{sum_by_push}
 use Rattle.std.proofs.lemmas.List.Elements.{All-nil, All-cons, All-append}
 use Rattle.std.proofs.lemmas.Bool.{lt-leb}
@@ -30,6 +29,14 @@ inside-waiting t u e = cc
 
 inside-same : (t u : ℕ) → Inside t ≡ Inside u → t ≡ u
 inside-same t u e = cc
+
+module _ {V I F : Type 0} (entries_of : V → Entries I) (fixed_of : V → F) where
+  -- what the closing pass knows of the value
+  pub record Closes (v : View I F) (y : V) : Type 0 where
+    pub entries : entries_of y ≡ v.seen
+    pub mine : turn_entries (entries_of y) ≡ entries_with v.drawn v.seen
+    pub drew : DrewEachOnce v
+    pub fixed : v.fixed ≡ Some (fixed_of y)
 
 module _ {V I F : Type 0} (entries_of : V → Entries I) (fixed_of : V → F) (fixed : F) where
   abbrev W : Type 0
@@ -454,9 +461,7 @@ module _ {V I F : Type 0} (entries_of : V → Entries I) (fixed_of : V → F) (f
       (λ e. ⊎_elim (λ (live : (0 < u.shares) × (u.fixed ≡ Some fixed)). let p = live.0 in let two = sum_two (λ (z : W). z.shares) s.views k id u v e t.2 at in let sum = r.shares in absurd (omega arith))
       (λ (gone : u ≡ spent_view). let z : count_of x u.drawn ≡ 0 = ap (λ (y : W). count_of x y.drawn) gone in absurd (omega arith)) (r.each k u t.2).live)
 
-  -- what the closing pass knows of the value
-  pub closes : (s : St) (r : Rule s) (id : ℕ) (v : W) → get_elem? s.views id ≡ some v → v.stage ≡ Outside → v.shares ≡ 65
-      → (y : V) × (get_elem? s.homes 0 ≡ some (some (Some y))) × (entries_of y ≡ v.seen) × (v.fixed ≡ Some (fixed_of y)) × (turn_entries v.seen ≡ entries_with v.drawn v.seen) × DrewEachOnce v
+  closes : (s : St) (r : Rule s) (id : ℕ) (v : W) → get_elem? s.views id ≡ some v → v.stage ≡ Outside → v.shares ≡ 65 → (y : V) × (get_elem? s.homes 0 ≡ some (some (Some y))) × Closes entries_of fixed_of v y
   closes s r id v at stage all =
       let fit = r.each id v at in
       let whole = whole_seen s r id v at all in
@@ -473,7 +478,16 @@ module _ {V I F : Type 0} (entries_of : V → Entries I) (fixed_of : V → F) (f
       } in
       let live = ⊎_elim (λ (a : (0 < v.shares) × (v.fixed ≡ Some fixed)). a) (λ (e : v ≡ spent_view). let z : v.shares ≡ 0 = ap (λ (u : W). u.shares) e in absurd (omega arith)) fit.live in
       ⊎_elim
-      (λ (home : IsHome entries_of fixed_of fixed r.history s). (home.0, ap (λ hs. get_elem? hs 0) home.1, home.2 ∙ sym whole, live.1 ∙ ap (λ (f : F). Some f) (sym home.3), entries_with_all v.drawn r.ticket v.seen below none_of (drew_all s r id v at all), (r.ticket, drew, subst (IsRising 0 r.ticket) (sym whole) (rising_under 0 r.serving r.ticket r.history high r.rising))))
+      (λ (home : IsHome entries_of fixed_of fixed r.history s). let same : entries_of home.0 ≡ v.seen = home.2 ∙ sym whole in (
+        home.0,
+        ap (λ hs. get_elem? hs 0) home.1,
+        record {
+          entries = same;
+          mine = ap turn_entries same ∙ entries_with_all v.drawn r.ticket v.seen below none_of (drew_all s r id v at all);
+          drew = (r.ticket, drew, subst (IsRising 0 r.ticket) (sym whole) (rising_under 0 r.serving r.ticket r.history high r.rising));
+          fixed = live.1 ∙ ap (λ (f : F). Some f) (sym home.3);
+        },
+      ))
       (λ (o : IsOut entries_of fixed_of s). let there = o.1 in let u : W = there.1 in
       let live' = live_inside u there.2 there.4 (r.each there.0 u there.3).live in
       let p = live'.0 in
@@ -521,8 +535,7 @@ module _ {V I F : Type 0} (entries_of : V → Entries I) (fixed_of : V → F) (f
       )
 
   -- the same of what the closed table has in its slot
-  pub ends : (id : ℕ) (v : W) (ws : List ℕ) (xs : List (Option V)) (x : Option V) → Final (Seen Rule id v) ws xs → v.stage ≡ Outside → v.shares ≡ 65 → get_elem? xs 0 ≡ some x
-      → (y : V) × (x ≡ Some y) × (entries_of y ≡ v.seen) × (v.fixed ≡ Some (fixed_of y)) × (turn_entries (entries_of y) ≡ entries_with v.drawn v.seen) × DrewEachOnce v
+  pub ends : (id : ℕ) (v : W) (ws : List ℕ) (xs : List (Option V)) (x : Option V) → Final (Seen Rule id v) ws xs → v.stage ≡ Outside → v.shares ≡ 65 → get_elem? xs 0 ≡ some x → (y : V) × (x ≡ Some y) × Closes entries_of fixed_of v y
   ends id v ws xs x f stage all there =
       let t = closes f.0 f.1.0 id v f.1.1 stage all in
-      (t.0, some-injective x (Some t.0) (sym there ∙ f.4 0 (Some t.0) t.1), t.2, t.3, ap turn_entries t.2 ∙ t.4, t.5)
+      (t.0, some-injective x (Some t.0) (sym there ∙ f.4 0 (Some t.0) t.1), t.2)

@@ -24,7 +24,6 @@ module _ {I F : Type 0} where
   AllKnown entries [] = Unit {0}
   AllKnown entries (k ∷ ks) = (IsPrefix k.seen entries × (entries_with k.drawn entries ≡ entries_with k.drawn k.seen)) × AllKnown entries ks
 
-module _ {I F : Type 0} where
   -- each had this as what no turn changes
   abbrev pub AllFixed : Option F → List (Known I F) → Type 0
   AllFixed fixed [] = Unit {0}

@@ -7,6 +7,8 @@
 
 mod pass;
 mod steps;
+#[cfg(test)]
+mod tests;
 mod turnstile;
 mod view;
 

@@ -1,4 +1,4 @@
-use Rattle.sentence_text.proofs.Laws.{is_read, is_derived, is_of_schema, is_refused, isnt_refused}
+use Rattle.sentence_text.proofs.Clauses.{is_read, is_derived, is_of_schema, is_refused, isnt_refused}
 use Rattle.sentence_text.proofs.parser.read_sentence.Goals as goal
 
 pub returns-clause-read : goal.returns-clause-read

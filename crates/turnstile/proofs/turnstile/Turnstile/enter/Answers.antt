@@ -35,7 +35,7 @@ returns-then-serving-ticket-clause-own g c =
     let waits = c.loop.invariant.2 ∙ c.fetch_add-ticket.ensures.2.0 in
     let took = (c.load-serving.ensures.2 t (ap (λ m. m.0.stage) waits)).1 c.if-serving-ticket.true in
     let both = mine_taken g.V.Recorded.entries g.V.Recorded.fixed (view_of c.args.pass.now) _ _ t _ _ _
-        (ap (λ m. m.0) waits ∙ ap (λ (v : View g.row.V-Item.Denot g.row.V-Fixed.Denot). waiting_view v t) is) c.fetch_add-ticket.ensures.2.1 took c.exchange.ensures.2 c.unwrap-value.ensures in
+    (ap (λ m. m.0) waits ∙ ap (λ (v : View g.row.V-Item.Denot g.row.V-Fixed.Denot). waiting_view v t) is) c.fetch_add-ticket.ensures.2.1 took c.exchange.ensures.2 c.unwrap-value.ensures in
     both.0
 
 pub returns-then-serving-ticket-clause-mine : goal.returns-then-serving-ticket-clause-mine
@@ -46,7 +46,7 @@ returns-then-serving-ticket-clause-mine g c =
     let waits = c.loop.invariant.2 ∙ c.fetch_add-ticket.ensures.2.0 in
     let took = (c.load-serving.ensures.2 t (ap (λ m. m.0.stage) waits)).1 c.if-serving-ticket.true in
     let both = mine_taken g.V.Recorded.entries g.V.Recorded.fixed (view_of c.args.pass.now) _ _ t _ _ _
-        (ap (λ m. m.0) waits ∙ ap (λ (v : View g.row.V-Item.Denot g.row.V-Fixed.Denot). waiting_view v t) is) c.fetch_add-ticket.ensures.2.1 took c.exchange.ensures.2 c.unwrap-value.ensures in
+    (ap (λ m. m.0) waits ∙ ap (λ (v : View g.row.V-Item.Denot g.row.V-Fixed.Denot). waiting_view v t) is) c.fetch_add-ticket.ensures.2.1 took c.exchange.ensures.2 c.unwrap-value.ensures in
     ap (λ m. entries_with m.0.drawn m.0.seen) c.exchange.ensures.3 ∙ both.1
 
 pub returns-then-serving-ticket-clause-fresh : goal.returns-then-serving-ticket-clause-fresh
