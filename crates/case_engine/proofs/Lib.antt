@@ -1,3 +1,4 @@
 pub mod Booleans
-pub mod Printable
 pub mod Growth
+pub mod Closing
+pub mod Declaring

@@ -1,11 +1,11 @@
 //! The shapes of declarations: a domain with its constants, a relation with the domains of its columns.
 
-ghost use Rattle.std.specs.Prelude.{◌≡◌, ◌≤◌, map, length, option_map, option_and_then, string_bytes, IfOk};
+ghost use Rattle.std.specs.Prelude.{◌≡◌, ◌≤◌, ◌-◌, map, slice_get, length, option_map, option_and_then, string_bytes, IfOk};
 ghost use Rattle.cqe_base.specs.Memory.{declaration_of};
 ghost use Rattle.cqe_base.specs.Tokens.{tokens};
 ghost use Rattle.cqe_base.specs.Reading.{is_symbol};
 ghost use Rattle.sentence_text.specs.Upcoming.{token_of};
-ghost use Rattle.case_engine.specs.Statements.{is_word, listed_names, names_or_none, closed_names, declared_as, domain_shape, relation_shape, whole_tokens};
+ghost use Rattle.case_engine.specs.Statements.{is_word, are_listed, listed_words, listed_names, names_or_none, is_closed, closed_names, declared_as, domain_shape, relation_shape, whole_tokens};
 ghost use Rattle.case_engine.specs.Memory.{tokens_in, names_in};
 
 use cqe_base::declarations::is_identifier;
@@ -54,25 +54,40 @@ fn name_of(alloc: Global, token: &Token<'_>) -> Result<String, AllocError>
     String::from_str(alloc, token.text)
 }
 
+/// Whether the tokens are words with a comma between each two.
+fn are_listed(tokens: &[Token<'_>]) -> bool
+    ensures { result ≡ are_listed (map token_of tokens.now) }
+{
+    match tokens {
+        [] => false,
+        [word] => is_word(word),
+        [word, comma, rest @ ..] => {
+            is_word(word) && is_symbol(Symbol::Comma, comma) && are_listed(rest)
+        }
+    }
+}
+
+/// The words among tokens, in memory of their own.
+fn listed_words(alloc: Global, tokens: &[Token<'_>]) -> Result<Vec<String>, AllocError>
+    ensures { IfOk result (λ names. names_in names ≡ listed_words (map token_of tokens.now)) }
+{
+    let mut names = Vec::new(alloc);
+    for token in tokens {
+        if is_word(token) {
+            names.push(name_of(alloc, token)?)?;
+        }
+    }
+    Ok(names)
+}
+
 /// Names with a comma between each two, if the tokens are such a list.
 fn listed_names(alloc: Global, tokens: &[Token<'_>]) -> Result<Option<Vec<String>>, AllocError>
     ensures { IfOk result (λ names. option_map names_in names ≡ listed_names (map token_of tokens.now)) }
 {
-    let mut names = Vec::new(alloc);
-    let mut rest = tokens;
-    while let [token, comma, more @ ..] = rest {
-        if !is_word(token) || !is_symbol(Symbol::Comma, comma) {
-            return Ok(None);
-        }
-        names.push(name_of(alloc, token)?)?;
-        rest = more;
-    }
-    match rest {
-        [last] if is_word(last) => {
-            names.push(name_of(alloc, last)?)?;
-            Ok(Some(names))
-        }
-        _ => Ok(None),
+    if are_listed(tokens) {
+        Ok(Some(listed_words(alloc, tokens)?))
+    } else {
+        Ok(None)
     }
 }
 
@@ -87,13 +102,25 @@ fn names_or_none(alloc: Global, tokens: &[Token<'_>]) -> Result<Option<Vec<Strin
     }
 }
 
+/// Whether the last token is `)`.
+fn is_closed(tokens: &[Token<'_>]) -> bool
+    ensures { result ≡ is_closed (slice_get (map token_of tokens.now) (length tokens.now - 1)) }
+{
+    match tokens.last() {
+        Some(last) => is_symbol(Symbol::Close, last),
+        None => false,
+    }
+}
+
 /// Names before a `)` at the end.
 fn closed_names(alloc: Global, tokens: &[Token<'_>]) -> Result<Option<Vec<String>>, AllocError>
     ensures { IfOk result (λ names. option_map names_in names ≡ closed_names (map token_of tokens.now)) }
 {
-    match tokens.split_last() {
-        Some((last, names)) if is_symbol(Symbol::Close, last) => names_or_none(alloc, names),
-        _ => Ok(None),
+    if is_closed(tokens) {
+        let names = names_or_none(alloc, &tokens[..tokens.len().saturating_sub(1)])?;
+        Ok(names)
+    } else {
+        Ok(None)
     }
 }
 

@@ -8,7 +8,11 @@ ghost use Rattle.cqe_base.specs.Literal.{sign_at};
 ghost use Rattle.cqe_base.specs.ClauseForm.{world_of};
 ghost use Rattle.clause_form.specs.Forms.{form_of, with_formula, size_of, IsSizeWithin, first_of};
 
+mod walk;
+
+use crate::worlds::{add_fact, sign_of};
 use clause_store::clauses::Clauses;
+use clause_store::literal::Lit;
 use clause_store::refutation::Signs;
 use cqe_base::machine_laws::{
     law_clause_form_is_prefix, law_numbered_facts_stay, law_numbering_goes_on,
@@ -65,7 +69,13 @@ impl Former {
     pub fn new(alloc: Global) -> Result<Former, AllocError>
         ensures { IfOk result (λ former. former ≡ form_of []) }
     {
-        Err(AllocError)
+        let mut clauses = Clauses::new(alloc);
+        clauses.push(&[Lit::positive(0)])?;
+        Ok(Former {
+            clauses,
+            facts: IndexMap::new(alloc),
+            variables: 1,
+        })
     }
 
     /// Adds a formula, or where `positive` is false its negation. A refusal changes nothing.
@@ -74,7 +84,14 @@ impl Former {
         ensures added { OnOk result (self.new ≡ with_formula self.old (ground_of prop.now, positive)) }
         ensures refused { OnErr result (self.new ≡ self.old) }
     {
-        Err(AllocError)
+        let before = self.mark();
+        match self.walk_signed(alloc, prop, positive) {
+            Ok(()) => Ok(()),
+            Err(error) => {
+                self.cut_to(before);
+                Err(error)
+            }
+        }
     }
 
     /// The clauses.
@@ -95,7 +112,11 @@ impl Former {
     pub fn copy(&self, alloc: Global) -> Result<Former, AllocError>
         ensures { IfOk result (λ copy. copy ≡ self.now) }
     {
-        Err(AllocError)
+        Ok(Former {
+            clauses: self.clauses.copy(alloc)?,
+            facts: self.facts.clone()?,
+            variables: self.variables,
+        })
     }
 
     /// How far the former has come.
@@ -141,6 +162,12 @@ impl Former {
         requires of_schema { list_all (λ e. is_fact_of schema.now e.fact) self.now.numbering.facts ≡ true }
         ensures { IfOk result (λ world. world ≡ world_of self.now.numbering.facts (sign_at model.now.values.items)) }
     {
-        Err(AllocError)
+        let mut world = World::new(alloc);
+        for (fact, number) in self.facts.iter() {
+            if sign_of(model, *number) {
+                add_fact(&mut world, schema, fact)?;
+            }
+        }
+        Ok(world)
     }
 }

@@ -8,3 +8,5 @@
 
 pub mod former;
 pub mod laws;
+mod nodes;
+mod worlds;

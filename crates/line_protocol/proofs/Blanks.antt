@@ -8,7 +8,7 @@ use Rattle.std.proofs.lemmas.List.{drop_all, take-append-drop}
 use Rattle.std.proofs.lemmas.List.Folds.{list_all-append, list_any_at}
 use Rattle.std.proofs.lemmas.List.Sums.{fails_before_first, passes_at_first}
 use Rattle.std.proofs.lemmas.List.Quantifiers.{position-Some}
-use Rattle.line_protocol.specs.Requests.{is_printable}
+use Rattle.line_protocol.specs.Words.{is_printable}
 
 -- where a position is some, it is that
 place_of : (place size n : ℕ) → cond (nat_lt place size) (Some place) None ≡ Some n → place ≡ n

@@ -8,9 +8,14 @@
 
 mod line_text;
 mod lines;
+mod login;
 mod reply;
 mod request;
+#[cfg(test)]
+mod tests;
+pub mod words;
 
 pub use lines::{LineBuffer, LineOutcome, read_line};
+pub use login::login_ok;
 pub use reply::{Reply, write_reply};
 pub use request::{Request, read_request};

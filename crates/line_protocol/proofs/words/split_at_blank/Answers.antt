@@ -3,9 +3,9 @@ use Rattle.std.specs.Prelude.{Option, Some, None, is_some}
 use Rattle.std.specs.List.{list_all, list_any}
 use Rattle.std.proofs.lemmas.List.{take_rest}
 use Rattle.cqe_base.specs.Tokens.{is_blank}
-use Rattle.line_protocol.specs.Requests.{is_printable}
+use Rattle.line_protocol.specs.Words.{is_printable}
 use Rattle.line_protocol.proofs.Blanks.{any_found, any_missing, all_front, all_rest}
-use Rattle.line_protocol.proofs.request.split_at_blank.Goals as goal
+use Rattle.line_protocol.proofs.words.split_at_blank.Goals as goal
 
 pub returns-in_err-blank-clause-blank : goal.returns-in_err-blank-clause-blank
 returns-in_err-blank-clause-blank c =
