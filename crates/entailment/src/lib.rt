@@ -129,5 +129,7 @@ fn copied(alloc: Global, log: &[Told]) -> Result<Vec<Told>, AllocError>
 }
 
 mod probes;
+#[cfg(test)]
+mod tests;
 
 pub use probes::test;
