@@ -66,19 +66,20 @@ pub fn examine(
 {
     law_limits();
     let mut view = view.copy(alloc)?;
+    let secrets = user.secrets.as_slice();
     match user.method {
         Method::Lying => {
-            let guarded = [disjunction(alloc, user.secrets.as_slice())?];
+            let guarded = [disjunction(alloc, secrets)?];
             let harms = ask_both(alloc, &mut view, query, &guarded, user.budget)?;
             Ok(found(harms, None))
         }
         Method::Refusal => {
             let implied = ask_log(alloc, &mut view, query, user.budget)?;
-            let harms = ask_both(alloc, &mut view, query, user.secrets.as_slice(), user.budget)?;
+            let harms = ask_both(alloc, &mut view, query, secrets, user.budget)?;
             Ok(found(harms, Some(implied)))
         }
         Method::Combined => {
-            let harms = ask_both(alloc, &mut view, query, user.secrets.as_slice(), user.budget)?;
+            let harms = ask_both(alloc, &mut view, query, secrets, user.budget)?;
             Ok(found(harms, None))
         }
     }
@@ -118,8 +119,24 @@ fn ask_log(
     ensures schema { schema_of view.new ≡ schema_of view.old }
     ensures log { log_of view.new ≡ log_of view.old }
 {
-    let yes = ask(alloc, view, &Probe { premise: None, goal: (query, true) }, budget)?;
-    let no = ask(alloc, view, &Probe { premise: None, goal: (query, false) }, budget)?;
+    let yes = ask(
+        alloc,
+        view,
+        &Probe {
+            premise: None,
+            goal: (query, true),
+        },
+        budget,
+    )?;
+    let no = ask(
+        alloc,
+        view,
+        &Probe {
+            premise: None,
+            goal: (query, false),
+        },
+        budget,
+    )?;
     Ok(Implied {
         spent: yes.spent || no.spent,
         answer: implied_answer(yes.entailed, no.entailed),

@@ -3,10 +3,10 @@ use Rattle.std.specs.List.{list_all}
 use Rattle.std.proofs.lemmas.Bool.{leb-true}
 use Rattle.cqe_base.specs.Formula.{formula_of, nodes, is_sentence_of}
 use Rattle.cqe_base.specs.History.{profile_of, known}
-use Rattle.entailment.specs.Views.{schema_of, log_of}
+use Rattle.entailment.specs.Views.{log_of}
 use Rattle.censors.specs.Admitting.{probe_objection, secrets_objection}
 use Rattle.censors.proofs.Probing.{each_passes}
-use Rattle.censors.proofs.Objections.{objection_here, objection_nowhere, silent_before-more}
+use Rattle.censors.proofs.Objections.{objection_here, silent_before-more}
 use Rattle.censors.proofs.admittance.secrets_objection.Goals as goal
 
 pub probe_objection-requires-clause-sentence : goal.probe_objection-requires-clause-sentence

@@ -22,8 +22,8 @@ loop-goal-preserved c =
     let schema = c.loop-goal.invariant.schema in
     let log = c.loop-goal.invariant.log in
     let one : IsAnswer (schema_of c.args.view.now) c.args.budget (log_of c.args.view.now ++ signed_at c.args.premise ∷ []) (formula_of c.goal-item.result, true) c.in_ok-one.one =
-        subst (λ s. IsAnswer s c.args.budget (log_of c.args.view.now ++ signed_at c.args.premise ∷ []) (formula_of c.goal-item.result, true) c.in_ok-one.one) schema
-        (subst (λ l. IsAnswer (schema_of c.loop-goal.view) c.args.budget (l ++ signed_at c.args.premise ∷ []) (formula_of c.goal-item.result, true) c.in_ok-one.one) log c.in_ok-one.ensures.answer) in
+    subst (λ s. IsAnswer s c.args.budget (log_of c.args.view.now ++ signed_at c.args.premise ∷ []) (formula_of c.goal-item.result, true) c.in_ok-one.one) schema
+    (subst (λ l. IsAnswer (schema_of c.loop-goal.view) c.args.budget (l ++ signed_at c.args.premise ∷ []) (formula_of c.goal-item.result, true) c.in_ok-one.one) log c.in_ok-one.ensures.answer) in
     record {
       schema = c.in_ok-one.ensures.schema ∙ schema;
       log = c.in_ok-one.ensures.log ∙ log;
