@@ -3,6 +3,10 @@
 
 mod case;
 mod declaration;
+mod fact;
+mod reading;
+mod refusal;
+mod script;
 mod statement;
 
 pub use case::{CaseEnd, run_case};

@@ -1,0 +1,4 @@
+mod ClauseCount
+mod LogNodes
+mod LogForms
+mod LogItems

@@ -1,9 +1,9 @@
 -- A probe in memory, and what a verdict says of it.
-use Rattle.std.specs.Prelude.{◌≡◌, ◌≤◌, ◌+◌, ℕ, Bool, true, List, [], ◌∷◌, ◌++◌, Option, Some, None}
+use Rattle.std.specs.Prelude.{Bool, List, [], ◌∷◌, Option, Some, None}
 use Rattle.std.specs.Borrow.{Bor}
 use Rattle.cqe_base.specs.declared.sentence.Sentence.{Sentence}
 use Rattle.cqe_base.specs.Schema.{DatabaseSchema}
-use Rattle.cqe_base.specs.Formula.{formula_of, nodes, is_sentence_of}
+use Rattle.cqe_base.specs.Formula.{formula_of}
 use Rattle.cqe_base.specs.Entailment.{Signed, Entails, IsCountermodel}
 use Rattle.cqe_base.specs.Outcome.{Outcome, Follows, Open, Spent}
 use Rattle.entailment.specs.declared.Probe.{Probe}

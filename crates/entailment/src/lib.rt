@@ -1,13 +1,17 @@
 //! Entailment: whether a log, with at most one further premise, entails a goal, within a budget.
+//!
+//! A `View` holds a log over a schema. `test` runs one probe of it: the log, the premise and the negated goal become clauses, the machine
+//! searches them, and what it found is checked before it is told. It answers the outcome that the definition gives. `Follows` comes only
+//! where the premises entail the goal over all worlds of the schema, `Open` only with a world in which they are true and the goal is false,
+//! and the view is afterwards as it was.
+//!
+//! Read `View`, `Probe` and `Verdict` here, then `probes`.
 #![tactic(auto)]
 
 ghost use Rattle.std.specs.Prelude.{◌≡◌, ◌≤◌, ◌+◌, true, [], ◌∷◌, ◌++◌, length, map, IfOk, OnErr, OnOk};
 ghost use Rattle.cqe_base.specs.Formula.{formula_of, nodes, is_sentence_of};
-ghost use Rattle.cqe_base.specs.Entailment.{are_sentences_of};
 ghost use Rattle.cqe_base.specs.History.{profile_of, known, signed_nodes};
-ghost use Rattle.cqe_base.specs.Outcome.{outcome};
 ghost use Rattle.entailment.specs.Logs.{log_nodes, IsSmallLog, told_log};
-ghost use Rattle.entailment.specs.Probes.{premise_of, goal_of, outcome_of, IsTrueVerdict};
 
 use cqe_base::schema::Schema;
 use cqe_base::sentence::Sentence;
@@ -125,5 +129,7 @@ fn copied(alloc: Global, log: &[Told]) -> Result<Vec<Told>, AllocError>
 }
 
 mod probes;
+#[cfg(test)]
+mod tests;
 
 pub use probes::test;

@@ -1,0 +1,5 @@
+pub mod Beginnings
+pub mod Cuts
+pub mod Disjunctions
+pub mod FactSigns
+pub mod NumberedEntries

@@ -1,0 +1,4 @@
+pub mod Forms
+pub mod Inside
+pub mod Prefixes
+pub mod Walks

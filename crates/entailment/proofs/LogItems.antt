@@ -1,0 +1,40 @@
+-- The sentences of a small log, one at a time.
+use Rattle.std.proofs.Common.{◌≡◌, ℕ, ◌<◌, ◌≤◌, Bool, true, nat_le, List, length, take, get_or, sym, ap, ◌∙◌, subst, arith}
+use Rattle.std.specs.List.{list_all}
+use Rattle.std.proofs.Math.ListN.{get_or-map}
+use Rattle.std.proofs.lemmas.Bool.{leb-true}
+use Rattle.std.proofs.lemmas.List.{length-map, take-map}
+use Rattle.std.proofs.lemmas.List.Elements.{All-get_or}
+use Rattle.std.proofs.lemmas.List.Sums.{AllPass-from_list_all, sum_by-take-le}
+use Rattle.cqe_base.specs.Schema.{DatabaseSchema}
+use Rattle.cqe_base.specs.Formula.{formula_of, nodes, is_sentence_of}
+use Rattle.cqe_base.specs.Entailment.{Signed}
+use Rattle.entailment.specs.declared.Told.{Told}
+use Rattle.entailment.specs.Logs.{IsSmallLog, sentence_nodes, told_log}
+use Rattle.entailment.proofs.LogNodes.{sentence_nodes-le}
+
+-- what a part of a log in memory tells
+abbrev told : Told → Signed
+told t = (formula_of t.sentence, t.yes)
+
+-- what each part passes, this one passes
+passes : (p : Signed → Bool) (log : List Told) (i : ℕ) (t : Told) → i < length log → t ≡ get_or log i t → list_all p (told_log log) ≡ true → p (told t) ≡ true
+passes p log i t below is h =
+    ap (λ x. p (told x)) is
+    ∙ ap p (sym (get_or-map told log i t))
+    ∙ All-get_or (λ x. p x ≡ true) (told_log log) i (told t) (subst (λ n. i < n) (sym (length-map log told)) below) (AllPass-from_list_all p (told_log log) h)
+
+pub item-sentence : (schema : DatabaseSchema) (log : List Told) (i : ℕ) (t : Told) → i < length log → t ≡ get_or log i t → IsSmallLog schema (told_log log) → is_sentence_of schema (formula_of t.sentence) ≡ true
+item-sentence schema log i t below is small = passes (λ signed. is_sentence_of schema signed.0) log i t below is small.sentences
+
+pub item-small : (schema : DatabaseSchema) (log : List Told) (i : ℕ) (t : Told) → i < length log → t ≡ get_or log i t → IsSmallLog schema (told_log log) → nodes schema (formula_of t.sentence) ≤ 20000
+item-small schema log i t below is small = leb-true _ 20000 (passes (λ signed. nat_le (nodes schema signed.0) 20000) log i t below is small.each)
+
+-- the nodes of the log up to a part are within those of the whole log
+pub nodes-before : (schema : DatabaseSchema) (log : List Told) (i : ℕ) → IsSmallLog schema (told_log log) → sentence_nodes schema (told_log (take i log)) ≤ 60000
+nodes-before schema log i small =
+    let same : sentence_nodes schema (told_log (take i log)) ≡ sentence_nodes schema (take i (told_log log)) = ap (sentence_nodes schema) (sym (take-map told i log)) in
+    let part : sentence_nodes schema (take i (told_log log)) ≤ sentence_nodes schema (told_log log) = sum_by-take-le (λ signed. nodes schema signed.0) (told_log log) i in
+    let whole = sentence_nodes-le schema (told_log log) in
+    let all = small.all in
+    omega arith
