@@ -65,6 +65,7 @@ fn told_view<'s>(
     requires sizes { KeepsSizes schema.now (profile_of user.now) (map answered_query_of entries.now) }
     ensures schema { IfOk result (λ view. schema_of view ≡ schema.now) }
     ensures log { IfOk result (λ view. log_of view ≡ log (profile_of user.now) (map answered_query_of entries.now)) }
+    ensures nodes { IfOk result (λ view. log_nodes (schema_of view) (log_of view) ≤ 60000) }
 {
     law_limits();
     law_logs();
@@ -82,6 +83,7 @@ fn tell(alloc: Global, view: &mut View<'_>, entry: &Entry) -> Result<(), AllocEr
     requires room { log_nodes (schema_of view.old) (log_of view.old) + (1 + nodes (schema_of view.old) (formula_of entry.now.query)) ≤ 60000 }
     ensures schema { schema_of view.new ≡ schema_of view.old }
     ensures log { OnOk result (log_of view.new ≡ log_of view.old ++ told_by entry.now.mark (formula_of entry.now.query)) }
+    ensures nodes { OnOk result (log_nodes (schema_of view.new) (log_of view.new) ≤ 60000) }
 {
     match entry.mark {
         Mark::Yes => view.add(alloc, &entry.query, true),
@@ -109,6 +111,7 @@ fn countermodel(
 ) -> Result<Option<World>, AllocError>
     requires sentence { is_sentence_of (schema_of view.old) (formula_of goal.now) ≡ true }
     requires goal_nodes { nodes (schema_of view.old) (formula_of goal.now) ≤ 40000 }
+    requires log_nodes { log_nodes (schema_of view.old) (log_of view.old) ≤ 60000 }
     requires unknown { entails (schema_of view.old) (log_of view.old) (formula_of goal.now, true) ≡ false }
     ensures open { IfOk result (λ found. IfSome found (IsCountermodel (schema_of view.old) (log_of view.old) (formula_of goal.now, true))) }
     ensures spent { IfOk result (λ found. IsNone found

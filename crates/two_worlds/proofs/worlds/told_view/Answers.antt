@@ -28,6 +28,7 @@ pub loop-entry-preserved : goal.loop-entry-preserved
 loop-entry-preserved c =
     let user = profile_of c.args.user.now in
     record {
+      nodes = c.in_ok-tell.ensures.nodes;
       schema = c.in_ok-tell.ensures.schema ∙ c.loop-entry.invariant.schema;
       log = c.in_ok-tell.ensures.log ∙ ap (λ told. told ++ told_by c.entry-item.result.mark (formula_of c.entry-item.result.query)) c.loop-entry.invariant.log
           ∙ sym (c.law_logs.ensures.grows user (take c.loop-entry.entry-index (history_of c.args.entries.now)) (answered_query_of c.entry-item.result))
