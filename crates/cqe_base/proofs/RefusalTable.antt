@@ -1,5 +1,5 @@
 -- A text that doesn't read is refused by the table.
-use Rattle.std.proofs.Common.{◌≡◌, ℕ, zero, suc, ◌<◌, ◌≤◌, ◌⊎◌, inl, inr, Bool, true, false, cond, List, [], ◌∷◌, ◌++◌, length, Option, Some, None, Result, Ok, Err, refl, sym, ap, subst, ◌∙◌, arith}
+use Rattle.std.proofs.Common.{◌≡◌, ℕ, zero, suc, ◌<◌, ◌≤◌, ◌⊎◌, inl, inr, Bool, true, false, cond, List, [], ◌∷◌, ◌++◌, length, Option, Some, None, Result, Ok, Err, refl, sym, ap, subst, ◌∙◌, arith, append_assoc}
 use Rattle.std.specs.Prelude.{◌==◌, nat_lt}
 use Rattle.std.proofs.lemmas.Bool.Decides.{nat_tests}
 use Rattle.cqe_base.specs.declared.sentence.Term.{Term}
@@ -10,10 +10,11 @@ use Rattle.cqe_base.specs.Schema.{DatabaseSchema, domain_named, relation_named}
 use Rattle.cqe_base.specs.Tokens.{Token, tokens, end_of_tokens, symbol_of, same_symbol}
 use Rattle.cqe_base.specs.Reading
 use Rattle.cqe_base.specs.Reading.{◌>>=◌, Refusal, Reader, Scope, TypedTerm, Level, column_domains, term_named, known, is_symbol, is_next, is_empty, enter, within_quantifier, chain, reading, refusal_at_end, unexpected, unknown_name, wrong_domain, too_deep, wrong_columns}
-use Rattle.cqe_base.specs.Grammar.{Part, unary, both, either, implied, whole, IsSymbol, IsTerm, IsQuantifier, Begins, one_and, more_and, one_or, more_or}
-use Rattle.cqe_base.specs.Refusals.{Wanted, operand, variable, colon, domain, dot, term, no_term, behind_column, sign, behind_operand, may_stand, MustGoOn, OpensQuantifier, OpensConstruct, Refuses, at_byte, at_end, not_allowed, no_relation, no_left_side, no_such_term, no_domain, other_domain, no_room, no_room_behind, no_quantifier, comma_behind_last, close_before_last, close_before_first, term_without_column, InQuantifier, before_variable, before_colon, before_domain, before_dot, InColumns, without_columns, before_term, behind_term, in_next, BreaksOff, at_start, in_atom, behind_left_side, before_right_side, in_not, in_parentheses, in_quantifier, in_body, in_first_and, behind_and, in_first_or, behind_or, before_arrow, behind_arrow, behind_last, before_double_arrow, behind_double_arrow, RefusalsAreOfTheTable}
+use Rattle.cqe_base.specs.Grammar
+use Rattle.cqe_base.specs.Grammar.{Part, unary, both, either, implied, whole, IsSymbol, IsTerm, IsQuantifier, MayEndQuantified, Begins, is_true, is_false, is_atom, is_equal, is_differs, is_not, is_forall, is_exists, one_and, more_and, one_or, more_or, no_arrow, one_arrow, no_double_arrow, one_double_arrow}
+use Rattle.cqe_base.specs.Refusals.{Wanted, operand, variable, colon, domain, dot, term, no_term, behind_column, sign, behind_operand, may_stand, MustGoOn, OpensQuantifier, OpensConstruct, Refuses, at_byte, at_end, not_allowed, no_relation, no_left_side, no_such_term, no_domain, other_domain, no_room, no_room_behind, no_quantifier, comma_behind_last, close_before_last, close_before_first, term_without_column, InQuantifier, before_variable, before_colon, before_domain, before_dot, InColumns, without_columns, before_term, behind_term, in_next, IsClosedPart, BreaksOff, at_start, in_atom, behind_left_side, before_right_side, in_not, in_parentheses, in_quantifier, in_body, in_first_and, behind_and, in_first_or, behind_or, before_arrow, behind_arrow, behind_last, before_double_arrow, behind_double_arrow, RefusalsAreOfTheTable}
 use Rattle.cqe_base.proofs.GrammarSound.{bind_ok, moved, is_symbol-IsSymbol, name-sound, pass-sound, term-sound, domain-sound, after_column-sound, unary_reader, implied_reader, both-sound, either-sound, sound}
-use Rattle.cqe_base.proofs.Cuts.{begins-shorter, begins-alone, begins-before}
+use Rattle.cqe_base.proofs.Cuts.{columns-cut, parentheses-cut, joined, begins-cut, begins-shorter, begins-before}
 
 -- ---- which step refuses
 
@@ -340,22 +341,116 @@ module _ (schema : DatabaseSchema) (end : Refusal) where
           chain-ends symbols.Or disjunction operands (λ us rest b read. begins-shorter schema (both-begins us rest b read)) (length k.0.1) k.0.0 a k.0.1 rest (omega arith) k.2,
         )
 
-  -- a side was read, and this is left
-  record EndedSide (room : ℕ) (scope : Scope) (ts rest : List Token) : Type 0 where
+  -- ---- what ends a part: an operand that may stand before all tokens, or the body of a quantifier
+
+  -- the part may stand before all tokens
+  record Closed (part : Part) (room : ℕ) (scope : Scope) (ts : List Token) (a : Formula) (rest : List Token) : Type 0 where
+    front : List Token
+    split : ts ≡ front ++ rest
+    closed : IsClosedPart schema part room scope front a
+
+  -- it breaks off behind its last operand
+  record Behind (part : Part) (room : ℕ) (scope : Scope) (ts rest : List Token) : Type 0 where
     front : List Token
     inner : ℕ
+    more : Bool → Bool
     split : ts ≡ front ++ rest
-    breaks_off : (double open_ : Bool) → BreaksOff schema double open_ implied room scope front (behind_operand inner double open_)
+    breaks_off : (double open_ : Bool) → BreaksOff schema double open_ part room scope front (behind_operand inner (more double) open_)
+
+  abbrev Edge : Part → ℕ → Scope → List Token → Formula → List Token → Type 0
+  Edge implied room scope ts a rest = MayEndQuantified rest → Behind implied room scope ts rest
+  Edge whole room scope ts a rest = MayEndQuantified rest → Behind whole room scope ts rest
+  Edge part room scope ts a rest = Closed part room scope ts a rest ⊎ (MayEndQuantified rest × Behind part room scope ts rest)
+
+  module _ {room : ℕ} {scope : Scope} {rest : List Token} where
+    -- the same part in a further one
+    not-edge : {t : Token} {ts : List Token} {a : Formula} → IsSymbol symbols.Not t → Edge unary room scope ts a rest → Edge unary (suc room) scope (t ∷ ts) (negation a) rest
+    not-edge {t} h (inl f) = inl (record { front = t ∷ f.front; split = ap (λ (us : List Token). t ∷ us) f.split; closed = λ others. is_not h (f.closed others) })
+    not-edge {t} h (inr b) = inr (b.0, record { front = t ∷ b.1.front; inner = b.1.inner; more = b.1.more; split = ap (λ (us : List Token). t ∷ us) b.1.split; breaks_off = λ double open_. in_not h (b.1.breaks_off double open_) })
+
+    module _ {ts : List Token} {a : Formula} where
+      and-edge : Edge unary room scope ts a rest → Edge both room scope ts a rest
+      and-edge (inl f) = inl (record { front = f.front; split = f.split; closed = λ others. one_and (f.closed others) })
+      and-edge (inr b) = inr (b.0, record { front = b.1.front; inner = b.1.inner; more = b.1.more; split = b.1.split; breaks_off = λ double open_. in_first_and (b.1.breaks_off double open_) })
+
+      or-edge : Edge both room scope ts a rest → Edge either room scope ts a rest
+      or-edge (inl f) = inl (record { front = f.front; split = f.split; closed = λ others. one_or (f.closed others) })
+      or-edge (inr b) = inr (b.0, record { front = b.1.front; inner = b.1.inner; more = b.1.more; split = b.1.split; breaks_off = λ double open_. in_first_or (b.1.breaks_off double open_) })
+
+      abbrev side-edge : Edge either room scope ts a rest → Behind implied room scope ts rest
+      side-edge (inl f) = record { front = f.front; inner = room; more = λ double. double; split = f.split; breaks_off = λ double open_. behind_last f.closed }
+      side-edge (inr b) = record { front = b.1.front; inner = b.1.inner; more = b.1.more; split = b.1.split; breaks_off = λ double open_. before_arrow (b.1.breaks_off double open_) }
+
+    -- a further operand
+    module _ {t : Token} {ts us : List Token} {a b : Formula} where
+      more_and-edge : Begins schema both room scope ts a (t ∷ us) → IsSymbol symbols.And t → Edge unary room scope us b rest → Edge both room scope ts (conjunction a b) rest
+      more_and-edge left h (inl f) =
+          let c = begins-cut schema left in
+          inl (record { front = c.mid ++ (t ∷ f.front); split = joined schema ts c.mid us f.front rest t c.split f.split; closed = λ others. subst (λ ts. Begins schema both room scope ts (conjunction a b) others) (sym (append_assoc c.mid (t ∷ f.front) others)) (more_and (c.again (t ∷ (f.front ++ others)) (λ e. e)) h (f.closed others)) })
+      more_and-edge left h (inr x) =
+          let l = begins-before schema x.1.front rest left x.1.split in
+          inr (x.0, record { front = l.0; inner = x.1.inner; more = x.1.more; split = l.1; breaks_off = λ double open_. behind_and l.2 h (x.1.breaks_off double open_) })
+
+      more_or-edge : Begins schema either room scope ts a (t ∷ us) → IsSymbol symbols.Or t → Edge both room scope us b rest → Edge either room scope ts (disjunction a b) rest
+      more_or-edge left h (inl f) =
+          let c = begins-cut schema left in
+          inl (record { front = c.mid ++ (t ∷ f.front); split = joined schema ts c.mid us f.front rest t c.split f.split; closed = λ others. subst (λ ts. Begins schema either room scope ts (disjunction a b) others) (sym (append_assoc c.mid (t ∷ f.front) others)) (more_or (c.again (t ∷ (f.front ++ others)) (λ e. e)) h (f.closed others)) })
+      more_or-edge left h (inr x) =
+          let l = begins-before schema x.1.front rest left x.1.split in
+          inr (x.0, record { front = l.0; inner = x.1.inner; more = x.1.more; split = l.1; breaks_off = λ double open_. behind_or l.2 h (x.1.breaks_off double open_) })
+
+    module _ {t : Token} {ts us : List Token} {a : Formula} where
+      abbrev arrow-edge : Begins schema either (suc room) scope ts a (t ∷ us) → IsSymbol symbols.Arrow t → Behind implied room scope us rest → Behind implied (suc room) scope ts rest
+      arrow-edge left h x = let l = begins-before schema x.front rest left x.split in record { front = l.0; inner = x.inner; more = x.more; split = l.1; breaks_off = λ double open_. behind_arrow l.2 h (x.breaks_off double open_) }
+
+      double_arrow-edge : Begins schema implied room scope ts a (t ∷ us) → IsSymbol symbols.DoubleArrow t → Behind implied room scope us rest → Behind whole room scope ts rest
+      double_arrow-edge left h x = let l = begins-before schema x.front rest left x.split in record { front = l.0; inner = x.inner; more = λ double. x.more false; split = l.1; breaks_off = λ double open_. behind_double_arrow l.2 h (x.breaks_off false open_) }
+
+    sentence-edge : {ts : List Token} → Behind implied room scope ts rest → Behind whole room scope ts rest
+    sentence-edge x = record { front = x.front; inner = x.inner; more = λ double. x.more true; split = x.split; breaks_off = λ double open_. before_double_arrow (x.breaks_off true open_) }
+
+    body-edge : {s : Symbol} {q x c n p : Token} {d : ℕ} {ts : List Token} → OpensQuantifier q → IsQuantifier schema scope s q x c n p d → Behind whole room (record { variable = x.text; domain = d } ∷ scope) ts rest → Behind unary (suc room) scope (q ∷ x ∷ c ∷ n ∷ p ∷ ts) rest
+    body-edge {q = q} {x = x} {c = c} {n = n} {p = p} opens h b = record { front = q ∷ x ∷ c ∷ n ∷ p ∷ b.front; inner = b.inner; more = λ double. b.more true; split = ap (λ (us : List Token). q ∷ x ∷ c ∷ n ∷ p ∷ us) b.split; breaks_off = λ double open_. in_body opens h (b.breaks_off true open_) }
+
+  edge : {part : Part} {room : ℕ} {scope : Scope} {ts rest : List Token} {a : Formula} → Begins schema part room scope ts a rest → Edge part room scope ts a rest
+  edge (is_true {t = t} h) = inl (record { front = t ∷ []; split = refl; closed = λ others. is_true h })
+  edge (is_false {t = t} h) = inl (record { front = t ∷ []; split = refl; closed = λ others. is_false h })
+  edge (is_atom {t = t} {open_ = o} h opens r c) = let m = columns-cut schema c in inl (record { front = t ∷ o ∷ m.0; split = ap (λ (us : List Token). t ∷ o ∷ us) m.1; closed = λ others. is_atom h opens r (m.2 others) })
+  edge (is_equal {t = t} {sign = s} {u = u} h is k) = inl (record { front = t ∷ s ∷ u ∷ []; split = refl; closed = λ others. is_equal h is k })
+  edge (is_differs {t = t} {sign = s} {u = u} h is k) = inl (record { front = t ∷ s ∷ u ∷ []; split = refl; closed = λ others. is_differs h is k })
+  edge (is_not h a) = not-edge h (edge a)
+  edge (Grammar.in_parentheses {open_ = o} {rest = rest} h a c) = let p = parentheses-cut schema o rest h (begins-cut schema a) c in inl (record { front = p.0; split = p.2; closed = p.3 })
+  edge (is_forall q a e) = inr (e, body-edge (inl q.opens) q (edge a e))
+  edge (is_exists q a e) = inr (e, body-edge (inr q.opens) q (edge a e))
+  edge (one_and a) = and-edge (edge a)
+  edge (more_and a h b) = more_and-edge a h (edge b)
+  edge (one_or a) = or-edge (edge a)
+  edge (more_or a h b) = more_or-edge a h (edge b)
+  edge (no_arrow a) = λ may. side-edge (edge a)
+  edge (one_arrow a h b) = λ may. arrow-edge a h (edge b may)
+  edge (no_double_arrow a) = λ may. sentence-edge (edge a may)
+  edge (one_double_arrow a h b) = λ may. double_arrow-edge a h (edge b may)
+
+  -- a side was read, and this is left
+  record EndedSide (room : ℕ) (scope : Scope) (ts rest : List Token) : Type 0 where
+    behind : Behind implied room scope ts rest
     ends_side : EndsSide rest
+    no_double_arrow : behind.more false ≡ true → is_next symbols.DoubleArrow rest ≡ false
 
   abbrev EndsInside : ℕ → Type 0
   EndsInside zero = Unit {0}
   EndsInside (suc room) = (scope : Scope) (ts rest : List Token) (a : Formula) → implied_reader schema end room scope ts ≡ Ok (a, rest) → EndedSide room scope ts rest
 
+  no_arrow-behind : (rest : List Token) → MayEndQuantified rest → is_next symbols.DoubleArrow rest ≡ false
+  no_arrow-behind [] may = refl
+  no_arrow-behind (t ∷ ts) may = rw may refl
+
   alone-ended : (room : ℕ) (scope : Scope) (ts rest : List Token) (a : Formula) → Begins schema either room scope ts a rest → (is_next symbols.And rest ≡ false) × (is_next symbols.Or rest ≡ false) → is_next symbols.Arrow rest ≡ false → EndedSide room scope ts rest
-  alone-ended room scope ts rest a begins ends none =
-      let p = begins-alone schema begins in
-      record { front = p.0; inner = room; split = p.1; breaks_off = λ double open_. behind_last p.2; ends_side = record { no_and = ends.0; no_or = ends.1; no_arrow = none } }
+  alone-ended room scope ts rest a begins ends none = at (edge begins)
+    where
+      at : Closed either room scope ts a rest ⊎ (MayEndQuantified rest × Behind either room scope ts rest) → EndedSide room scope ts rest
+      at (inl f) = record { behind = side-edge {a = a} (inl f); ends_side = record { no_and = ends.0; no_or = ends.1; no_arrow = none }; no_double_arrow = λ more. absurd (cc) }
+      at (inr b) = record { behind = side-edge {a = a} (inr b); ends_side = record { no_and = ends.0; no_or = ends.1; no_arrow = none }; no_double_arrow = λ more. no_arrow-behind rest b.0 }
 
   implying-ended : (room : ℕ) → EndsInside room → (scope : Scope) (ts after rest : List Token) (a b : Formula) → Begins schema either room scope ts a after → (is_next symbols.And after ≡ false) × (is_next symbols.Or after ≡ false)
       → Reading.implying schema end (Reading.inside schema end room) scope a after ≡ Ok (b, rest) → EndedSide room scope ts rest
@@ -372,9 +467,8 @@ module _ (schema : DatabaseSchema) (end : Refusal) where
       at true e =
           let k = bind_ok (implied_reader schema end room scope us) _ (b, rest) (rw (e, Reading.implying) at h) in
           let right = below scope us k.0.1 k.0.0 k.1 in
-          let left = begins-before schema right.front k.0.1 begins right.split in
           moved (λ b rest. EndedSide (suc room) scope ts rest) (implication a k.0.0, k.0.1) (b, rest) k.2
-          (record { front = left.0; inner = right.inner; split = left.1; breaks_off = λ double open_. behind_arrow left.2 (is_symbol-IsSymbol symbols.Arrow t e) (right.breaks_off double open_); ends_side = right.ends_side })
+          (record { behind = arrow-edge begins (is_symbol-IsSymbol symbols.Arrow t e) right.behind; ends_side = right.ends_side; no_double_arrow = right.no_double_arrow })
       at false e = moved (λ b rest. EndedSide (suc room) scope ts rest) (a, t ∷ us) (b, rest) (rw (e, Reading.implying) at h) (alone-ended (suc room) scope ts (t ∷ us) a begins ends e)
 
   implied-ended : (room : ℕ) → EndsInside room → (scope : Scope) (ts rest : List Token) (a : Formula) → implied_reader schema end room scope ts ≡ Ok (a, rest) → EndedSide room scope ts rest
@@ -404,7 +498,7 @@ module _ (schema : DatabaseSchema) (end : Refusal) where
   sentence_reader room scope = Reading.sentence schema end (Reading.level_with schema end (Reading.inside schema end room)) scope
 
   one-sided : (room : ℕ) (scope : Scope) (ts rest : List Token) → EndedSide room scope ts rest → is_next symbols.DoubleArrow rest ≡ false → EndedSentence room scope ts rest
-  one-sided room scope ts rest s none = record { front = s.front; inner = s.inner; more = true; split = s.split; breaks_off = λ double open_. before_double_arrow (s.breaks_off true open_); ends_side = s.ends_side; no_double_arrow = λ more. none }
+  one-sided room scope ts rest s none = record { front = s.behind.front; inner = s.behind.inner; more = s.behind.more true; split = s.behind.split; breaks_off = λ double open_. before_double_arrow (s.behind.breaks_off true open_); ends_side = s.ends_side; no_double_arrow = λ more. none }
 
   equivalent-ended : (room : ℕ) (scope : Scope) (ts after rest : List Token) (a b : Formula) → implied_reader schema end room scope ts ≡ Ok (a, after)
       → Reading.equivalent_to schema end (Reading.level_with schema end (Reading.inside schema end room)) scope a after ≡ Ok (b, rest) → EndedSentence room scope ts rest
@@ -416,9 +510,9 @@ module _ (schema : DatabaseSchema) (end : Refusal) where
       at true e =
           let k = bind_ok (implied_reader schema end room scope us) _ (b, rest) (rw (e, Reading.equivalent_to) at h) in
           let right = side-ended room scope us k.0.1 k.0.0 k.1 in
-          let left = begins-before schema right.front k.0.1 ((sound schema end room).implied_sound scope ts (t ∷ us) a read) right.split in
+          let left = begins-before schema right.behind.front k.0.1 ((sound schema end room).implied_sound scope ts (t ∷ us) a read) right.behind.split in
           moved (λ b rest. EndedSentence room scope ts rest) (biconditional a k.0.0, k.0.1) (b, rest) k.2
-          (record { front = left.0; inner = right.inner; more = false; split = left.1; breaks_off = λ double open_. behind_double_arrow left.2 (is_symbol-IsSymbol symbols.DoubleArrow t e) (right.breaks_off false open_); ends_side = right.ends_side; no_double_arrow = λ more. absurd (cc) })
+          (record { front = left.0; inner = right.behind.inner; more = right.behind.more false; split = left.1; breaks_off = λ double open_. behind_double_arrow left.2 (is_symbol-IsSymbol symbols.DoubleArrow t e) (right.behind.breaks_off false open_); ends_side = right.ends_side; no_double_arrow = right.no_double_arrow })
       at false e = moved (λ b rest. EndedSentence room scope ts rest) (a, t ∷ us) (b, rest) (rw (e, Reading.equivalent_to) at h) (one-sided room scope ts (t ∷ us) (side-ended room scope ts (t ∷ us) a read) e)
 
   sentence-ended : (room : ℕ) (scope : Scope) (ts rest : List Token) (a : Formula) → sentence_reader room scope ts ≡ Ok (a, rest) → EndedSentence room scope ts rest
@@ -472,12 +566,14 @@ module _ (schema : DatabaseSchema) (end : Refusal) where
   implying-stopped room below double open_ scope ts [] a e begins h = never_ok (a, []) e h
   implying-stopped zero below double open_ scope ts (t ∷ us) a e begins h = at (is_symbol symbols.Arrow t) refl
     where
+      behind : too_deep t.start ≡ e → IsSymbol symbols.Arrow t → Closed either zero scope ts a (t ∷ us) ⊎ (MayEndQuantified (t ∷ us) × Behind either zero scope ts (t ∷ us)) → Stopped double open_ implied zero scope ts e
+      behind same is (inl f) = record { front = f.front; back = t ∷ us; wanted = behind_operand 0 double open_; split = f.split; breaks_off = behind_last f.closed; refuses = subst (λ e. Refuses schema end (behind_operand 0 double open_) (t ∷ us) e) same (no_room_behind is) }
+      behind same is (inr b) = let close : symbol_of t.text ≡ symbols.Close = b.0 in absurd (cc)
+
       at : (b : Bool) → is_symbol symbols.Arrow t ≡ b → Stopped double open_ implied zero scope ts e
       at true is =
           let refused = rw (is, Reading.implying) at h in
-          let same : too_deep t.start ≡ e = cc in
-          let p = begins-alone schema begins in
-          record { front = p.0; back = t ∷ us; wanted = behind_operand 0 double open_; split = p.1; breaks_off = behind_last p.2; refuses = subst (λ e. Refuses schema end (behind_operand 0 double open_) (t ∷ us) e) same (no_room_behind (is_symbol-IsSymbol symbols.Arrow t is)) }
+          behind (cc) (is_symbol-IsSymbol symbols.Arrow t is) (edge begins)
       at false is = never_ok (a, t ∷ us) e (rw (is, Reading.implying) at h)
   implying-stopped (suc room) below double open_ scope ts (t ∷ us) a e begins h = at (is_symbol symbols.Arrow t) refl
     where

@@ -104,6 +104,10 @@ pub data InColumns (schema : DatabaseSchema) (scope : Scope) : (first : Bool) �
   in_next : {first : Bool} {d e : ℕ} {ds : List ℕ} {t c : Token} {a : Term} {ts : List Token} {w : Wanted} → IsTerm schema scope t a d → IsSymbol symbols.Comma c
       → InColumns schema scope false (e ∷ ds) ts w → InColumns schema scope first (d ∷ e ∷ ds) (t ∷ c ∷ ts) w
 
+-- the tokens are such a part whatever follows them, since no quantified sentence ends it
+abbrev pub IsClosedPart : DatabaseSchema → Part → ℕ → Scope → List Token → Formula → Type 0
+IsClosedPart schema part room scope ts a = (others : List Token) → Begins schema part room scope (ts ++ others) a others
+
 -- The tokens begin such a part and break off in it or behind an operand that ends it, and this is wanted next.
 -- So many constructs may still be opened within these quantifiers; `double` says whether a `<->` may follow the part, `open_` whether a `(` is open.
 pub data BreaksOff (schema : DatabaseSchema) : (double open_ : Bool) → Part → ℕ → Scope → List Token → Wanted → Type 0 where
@@ -128,7 +132,7 @@ pub data BreaksOff (schema : DatabaseSchema) : (double open_ : Bool) → Part �
   before_arrow : {double open_ : Bool} {room : ℕ} {scope : Scope} {ts : List Token} {w : Wanted} → BreaksOff schema double open_ either room scope ts w → BreaksOff schema double open_ implied room scope ts w
   behind_arrow : {double open_ : Bool} {room : ℕ} {scope : Scope} {t : Token} {ts us : List Token} {a : Formula} {w : Wanted} → Begins schema either (suc room) scope ts a (t ∷ us) → IsSymbol symbols.Arrow t
       → BreaksOff schema double open_ implied room scope us w → BreaksOff schema double open_ implied (suc room) scope ts w
-  behind_last : {double open_ : Bool} {room : ℕ} {scope : Scope} {ts : List Token} {a : Formula} → Begins schema either room scope ts a [] → BreaksOff schema double open_ implied room scope ts (behind_operand room double open_)
+  behind_last : {double open_ : Bool} {room : ℕ} {scope : Scope} {ts : List Token} {a : Formula} → IsClosedPart schema either room scope ts a → BreaksOff schema double open_ implied room scope ts (behind_operand room double open_)
   before_double_arrow : {double open_ : Bool} {room : ℕ} {scope : Scope} {ts : List Token} {w : Wanted} → BreaksOff schema true open_ implied room scope ts w → BreaksOff schema double open_ whole room scope ts w
   behind_double_arrow : {double open_ : Bool} {room : ℕ} {scope : Scope} {t : Token} {ts us : List Token} {a : Formula} {w : Wanted} → Begins schema implied room scope ts a (t ∷ us) → IsSymbol symbols.DoubleArrow t
       → BreaksOff schema false open_ implied room scope us w → BreaksOff schema double open_ whole room scope ts w
