@@ -1,0 +1,77 @@
+-- What a case writes, and what its lines mean for its user.
+use Rattle.std.specs.Prelude.{◌≡◌, ◌⊎◌, ℕ, true, List, [], ◌∷◌, ◌++◌, length, Ok, Err}
+use Rattle.std.specs.List.{flat_map, AllByRecursion}
+use Rattle.cqe_base.specs.Schema.{Text}
+use Rattle.cqe_base.specs.History.{History}
+use Rattle.cqe_base.specs.Censor.{IsLegal, admitted}
+use Rattle.cqe_base.specs.Run.{Reply, Ending, want, kept, Event, ask, replies, final_history}
+use Rattle.cqe_base.specs.Transcript.{reply_text}
+use Rattle.cqe_base.specs.Hiding.{Hides}
+use Rattle.case_engine.specs.Script.{Script, script_schema, script_user, script_of}
+use Rattle.case_engine.specs.declared.case.CaseEnd.{CaseEnd}
+use Rattle.case_engine.specs.declared.case.CaseEnd.TheVariants.{Done, Script as Refused, ReadFault, WriteFault, Memory}
+
+-- the events of asks with these endings
+abbrev pub ask_events : List Text → List Ending → List Event
+ask_events [] endings = []
+ask_events (text ∷ asks) [] = []
+ask_events (text ∷ asks) (ending ∷ endings) = ask text ending ∷ ask_events asks endings
+
+-- an ask of a case keeps its entry or finds no memory
+abbrev pub IsKeptOrWant : Ending → Type 0
+IsKeptOrWant ending = (ending ≡ kept) ⊎ (ending ≡ want)
+
+-- the lines of replies, each with its line feed
+abbrev pub reply_lines : List Reply → List ℕ
+reply_lines told = flat_map (λ reply. reply_text reply ++ 10 ∷ []) told
+
+-- the replies to these asks of a script, with these endings, from the empty history
+abbrev pub case_replies : Script → List Text → List Ending → List Reply
+case_replies script asks endings = replies (script_schema script) script.facts (script_user script) [] (ask_events asks endings)
+
+-- the history with which these asks end
+abbrev pub case_history : Script → List Text → List Ending → History
+case_history script asks endings = final_history (script_schema script) script.facts (script_user script) [] (ask_events asks endings)
+
+-- what was written answers these asks of a script: one line for each, the replies of a run in which each ask keeps its entry or finds no memory;
+-- the history is legal, and where the user is admitted it hides his secrets
+pub record Answers (script : Script) (asks : List Text) (written : List ℕ) : Type 0 where
+  pub endings : List Ending
+  pub one_each : length endings ≡ length asks
+  pub kept_or_want : AllByRecursion IsKeptOrWant endings
+  pub lines : written ≡ reply_lines (case_replies script asks endings)
+  pub legal : IsLegal (script_schema script) script.facts (script_user script) (case_history script asks endings)
+  pub hides : admitted (script_schema script) script.facts (script_user script) ≡ true
+      → Hides (script_schema script) script.facts (script_user script) (case_history script asks endings)
+
+-- what was written is the beginning of lines that answer the first asks of a script
+pub record Begins (script : Script) (written : List ℕ) : Type 0 where
+  pub front : List Text
+  pub back : List Text
+  pub rest : List ℕ
+  pub asks : script.asks ≡ front ++ back
+  pub answered : Answers script front (written ++ rest)
+
+-- the bytes are a script, and what was appended to the old output answers all its asks
+pub record Completes (bytes old new : List ℕ) : Type 0 where
+  pub script : Script
+  pub read : script_of bytes ≡ Ok script
+  pub written : List ℕ
+  pub appended : new ≡ old ++ written
+  pub answers : Answers script script.asks written
+
+-- the bytes are a script, and what was appended begins such lines
+pub record Breaks (bytes old new : List ℕ) : Type 0 where
+  pub script : Script
+  pub read : script_of bytes ≡ Ok script
+  pub written : List ℕ
+  pub appended : new ≡ old ++ written
+  pub begins : Begins script written
+
+-- what each end of a case says of the bytes that were left before and after, and of the output before and after
+abbrev pub Ends : CaseEnd → List ℕ → List ℕ → List ℕ → List ℕ → Type 0
+Ends Done before after old new = (after ≡ []) × Completes before old new
+Ends (Refused refusal) before after old new = (script_of before ≡ Err refusal) × (new ≡ old)
+Ends ReadFault before after old new = new ≡ old
+Ends WriteFault before after old new = Breaks before old new
+Ends Memory before after old new = (new ≡ old) ⊎ Breaks before old new

@@ -1,0 +1,12 @@
+//! The case: a script with one user, read whole, checked, and answered.
+#![tactic(auto)]
+
+mod case;
+mod declaration;
+mod fact;
+mod refusal;
+mod script;
+mod statement;
+
+pub use case::{CaseEnd, run_case};
+pub use statement::Statement;

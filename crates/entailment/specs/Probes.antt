@@ -1,0 +1,39 @@
+-- A probe in memory, and what a verdict says of it.
+use Rattle.std.specs.Prelude.{◌≡◌, ◌≤◌, ◌+◌, ℕ, Bool, true, List, [], ◌∷◌, ◌++◌, Option, Some, None}
+use Rattle.std.specs.Borrow.{Bor}
+use Rattle.cqe_base.specs.declared.sentence.Sentence.{Sentence}
+use Rattle.cqe_base.specs.Schema.{DatabaseSchema}
+use Rattle.cqe_base.specs.Formula.{formula_of, nodes, is_sentence_of}
+use Rattle.cqe_base.specs.Entailment.{Signed, Entails, IsCountermodel}
+use Rattle.cqe_base.specs.Outcome.{Outcome, Follows, Open, Spent}
+use Rattle.entailment.specs.declared.Probe.{Probe}
+use Rattle.entailment.specs.declared.Verdict.{Verdict}
+use Rattle.entailment.specs.declared.Verdict.TheVariants as verdict
+
+-- the sentence or the negation that a reference with a sign means
+abbrev pub signed_at : Bor Sentence × Bool → Signed
+signed_at s = (formula_of s.0.now, s.1)
+
+abbrev pub premise_list : Option (Bor Sentence × Bool) → List Signed
+premise_list None = []
+premise_list (Some s) = signed_at s ∷ []
+
+-- the further premise of a probe, if it has one
+abbrev pub premise_of : Probe → List Signed
+premise_of probe = premise_list probe.premise
+
+-- the goal of a probe
+abbrev pub goal_of : Probe → Signed
+goal_of probe = signed_at probe.goal
+
+-- the outcome that a verdict is
+abbrev pub outcome_of : Verdict → Outcome
+outcome_of verdict.Follows = Follows
+outcome_of (verdict.Open world) = Open
+outcome_of verdict.Spent = Spent
+
+-- a verdict is true: the premises entail the goal, or the world that it carries is one in which they are true and the goal false
+abbrev pub IsTrueVerdict : DatabaseSchema → List Signed → Signed → Verdict → Type 0
+IsTrueVerdict schema premises goal verdict.Follows = Entails schema premises goal
+IsTrueVerdict schema premises goal (verdict.Open world) = IsCountermodel schema premises goal world
+IsTrueVerdict schema premises goal verdict.Spent = Unit {0}

@@ -1,0 +1,125 @@
+-- The first line of bytes, by where the first line feed stands.
+use Rattle.std.proofs.Common.{◌≡◌, ◌≢◌, ℕ, zero, suc, ◌+◌, ◌<◌, ◌≤◌, ◌==◌, true, false, List, [], ◌∷◌, ◌++◌, length, take, drop, get_or, refl, sym, ap, ◌∙◌, arith, append_assoc, length-append}
+use Rattle.std.specs.Prelude.{if◌then◌else◌, nat_lt}
+use Rattle.std.proofs.lemmas.Bool.Decides.{nat_tests}
+use Rattle.std.proofs.lemmas.List.{append-nil, take_all, drop_all, length-take-le, take-append-drop, get_or_append_left, drop_more}
+use Rattle.cqe_base.specs.Lines.{TextLine, lines_after, text_lines, is_too_long, without_return}
+use Rattle.line_protocol.specs.Feeds.{HasNoFeedBelow, HasFeedAt}
+use Rattle.line_protocol.specs.Reads.{TakesLine, BeginsTooLong, whole_line}
+
+-- what one more byte does
+lines_after-more : (line rest : List ℕ) (b : ℕ) → lines_after line (b ∷ rest) ≡ (if b == 10 then record { bytes = line; ended = true } ∷ lines_after [] rest else lines_after (line ++ b ∷ []) rest)
+lines_after-more [] rest b = refl
+lines_after-more (c ∷ line) rest b = refl
+
+-- a byte that is no line feed goes to the line
+lines_after-byte : (line rest : List ℕ) (b : ℕ) → b ≢ 10 → lines_after line (b ∷ rest) ≡ lines_after (line ++ b ∷ []) rest
+lines_after-byte line rest b other =
+    let differs : (b == 10) ≡ false = grind (arith, nat_tests) in
+    lines_after-more line rest b ∙ rw differs refl
+
+-- a line feed ends the line
+lines_after-feed : (line rest : List ℕ) (b : ℕ) → b ≡ 10 → lines_after line (b ∷ rest) ≡ record { bytes = line; ended = true } ∷ lines_after [] rest
+lines_after-feed line rest b same =
+    let equal : (b == 10) ≡ true = grind (arith, nat_tests) in
+    lines_after-more line rest b ∙ rw equal refl
+
+-- bytes without a line feed go to the line
+lines_after-skip : (line bytes : List ℕ) (n : ℕ) → n ≤ length bytes → HasNoFeedBelow n bytes → lines_after line bytes ≡ lines_after (line ++ take n bytes) (drop n bytes)
+lines_after-skip line bytes zero fits none = rw append-nil refl
+lines_after-skip line [] (suc n) fits none = absurd (omega arith)
+lines_after-skip line (b ∷ bytes) (suc n) fits none =
+    let others : HasNoFeedBelow n bytes = λ k h. none (suc k) (omega arith) in
+    let within : n ≤ length bytes = omega arith in
+    lines_after-byte line bytes b (none 0 (omega arith))
+    ∙ lines_after-skip (line ++ b ∷ []) bytes n within others
+    ∙ ap (λ (l : List ℕ). lines_after l (drop n bytes)) (append_assoc line (b ∷ []) (take n bytes))
+
+-- the lines of bytes without a line feed at their front
+text_lines-skip : (bytes : List ℕ) (n : ℕ) → n ≤ length bytes → HasNoFeedBelow n bytes → text_lines bytes ≡ lines_after (take n bytes) (drop n bytes)
+unfolding text_lines
+text_lines-skip bytes n fits none = lines_after-skip [] bytes n fits none
+
+-- more bytes bring no line feed to the front
+pub no_feed_before : (bytes left : List ℕ) (n : ℕ) → n ≤ length bytes → HasNoFeedBelow n bytes → HasNoFeedBelow n (bytes ++ left)
+no_feed_before bytes left n within none k below =
+    let same : get_or (bytes ++ left) k 0 ≡ get_or bytes k 0 = get_or_append_left bytes left 0 k (omega arith) in
+    rw same (none k below)
+
+-- nor do they move the first one
+pub feed_before : (bytes left : List ℕ) (n : ℕ) → HasFeedAt n bytes → HasFeedAt n (bytes ++ left)
+feed_before bytes left n feed =
+    let within : n < length bytes = feed.within in
+    record {
+      within = omega (arith, length-append bytes left);
+      feed = get_or_append_left bytes left 0 n within ∙ feed.feed;
+      first = no_feed_before bytes left n (omega arith) feed.first;
+    }
+
+-- a line that has begun is the first, with all that it has
+begun : (line bytes : List ℕ) → 4096 < length line → (first : TextLine) × (rest : List TextLine) × (lines_after line bytes ≡ first ∷ rest) × (is_too_long first ≡ true)
+begun [] bytes long = absurd (omega arith)
+begun (b ∷ line) [] long =
+    let too_long : nat_lt 4096 (length (b ∷ line)) ≡ true = grind (arith, nat_tests) in
+    (record { bytes = b ∷ line; ended = false }, [], refl, too_long)
+begun (b ∷ line) (c ∷ bytes) long =
+    elim (c == 10) as (λ t. (first : TextLine) × (rest : List TextLine) × ((if t then record { bytes = b ∷ line; ended = true } ∷ lines_after [] bytes else lines_after (b ∷ line ++ c ∷ []) bytes) ≡ first ∷ rest) × (is_too_long first ≡ true)) [
+      | true ↦
+          let too_long : nat_lt 4096 (length (b ∷ line)) ≡ true = grind (arith, nat_tests) in
+          (record { bytes = b ∷ line; ended = true }, lines_after [] bytes, refl, too_long)
+      | false ↦ begun (b ∷ line ++ c ∷ []) bytes (omega (arith, length-append (b ∷ line) (c ∷ [])))
+    ]
+
+-- the same lines are taken at equal bytes
+pub takes_at : (b b' a a' l l' : List ℕ) → TakesLine b a l → b' ≡ b → a' ≡ a → l' ≡ l → TakesLine b' a' l'
+takes_at b b' a a' l l' takes before after line = record {
+  first = takes.first;
+  lines = ap text_lines before ∙ takes.lines ∙ ap (λ (x : List ℕ). takes.first ∷ text_lines x) (sym after);
+  bytes = before ∙ takes.bytes ∙ ap (λ (x : List ℕ). whole_line takes.first ++ x) (sym after);
+  fits = takes.fits;
+  says = line ∙ takes.says;
+}
+
+-- a line that a line feed ends
+pub takes_first : (bytes : List ℕ) (n : ℕ) → HasFeedAt n bytes → n ≤ 4096 → TakesLine bytes (drop (n + 1) bytes) (without_return (take n bytes))
+unfolding text_lines
+takes_first bytes n feed fits =
+    let within : n < length bytes = feed.within in
+    let some : n ≤ length bytes = omega arith in
+    let here : get_or bytes n 0 ≡ 10 = feed.feed in
+    let split : drop n bytes ≡ get_or bytes n 0 ∷ drop (n + 1) bytes = drop_more bytes n 0 within in
+    let size : length (take n bytes) ≡ n = length-take-le n bytes some in
+    record {
+      first = record { bytes = take n bytes; ended = true };
+      lines =
+          text_lines-skip bytes n some feed.first
+          ∙ ap (λ (l : List ℕ). lines_after (take n bytes) l) split
+          ∙ lines_after-feed (take n bytes) (drop (n + 1) bytes) (get_or bytes n 0) here;
+      bytes = sym (take-append-drop n bytes) ∙ ap (λ (l : List ℕ). take n bytes ++ l) (split ∙ ap (λ (b : ℕ). b ∷ drop (n + 1) bytes) here) ∙ sym (append_assoc (take n bytes) (10 ∷ []) (drop (n + 1) bytes));
+      fits = grind (arith, nat_tests);
+      says = refl;
+    }
+
+-- a rest without a line feed
+pub takes_last : (bytes : List ℕ) → HasNoFeedBelow (length bytes) bytes → 0 < length bytes → length bytes ≤ 4096 → TakesLine bytes [] bytes
+unfolding text_lines
+takes_last [] none some fits = absurd (omega arith)
+takes_last (b ∷ bytes) none some fits =
+    let all : take (length bytes) bytes ≡ bytes = take_all (length bytes) bytes (omega arith) in
+    let none_left : drop (length bytes) bytes ≡ [] = drop_all (length bytes) bytes (omega arith) in
+    record {
+      first = record { bytes = b ∷ bytes; ended = false };
+      lines = text_lines-skip (b ∷ bytes) (length (b ∷ bytes)) (omega arith) none ∙ rw (all, none_left) refl;
+      bytes = sym (append-nil (b ∷ bytes)) ∙ ap (λ (l : List ℕ). l ++ []) (sym (append-nil (b ∷ bytes)));
+      fits = grind (arith, nat_tests);
+      says = refl;
+    }
+
+-- too many bytes without a line feed
+pub too_long : (bytes left : List ℕ) (n : ℕ) → n ≤ length bytes → HasNoFeedBelow n bytes → 4096 < n → BeginsTooLong (bytes ++ left)
+too_long bytes left n within none long =
+    let size : length (take n (bytes ++ left)) ≡ n = length-take-le n (bytes ++ left) (omega (arith, length-append bytes left)) in
+    let skipped : text_lines (bytes ++ left) ≡ lines_after (take n (bytes ++ left)) (drop n (bytes ++ left)) =
+    text_lines-skip (bytes ++ left) n (omega (arith, length-append bytes left)) (no_feed_before bytes left n within none) in
+    let has = begun (take n (bytes ++ left)) (drop n (bytes ++ left)) (omega arith) in
+    record { first = has.0; rest = has.1; lines = skipped ∙ has.2; too_long = has.3 }

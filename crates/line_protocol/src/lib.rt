@@ -1,0 +1,21 @@
+//! The line protocol of sessions: the lines of a source, the requests that they make, and the replies to them.
+//!
+//! However a source cuts its bytes, the lines are the same, and each is read as one request by a definition; a reply
+//! is written whole or the sink has failed. Nothing here takes memory.
+//!
+//! Read `lines`, which reads a line into a `LineBuffer`, then `request`, `reply` and `login`.
+#![tactic(auto)]
+
+mod line_text;
+mod lines;
+mod login;
+mod reply;
+mod request;
+#[cfg(test)]
+mod tests;
+pub mod words;
+
+pub use lines::{LineBuffer, LineOutcome, read_line};
+pub use login::login_ok;
+pub use reply::{Reply, write_reply};
+pub use request::{Request, read_request};

@@ -1,0 +1,70 @@
+// A short line that is put together without memory.
+ghost use Rattle.std.specs.Prelude.{◌≡◌, ◌+◌, ◌<◌, ◌≤◌, [], ◌∷◌, ◌++◌, length, decimal};
+
+use std::marker::Model;
+
+const ROOM: usize = 32;
+
+#[derive(Drop)]
+pub(crate) struct LineText {
+    bytes: [u8; ROOM],
+    length: usize,
+}
+
+impl Model for LineText {
+    ghost use Rattle.std.specs.Prelude.{ℕ, ◌≤◌, List, take};
+
+    ghost Value = { List ℕ };
+
+    ghost view = { λ t. take t.length t.bytes };
+
+    ghost invariant = { λ t. t.length ≤ 32 };
+}
+
+impl LineText {
+    pub(crate) fn new(text: &str) -> Self
+        requires { length text.now ≤ 32 }
+        ensures { result ≡ text.now }
+    {
+        let mut line = LineText {
+            bytes: [0; ROOM],
+            length: 0,
+        };
+        line.push(text);
+        line
+    }
+
+    pub(crate) fn bytes(&self) -> &[u8]
+        ensures { result.now ≡ self.now }
+    {
+        &self.bytes[..self.length]
+    }
+
+    pub(crate) fn push(&mut self, text: &str)
+        requires { length self.old + length text.now ≤ 32 }
+        ensures { self.new ≡ self.old ++ text.now }
+    {
+        let end = self.length + text.len();
+        self.bytes[self.length..end].copy_from_slice(text.as_bytes());
+        self.length = end;
+    }
+
+    fn push_byte(&mut self, byte: u8)
+        requires { length self.old < 32 }
+        ensures { self.new ≡ self.old ++ byte ∷ [] }
+    {
+        self.bytes[self.length] = byte;
+        self.length += 1;
+    }
+
+    // Appends the digits of a number.
+    pub(crate) fn push_decimal(&mut self, number: u32)
+        requires { length self.old + length (decimal number) ≤ 32 }
+        ensures { self.new ≡ self.old ++ decimal number }
+    {
+        if number >= 10 {
+            self.push_decimal(number / 10);
+        }
+        self.push_byte(b'0' + (number % 10) as u8);
+    }
+}

@@ -1,0 +1,79 @@
+// A disk: what its calls promise of the bytes that it reads, and of what a crash may leave.
+ghost use Rattle.std.specs.Prelude.{◌≡◌, ◌⊎◌, ◌<◌, ◌≤◌, ◌^◌, List, ℕ, length, IfOk, OnOk, OnErr};
+ghost use Rattle.outside.specs.Disk.{Holds, Fills, Torn, Follows, Only, Elapses};
+ghost use Rattle.outside.specs.Faults.{HasCause};
+
+use crate::Failed;
+
+/// Bytes that outlive the program. Between two syncs that succeed a crash may leave any bytes in each range that was
+/// written and past the old end; other bytes stay.
+///
+/// Each call says in its clause `time` that the images at the moments since an earlier one are those as the call began
+/// and those at the moments of the call, and in its clause `moments` what the latter are.
+pub trait Disk {
+    /// Whether clauses are told what the disk reads: over memory they are, over a real file they are not.
+    ghost told: { Type 0 };
+
+    /// The bytes that the disk reads, where clauses are told.
+    ghost reads: { Self → List ℕ };
+
+    /// The images: what a crash at this moment may leave. A disk that isn't told has none.
+    ghost image: { Self → List ℕ → Type 0 };
+
+    /// The clock, which doesn't fall.
+    ghost moment: { Self → ℕ };
+
+    /// The images at the moments since that one, during a call or between two.
+    ghost image_since: { Self → ℕ → List ℕ → Type 0 };
+
+    /// The count of faults, which doesn't fall.
+    ghost faults: { Self → ℕ };
+
+    /// How many bytes the disk has.
+    fn length(&mut self) -> Result<u64, Failed>
+        ensures length { told → IfOk result (λ n. n ≡ length (reads self.old)) }
+        ensures reads { reads self.new ≡ reads self.old }
+        ensures images { (c : List ℕ) → image self.new c → image self.old c }
+        ensures time { Elapses (moment self.old) (moment self.new) (image_since self.old) (image_since self.new) }
+        ensures moments { (c : List ℕ) → image_since self.new (moment self.old) c → image self.old c }
+        ensures cause { HasCause (faults self.old) (faults self.new) result };
+
+    /// Fills the piece from that place on, less only where the disk ends.
+    fn read_at(&mut self, at: u64, into: &mut [u8]) -> Result<usize, Failed>
+        ensures fits { IfOk result (λ n. n ≤ length into.old) }
+        ensures bytes { told → IfOk result (λ n. Fills (reads self.old) at n into.old into.new) }
+        ensures same_piece { told → OnErr result (into.new ≡ into.old) }
+        ensures reads { reads self.new ≡ reads self.old }
+        ensures images { (c : List ℕ) → image self.new c → image self.old c }
+        ensures time { Elapses (moment self.old) (moment self.new) (image_since self.old) (image_since self.new) }
+        ensures moments { (c : List ℕ) → image_since self.new (moment self.old) c → image self.old c }
+        ensures cause { HasCause (faults self.old) (faults self.new) result };
+
+    /// Writes the whole piece from that place on. Until a sync, a crash may leave any bytes in the range.
+    fn write_at(&mut self, at: u64, bytes: &[u8]) -> Result<(), Failed>
+        requires { told → at ≤ length (reads self.old) }
+        ensures written { told → OnOk result (Holds (reads self.old) at bytes.now (reads self.new)) }
+        ensures fits { told → OnOk result (length (reads self.new) < 2 ^ 64) }
+        ensures images { Follows (Torn at (length bytes.now)) (image self.old) (image self.new) }
+        ensures time { Elapses (moment self.old) (moment self.new) (image_since self.old) (image_since self.new) }
+        ensures moments { (c : List ℕ) → image_since self.new (moment self.old) c → image self.old c ⊎ image self.new c }
+        ensures cause { HasCause (faults self.old) (faults self.new) result };
+
+    /// After it, a crash leaves what a read gives.
+    fn sync(&mut self) -> Result<(), Failed>
+        ensures durable { OnOk result (Only (reads self.old) (image self.new)) }
+        ensures reads { reads self.new ≡ reads self.old }
+        ensures images { (c : List ℕ) → image self.new c → image self.old c }
+        ensures time { Elapses (moment self.old) (moment self.new) (image_since self.old) (image_since self.new) }
+        ensures moments { (c : List ℕ) → image_since self.new (moment self.old) c → image self.old c }
+        ensures cause { HasCause (faults self.old) (faults self.new) result };
+
+    /// A disk as it reads is one of its images.
+    ghost read_is_image: { (disk : Self) → told → image disk (reads disk) };
+
+    /// This moment is one of those since an earlier one.
+    ghost counts_now: { (disk : Self) (t : ℕ) (c : List ℕ) → t ≤ moment disk → image disk c → image_since disk t c };
+
+    /// Since this moment there is no other.
+    ghost only_now: { (disk : Self) (c : List ℕ) → image_since disk (moment disk) c → image disk c };
+}

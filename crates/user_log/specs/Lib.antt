@@ -1,0 +1,6 @@
+pub mod Replies
+pub mod Kept
+pub mod Asked
+pub mod UserLogs
+pub mod Nodes
+pub mod ViewSizes
