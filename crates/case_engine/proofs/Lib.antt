@@ -1,0 +1,4 @@
+pub mod Booleans
+pub mod Growth
+pub mod Closing
+pub mod Declaring

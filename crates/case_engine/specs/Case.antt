@@ -1,15 +1,15 @@
 -- What a case writes, and what its lines mean for its user.
-use Rattle.std.specs.Prelude.{◌≡◌, ◌⊎◌, ℕ, true, List, [], ◌∷◌, ◌++◌, length, Result, Ok, Err, map}
+use Rattle.std.specs.Prelude.{◌≡◌, ◌⊎◌, ℕ, true, List, [], ◌∷◌, ◌++◌, length, Ok, Err}
 use Rattle.std.specs.List.{flat_map, AllByRecursion}
-use lib.Pointwise.{pointwise}
-use Rattle.cqe_base.specs.Schema.{Text, DatabaseSchema}
-use Rattle.cqe_base.specs.Facts.{FactSet}
-use Rattle.cqe_base.specs.History.{UserProfile, History}
+use Rattle.cqe_base.specs.Schema.{Text}
+use Rattle.cqe_base.specs.History.{History}
 use Rattle.cqe_base.specs.Censor.{IsLegal, admitted}
-use Rattle.cqe_base.specs.Run.{Reply, Ending, want, kept, failed, Event, ask, replies, final_history}
+use Rattle.cqe_base.specs.Run.{Reply, Ending, want, kept, Event, ask, replies, final_history}
 use Rattle.cqe_base.specs.Transcript.{reply_text}
 use Rattle.cqe_base.specs.Hiding.{Hides}
-use Rattle.case_engine.specs.Script.{Script, script_schema, script_user}
+use Rattle.case_engine.specs.Script.{Script, script_schema, script_user, script_of}
+use Rattle.case_engine.specs.declared.case.CaseEnd.{CaseEnd}
+use Rattle.case_engine.specs.declared.case.CaseEnd.TheVariants.{Done, Script as Refused, ReadFault, WriteFault, Memory}
 
 -- the events of asks with these endings
 abbrev pub ask_events : List Text → List Ending → List Event
@@ -51,3 +51,27 @@ pub record Begins (script : Script) (written : List ℕ) : Type 0 where
   pub rest : List ℕ
   pub asks : script.asks ≡ front ++ back
   pub answered : Answers script front (written ++ rest)
+
+-- the bytes are a script, and what was appended to the old output answers all its asks
+pub record Completes (bytes old new : List ℕ) : Type 0 where
+  pub script : Script
+  pub read : script_of bytes ≡ Ok script
+  pub written : List ℕ
+  pub appended : new ≡ old ++ written
+  pub answers : Answers script script.asks written
+
+-- the bytes are a script, and what was appended begins such lines
+pub record Breaks (bytes old new : List ℕ) : Type 0 where
+  pub script : Script
+  pub read : script_of bytes ≡ Ok script
+  pub written : List ℕ
+  pub appended : new ≡ old ++ written
+  pub begins : Begins script written
+
+-- what each end of a case says of the bytes that were left before and after, and of the output before and after
+abbrev pub Ends : CaseEnd → List ℕ → List ℕ → List ℕ → List ℕ → Type 0
+Ends Done before after old new = (after ≡ []) × Completes before old new
+Ends (Refused refusal) before after old new = (script_of before ≡ Err refusal) × (new ≡ old)
+Ends ReadFault before after old new = new ≡ old
+Ends WriteFault before after old new = Breaks before old new
+Ends Memory before after old new = (new ≡ old) ⊎ Breaks before old new

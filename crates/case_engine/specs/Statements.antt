@@ -1,5 +1,5 @@
 -- What one line of a script says, by its shape alone.
-use Rattle.std.specs.Prelude.{◌==◌, ◌-◌, ℕ, ◌+◌, ◌*◌, Bool, true, false, ◌&&◌, ◌||◌, nat_le, List, [], ◌∷◌, length, take, fold, Option, Some, None, option_map, option_and_then, slice_get, if◌then◌else◌, codes, bytes_eq}
+use Rattle.std.specs.Prelude.{◌==◌, ◌-◌, ℕ, ◌+◌, ◌*◌, Bool, true, false, ◌&&◌, ◌||◌, nat_le, List, [], ◌∷◌, length, take, fold, map, filter, Option, Some, None, option_map, option_and_then, slice_get, if◌then◌else◌, codes, bytes_eq}
 use Rattle.std.specs.List.{list_all, list_any, before_first, after_first}
 use Rattle.std.specs.Char.{is_ascii_digit}
 use Rattle.cqe_base.specs.declared.user.Method.{Method}
@@ -8,6 +8,7 @@ use Rattle.cqe_base.specs.declared.text.Symbol.TheVariants.{Open, Close, Comma, 
 use Rattle.cqe_base.specs.Schema.{Text, Declaration, is_identifier}
 use Rattle.cqe_base.specs.Tokens.{Token, tokens, end_of_tokens, is_blank}
 use Rattle.cqe_base.specs.Reading.{is_symbol}
+use Rattle.line_protocol.specs.Words.{is_printable}
 
 -- what a line says
 pub data Statement : Type 0 where
@@ -31,22 +32,24 @@ is_comment (b ∷ rest) = b == 35
 abbrev pub is_silent : Text → Bool
 is_silent line = list_all is_blank line || is_comment line
 
--- a tab, or a byte from the space to the tilde
-abbrev pub is_printable : ℕ → Bool
-is_printable b = b == 9 || (nat_le 32 b && nat_le b 126)
-
 -- ---- declarations
 
 -- a letter, followed by letters, digits and `_`, of any length, and keywords too
 abbrev pub is_word : Token → Bool
 is_word t = is_identifier t.text
 
--- names with a comma between each two
+-- words with a comma between each two
+abbrev pub are_listed : List Token → Bool
+are_listed [] = false
+are_listed (t ∷ []) = is_word t
+are_listed (t ∷ comma ∷ rest) = is_word t && (is_symbol Comma comma && are_listed rest)
+
+-- the names of a list: its words
+abbrev pub listed_words : List Token → List Text
+listed_words ts = map (λ t. t.text) (filter is_word ts)
+
 abbrev pub listed_names : List Token → Option (List Text)
-listed_names [] = None
-listed_names (t ∷ []) = if is_word t then Some (t.text ∷ []) else None
-listed_names (t ∷ comma ∷ rest) =
-    if is_word t && is_symbol Comma comma then option_map (λ names. t.text ∷ names) (listed_names rest) else None
+listed_names ts = if are_listed ts then Some (listed_words ts) else None
 
 -- the same, or no name at all
 abbrev pub names_or_none : List Token → Option (List Text)

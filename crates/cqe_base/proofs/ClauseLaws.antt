@@ -1,5 +1,5 @@
 -- The laws of clause forms and refutations, from the lemmas.
-use Rattle.std.proofs.Common.{◌≡◌, ℕ, ◌+◌, ◌<◌, ◌≤◌, arith, Bool, true, false, cond, ◌||◌, List, [], ◌∷◌, ◌++◌, map, length, length-append, refl, sym, ap, ◌∙◌, subst, append_assoc}
+use Rattle.std.proofs.Common.{◌≡◌, ℕ, ◌+◌, ◌<◌, ◌≤◌, arith, append-nil, Bool, true, false, cond, ◌||◌, List, [], ◌∷◌, ◌++◌, map, length, length-append, refl, sym, ap, ◌∙◌, subst, append_assoc}
 use Rattle.std.specs.Prelude.{filter}
 use Rattle.std.specs.List.{list_any}
 use Rattle.std.specs.Ordering.{eq_by_cmp}
@@ -8,16 +8,16 @@ use Rattle.std.proofs.lemmas.Bool.{or_parts, or_from, both_ways}
 use Rattle.std.proofs.lemmas.List.Sums.{sum_by-cons}
 use Rattle.cqe_base.specs.declared.world.Fact.{Fact}
 use Rattle.cqe_base.specs.Facts.{fact_cmp}
-use Rattle.cqe_base.specs.Ground.{Ground, Grounds, ground_true, ground_false, ground_atom, ground_not, ground_all, ground_some, ground_implies, ground_iff, no_grounds, more_grounds}
+use Rattle.cqe_base.specs.Ground.{Ground, Grounds, ground_true, ground_false, ground_atom, ground_not, ground_all, ground_some, ground_implies, ground_iff, no_grounds, more_grounds, ground_nodes, part_nodes}
 use Rattle.cqe_base.specs.SignedGround.{SignedGround, all_signed_true}
-use Rattle.cqe_base.specs.GroundParts.{ground_nodes, nodes_of_parts, nodes_of_list}
+use Rattle.cqe_base.specs.GroundParts.{nodes_of_list}
 use Rattle.cqe_base.specs.Literal.{Positive, variable_of, ClausesBelow, HaveNoRepeat}
-use Rattle.cqe_base.specs.ClauseForm.{same_fact, NumberedFact, Numbering, is_numbered, numbering_after, numbering_after_parts, clauses_of, signed_literal, numbering_of, numbering_after_list, clauses_of_list, first_numbering, world_of}
-use Rattle.cqe_base.specs.MachineLaws.{ResolutionIsSound, RefutationIsSound, ModelsAreWorlds, ModelGivesWorld, ClauseFormIsPrefix, NumberingGoesOn, ClauseFormUsesItsVariables, ClauseFormHasNoRepeat, VariablesAreFew, NumberedFactsAreFew}
+use Rattle.cqe_base.specs.ClauseForm.{IsProper, NumberedOnce, same_fact, NumberedFact, Numbering, is_numbered, numbering_after, numbering_after_parts, clauses_of, signed_literal, numbering_of, numbering_after_list, clauses_of_list, first_numbering, world_of}
+use Rattle.cqe_base.specs.MachineLaws.{ResolutionIsSound, RefutationIsSound, ModelsAreWorlds, ModelGivesWorld, ClauseFormIsPrefix, NumberingGoesOn, NumberingsAreProper, NumberedFactsStay, ClauseFormUsesItsVariables, ClauseFormHasNoRepeat, VariablesAreFew, NumberedFactsAreFew}
 use Rattle.cqe_base.proofs.Worlds.{fact_cmp_total, tied_is, itself_tied}
 use Rattle.cqe_base.proofs.SameFact.{same_fact-true, same_fact-same}
 use Rattle.cqe_base.proofs.ClauseTruth.{IfResult, resolved_true, refutation_sound}
-use Rattle.cqe_base.proofs.Numberings.{IsProper, NumberedOnce, with_fact_cases, ClausesBelow-append, ClausesBelow-more, clauses-below, variables-grow, IsProper-after}
+use Rattle.cqe_base.proofs.Numberings.{with_fact_cases, ClausesBelow-append, ClausesBelow-more, clauses-below, variables-grow, IsProper-after}
 use Rattle.cqe_base.proofs.NoRepeats.{clauses-no_repeat, HaveNoRepeat-append}
 use Rattle.cqe_base.proofs.ClauseWorlds.{sign_of_fact, model_gives_signs, world_gives_model, signed_below, IsProper-first}
 
@@ -149,7 +149,7 @@ mutual
   variables-few (ground_implies a b) n = let h = variables-few a n in let k = variables-few b (numbering_after a n) in omega arith
   variables-few (ground_iff a b) n = let h = variables-few a n in let k = variables-few b (numbering_after a n) in omega arith
 
-  pub variables-few_parts : (parts : Grounds) (n : Numbering) → (numbering_after_parts parts n).variables ≤ n.variables + nodes_of_parts parts
+  pub variables-few_parts : (parts : Grounds) (n : Numbering) → (numbering_after_parts parts n).variables ≤ n.variables + part_nodes parts
   variables-few_parts no_grounds n = omega arith
   variables-few_parts (more_grounds a rest) n = let h = variables-few a n in let k = variables-few_parts rest (numbering_after a n) in omega arith
 
@@ -188,3 +188,40 @@ list_facts_fit (s ∷ rest) n h = list_facts_fit rest (numbering_after s.0 n) (f
 
 pub numbered_facts_are_few : NumberedFactsAreFew
 numbered_facts_are_few formulas = list_facts_fit formulas first_numbering (omega arith)
+
+-- ---- numberings
+
+pub numberings_are_proper : NumberingsAreProper
+numberings_are_proper formulas = list_proper formulas first_numbering IsProper-first
+
+-- a numbering with more facts
+abbrev MoreFacts : Numbering → Numbering → Type 0
+MoreFacts n m = (added : List NumberedFact) × (m.facts ≡ n.facts ++ added)
+
+more_then : (n m k : Numbering) → MoreFacts n m → MoreFacts m k → MoreFacts n k
+more_then n m k h i = (h.0 ++ i.0, i.1 ∙ ap (λ xs. xs ++ i.0) h.1 ∙ append_assoc n.facts h.0 i.0)
+
+no_more : (n : Numbering) → MoreFacts n n
+no_more n = ([], sym (append-nil n.facts))
+
+mutual
+  facts_stay : (a : Ground) (n : Numbering) → MoreFacts n (numbering_after a n)
+  facts_stay ground_true n = no_more n
+  facts_stay ground_false n = no_more n
+  facts_stay (ground_atom f) n = with_fact_cases n f (MoreFacts n) (λ _. no_more n) (λ _. (record { fact = f; number = n.variables } ∷ [], refl))
+  facts_stay (ground_not a) n = facts_stay a n
+  facts_stay (ground_all parts) n = facts_stay_parts parts n
+  facts_stay (ground_some parts) n = facts_stay_parts parts n
+  facts_stay (ground_implies a b) n = more_then n (numbering_after a n) (numbering_after b (numbering_after a n)) (facts_stay a n) (facts_stay b (numbering_after a n))
+  facts_stay (ground_iff a b) n = more_then n (numbering_after a n) (numbering_after b (numbering_after a n)) (facts_stay a n) (facts_stay b (numbering_after a n))
+
+  facts_stay_parts : (parts : Grounds) (n : Numbering) → MoreFacts n (numbering_after_parts parts n)
+  facts_stay_parts no_grounds n = no_more n
+  facts_stay_parts (more_grounds a rest) n = more_then n (numbering_after a n) (numbering_after_parts rest (numbering_after a n)) (facts_stay a n) (facts_stay_parts rest (numbering_after a n))
+
+list_facts_stay : (formulas : List SignedGround) (n : Numbering) → MoreFacts n (numbering_after_list formulas n)
+list_facts_stay [] n = no_more n
+list_facts_stay (s ∷ rest) n = more_then n (numbering_after s.0 n) (numbering_after_list rest (numbering_after s.0 n)) (facts_stay s.0 n) (list_facts_stay rest (numbering_after s.0 n))
+
+pub numbered_facts_stay : NumberedFactsStay
+numbered_facts_stay formulas more = subst (MoreFacts (numbering_of formulas)) (sym (numbering_goes_on formulas more)) (list_facts_stay more (numbering_of formulas))

@@ -4,7 +4,7 @@ use Rattle.std.specs.List.{list_all, AllByRecursion}
 use Rattle.std.proofs.lemmas.Bool.{or_cases, or_left, and_parts, and_from, both_ways, ne_eqb, eq-eqb}
 use Rattle.std.proofs.lemmas.List.Folds.{list_any-append, list_all-append}
 use Rattle.cqe_base.specs.declared.world.Fact.{Fact}
-use Rattle.cqe_base.specs.ClauseForm.{same_fact}
+use Rattle.cqe_base.specs.ClauseForm.{IsProper, same_fact}
 use Rattle.cqe_base.specs.Truth.{same_truth}
 use Rattle.cqe_base.specs.Ground.{Ground, Grounds, ground_true, ground_false, ground_atom, ground_not, ground_all, ground_some, ground_implies, ground_iff, no_grounds, more_grounds, true_ground}
 use Rattle.cqe_base.specs.SignedGround.{SignedGround, true_signed, all_signed_true}
@@ -14,7 +14,7 @@ use Rattle.std.specs.Prelude.{if◌then◌else◌}
 use Rattle.cqe_base.proofs.SameFact.{same_fact-true}
 use Rattle.cqe_base.proofs.ClauseTruth.{literal_true-opposite}
 use Rattle.cqe_base.proofs.ClauseMeaning.{and_clauses_true, or_clauses_true, iff_clauses_true, same_truth-same, Agrees, agrees_before, number_of-append_new, literal_means, same_truth_same_parts, and_same, or_same}
-use Rattle.cqe_base.proofs.Numberings.{IsProper, opposite_below, ClausesBelow-more, ClausesBelow-append, with_fact_cases, IsProper-after, IsProper-after_parts, variables-grow, variables-grow_parts, literal-below, literals-below, clauses-below, clauses-below_parts, number_below, number_of-append}
+use Rattle.cqe_base.proofs.Numberings.{proper_constant, proper_below, opposite_below, ClausesBelow-more, ClausesBelow-append, with_fact_cases, IsProper-after, IsProper-after_parts, variables-grow, variables-grow_parts, literal-below, literals-below, clauses-below, clauses-below_parts, number_below, number_of-append}
 
 -- the sign of a fact: its number's, or false where it has none
 abbrev pub sign_of_fact : List NumberedFact → (ℕ → Bool) → Fact → Bool
@@ -121,7 +121,7 @@ extend_fact world old f n p h =
     (λ unknown.
     let signs : ℕ → Bool = with_sign old n.variables (world f) in
     let below : SameBelow n.variables signs old = with_sign_below old n.variables (world f) in
-    let kept = agrees_kept world n.facts n.variables signs old p.facts below h in (
+    let kept = agrees_kept world n.facts n.variables signs old (proper_below n p) below h in (
       signs,
       record {
         below = below;
@@ -145,7 +145,7 @@ extends_node world old s1 n m cs node value p le below e t =
     let same = with_sign_below s1 m.variables value in
     record {
       below = λ v h. let h' : v < m.variables = omega arith in same v h' ∙ e.below v h;
-      agrees = agrees_kept world m.facts m.variables (with_sign s1 m.variables value) s1 p.facts same e.agrees;
+      agrees = agrees_kept world m.facts m.variables (with_sign s1 m.variables value) s1 (proper_below m p) same e.agrees;
       clauses = list_all-append (clause_true (with_sign s1 m.variables value)) cs node ∙ and_from _ _ (clauses_same m.variables (with_sign s1 m.variables value) s1 cs same below ∙ e.clauses) t;
     }
 
@@ -176,7 +176,7 @@ iff_node_true s1 v a b ha hb =
     ∙ same_truth-same _ _ (with_sign_at s1 v value ∙ sym (same_truth_same_parts _ _ _ _ (literal_same v signs s1 a same ha) (literal_same v signs s1 b same hb)))
 
 zero_kept : (old signs : ℕ → Bool) (n : Numbering) → IsProper n → SameBelow n.variables signs old → old 0 ≡ true → signs 0 ≡ true
-zero_kept old signs n p s z = s 0 p.constant ∙ z
+zero_kept old signs n p s z = s 0 (proper_constant n p) ∙ z
 
 mutual
   -- signs that agree with a world have an extension that makes a formula's clauses true
@@ -275,7 +275,7 @@ list_extension world old (s ∷ rest) n p z h t =
     (er.0, subst (λ cs. Extends world old er.0 n (numbering_after_list rest na) cs) (append_assoc (clauses_of s.0 n) ((signed_literal s n ∷ []) ∷ []) (clauses_of_list rest na)) all)
 
 pub IsProper-first : IsProper first_numbering
-IsProper-first = record { constant = omega arith; facts = tt; once = tt }
+IsProper-first = record { rising = omega arith; once = tt }
 
 -- a world that makes a list true gives signs that make its clause form true, and that are the world's at the numbered facts
 pub world_gives_model : (world : Fact → Bool) (formulas : List SignedGround) → all_signed_true world formulas ≡ true → (signs : ℕ → Bool) × (clauses_true signs (clause_form formulas) ≡ true) × Agrees world (numbering_of formulas).facts signs

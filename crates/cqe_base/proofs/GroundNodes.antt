@@ -1,11 +1,11 @@
 -- Grounding keeps the number of nodes.
-use Rattle.std.proofs.Common.{◌≡◌, ℕ, zero, suc, ◌+◌, ◌*◌, Bool, true, false, List, [], ◌∷◌, ◌++◌, length, map, refl, ap, ◌∙◌, arith}
+use Rattle.std.proofs.Common.{◌≡◌, ℕ, ◌+◌, ◌*◌, Bool, true, false, List, [], ◌∷◌, ◌++◌, length, map, refl, ap, ◌∙◌, arith}
 use Rattle.std.specs.Prelude.{if◌then◌else◌}
 use Rattle.std.proofs.lemmas.List.FromFn.{length-map-range_with_len}
 use Rattle.cqe_base.specs.declared.sentence.Constant.{Constant}
 use Rattle.cqe_base.specs.Schema.{DatabaseSchema, domain_size}
-use Rattle.cqe_base.specs.Formula.{Formula, verum, falsum, atom, equality, inequality, negation, conjunction, disjunction, implication, biconditional, universal, existential, nodes}
-use Rattle.cqe_base.specs.Truth.{constants_of, value_of, same_constant}
+use Rattle.cqe_base.specs.Formula.{verum, falsum, atom, equality, inequality, negation, conjunction, disjunction, implication, biconditional, universal, existential, nodes}
+use Rattle.cqe_base.specs.Truth.{constant_at, constants_of, value_of, same_constant}
 use Rattle.cqe_base.specs.Ground.{Ground, ground_true, ground_false, parts_of, grounded_at, ground_nodes, part_nodes, GroundingKeepsNodes}
 
 decided : (b : Bool) (yeah nay : Ground) → ground_nodes yeah ≡ 1 → ground_nodes nay ≡ 1 → ground_nodes (if b then yeah else nay) ≡ 1
@@ -27,7 +27,7 @@ equal_parts instance n same (x ∷ xs) =
 -- a quantifier written out
 instances : (schema : DatabaseSchema) (d : ℕ) (instance : Constant → Ground) (n : ℕ) → ((c : Constant) → ground_nodes (instance c) ≡ n) → 1 + part_nodes (parts_of (map instance (constants_of schema d))) ≡ 1 + domain_size schema d * n
 instances schema d instance n same =
-    ap (λ k. 1 + k) (equal_parts instance n same (constants_of schema d) ∙ ap (λ k. k * n) (length-map-range_with_len (λ i. record { domain = d; index = i }) 0 (domain_size schema d)))
+    ap (λ k. 1 + k) (equal_parts instance n same (constants_of schema d) ∙ ap (λ k. k * n) (length-map-range_with_len (constant_at d) 0 (domain_size schema d)))
 
 pub grounding_keeps_nodes : GroundingKeepsNodes
 grounding_keeps_nodes schema places verum = refl

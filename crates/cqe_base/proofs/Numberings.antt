@@ -7,20 +7,33 @@ use Rattle.cqe_base.specs.declared.world.Fact.{Fact}
 use Rattle.cqe_base.specs.ClauseForm.{same_fact}
 use Rattle.cqe_base.specs.Ground.{Ground, Grounds, ground_true, ground_false, ground_atom, ground_not, ground_all, ground_some, ground_implies, ground_iff, no_grounds, more_grounds}
 use Rattle.cqe_base.specs.Literal.{Literal, Positive, Negative, variable_of, opposite, has_literal, union, distinct_literals, ClauseBelow, ClausesBelow}
-use Rattle.cqe_base.specs.ClauseForm.{NumberedFact, Numbering, is_numbered, number_of, with_fact, with_node, numbering_after, numbering_after_parts, literal_of, literals_of, and_clauses, or_clauses, iff_clauses, clauses_of, clauses_of_parts}
+use Rattle.cqe_base.specs.ClauseForm.{NumbersRise, NumberedOnce, IsProper, NumberedFact, Numbering, is_numbered, number_of, with_fact, with_node, numbering_after, numbering_after_parts, literal_of, literals_of, and_clauses, or_clauses, iff_clauses, clauses_of, clauses_of_parts}
 use Rattle.cqe_base.proofs.ClauseTruth.{variable_of-opposite}
 use Rattle.cqe_base.proofs.SameFact.{same_fact-apart}
 
--- each fact of a list is numbered once
-abbrev pub NumberedOnce : List NumberedFact → Type 0
-NumberedOnce [] = Unit {0}
-NumberedOnce (e ∷ facts) = (is_numbered facts e.fact ≡ false) × NumberedOnce facts
+rising-le : (facts : List NumberedFact) (low high : ℕ) → NumbersRise low facts high → low ≤ high
+rising-le [] low high h = h
+rising-le (e ∷ facts) low high h = let le = h.0 in let rest = rising-le facts (e.number + 1) high h.1 in omega arith
 
--- the constant has a number, and so has each fact, once and below the next free one
-pub record IsProper (n : Numbering) : Type 0 where
-  pub constant : 0 < n.variables
-  pub facts : AllByRecursion (λ e. e.number < n.variables) n.facts
-  pub once : NumberedOnce n.facts
+rising-below : (facts : List NumberedFact) (low high : ℕ) → NumbersRise low facts high → AllByRecursion (λ e. e.number < high) facts
+rising-below [] low high h = tt
+rising-below (e ∷ facts) low high h = let rest = rising-le facts (e.number + 1) high h.1 in (omega arith, rising-below facts (e.number + 1) high h.1)
+
+rising-more : (facts : List NumberedFact) (low high more : ℕ) → high ≤ more → NumbersRise low facts high → NumbersRise low facts more
+rising-more [] low high more le h = omega arith
+rising-more (e ∷ facts) low high more le h = (h.0, rising-more facts (e.number + 1) high more le h.1)
+
+rising-push : (facts : List NumberedFact) (f : Fact) (low high : ℕ) → NumbersRise low facts high → NumbersRise low (facts ++ record { fact = f; number = high } ∷ []) (high + 1)
+rising-push [] f low high h = (h, omega arith)
+rising-push (e ∷ facts) f low high h = (h.0, rising-push facts f (e.number + 1) high h.1)
+
+-- the constant has a number
+pub proper_constant : (n : Numbering) → IsProper n → 0 < n.variables
+proper_constant n p = let le = rising-le n.facts 1 n.variables p.rising in omega arith
+
+-- and each fact, below the next free one
+pub proper_below : (n : Numbering) → IsProper n → AllByRecursion (λ e. e.number < n.variables) n.facts
+proper_below n p = rising-below n.facts 1 n.variables p.rising
 
 -- what holds after a fact was numbered, in both cases
 pub with_fact_cases : (n : Numbering) (f : Fact) (P : Numbering → Type 0) → (is_numbered n.facts f ≡ true → P n) → (is_numbered n.facts f ≡ false → P (record { variables = n.variables + 1; facts = n.facts ++ record { fact = f; number = n.variables } ∷ [] })) → P (with_fact n f)
@@ -42,16 +55,8 @@ mutual
   variables-grow_parts no_grounds n = omega arith
   variables-grow_parts (more_grounds a rest) n = let h = variables-grow a n in let k = variables-grow_parts rest (numbering_after a n) in omega arith
 
-facts_below : (es : List NumberedFact) (k m : ℕ) → k ≤ m → AllByRecursion (λ e. e.number < k) es → AllByRecursion (λ e. e.number < m) es
-facts_below [] k m le h = h
-facts_below (e ∷ es) k m le h = let x : e.number < k = h.0 in (omega arith, facts_below es k m le h.1)
-
-one_more_fact : (es : List NumberedFact) (e : NumberedFact) (m : ℕ) → e.number < m → AllByRecursion (λ e. e.number < m) es → AllByRecursion (λ e. e.number < m) (es ++ e ∷ [])
-one_more_fact [] e m here h = (here, h)
-one_more_fact (d ∷ es) e m here h = (h.0, one_more_fact es e m here h.1)
-
 pub proper_node : (n : Numbering) → IsProper n → IsProper (with_node n)
-proper_node n p = record { constant = omega arith; facts = facts_below n.facts n.variables (n.variables + 1) (omega arith) p.facts; once = p.once }
+proper_node n p = record { rising = rising-more n.facts 1 n.variables (n.variables + 1) (omega arith) p.rising; once = p.once }
 
 -- the other facts aren't a fact that is new
 not_numbered-push : (es : List NumberedFact) (f g : Fact) (v : ℕ) → is_numbered es g ≡ false → same_fact g f ≡ false → is_numbered (es ++ record { fact = f; number = v } ∷ []) g ≡ false
@@ -68,8 +73,7 @@ NumberedOnce-push (e ∷ es) f v once new =
 proper_fact : (n : Numbering) (f : Fact) → IsProper n → IsProper (with_fact n f)
 proper_fact n f p =
     with_fact_cases n f IsProper (λ _. p) (λ new. record {
-      constant = omega arith;
-      facts = one_more_fact n.facts _ (n.variables + 1) (omega arith) (facts_below n.facts n.variables (n.variables + 1) (omega arith) p.facts);
+      rising = rising-push n.facts f 1 n.variables p.rising;
       once = NumberedOnce-push n.facts f n.variables p.once new;
     })
 
@@ -109,13 +113,13 @@ number_next (e ∷ es) f next unknown =
 pub fact_below : (n : Numbering) (f : Fact) → IsProper n → number_of n.facts f n.variables < (with_fact n f).variables
 fact_below n f p =
     with_fact_cases n f (λ m. number_of n.facts f n.variables < m.variables)
-    (λ known. number_below n.facts f n.variables n.variables known p.facts)
+    (λ known. number_below n.facts f n.variables n.variables known (proper_below n p))
     (λ unknown. let e = number_next n.facts f n.variables unknown in omega arith)
 
 -- the literal of a formula uses a variable that the walk has taken
 pub literal-below : (a : Ground) (n : Numbering) → IsProper n → variable_of (literal_of a n) < (numbering_after a n).variables
-literal-below ground_true n p = p.constant
-literal-below ground_false n p = p.constant
+literal-below ground_true n p = proper_constant n p
+literal-below ground_false n p = proper_constant n p
 literal-below (ground_atom f) n p = fact_below n f p
 literal-below (ground_not a) n p = let h = literal-below a n p in rw variable_of-opposite h
 literal-below (ground_all parts) n p = omega arith

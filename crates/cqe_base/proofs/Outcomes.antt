@@ -1,5 +1,5 @@
 -- What the outcome of a probe tells.
-use Rattle.std.proofs.Common.{◌≡◌, ℕ, Bool, true, false, cond, not, ◌&&◌, List, [], ◌∷◌, map, Option, Some, None, refl, sym, ap, ◌∙◌, subst}
+use Rattle.std.proofs.Common.{◌++◌, ◌≡◌, ℕ, Bool, true, false, cond, not, ◌&&◌, List, [], ◌∷◌, map, Option, Some, None, refl, sym, ap, ◌∙◌, subst}
 use Rattle.std.specs.List.{AllByRecursion}
 use Rattle.std.specs.FinSet as set
 use Rattle.std.proofs.lemmas.Bool.{and_parts, and_from, both_ways}
@@ -18,13 +18,13 @@ use Rattle.cqe_base.specs.ClauseForm.{same_fact, NumberedFact, clause_form, numb
 use Rattle.cqe_base.specs.Refutation.{RefutationLine, is_refutation, is_model}
 use Rattle.cqe_base.specs.Machine.{End, Model, Refuted, end_within_budget}
 use Rattle.cqe_base.specs.Outcome.{Follows, Open, Spent, outcome_of_end, probe_list, grounded_signed, grounded_probe, ground_outcome, outcome, OpenHasCountermodel, FollowsEntails}
-use Rattle.cqe_base.specs.MachineLaws.{GroundEntails, GroundFollowsEntails, GroundOpenIsOpen, RefutationEntails, ModelIsCountermodel}
+use Rattle.cqe_base.specs.MachineLaws.{GroundEntails, GroundFollowsEntails, GroundOpenIsOpen, RefutationEntails, ModelIsCountermodel, NumberedFactsAreOfSchema}
 use Rattle.cqe_base.proofs.Grounding.{grounding_keeps_truth}
 use Rattle.cqe_base.proofs.SameFact.{same_fact-true}
 use Rattle.cqe_base.proofs.ClauseTruth.{refutation_sound}
 use Rattle.cqe_base.proofs.ClauseWorlds.{sign_of_fact, world_gives_model}
 use Rattle.cqe_base.proofs.ClauseLaws.{model_gives_world, world_of-sign}
-use Rattle.cqe_base.proofs.Occurrences.{EachNumbered, each_append, each_listed, each_passing, grounded_facts_are_of_schema}
+use Rattle.cqe_base.proofs.Occurrences.{EachNumbered, each_append, each_listed, each_passing, passing_each, grounded_facts_are_of_schema}
 
 -- ---- what the end of a search shows
 
@@ -120,17 +120,33 @@ pub refutation_entails : RefutationEntails
 refutation_entails schema premises goal lines right =
     grounded_entails schema premises goal (refuted_entails (map (grounded_signed schema) premises) (grounded_signed schema goal) lines right)
 
--- the facts of a probe of sentences are of the schema
-probe_of_schema : (schema : DatabaseSchema) (premises : List Signed) (goal : Signed) → is_valid_schema schema ≡ true → are_sentences_of schema premises ≡ true → is_sentence_of schema goal.0 ≡ true
-    → AllByRecursion (λ f. is_fact_of schema f ≡ true) (facts_in_list (grounded_probe schema premises goal))
-probe_of_schema schema [] goal valid all well =
-    each_append (λ f. is_fact_of schema f ≡ true) (facts_in (grounded schema goal.0)) []
-    (each_passing (is_fact_of schema) (facts_in (grounded schema goal.0)) (grounded_facts_are_of_schema schema goal.0 valid well)) tt
-probe_of_schema schema (s ∷ premises) goal valid all well =
-    let parts = and_parts (is_sentence_of schema s.0) (are_sentences_of schema premises) all in
-    each_append (λ f. is_fact_of schema f ≡ true) (facts_in (grounded schema s.0)) (facts_in_list (grounded_probe schema premises goal))
+-- the facts of grounded sentences are of the schema
+sentences_of_schema : (schema : DatabaseSchema) (sentences : List Signed) → is_valid_schema schema ≡ true → are_sentences_of schema sentences ≡ true
+    → AllByRecursion (λ f. is_fact_of schema f ≡ true) (facts_in_list (map (grounded_signed schema) sentences))
+sentences_of_schema schema [] valid all = tt
+sentences_of_schema schema (s ∷ sentences) valid all =
+    let parts = and_parts (is_sentence_of schema s.0) (are_sentences_of schema sentences) all in
+    each_append (λ f. is_fact_of schema f ≡ true) (facts_in (grounded schema s.0)) (facts_in_list (map (grounded_signed schema) sentences))
     (each_passing (is_fact_of schema) (facts_in (grounded schema s.0)) (grounded_facts_are_of_schema schema s.0 valid parts.0))
-    (probe_of_schema schema premises goal valid parts.1 well)
+    (sentences_of_schema schema sentences valid parts.1)
+
+numbered_of_schema : (schema : DatabaseSchema) (sentences : List Signed) → is_valid_schema schema ≡ true → are_sentences_of schema sentences ≡ true
+    → EachNumbered (λ f. is_fact_of schema f ≡ true) (numbering_of (map (grounded_signed schema) sentences)).facts
+numbered_of_schema schema sentences valid all =
+    each_listed (λ f. is_fact_of schema f ≡ true) (map (grounded_signed schema) sentences) first_numbering tt (sentences_of_schema schema sentences valid all)
+
+pub numbered_facts_are_of_schema : NumberedFactsAreOfSchema
+numbered_facts_are_of_schema schema sentences valid all =
+    passing_each (λ e. is_fact_of schema e.fact) (numbering_of (map (grounded_signed schema) sentences)).facts (numbered_of_schema schema sentences valid all)
+
+-- what a probe adds are the grounded premises and the grounded negation of the goal
+probe_grounded : (schema : DatabaseSchema) (premises : List Signed) (goal : Signed) → map (grounded_signed schema) (premises ++ (goal.0, not goal.1) ∷ []) ≡ grounded_probe schema premises goal
+probe_grounded schema [] goal = refl
+probe_grounded schema (s ∷ premises) goal = ap (λ list. grounded_signed schema s ∷ list) (probe_grounded schema premises goal)
+
+probe_sentences : (schema : DatabaseSchema) (premises : List Signed) (goal : Signed) → are_sentences_of schema premises ≡ true → is_sentence_of schema goal.0 ≡ true → are_sentences_of schema (premises ++ (goal.0, not goal.1) ∷ []) ≡ true
+probe_sentences schema premises goal all well =
+    list_all-append (λ (s : Signed). is_sentence_of schema s.0) premises ((goal.0, not goal.1) ∷ []) ∙ and_from _ _ all (and_from _ _ well refl)
 
 -- a fact with a true sign is one that has a number
 signed_of_schema : (P : Fact → Type 0) (facts : List NumberedFact) (signs : ℕ → Bool) (f : Fact) → EachNumbered P facts → sign_of_fact facts signs f ≡ true → P f
@@ -146,11 +162,12 @@ model_is_countermodel schema premises goal signs valid all well right =
     let formulas = grounded_probe schema premises goal in
     let world : FactSet = world_of (numbering_of formulas).facts (sign_at signs) in
     let opens = model_opens (map (grounded_signed schema) premises) (grounded_signed schema goal) signs right in
-    let listed : AllByRecursion (λ f. is_fact_of schema f ≡ true) (facts_in_list formulas) = probe_of_schema schema premises goal valid all well in
+    let numbered : EachNumbered (λ f. is_fact_of schema f ≡ true) (numbering_of formulas).facts =
+    subst (λ list. EachNumbered (λ f. is_fact_of schema f ≡ true) (numbering_of list).facts) (probe_grounded schema premises goal)
+    (numbered_of_schema schema (premises ++ (goal.0, not goal.1) ∷ []) valid (probe_sentences schema premises goal all well)) in
     record {
       of_schema = λ fact within.
-          signed_of_schema (λ f. is_fact_of schema f ≡ true) (numbering_of formulas).facts (sign_at signs) fact
-          (each_listed (λ f. is_fact_of schema f ≡ true) formulas first_numbering tt listed)
+          signed_of_schema (λ f. is_fact_of schema f ≡ true) (numbering_of formulas).facts (sign_at signs) fact numbered
           (sym (world_of-sign formulas (sign_at signs) fact) ∙ within);
       premises_true = sym (all_grounded_true schema world premises) ∙ opens.0;
       goal_false = sym (grounded_true schema world goal) ∙ opens.1;

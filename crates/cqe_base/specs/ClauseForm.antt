@@ -1,5 +1,5 @@
 -- The clause form of a list of signed ground formulas: numbered clauses over numbered variables.
-use Rattle.std.specs.Prelude.{ℕ, ◌+◌, Bool, true, false, ◌&&◌, ◌==◌, if◌then◌else◌, List, [], ◌∷◌, ◌++◌, map, filter, bytes_eq}
+use Rattle.std.specs.Prelude.{◌≡◌, ⊤, ℕ, ◌≤◌, ◌+◌, Bool, true, false, ◌&&◌, ◌==◌, if◌then◌else◌, List, [], ◌∷◌, ◌++◌, map, filter, bytes_eq}
 use Rattle.std.specs.List.{list_any}
 use Rattle.std.specs.FinSet as set
 use Rattle.cqe_base.specs.declared.world.Fact.{Fact}
@@ -34,6 +34,21 @@ is_numbered facts fact = list_any (λ e. same_fact fact e.fact) facts
 abbrev pub number_of : List NumberedFact → Fact → ℕ → ℕ
 number_of [] fact next = next
 number_of (e ∷ facts) fact next = if same_fact fact e.fact then e.number else number_of facts fact next
+
+-- the numbers of facts rise, from `low` on and below `high`
+abbrev pub NumbersRise : ℕ → List NumberedFact → ℕ → Type 0
+NumbersRise low [] high = low ≤ high
+NumbersRise low (e ∷ facts) high = (low ≤ e.number) × NumbersRise (e.number + 1) facts high
+
+-- each fact of a list is numbered once
+abbrev pub NumberedOnce : List NumberedFact → Type 0
+NumberedOnce [] = ⊤
+NumberedOnce (e ∷ facts) = (is_numbered facts e.fact ≡ false) × NumberedOnce facts
+
+-- each fact is numbered once, and each number is used once: it isn't that of the constant, and below the next free one
+pub record IsProper (n : Numbering) : Type 0 where
+  pub rising : NumbersRise 1 n.facts n.variables
+  pub once : NumberedOnce n.facts
 
 -- the fact has a number: its own, or the next free one
 abbrev pub with_fact : Numbering → Fact → Numbering

@@ -1,5 +1,5 @@
 -- The fact that a text states.
-use Rattle.std.specs.Prelude.{Bool, true, false, List, [], map, Option, Some, None, Result, Ok, Err, if◌then◌else◌}
+use Rattle.std.specs.Prelude.{[], map, Option, Some, None, Result, Ok, Err, if◌then◌else◌}
 use Rattle.cqe_base.specs.declared.world.Fact.{Fact}
 use Rattle.cqe_base.specs.declared.text.Symbol.TheVariants.{Open}
 use Rattle.cqe_base.specs.Schema.{DatabaseSchema, Text}

@@ -1,25 +1,9 @@
--- The nodes of a ground formula, and the facts that occur in it.
-use Rattle.std.specs.Prelude.{ℕ, ◌+◌, List, [], ◌∷◌, ◌++◌, sum_by}
+-- The facts that occur in ground formulas, and the nodes of a list of them.
+use Rattle.std.specs.Prelude.{ℕ, List, [], ◌∷◌, ◌++◌, sum_by}
 use Rattle.std.specs.List.{flat_map}
 use Rattle.cqe_base.specs.declared.world.Fact.{Fact}
-use Rattle.cqe_base.specs.Ground.{Ground, Grounds, ground_true, ground_false, ground_atom, ground_not, ground_all, ground_some, ground_implies, ground_iff, no_grounds, more_grounds}
+use Rattle.cqe_base.specs.Ground.{Ground, Grounds, ground_true, ground_false, ground_atom, ground_not, ground_all, ground_some, ground_implies, ground_iff, no_grounds, more_grounds, ground_nodes}
 use Rattle.cqe_base.specs.SignedGround.{SignedGround}
-
--- how many nodes a ground formula has, and how many some have together
-abbrev mutual
-  pub ground_nodes : Ground → ℕ
-  ground_nodes ground_true = 1
-  ground_nodes ground_false = 1
-  ground_nodes (ground_atom fact) = 1
-  ground_nodes (ground_not a) = 1 + ground_nodes a
-  ground_nodes (ground_all parts) = 1 + nodes_of_parts parts
-  ground_nodes (ground_some parts) = 1 + nodes_of_parts parts
-  ground_nodes (ground_implies a b) = 1 + ground_nodes a + ground_nodes b
-  ground_nodes (ground_iff a b) = 1 + ground_nodes a + ground_nodes b
-
-  pub nodes_of_parts : Grounds → ℕ
-  nodes_of_parts no_grounds = 0
-  nodes_of_parts (more_grounds a rest) = ground_nodes a + nodes_of_parts rest
 
 -- the nodes of signed ground formulas
 abbrev pub nodes_of_list : List SignedGround → ℕ

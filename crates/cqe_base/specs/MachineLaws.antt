@@ -1,5 +1,5 @@
 -- The laws of clause forms, refutations and the search machine, as statements. Each is proved as the contract of a function of its own.
-use Rattle.std.specs.Prelude.{◌≡◌, ◌↔◌, ℕ, ◌+◌, ◌*◌, ◌^◌, ◌<◌, ◌≤◌, Bool, true, false, List, ◌++◌, length, Some, Contains}
+use Rattle.std.specs.Prelude.{◌≡◌, map, ◌↔◌, ℕ, ◌+◌, ◌*◌, ◌^◌, ◌<◌, ◌≤◌, Bool, true, false, List, ◌++◌, length, Some, Contains}
 use Rattle.std.specs.List.{list_all}
 use Rattle.std.specs.FinSet as set
 use Rattle.cqe_base.specs.declared.world.Fact.{Fact}
@@ -11,10 +11,10 @@ use Rattle.cqe_base.specs.SignedGround.{SignedGround, true_signed, all_signed_tr
 use Rattle.cqe_base.specs.GroundParts.{facts_in, facts_in_list, nodes_of_list}
 use Rattle.cqe_base.specs.Entailment.{Signed, Entails, IsCountermodel, are_sentences_of}
 use Rattle.cqe_base.specs.Literal.{Literal, sign_at, clause_true, clauses_true, ClausesBelow, HaveNoRepeat}
-use Rattle.cqe_base.specs.ClauseForm.{NumberedFact, clause_form, numbering_of, numbering_after_list, clauses_of_list, world_of}
+use Rattle.cqe_base.specs.ClauseForm.{NumberedFact, IsProper, clause_form, numbering_of, numbering_after_list, clauses_of_list, world_of}
 use Rattle.cqe_base.specs.Refutation.{RefutationLine, single_resolvent, is_refutation, is_model}
 use Rattle.cqe_base.specs.Machine.{End, Ended, MachineEnds, end_within_budget}
-use Rattle.cqe_base.specs.Outcome.{Follows, Open, Spent, ground_outcome, grounded_probe, is_right_end, probe_list}
+use Rattle.cqe_base.specs.Outcome.{Follows, Open, Spent, ground_outcome, grounded_signed, grounded_probe, is_right_end, probe_list}
 
 -- ---- refutations
 
@@ -65,6 +65,16 @@ abbrev pub NumberingGoesOn : Type 0
 NumberingGoesOn =
     (formulas more : List SignedGround) → numbering_of (formulas ++ more) ≡ numbering_after_list more (numbering_of formulas)
 
+-- the facts that a list numbers are the first of those that each longer list numbers
+abbrev pub NumberedFactsStay : Type 0
+NumberedFactsStay =
+    (formulas more : List SignedGround)
+    → (added : List NumberedFact) × ((numbering_of (formulas ++ more)).facts ≡ (numbering_of formulas).facts ++ added)
+
+-- a list numbers each fact once, and uses each number once
+abbrev pub NumberingsAreProper : Type 0
+NumberingsAreProper = (formulas : List SignedGround) → IsProper (numbering_of formulas)
+
 -- the variables of a clause form are below the number of its numbering
 abbrev pub ClauseFormUsesItsVariables : Type 0
 ClauseFormUsesItsVariables =
@@ -95,6 +105,13 @@ GroundedFactsAreOfSchema =
     (schema : DatabaseSchema) (sentence : Formula)
     → is_valid_schema schema ≡ true → is_sentence_of schema sentence ≡ true
     → list_all (is_fact_of schema) (facts_in (grounded schema sentence)) ≡ true
+
+-- and so are the facts that a list of grounded sentences numbers
+abbrev pub NumberedFactsAreOfSchema : Type 0
+NumberedFactsAreOfSchema =
+    (schema : DatabaseSchema) (sentences : List Signed)
+    → is_valid_schema schema ≡ true → are_sentences_of schema sentences ≡ true
+    → list_all (λ e. is_fact_of schema e.fact) (numbering_of (map (grounded_signed schema) sentences)).facts ≡ true
 
 -- ---- the machine
 

@@ -1,5 +1,5 @@
 // Laws of clause forms, refutations and the search machine. Each function computes nothing: its clause is the law.
-ghost use Rattle.cqe_base.specs.MachineLaws.{ResolutionIsSound, RefutationIsSound, ModelsAreWorlds, ModelGivesWorld, ClauseFormIsPrefix, NumberingGoesOn, ClauseFormUsesItsVariables, ClauseFormHasNoRepeat, VariablesAreFew, NumberedFactsAreFew, NumberedFactsOccur, GroundedFactsAreOfSchema, MachineHasOneEnd, BudgetIsWholeCost, MachineEndsWithinBound, MachineEndsAreRight, GroundFollowsEntails, GroundOpenIsOpen, RefutationEntails, ModelIsCountermodel, SpentIsCost, EnoughIsNeverSpent};
+ghost use Rattle.cqe_base.specs.MachineLaws.{ResolutionIsSound, RefutationIsSound, ModelsAreWorlds, ModelGivesWorld, ClauseFormIsPrefix, NumberingGoesOn, NumberingsAreProper, NumberedFactsStay, NumberedFactsAreOfSchema, ClauseFormUsesItsVariables, ClauseFormHasNoRepeat, VariablesAreFew, NumberedFactsAreFew, NumberedFactsOccur, GroundedFactsAreOfSchema, MachineHasOneEnd, BudgetIsWholeCost, MachineEndsWithinBound, MachineEndsAreRight, GroundFollowsEntails, GroundOpenIsOpen, RefutationEntails, ModelIsCountermodel, SpentIsCost, EnoughIsNeverSpent};
 ghost use Rattle.cqe_base.specs.Trace.{WorkedTrace};
 
 /// The resolvent of two true clauses is true.
@@ -115,4 +115,19 @@ pub fn law_enough_is_never_spent()
 /// The worked run, with its clauses, ends and whole costs.
 pub fn law_worked_trace()
     ensures { WorkedTrace }
+{}
+
+/// The facts that a list numbers are the first of those that each longer list numbers.
+pub fn law_numbered_facts_stay()
+    ensures { NumberedFactsStay }
+{}
+
+/// A list numbers each fact once, and uses each number once.
+pub fn law_numberings_are_proper()
+    ensures { NumberingsAreProper }
+{}
+
+/// The facts that a list of grounded sentences of a valid schema numbers are facts of the schema.
+pub fn law_numbered_facts_are_of_schema()
+    ensures { NumberedFactsAreOfSchema }
 {}

@@ -4,13 +4,7 @@ use Rattle.std.specs.List.{range_with_len}
 use Rattle.std.proofs.lemmas.List.{map-append}
 use Rattle.std.proofs.lemmas.List.FromFn.{map-range_with_len_more}
 use Rattle.cqe_base.specs.declared.sentence.Constant.{Constant}
-
--- a constant of a domain, and the first n of them
-abbrev pub constant_at : ℕ → ℕ → Constant
-constant_at d i = record { domain = d; index = i }
-
-abbrev pub first_constants : ℕ → ℕ → List Constant
-first_constants d n = map (constant_at d) (range_with_len 0 n)
+use Rattle.cqe_base.specs.Truth.{constant_at, first_constants}
 
 -- what one more element gives is what one more constant does
 pub one_more : {X Y : Type 0} (f : X → Y) (instance : Constant → Y) (d i : ℕ) (xs ys : List X) (x : X)

@@ -5,11 +5,8 @@ ghost use Rattle.cqe_base.specs.Schema.{domain_size};
 ghost use Rattle.cqe_base.specs.Facts.{FactSet};
 ghost use Rattle.cqe_base.specs.Formula.{formula_of, nodes, nesting, is_sentence_of};
 ghost use Rattle.cqe_base.specs.Truth.{true_in, constants_of};
-ghost use Rattle.cqe_base.specs.Ground.{ground_of, ground_true, ground_false, ground_atom, ground_not, ground_all, ground_some, ground_implies, ground_iff, parts_of, grounded_at, grounded, true_ground, ground_nodes};
+ghost use Rattle.cqe_base.specs.Ground.{ground_of, ground_true, ground_false, grounded_at, grounded, true_ground, ground_nodes};
 
-use crate::connectives::{
-    biconditional, conjunction, decided, disjunction, implication, negation, pair,
-};
 use cqe_base::assignment::{are_equal, fact_of};
 use cqe_base::laws::{law_grounded_nodes, law_grounding, law_nesting};
 use cqe_base::prop::Prop;
@@ -72,39 +69,69 @@ fn ground_at(
         }
         Sentence::Equal(s, t) => Ok(decided(are_equal(&places[..depth], s, t))),
         Sentence::Differs(s, t) => Ok(decided(!are_equal(&places[..depth], s, t))),
-        Sentence::Not(a) => {
-            let part = ground_at(alloc, schema, places, depth, a)?;
-            Ok(negation(alloc, part)?)
-        }
+        Sentence::Not(a) => Ok(Prop::Not(boxed(alloc, schema, places, depth, a)?)),
         Sentence::And(a, b) => {
             let first = ground_at(alloc, schema, places, depth, a)?;
             let second = ground_at(alloc, schema, places, depth, b)?;
-            Ok(conjunction(pair(alloc, first, second)?))
+            Ok(Prop::And(pair(alloc, first, second)?))
         }
         Sentence::Or(a, b) => {
             let first = ground_at(alloc, schema, places, depth, a)?;
             let second = ground_at(alloc, schema, places, depth, b)?;
-            Ok(disjunction(pair(alloc, first, second)?))
+            Ok(Prop::Or(pair(alloc, first, second)?))
         }
         Sentence::Implies(a, b) => {
-            let premise = ground_at(alloc, schema, places, depth, a)?;
-            let conclusion = ground_at(alloc, schema, places, depth, b)?;
-            Ok(implication(alloc, premise, conclusion)?)
+            let premise = boxed(alloc, schema, places, depth, a)?;
+            let conclusion = boxed(alloc, schema, places, depth, b)?;
+            Ok(Prop::Implies(premise, conclusion))
         }
         Sentence::Iff(a, b) => {
-            let first = ground_at(alloc, schema, places, depth, a)?;
-            let second = ground_at(alloc, schema, places, depth, b)?;
-            Ok(biconditional(alloc, first, second)?)
+            let first = boxed(alloc, schema, places, depth, a)?;
+            let second = boxed(alloc, schema, places, depth, b)?;
+            Ok(Prop::Iff(first, second))
         }
         Sentence::Forall(domain, body) => {
             let parts = instances(alloc, schema, places, depth, *domain, body)?;
-            Ok(conjunction(parts))
+            Ok(Prop::And(parts))
         }
         Sentence::Exists(domain, body) => {
             let parts = instances(alloc, schema, places, depth, *domain, body)?;
-            Ok(disjunction(parts))
+            Ok(Prop::Or(parts))
         }
     }
+}
+
+/// The ground formula of an equation of this truth.
+fn decided(truth: bool) -> Prop
+    ensures { ground_of result ≡ (if truth then ground_true else ground_false) }
+{
+    if truth { Prop::True } else { Prop::False }
+}
+
+/// Two parts, in this order.
+fn pair(alloc: Global, first: Prop, second: Prop) -> Result<Vec<Prop>, AllocError>
+    ensures { IfOk result (λ parts. parts.items ≡ first ∷ second ∷ []) }
+{
+    let mut parts = Vec::new(alloc);
+    parts.push(first)?;
+    parts.push(second)?;
+    Ok(parts)
+}
+
+/// The ground formula of a sentence, in a box.
+#[cycle(grounding)]
+fn boxed(
+    alloc: Global,
+    schema: &Schema,
+    places: [Constant; 8],
+    depth: usize,
+    sentence: &Sentence,
+) -> Result<Box<Prop>, AllocError>
+    requires { depth + nesting (formula_of sentence.now) ≤ 8 }
+    ensures { IfOk result (λ boxed. ground_of boxed.value ≡ grounded_at schema.now (take depth places) (formula_of sentence.now)) }
+{
+    let prop = ground_at(alloc, schema, places, depth, sentence)?;
+    Ok(Box::new(alloc, prop)?)
 }
 
 /// The ground formulas of a sentence with each constant of a domain in the next place, in the order of the domain.

@@ -8,7 +8,7 @@ use Rattle.std.proofs.lemmas.List.{drop_all, take-append-drop}
 use Rattle.std.proofs.lemmas.List.Folds.{list_all-append, list_any_at}
 use Rattle.std.proofs.lemmas.List.Sums.{fails_before_first, passes_at_first}
 use Rattle.std.proofs.lemmas.List.Quantifiers.{position-Some}
-use Rattle.line_protocol.specs.Requests.{is_printable}
+use Rattle.line_protocol.specs.Words.{is_printable}
 use Rattle.line_protocol.proofs.Positions.{place_of, past_end}
 
 -- what stands before the first place, and behind it

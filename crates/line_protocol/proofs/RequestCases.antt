@@ -4,7 +4,8 @@ use Rattle.std.specs.Prelude.{◌&&◌, if◌then◌else◌}
 use Rattle.std.specs.List.{list_all, list_any, before_first, after_first}
 use Rattle.cqe_base.specs.Schema.{Text, is_schema_name}
 use Rattle.cqe_base.specs.Tokens.{is_blank}
-use Rattle.line_protocol.specs.Requests.{LineRequest, login_as, other_line, is_printable, is_login, login_of, lone, worded, spoken, request_of}
+use Rattle.line_protocol.specs.Words.{is_printable}
+use Rattle.line_protocol.specs.Requests.{LineRequest, login_as, other_line, is_login, login_of, lone, worded, spoken, request_of}
 use Rattle.line_protocol.proofs.Blanks.{after_none}
 
 and_false : (a : Bool) → (a && false) ≡ false

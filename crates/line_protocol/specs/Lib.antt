@@ -4,3 +4,4 @@ pub mod Logins
 pub mod Reads
 pub mod Replies
 pub mod Requests
+pub mod Words

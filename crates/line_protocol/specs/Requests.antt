@@ -1,8 +1,9 @@
 -- The request that a line makes.
-use Rattle.std.specs.Prelude.{◌==◌, ℕ, Bool, ◌&&◌, ◌||◌, nat_le, [], length, if◌then◌else◌, codes, bytes_eq}
+use Rattle.std.specs.Prelude.{Bool, ◌&&◌, nat_le, [], length, if◌then◌else◌, codes, bytes_eq}
 use Rattle.std.specs.List.{list_all, list_any, before_first, after_first}
 use Rattle.cqe_base.specs.Schema.{Text, is_schema_name}
 use Rattle.cqe_base.specs.Tokens.{is_blank}
+use Rattle.line_protocol.specs.Words.{is_printable}
 use Rattle.line_protocol.specs.declared.request.Request.{Request}
 use Rattle.line_protocol.specs.declared.request.Request.TheVariants.{Login, Ask, Quit, Other}
 
@@ -19,10 +20,6 @@ meaning_of (Login user phrase) = login_as user.now phrase.now
 meaning_of (Ask text) = ask_for text.now
 meaning_of Quit = quit_session
 meaning_of Other = other_line
-
--- a tab, or a byte from the space to the tilde
-abbrev pub is_printable : ℕ → Bool
-is_printable b = b == 9 || (nat_le 32 b && nat_le b 126)
 
 -- who logs in, and how: a name of the form of a constant's, and a phrase of 1 to 256 bytes
 abbrev pub is_login : Text → Text → Bool

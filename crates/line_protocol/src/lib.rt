@@ -13,6 +13,7 @@ mod reply;
 mod request;
 #[cfg(test)]
 mod tests;
+pub mod words;
 
 pub use lines::{LineBuffer, LineOutcome, read_line};
 pub use login::login_ok;

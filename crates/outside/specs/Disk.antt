@@ -1,5 +1,5 @@
 -- What a disk's calls do to the bytes that it reads, and what a crash may leave: the disk model.
-use Rattle.std.specs.Prelude.{◌≡◌, ◌⊎◌, ℕ, ◌+◌, ◌-◌, ◌≤◌, min, max, List, ◌++◌, length, take, drop}
+use Rattle.std.specs.Prelude.{◌≡◌, ◌⊎◌, ℕ, ◌+◌, ◌-◌, ◌≤◌, min, List, ◌++◌, length, take, drop}
 
 -- new is old with these bytes written over it from this place on.
 abbrev pub Holds : List ℕ → ℕ → List ℕ → List ℕ → Type 0
@@ -10,12 +10,12 @@ pub record Fills (disk : List ℕ) (at n : ℕ) (old new : List ℕ) : Type 0 wh
   pub count : n ≡ min (length old) (length disk - at)
   pub piece : new ≡ take n (drop at disk) ++ drop n old
 
--- A crash after a write of n bytes: any bytes in the range and past the old end, the same elsewhere.
+-- A crash after a write of n bytes: up to the old end no byte outside of the range has changed, and none is lost. The
+-- range, and what lies past the old end, may hold any bytes.
 pub record Torn (at n : ℕ) (old new : List ℕ) : Type 0 where
-  pub before : take at new ≡ take at old
-  pub after : drop (at + n) new ≡ drop (at + n) old
+  pub before : take at (take (length old) new) ≡ take at old
+  pub after : drop (at + n) (take (length old) new) ≡ drop (at + n) old
   pub no_shorter : length old ≤ length new
-  pub no_longer : length new ≤ max (length old) (at + n)
 
 -- Each new image is an old image after a step.
 abbrev pub Follows : (List ℕ → List ℕ → Type 0) → (List ℕ → Type 0) → (List ℕ → Type 0) → Type 0

@@ -1,10 +1,15 @@
 // A disk: what its calls promise of the bytes that it reads, and of what a crash may leave.
-ghost use Rattle.std.specs.Prelude.{◌≡◌, ◌⊎◌, ◌<◌, ◌≤◌, ◌^◌, List, ℕ, length, IfOk, OnOk};
+ghost use Rattle.std.specs.Prelude.{◌≡◌, ◌⊎◌, ◌<◌, ◌≤◌, ◌^◌, List, ℕ, length, IfOk, OnOk, OnErr};
 ghost use Rattle.outside.specs.Disk.{Holds, Fills, Torn, Follows, Only, Elapses};
 ghost use Rattle.outside.specs.Faults.{HasCause};
 
 use crate::Failed;
 
+/// Bytes that outlive the program. Between two syncs that succeed a crash may leave any bytes in each range that was
+/// written and past the old end; other bytes stay.
+///
+/// Each call says in its clause `time` that the images at the moments since an earlier one are those as the call began
+/// and those at the moments of the call, and in its clause `moments` what the latter are.
 pub trait Disk {
     /// Whether clauses are told what the disk reads: over memory they are, over a real file they are not.
     ghost told: { Type 0 };
@@ -37,6 +42,7 @@ pub trait Disk {
     fn read_at(&mut self, at: u64, into: &mut [u8]) -> Result<usize, Failed>
         ensures fits { IfOk result (λ n. n ≤ length into.old) }
         ensures bytes { told → IfOk result (λ n. Fills (reads self.old) at n into.old into.new) }
+        ensures same_piece { told → OnErr result (into.new ≡ into.old) }
         ensures reads { reads self.new ≡ reads self.old }
         ensures images { (c : List ℕ) → image self.new c → image self.old c }
         ensures time { Elapses (moment self.old) (moment self.new) (image_since self.old) (image_since self.new) }

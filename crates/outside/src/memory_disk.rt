@@ -8,6 +8,7 @@ ghost use Rattle.outside.specs.RecordLaws.{bytes_are_image, image_counts, image_
 use crate::{Disk, Failed, Plan};
 use std::alloc::{AllocError, Global};
 
+/// What a call of a disk is asked to do.
 #[derive(Drop)]
 pub enum Operation {
     Length,
@@ -23,6 +24,7 @@ pub struct Call {
     pub failed: bool,
 }
 
+/// A disk in memory. It keeps a record of all its calls, and what a crash may leave follows from that record.
 #[derive(Drop)]
 pub struct MemoryDisk {
     alloc: Global,
@@ -35,7 +37,7 @@ pub struct MemoryDisk {
 }
 
 impl MemoryDisk {
-    ghost use Rattle.outside.specs.MemoryDisk.{memory_bytes, memory_calls, IsMemoryImage, IsFresh};
+    ghost use Rattle.outside.specs.MemoryDisk.{memory_bytes, memory_calls, memory_faults, IsMemoryImage, IsFresh};
 
     /// A disk that has these bytes, all of them synced, and that fails for want of memory alone.
     pub fn new(alloc: Global, bytes: Vec<u8>) -> Result<Self, AllocError>
@@ -44,21 +46,9 @@ impl MemoryDisk {
         Self::with_plan(alloc, bytes, Plan::Never)
     }
 
-    /// The same, where the calls of this list fail.
-    pub fn failing(alloc: Global, bytes: Vec<u8>, calls: Vec<u64>) -> Result<Self, AllocError>
-        ensures fresh { IfOk result (IsFresh bytes.items) }
-    {
-        Self::with_plan(alloc, bytes, Plan::At(calls))
-    }
-
-    /// The same, where each call from this one on fails.
-    pub fn stopping(alloc: Global, bytes: Vec<u8>, from: u64) -> Result<Self, AllocError>
-        ensures fresh { IfOk result (IsFresh bytes.items) }
-    {
-        Self::with_plan(alloc, bytes, Plan::From(from))
-    }
-
-    fn with_plan(alloc: Global, bytes: Vec<u8>, plan: Plan) -> Result<Self, AllocError>
+    /// The same, where the calls of the plan fail. A failed write may leave any bytes in its range after a crash, and
+    /// the disk goes on to read what it read before.
+    pub fn with_plan(alloc: Global, bytes: Vec<u8>, plan: Plan) -> Result<Self, AllocError>
         ensures fresh { IfOk result (IsFresh bytes.items) }
     {
         let first = bytes.to_vec(alloc)?;
@@ -72,6 +62,7 @@ impl MemoryDisk {
         })
     }
 
+    /// The bytes that the disk reads.
     pub fn bytes(&self) -> &[u8]
         ensures { result.now ≡ memory_bytes self.now }
     {
@@ -79,7 +70,7 @@ impl MemoryDisk {
     }
 
     /// An image that a crash may leave now. The number picks what is left of the writes since the last sync:
-    /// nothing, all, bytes of one value over each range, or a front of each piece.
+    /// nothing, all, bytes of one value over each range, a front of each piece, or all and more bytes past the end.
     pub fn crash_image(&self, alloc: Global, number: u64) -> Result<Vec<u8>, AllocError>
         ensures { IfOk result (λ image. IsMemoryImage self.now image.items) }
     {
@@ -93,7 +84,14 @@ impl MemoryDisk {
         Ok(image)
     }
 
-    /// The record of all calls, the first of them first.
+    /// The count of faults.
+    pub fn faults(&self) -> u64
+        ensures { result ≡ memory_faults self.now }
+    {
+        self.faults
+    }
+
+    /// The record of all calls, the first of them first. A write that found no memory isn't in it.
     pub fn calls(&self) -> &[Call]
         ensures { result.now ≡ memory_calls self.now }
     {
@@ -139,17 +137,19 @@ fn overwrite(alloc: Global, bytes: &[u8], at: usize, piece: &[u8]) -> Result<Vec
 }
 
 impl Disk for MemoryDisk {
+    ghost use Rattle.outside.specs.MemoryDisk.{memory_bytes, memory_faults, memory_moment, IsMemoryImage, IsMemoryImageSince};
+
     ghost told = { Unit {0} };
 
-    ghost reads = { λ d. d.bytes.items };
+    ghost reads = { memory_bytes };
 
-    ghost image = { λ d c. IsImage d.first.items d.calls.items c };
+    ghost image = { IsMemoryImage };
 
-    ghost moment = { λ d. length d.calls.items };
+    ghost moment = { memory_moment };
 
-    ghost image_since = { λ d t c. IsImageSince d.first.items d.calls.items t c };
+    ghost image_since = { IsMemoryImageSince };
 
-    ghost faults = { λ d. d.faults };
+    ghost faults = { memory_faults };
 
     ghost read_is_image = { λ d told. bytes_are_image d.first.items d.calls.items d.bytes.items d.kept };
 
@@ -230,30 +230,35 @@ fn torn(
 ) -> Result<Vec<u8>, AllocError>
     ensures { IfOk result (λ left. Torn at (length piece.now) image.now left.items) }
 {
-    let choice = number / 4;
-    let left = match number % 4 {
+    let choice = number / 5;
+    let byte = (choice % 256) as u8;
+    let left = match number % 5 {
         0 => Vec::new(alloc),
-        1 => piece.to_vec(alloc)?,
-        2 => vec![in alloc; (choice % 256) as u8; piece.len()]?,
+        1 | 4 => piece.to_vec(alloc)?,
+        2 => vec![in alloc; byte; piece.len()]?,
         _ => piece[..piece.len().min(choice as usize)].to_vec(alloc)?,
     };
-    torn_to(alloc, image, at, piece.len(), &left)
+    let past_the_end = if number % 5 == 4 { vec![in alloc; byte; 8]? } else { Vec::new(alloc) };
+    torn_to(alloc, image, at, piece.len(), &left, &past_the_end)
 }
 
-// A write of so many bytes of which these are left, where it begins within the image.
+// A write of so many bytes of which these are left, where it begins within the image, with more past the end.
 fn torn_to(
     alloc: Global,
     image: &[u8],
     at: usize,
     size: usize,
     left: &[u8],
+    past_the_end: &[u8],
 ) -> Result<Vec<u8>, AllocError>
     ensures { IfOk result (λ new. Torn at size image.now new.items) }
 {
     if at > image.len() || left.len() > size {
         return image.to_vec(alloc);
     }
-    overwrite(alloc, image, at, left)
+    let mut new = overwrite(alloc, image, at, left)?;
+    new.extend_from_slice(past_the_end)?;
+    Ok(new)
 }
 
 // Fills a piece with the bytes from this place on, and answers how many there were.

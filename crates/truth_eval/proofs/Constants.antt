@@ -1,16 +1,10 @@
 -- Testing the constants of a domain one after the other.
-use Rattle.std.proofs.Common.{◌≡◌, ℕ, ◌+◌, ◌<◌, Bool, true, false, ◌&&◌, ◌||◌, List, [], ◌∷◌, ◌++◌, map, length, get_or, refl, sym, ap, ◌∙◌, subst, arith}
-use Rattle.std.specs.List.{list_any, list_all, range_with_len}
+use Rattle.std.proofs.Common.{◌≡◌, ℕ, ◌+◌, ◌<◌, Bool, true, false, ◌&&◌, ◌||◌, [], ◌∷◌, ◌++◌, length, get_or, refl, sym, ap, ◌∙◌, subst, arith}
+use Rattle.std.specs.List.{list_any, list_all}
 use Rattle.std.proofs.lemmas.List.Folds.{list_all-append, list_any-append, list_all_at, list_any_at}
 use Rattle.std.proofs.lemmas.List.FromFn.{map-range_with_len_more, length-map-range_with_len, get_or-map-range_with_len}
 use Rattle.cqe_base.specs.declared.sentence.Constant.{Constant}
-
--- a constant of a domain, and the first n of them
-abbrev pub constant_at : ℕ → ℕ → Constant
-constant_at d i = record { domain = d; index = i }
-
-abbrev pub first_constants : ℕ → ℕ → List Constant
-first_constants d n = map (constant_at d) (range_with_len 0 n)
+use Rattle.cqe_base.specs.Truth.{constant_at, first_constants}
 
 one_more : (d i : ℕ) → first_constants d (i + 1) ≡ first_constants d i ++ constant_at d i ∷ []
 one_more d i = map-range_with_len_more (constant_at d) 0 i i (omega arith)

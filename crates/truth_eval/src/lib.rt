@@ -7,3 +7,6 @@
 mod evaluation;
 
 pub use evaluation::holds;
+
+#[cfg(test)]
+mod tests;

@@ -1,7 +1,7 @@
 use Rattle.std.proofs.Common.{◌≡◌, [], ◌∷◌, ◌++◌, map, take}
 use Rattle.cqe_base.specs.Formula.{formula_of}
 use Rattle.cqe_base.specs.Ground.{ground_of, grounded_at}
-use Rattle.grounding.proofs.Constants.{first_constants}
+use Rattle.cqe_base.specs.Truth.{first_constants}
 use Rattle.grounding.proofs.instances.+grounding.Given as goal
 
 abbrev pub invariant-instances-loop-index : goal.invariant-instances-loop-index

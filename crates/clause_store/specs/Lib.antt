@@ -1,0 +1,3 @@
+pub mod LiteralNumbers
+pub mod Ends
+pub mod PlainLines

@@ -1,0 +1,60 @@
+-- Each world in which the log of a legal history is true and a guarded sentence false is alike, and there is one.
+use Rattle.std.proofs.Common.{◌≡◌, suc, Bool, true, false, ◌||◌, List, [], ◌∷◌, refl, sym, subst, ◌∙◌, arith}
+use Rattle.std.specs.Prelude.{Contains}
+use Rattle.std.specs.List.{list_any, list_all}
+use Rattle.cqe_base.specs.declared.user.Method.{Method}
+use Rattle.cqe_base.specs.declared.user.Method.TheVariants.{Lying, Refusal, Combined}
+use Rattle.cqe_base.specs.Schema.{DatabaseSchema}
+use Rattle.cqe_base.specs.Facts.{FactSet}
+use Rattle.cqe_base.specs.Formula.{Formula}
+use Rattle.cqe_base.specs.Entailment.{all_hold_in, entails, IsCountermodel}
+use Rattle.cqe_base.specs.Outcome.{outcome, is_open}
+use Rattle.cqe_base.specs.History.{UserProfile, History, known, log}
+use Rattle.cqe_base.specs.Censor.{guarded, knows_truth_by, admitted, admission_budget, IsLegal}
+use Rattle.cqe_base.specs.OtherWorlds.{LogsKeepSecrets, CountermodelsAreAlike}
+use Rattle.cqe_base.proofs.Truths.{true_is_not_false, false_if_not_true, and_second, and_both, list_any-false}
+use Rattle.cqe_base.proofs.Logs.{log-nil, known_holds}
+use Rattle.cqe_base.proofs.Worlds.{entails-true, entails-false}
+use Rattle.cqe_base.proofs.Secrets.{legal_shields, legal_again}
+use Rattle.cqe_base.proofs.Runs.{replies_alike}
+
+-- an admitted user is admitted in each world in which what he knows is true
+admitted_again : (schema : DatabaseSchema) (world : FactSet) (user : UserProfile) (other : FactSet) → admitted schema world user ≡ true → all_hold_in schema other (known user) ≡ true → admitted schema other user ≡ true
+unfolding admitted
+admitted_again schema world user other admits holds = and_both _ _ (by user.method) (and_second (knows_truth_by user.method schema world (known user)) _ admits)
+  where
+    by : (m : Method) → knows_truth_by m schema other (known user) ≡ true
+    by Lying = refl
+    by Refusal = holds
+    by Combined = refl
+
+pub countermodel_alike : CountermodelsAreAlike
+countermodel_alike schema world user entries goal other admits legal guards is =
+    let knows : all_hold_in schema other (known user) ≡ true = known_holds schema other user entries is.premises_true in
+    let admits_there : admitted schema other user ≡ true = admitted_again schema world user other admits knows in
+    let legal_there : IsLegal schema other user entries = legal_again schema user goal guards world other entries legal is in
+    record {
+      of_schema = is.of_schema;
+      knowledge_true = knows;
+      admits = admits_there;
+      legal = legal_there;
+      same_replies = replies_alike schema user world other entries legal_there (admits_there ∙ sym admits);
+    }
+
+none_passes : {X : Type 0} (p : X → Bool) (xs : List X) → ((x : X) → Contains xs x → p x ≡ false) → list_any p xs ≡ false
+none_passes p [] each = refl
+none_passes p (x ∷ xs) each = or_false (p x) _ (each x (0, omega arith, refl)) (none_passes p xs (λ y within. each y (suc within.0, omega arith, within.2)))
+  where
+    or_false : (a b : Bool) → a ≡ false → b ≡ false → (a || b) ≡ false
+    or_false true b p q = absurd (true_is_not_false p)
+    or_false false b p q = q
+
+pub logs_keep_secrets : LogsKeepSecrets
+logs_keep_secrets schema world user entries admissible legal = none_passes (λ goal. entails schema (log user entries) (goal, true)) (guarded user) kept
+  where
+    kept : (goal : Formula) → Contains (guarded user) goal → entails schema (log user entries) (goal, true) ≡ false
+    kept goal guards =
+        let start : (other : FactSet) × IsCountermodel schema (known user) (goal, true) other = entails-false schema (known user) (goal, true) (list_any-false _ (guarded user) admissible.knows_no_secret goal guards) in
+        let begin : (other : FactSet) × IsCountermodel schema (log user []) (goal, true) other = subst (λ premises. (other : FactSet) × IsCountermodel schema premises (goal, true) other) (sym (log-nil user)) start in
+        let final : (other : FactSet) × IsCountermodel schema (log user entries) (goal, true) other = legal_shields schema user goal guards world entries legal [] entries refl begin in
+        false_if_not_true _ (λ e. true_is_not_false (sym (entails-true schema (log user entries) (goal, true) e final.0 final.1.of_schema final.1.premises_true) ∙ final.1.goal_false))

@@ -1,0 +1,52 @@
+-- Which worlds are alike for a user: those in which his log is true and a guarded sentence false.
+use Rattle.std.specs.Prelude.{◌≡◌, ℕ, true, false, List, Contains, slice_index_or}
+use Rattle.cqe_base.specs.declared.user.Method.{Method}
+use Rattle.cqe_base.specs.declared.user.Method.TheVariants.{Lying, Refusal, Combined}
+use Rattle.cqe_base.specs.Schema.{DatabaseSchema}
+use Rattle.cqe_base.specs.Facts.{FactSet}
+use Rattle.cqe_base.specs.Formula.{Formula, falsum}
+use Rattle.cqe_base.specs.Truth.{true_in}
+use Rattle.cqe_base.specs.Entailment.{IsCountermodel}
+use Rattle.cqe_base.specs.History.{UserProfile, History, log, disjunction_of}
+use Rattle.cqe_base.specs.Censor.{guarded, entails_some, IsLegal, IsAdmissible, admitted}
+use Rattle.cqe_base.specs.Hiding.{IsAlike}
+
+-- the secret with this number; `false` where there is none
+abbrev pub secret_at : UserProfile → ℕ → Formula
+secret_at user k = slice_index_or user.secrets k falsum
+
+-- what is guarded in the place of a secret: for lying the disjunction of the secrets, and else the secret
+abbrev pub guard_by : Method → List Formula → Formula → Formula
+guard_by Lying secrets secret = disjunction_of secrets
+guard_by Refusal secrets secret = secret
+guard_by Combined secrets secret = secret
+
+abbrev pub guard_at : UserProfile → ℕ → Formula
+guard_at user k = guard_by user.method user.secrets (secret_at user k)
+
+-- the entries are legal for some world in which the user is admitted
+pub record IsLegalSomewhere (schema : DatabaseSchema) (user : UserProfile) (entries : History) : Type 0 where
+  pub world : FactSet
+  pub admits : admitted schema world user ≡ true
+  pub legal : IsLegal schema world user entries
+
+-- the log of a legal history of an admissible user entails no guarded sentence
+abbrev pub LogsKeepSecrets : Type 0
+LogsKeepSecrets =
+    (schema : DatabaseSchema) (world : FactSet) (user : UserProfile) (entries : History)
+    → IsAdmissible schema world user → IsLegal schema world user entries
+    → entails_some schema (log user entries) (guarded user) ≡ false
+
+-- each world in which the log of a legal history of an admitted user is true and a guarded sentence false is alike
+abbrev pub CountermodelsAreAlike : Type 0
+CountermodelsAreAlike =
+    (schema : DatabaseSchema) (world : FactSet) (user : UserProfile) (entries : History) (goal : Formula) (other : FactSet)
+    → admitted schema world user ≡ true → IsLegal schema world user entries
+    → Contains (guarded user) goal → IsCountermodel schema (log user entries) (goal, true) other
+    → IsAlike schema user entries world other
+
+-- where a disjunction is false, each of its sentences is
+abbrev pub FalseDisjunctions : Type 0
+FalseDisjunctions =
+    (schema : DatabaseSchema) (world : FactSet) (sentences : List Formula) → true_in schema world (disjunction_of sentences) ≡ false
+    → (sentence : Formula) → Contains sentences sentence → true_in schema world sentence ≡ false

@@ -1,0 +1,6 @@
+-- The bytes of lines.
+use Rattle.std.specs.Prelude.{◌==◌, ℕ, Bool, ◌&&◌, ◌||◌, nat_le}
+
+-- a tab, or a byte from the space to the tilde
+abbrev pub is_printable : ℕ → Bool
+is_printable b = b == 9 || (nat_le 32 b && nat_le b 126)

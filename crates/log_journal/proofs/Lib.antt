@@ -1,0 +1,5 @@
+pub mod Pieces
+pub mod Fronts
+pub mod Appends
+pub mod Reading
+pub mod Laws

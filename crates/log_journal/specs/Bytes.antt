@@ -1,0 +1,28 @@
+-- Where the closed gate of a journal stands, and what an append makes of the bytes round it.
+use Rattle.std.specs.Prelude.{◌≡◌, ◌≢◌, ◌⊎◌, ℕ, ◌+◌, ◌<◌, ◌≤◌, ◌^◌, List, [], ◌∷◌, ◌++◌, length, take, drop, get_or}
+use Rattle.log_journal.specs.Records.{Recorded, opened, records, damaged, record_bytes}
+
+-- These bytes stand for these whole records, whatever follows them.
+pub record IsFront (front : List ℕ) (all : List Recorded) : Type 0 where
+  pub are : (rest : List ℕ) → opened 0 (front ++ rest) ≡ all ++ opened 0 rest
+  pub whole : (number gate : ℕ) (rest : List ℕ) → damaged number 0 (front ++ gate ∷ rest) ≡ damaged (number + length all) 0 (gate ∷ rest)
+
+-- The closed gate behind the header and whole records is at this place.
+pub record EndsAt (bytes : List ℕ) (gate : ℕ) : Type 0 where
+  pub behind : 72 ≤ gate
+  pub within : gate < length bytes
+  pub front : IsFront (drop 72 (take gate bytes)) (records bytes)
+  pub closed : get_or bytes gate 1 ≢ 1
+  pub fits : length bytes < 2 ^ 64
+
+-- what an append writes behind the gate: the record, and the next gate, which is closed
+abbrev pub piece_of : ℕ → List ℕ → List ℕ
+piece_of kind text = record_bytes kind text ++ 0 ∷ []
+
+-- the bytes with this byte at the gate and a piece behind it
+abbrev pub with_piece : List ℕ → ℕ → ℕ → List ℕ → List ℕ
+with_piece bytes gate byte piece = take gate bytes ++ byte ∷ piece ++ drop (gate + 1 + length piece) bytes
+
+-- All stays up to the gate, it among them, or the piece stands whole behind a gate of any value.
+abbrev pub IsBetween : List ℕ → ℕ → List ℕ → List ℕ → Type 0
+IsBetween bytes gate piece c = (take (gate + 1) c ≡ take (gate + 1) bytes) ⊎ ((byte : ℕ) × (rest : List ℕ) × (c ≡ take gate bytes ++ byte ∷ piece ++ rest))

@@ -1,0 +1,166 @@
+// A journal on a disk.
+ghost use Rattle.std.specs.Prelude.{◌≡◌, ◌≤◌, ◌<◌, ◌+◌, ◌++◌, ◌∷◌, [], false, List, ℕ, length, take, OnOk};
+ghost use Rattle.outside.specs.Disk.{Only, Elapses};
+ghost use Rattle.outside.specs.Faults.{HasCause};
+ghost use Rattle.log_journal.specs.Bytes.{EndsAt, piece_of};
+ghost use Rattle.log_journal.specs.Records.{Adds, KeepsOrAdds};
+
+use crate::AppendError;
+use crate::put::put;
+use outside::{Disk, Failed};
+use std::alloc::{AllocError, Global};
+
+#[derive(Drop)]
+pub struct Journal<D: Disk> {
+    disk: D,
+    /// The place of the closed gate.
+    gate: u64,
+    /// Room for the first write of an append.
+    room: Vec<u8>,
+    /// An append failed at the disk.
+    broken: bool,
+    ghost ends: { broken ≡ false → D.told → EndsAt (D.reads disk) gate },
+    ghost durable: { broken ≡ false → Only (D.reads disk) (D.image disk) },
+}
+
+impl<D: Disk> Journal<D> {
+    ghost use Rattle.std.specs.Prelude.{◌↔◌, IsTrue, IsErrOf, OnErr};
+    ghost use Rattle.outside.specs.Disk.{Elapses};
+    ghost use Rattle.outside.specs.Faults.{Rose};
+    ghost use Rattle.log_journal.specs.Records.{Adds, KeepsOrAdds};
+    ghost use Rattle.log_journal.specs.Journal.{disk_of, is_broken, room_of, HasRoom};
+
+    // A journal whose closed gate stands at this place.
+    pub(crate) fn at(alloc: Global, disk: D, gate: u64) -> Self
+        requires ends { D.told → EndsAt (D.reads disk) gate }
+        requires durable { Only (D.reads disk) (D.image disk) }
+        ensures disk { disk_of result ≡ disk }
+        ensures whole { is_broken result ≡ false }
+    {
+        Journal {
+            disk,
+            gate,
+            room: Vec::new(alloc),
+            broken: false,
+        }
+    }
+
+    /// Takes the room that an append of a text of this length needs. A refusal changes nothing.
+    pub fn reserve(&mut self, length: u32) -> Result<(), AllocError>
+        ensures room { OnOk result (HasRoom self.new length) }
+        ensures keeps { (n : ℕ) → HasRoom self.old n → HasRoom self.new n }
+        ensures unchanged { OnErr result (room_of self.new ≡ room_of self.old) }
+        ensures disk { disk_of self.new ≡ disk_of self.old }
+        ensures broken { is_broken self.new ≡ is_broken self.old }
+    {
+        let size = length as usize + 4;
+        if size > self.room.len() {
+            self.room.resize(size, 0)?;
+        }
+        Ok(())
+    }
+
+    /// Adds a record. After Ok each crash leaves it. It takes no memory.
+    pub fn append(&mut self, kind: u8, text: &[u8]) -> Result<(), AppendError>
+        requires reserved { HasRoom self.old (length text.now) }
+        requires low { 1 ≤ kind }
+        requires high { kind ≤ 4 }
+        requires short { length text.now ≤ 4096 }
+
+        // After Ok the disk, and each image, has this record behind the records before it.
+        ensures added { D.told → OnOk result (Adds (D.reads (disk_of self.old)) (kind, text.now) (D.reads (disk_of self.new))) }
+        ensures kept { D.told → OnOk result ((c : List ℕ) → D.image (disk_of self.new) c → Adds (D.reads (disk_of self.old)) (kind, text.now) c) }
+
+        // At every moment of the call each image has the records before it, or these and this one.
+        ensures moments { D.told → is_broken self.old ≡ false
+            → (c : List ℕ) → D.image_since (disk_of self.new) (D.moment (disk_of self.old)) c → KeepsOrAdds (D.reads (disk_of self.old)) (kind, text.now) c }
+        ensures time { Elapses (D.moment (disk_of self.old)) (D.moment (disk_of self.new)) (D.image_since (disk_of self.old)) (D.image_since (disk_of self.new)) }
+
+        // After a failure at the disk each image is one of the two, and no later append touches the disk.
+        ensures either { D.told → IsErrOf result AppendError.DiskFault
+            → (c : List ℕ) → D.image (disk_of self.new) c → KeepsOrAdds (D.reads (disk_of self.old)) (kind, text.now) c }
+        ensures room { (n : ℕ) → HasRoom self.old n → HasRoom self.new n }
+
+        // A refusal has its cause, and from a failure at the disk on every append is refused.
+        ensures fault { IsErrOf result AppendError.DiskFault → Rose (D.faults (disk_of self.old)) (D.faults (disk_of self.new)) }
+        ensures count { D.faults (disk_of self.old) ≤ D.faults (disk_of self.new) }
+        ensures refused { IsErrOf result AppendError.Broken ↔ IsTrue (is_broken self.old) }
+        ensures untouched { IsErrOf result AppendError.Broken → disk_of self.new ≡ disk_of self.old }
+        ensures broken { OnErr result (IsTrue (is_broken self.new)) }
+        ensures whole { OnOk result (is_broken self.new ≡ false) }
+    {
+        if self.broken {
+            return Err(AppendError::Broken);
+        }
+        match put_record(&mut self.disk, self.gate, &mut self.room, kind, text) {
+            Ok(()) => {
+                self.gate = self.gate.saturating_add(text.len() as u64 + 4);
+                Ok(())
+            }
+            Err(Failed) => {
+                self.broken = true;
+                Err(AppendError::DiskFault)
+            }
+        }
+    }
+
+    /// Gives the disk back.
+    pub fn close(self) -> D
+        ensures { result ≡ disk_of self }
+    {
+        self.disk
+    }
+}
+
+// Writes a record at the closed gate. It makes the first piece in some room.
+fn put_record<D: Disk>(
+    disk: &mut D,
+    gate: u64,
+    room: &mut Vec<u8>,
+    kind: u8,
+    text: &[u8],
+) -> Result<(), Failed>
+    requires size { length text.now + 4 ≤ length room.old.items }
+    requires low { 1 ≤ kind }
+    requires high { kind ≤ 4 }
+    requires short { length text.now ≤ 4096 }
+    requires ends { D.told → EndsAt (D.reads disk.old) gate }
+    requires durable { Only (D.reads disk.old) (D.image disk.old) }
+
+    ensures size { length room.new.items ≡ length room.old.items }
+    ensures added { D.told → OnOk result (Adds (D.reads disk.old) (kind, text.now) (D.reads disk.new)) }
+    ensures ends { D.told → OnOk result (EndsAt (D.reads disk.new) (gate + 4 + length text.now)) }
+    ensures durable { OnOk result (Only (D.reads disk.new) (D.image disk.new)) }
+    ensures images { D.told → (c : List ℕ) → D.image disk.new c → KeepsOrAdds (D.reads disk.old) (kind, text.now) c }
+    ensures time { Elapses (D.moment disk.old) (D.moment disk.new) (D.image_since disk.old) (D.image_since disk.new) }
+    ensures moments { D.told → (c : List ℕ) → D.image_since disk.new (D.moment disk.old) c → KeepsOrAdds (D.reads disk.old) (kind, text.now) c }
+    ensures cause { HasCause (D.faults disk.old) (D.faults disk.new) result }
+{
+    fill_start(room, kind, text);
+    put(disk, gate, &room[..text.len() + 4])
+}
+
+// Fills the front of some room.
+fn fill_start(room: &mut Vec<u8>, kind: u8, text: &[u8])
+    requires size { length text.now + 4 ≤ length room.old.items }
+    requires short { length text.now ≤ 4096 }
+    ensures size { length room.new.items ≡ length room.old.items }
+    ensures piece { take (length text.now + 4) room.new.items ≡ piece_of kind text.now }
+{
+    let (piece, _) = room.split_at_mut(text.len() + 4);
+    fill(piece, kind, text);
+}
+
+// Makes a piece of the kind, the length with the higher byte first, the text and a shut gate.
+fn fill(piece: &mut [u8], kind: u8, text: &[u8])
+    requires size { length piece.old ≡ length text.now + 4 }
+    requires short { length text.now ≤ 4096 }
+    ensures { piece.new ≡ piece_of kind text.now }
+{
+    let length = text.len();
+    let (start, rest) = piece.split_at_mut(3);
+    start.copy_from_slice(&[kind, (length / 256) as u8, (length % 256) as u8]);
+    let (middle, gate) = rest.split_at_mut(length);
+    middle.copy_from_slice(text);
+    gate.copy_from_slice(&[0]);
+}

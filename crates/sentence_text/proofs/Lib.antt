@@ -1,0 +1,15 @@
+pub mod Appended
+pub mod ByNumber
+pub mod Chains
+pub mod Columns
+pub mod Cut
+pub mod GrammarIsRead
+pub mod GrammarLaws
+pub mod Clauses
+pub mod LongestToken
+pub mod Operands
+pub mod ProperNames
+pub mod RoundTrip
+pub mod Slices
+pub mod TokenLaws
+pub mod WellFormed

@@ -1,0 +1,24 @@
+-- What is kept of a user between his asks.
+use Rattle.std.specs.Prelude.{◌≡◌, ℕ, ◌+◌, List, map, sum_by}
+use Rattle.cqe_base.specs.Schema.{DatabaseSchema}
+use Rattle.cqe_base.specs.Facts.{FactSet}
+use Rattle.cqe_base.specs.Entailment.{Signed}
+use Rattle.cqe_base.specs.History.{UserProfile, History, log, view_size}
+use Rattle.cqe_base.specs.Censor.{IsLegal}
+use Rattle.cqe_base.specs.FormulaCode.{formula_set}
+use Rattle.std.proofs.Props.{props}
+use Rattle.cqe_base.specs.Limits.{KeepsLimits, KeepsSizes}
+
+-- the log and the sizes are those of the entries, which are legal and were added within the limits
+pub record IsKept (schema : DatabaseSchema) (world : FactSet) (user : UserProfile) (entries : History) (log_schema : DatabaseSchema) (log_kept : List Signed) (text_bytes view_nodes : ℕ) : Type 0 where
+  pub limits : KeepsLimits schema user
+  pub schema_is : log_schema ≡ schema
+  pub log_is : log_kept ≡ log user entries
+  pub text_is : text_bytes ≡ sum_by (λ entry. entry.length) entries
+  pub nodes_are : view_nodes ≡ view_size schema user entries
+  pub legal : IsLegal schema world user entries
+  pub sizes : KeepsSizes schema user entries
+
+-- a fact that holds in one way
+pub IsKept-prop : (schema : DatabaseSchema) (world : FactSet) (user : UserProfile) (entries : History) (log_schema : DatabaseSchema) (log_kept : List Signed) (text_bytes view_nodes : ℕ) → IsProp (IsKept schema world user entries log_schema log_kept text_bytes view_nodes)
+IsKept-prop schema world user entries log_schema log_kept text_bytes view_nodes = hlevel (props, formula_set)

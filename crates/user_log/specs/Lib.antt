@@ -1,0 +1,5 @@
+pub mod Replies
+pub mod Kept
+pub mod Asked
+pub mod UserLogs
+pub mod Nodes

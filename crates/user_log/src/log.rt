@@ -1,0 +1,251 @@
+//! A user's entries, with the view of their log and their sizes.
+
+ghost use Rattle.std.specs.Prelude.{◌≡◌, ◌≤◌, ◌<◌, ◌+◌, ◌++◌, ◌∷◌, [], ◌&&◌, true, false, Bool, length, map, sum_by, IfOk, OnOk, OnErr};
+ghost use Rattle.cqe_base.specs.Formula.{formula_of, nodes, is_sentence_of};
+ghost use Rattle.cqe_base.specs.History.{profile_of, answered_query_of, log, view_size, told_by, signed_nodes};
+ghost use Rattle.cqe_base.specs.Censor.{rule};
+ghost use Rattle.cqe_base.specs.Run.{is_full, is_too_large};
+ghost use Rattle.cqe_base.specs.Limits.{KeepsLimits};
+ghost use Rattle.entailment.specs.Views.{schema_of, log_of};
+ghost use Rattle.entailment.specs.Logs.{log_nodes};
+ghost use Rattle.user_log.specs.Nodes.{told_nodes};
+ghost use Rattle.user_log.specs.Kept.{IsKept, IsKept-prop};
+
+use crate::{Reply, Weighed};
+use censors::{decide, examine};
+use cqe_base::laws::{law_findings_decide, law_legal_grows, law_limits, law_reading};
+use cqe_base::schema::Schema;
+use cqe_base::sentence::{Sentence, nodes};
+use cqe_base::user::{Entry, Mark, User};
+use cqe_base::world::World;
+use entailment::View;
+use sentence_text::{ReadError, read_sentence};
+use std::alloc::{AllocError, Global};
+use truth_eval::holds;
+
+/// A history has at most so many entries.
+const ENTRIES: usize = 4_096;
+
+/// The texts of a history have at most so many bytes.
+const TEXT_BYTES: u64 = 1_048_576;
+
+/// A query has at most so many nodes.
+const QUERY_NODES: u64 = 20_000;
+
+/// A view and a query have at most so many nodes together.
+const VIEW_NODES: u64 = 60_000;
+
+/// What is kept of a user between his asks.
+#[derive(Drop)]
+pub struct UserLog<'w> {
+    schema: &'w Schema,
+    world: &'w World,
+    user: &'w User,
+    view: View<'w>,
+    entries: Vec<Entry>,
+    text_bytes: u64,
+    view_nodes: u64,
+    ghost kept: { IsKept schema.now world.now (profile_of user.now) (map answered_query_of entries.items) (schema_of view) (log_of view) text_bytes view_nodes } by { IsKept-prop _ _ _ _ _ _ _ _ },
+}
+
+impl<'w> UserLog<'w> {
+    ghost use Rattle.user_log.specs.UserLogs.{kept_schema, kept_world, kept_user, kept_history, IsOfSame};
+    ghost use Rattle.user_log.specs.Asked.{IsAnswer, IsWeighed, IsAsked};
+    ghost use Rattle.user_log.specs.Replies.{reply_of};
+
+    /// The log of a user who has asked nothing.
+    pub fn new(
+        alloc: Global,
+        schema: &'w Schema,
+        world: &'w World,
+        user: &'w User,
+    ) -> Result<UserLog<'w>, AllocError>
+        requires { KeepsLimits schema.now (profile_of user.now) }
+        ensures empty { IfOk result (λ log. kept_history log ≡ []) }
+        ensures schema { IfOk result (λ log. kept_schema log ≡ schema.now) }
+        ensures world { IfOk result (λ log. kept_world log ≡ world.now) }
+        ensures user { IfOk result (λ log. kept_user log ≡ profile_of user.now) }
+    {
+        law_limits();
+        law_legal_grows();
+        schema.known();
+        let view_nodes = known_nodes(schema, user);
+        let view = View::new(alloc, schema, user)?;
+        Ok(UserLog {
+            schema,
+            world,
+            user,
+            view,
+            entries: Vec::new(alloc),
+            text_bytes: 0,
+            view_nodes,
+        })
+    }
+
+    /// The entries, oldest first.
+    pub fn entries(&self) -> &[Entry]
+        ensures { map answered_query_of result.now ≡ kept_history self.now }
+    {
+        self.entries.as_slice()
+    }
+
+    /// The reply to a text by the entries so far, which it doesn't change.
+    pub fn weigh(&self, alloc: Global, text: &str) -> Result<Weighed, AllocError>
+        requires { length text.now ≤ 4096 }
+        ensures { IfOk result (IsWeighed (kept_schema self.now) (kept_world self.now) (kept_user self.now) (kept_history self.now) text.now) }
+    {
+        let query = match read_sentence(alloc, self.schema, text) {
+            Ok(query) => query,
+            Err(ReadError::Text(error)) => return Ok(Weighed::Code(Reply::Syntax(error))),
+            Err(ReadError::Memory) => return Err(AllocError),
+        };
+        if self.is_full(text.len()) {
+            return Ok(Weighed::Code(Reply::Full));
+        }
+        if self.is_too_large(&query) {
+            return Ok(Weighed::Code(Reply::Size));
+        }
+        let mark = self.mark(alloc, &query)?;
+        Ok(Weighed::Answer(query, mark))
+    }
+
+    /// Whether the entries, or the texts with one of this length, are too many.
+    fn is_full(&self, length: usize) -> bool
+        requires { length ≤ 4096 }
+        ensures { result ≡ is_full (kept_history self.now) length }
+    {
+        self.entries.len() >= ENTRIES || self.text_bytes.saturating_add(length as u64) > TEXT_BYTES
+    }
+
+    /// Whether the query, or the view with it, is too large.
+    fn is_too_large(&self, query: &Sentence) -> bool
+        ensures { result ≡ is_too_large (kept_schema self.now) (kept_user self.now) (kept_history self.now) (formula_of query.now) }
+    {
+        let count = nodes(query, self.schema);
+        count > QUERY_NODES || self.view_nodes.saturating_add(count) > VIEW_NODES
+    }
+
+    /// The mark of a query by the rule.
+    fn mark(&self, alloc: Global, query: &Sentence) -> Result<Mark, AllocError>
+        requires sentence { is_sentence_of (kept_schema self.now) (formula_of query.now) ≡ true }
+        requires small { is_too_large (kept_schema self.now) (kept_user self.now) (kept_history self.now) (formula_of query.now) ≡ false }
+        ensures { IfOk result (λ mark. mark ≡ rule (kept_schema self.now) (kept_world self.now) (kept_user self.now)
+            (log (kept_user self.now) (kept_history self.now)) (formula_of query.now)) }
+    {
+        law_limits();
+        law_findings_decide();
+        let findings = examine(alloc, &self.view, self.user, query)?;
+        let truth = holds(self.schema, self.world, query);
+        Ok(decide(self.user.method, &findings, truth))
+    }
+
+    /// Adds the entry of a text that was weighed, with the mark that answers it. A refusal changes nothing.
+    pub fn add(
+        &mut self,
+        alloc: Global,
+        text: &str,
+        query: Sentence,
+        mark: Mark,
+    ) -> Result<(), AllocError>
+        requires few { length text.now ≤ 4096 }
+        requires answer { IsAnswer (kept_schema self.old) (kept_world self.old) (kept_user self.old) (kept_history self.old) text.now (formula_of query) mark }
+        ensures same { IsOfSame self.old self.new }
+        ensures added { OnOk result (kept_history self.new
+            ≡ kept_history self.old ++ record { query = formula_of query; mark = mark; length = length text.now } ∷ []) }
+        ensures refused { OnErr result (kept_history self.new ≡ kept_history self.old) }
+    {
+        law_reading();
+        law_limits();
+        law_legal_grows();
+        self.entries.reserve(1)?;
+        let count = told_nodes(self.schema, &query, mark);
+        tell(alloc, &mut self.view, &query, mark)?;
+        let length = text.len() as u32;
+        self.text_bytes += u64::from(length);
+        self.view_nodes += count;
+        self.entries.push_reserved(Entry {
+            query,
+            mark,
+            length,
+        });
+        Ok(())
+    }
+
+    /// The reply to a text by the entries so far. A mark adds its entry; want of memory and a code change nothing.
+    pub fn ask(&mut self, alloc: Global, text: &str) -> Reply
+        requires { length text.now ≤ 4096 }
+        ensures same { IsOfSame self.old self.new }
+        ensures asked { IsAsked (kept_schema self.old) (kept_world self.old) (kept_user self.old) (kept_history self.old) (kept_history self.new) text.now (reply_of result) }
+    {
+        match self.weigh(alloc, text) {
+            Ok(Weighed::Code(code)) => code,
+            Ok(Weighed::Answer(query, mark)) => match self.add(alloc, text, query, mark) {
+                Ok(()) => Reply::Mark(mark),
+                Err(_) => Reply::Memory,
+            },
+            Err(_) => Reply::Memory,
+        }
+    }
+}
+
+/// What a mark adds to the nodes of the log.
+fn told_nodes(schema: &Schema, query: &Sentence, mark: Mark) -> u64
+    requires { nodes schema.now (formula_of query.now) ≤ 20000 }
+    ensures { result ≡ told_nodes schema.now mark (formula_of query.now) }
+{
+    match mark {
+        Mark::Yes => nodes(query, schema),
+        Mark::No => 1 + nodes(query, schema),
+        Mark::Refused | Mark::Undecided => 0,
+    }
+}
+
+/// Appends to a log what a mark tells of its query. A refusal changes nothing.
+fn tell(alloc: Global, view: &mut View<'_>, query: &Sentence, mark: Mark) -> Result<(), AllocError>
+    requires sentence { is_sentence_of (schema_of view.old) (formula_of query.now) ≡ true }
+    requires query { nodes (schema_of view.old) (formula_of query.now) ≤ 20000 }
+    requires room { (yes : Bool) → log_nodes (schema_of view.old) (log_of view.old) + signed_nodes (schema_of view.old) (formula_of query.now) yes ≤ 60000 }
+    ensures schema { schema_of view.new ≡ schema_of view.old }
+    ensures told { OnOk result (log_of view.new ≡ log_of view.old ++ told_by mark (formula_of query.now)) }
+    ensures refused { OnErr result (log_of view.new ≡ log_of view.old) }
+{
+    match mark {
+        Mark::Yes => view.add(alloc, query, true),
+        Mark::No => view.add(alloc, query, false),
+        Mark::Refused | Mark::Undecided => Ok(()),
+    }
+}
+
+/// The nodes of the view of a user who has asked nothing.
+#[tactic(auto, using(crate::proofs::Sizes::the_sizes))]
+fn known_nodes(schema: &Schema, user: &User) -> u64
+    requires { view_size schema.now (profile_of user.now) [] ≤ 40000 }
+    ensures { result ≡ view_size schema.now (profile_of user.now) [] }
+{
+    nodes_of_all(schema, user.know.as_slice())
+        + negated_nodes_of_all(schema, user.secrets.as_slice())
+}
+
+/// The nodes of these sentences.
+fn nodes_of_all(schema: &Schema, sentences: &[Sentence]) -> u64
+    requires { sum_by (nodes schema.now) (map formula_of sentences.now) ≤ 40000 }
+    ensures { result ≡ sum_by (nodes schema.now) (map formula_of sentences.now) }
+{
+    let mut total = 0;
+    for sentence in sentences {
+        total += nodes(sentence, schema);
+    }
+    total
+}
+
+/// The nodes of the negations of these sentences.
+fn negated_nodes_of_all(schema: &Schema, sentences: &[Sentence]) -> u64
+    requires { sum_by (λ s. 1 + nodes schema.now s) (map formula_of sentences.now) ≤ 40000 }
+    ensures { result ≡ sum_by (λ s. 1 + nodes schema.now s) (map formula_of sentences.now) }
+{
+    let mut total = 0;
+    for sentence in sentences {
+        total += 1 + nodes(sentence, schema);
+    }
+    total
+}
