@@ -238,7 +238,11 @@ fn torn(
         2 => vec![in alloc; byte; piece.len()]?,
         _ => piece[..piece.len().min(choice as usize)].to_vec(alloc)?,
     };
-    let past_the_end = if number % 5 == 4 { vec![in alloc; byte; 8]? } else { Vec::new(alloc) };
+    let past_the_end = if number % 5 == 4 {
+        vec![in alloc; byte; 8]?
+    } else {
+        Vec::new(alloc)
+    };
     torn_to(alloc, image, at, piece.len(), &left, &past_the_end)
 }
 
