@@ -1,7 +1,7 @@
 ghost use Rattle.std.specs.Prelude.{◌≤◌};
 
 use crate::{AppendError, Header, Journal, OpenError, format, open};
-use outside::{MemoryDisk, Plan};
+use outside::{MemoryDisk, Operation, Plan};
 use std::alloc::Global;
 use std::test::Fail;
 
@@ -59,6 +59,15 @@ fn is_appended(journal: &mut Journal<MemoryDisk>, kind: u8, text: &[u8; 9]) -> R
     Ok(journal.append(kind, text).is_ok())
 }
 
+fn letter(operation: &Operation) -> u8 {
+    match operation {
+        Operation::Length => b'L',
+        Operation::Read { .. } => b'r',
+        Operation::Write { .. } => b'w',
+        Operation::Sync => b's',
+    }
+}
+
 #[test]
 fn one_append_writes_its_bytes(rt: HostRuntime) -> Result<(), Fail> {
     let alloc = rt.alloc();
@@ -72,7 +81,11 @@ fn one_append_writes_its_bytes(rt: HostRuntime) -> Result<(), Fail> {
     assert_eq!(rt; disk.bytes(), want.as_slice());
     assert_eq!(rt; disk.bytes().len(), 86);
     // Two calls of `format`, three of `open`, four of `append`.
-    assert_eq!(rt; disk.calls().len(), 9);
+    let mut letters = Vec::new(alloc);
+    for call in disk.calls() {
+        letters.push(letter(&call.operation))?;
+    }
+    assert_eq!(rt; letters.as_slice(), b"wssLrwsws".as_slice());
     Ok(())
 }
 
