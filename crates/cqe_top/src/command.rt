@@ -1,5 +1,5 @@
 // The top call.
-ghost use Rattle.std.specs.Prelude.{◌≡◌, ◌≤◌, ◌↔◌, ◌⊎◌, IsOk, IsErr, Err};
+ghost use Rattle.std.specs.Prelude.{◌≡◌, ◌≤◌, ◌↔◌, ◌⊎◌, [], IsOk, IsErr, Err};
 ghost use Rattle.outside.specs.Faults.{Rose};
 ghost use Rattle.case_engine.specs.Script.{script_of};
 ghost use Rattle.case_engine.specs.Case.{Completes, Breaks};
@@ -54,7 +54,12 @@ pub fn top<S: Source, K: Sink, E: Sink>(
 }
 
 // Runs the command of the words.
-fn run<S: Source, K: Sink>(alloc: Global, words: &[String], source: &mut S, sink: &mut K) -> CommandEnd
+fn run<S: Source, K: Sink>(
+    alloc: Global,
+    words: &[String],
+    source: &mut S,
+    sink: &mut K,
+) -> CommandEnd
     ensures usage { (result ≡ CommandEnd.Usage) ↔ (IsCase words.now → ⊥) }
     ensures usage_reads_nothing { result ≡ CommandEnd.Usage → source.new ≡ source.old }
     ensures usage_writes_nothing { result ≡ CommandEnd.Usage → sink.new ≡ sink.old }
