@@ -10,6 +10,8 @@
 mod command;
 mod complaint;
 mod end;
+#[cfg(test)]
+mod tests;
 mod words;
 
 pub use command::top;
