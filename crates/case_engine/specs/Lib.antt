@@ -3,3 +3,7 @@ pub mod Memory
 pub mod Said
 pub mod Script
 pub mod Case
+pub mod Sound
+pub mod Scripts
+pub mod ScriptsRead
+pub mod SchemaRefusal

@@ -3,6 +3,9 @@
 
 mod case;
 mod declaration;
+mod fact;
+mod refusal;
+mod script;
 mod statement;
 
 pub use case::{CaseEnd, run_case};
