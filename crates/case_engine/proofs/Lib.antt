@@ -8,3 +8,6 @@ pub mod Refusing
 pub mod Lines
 pub mod Replying
 pub mod Admitting
+pub mod Telling
+pub mod Parts
+pub mod Ending
