@@ -8,3 +8,5 @@ pub mod Scripts
 pub mod ScriptsRead
 pub mod SchemaRefusal
 pub mod Read
+pub mod Answering
+pub mod Written

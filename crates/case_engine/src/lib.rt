@@ -3,7 +3,9 @@
 
 mod case;
 mod declaration;
+mod answering;
 mod fact;
+mod parts;
 mod reading;
 mod refusal;
 mod script;

@@ -12,12 +12,13 @@ ghost use Rattle.case_engine.specs.SchemaRefusal.{IsSchemaRefusal};
 
 use crate::declaration::Declared;
 use crate::fact::stated_fact;
+use crate::parts::Parts;
 use crate::refusal::LineError;
 use crate::statement::{Statement, statement_of};
 use cqe_base::schema::{Schema, SchemaError};
 use cqe_base::sentence::{Sentence, nodes};
 use cqe_base::text::ScriptKind;
-use cqe_base::user::Method;
+use cqe_base::user::{Method, User};
 use cqe_base::world::{World, WorldError};
 use sentence_text::{ReadError, read_sentence};
 use std::alloc::{AllocError, Global};
@@ -34,6 +35,9 @@ const SENTENCE_NODES: u64 = 20_000;
 
 /// The view of a user who has asked nothing has at most so many nodes.
 const VIEW_NODES: u64 = 40_000;
+
+/// The budget of a user of whom no line says one.
+const BUDGET: u64 = 1_000_000;
 
 /// What the lines of a script have said so far.
 #[derive(Drop)]
@@ -54,6 +58,7 @@ pub struct Script {
 impl Script {
     ghost use Rattle.case_engine.specs.Script.{empty_script, with_spoken, with_statement, before_asks, declare, with_domain, with_relation, with_known, with_secret, choose, allow, ask_next, state, say, script_schema};
     ghost use Rattle.case_engine.specs.SchemaRefusal.{IsNoSentence};
+    ghost use Rattle.case_engine.specs.Answering.{ArePartsOf};
     ghost use Rattle.case_engine.specs.Statements.{statement_of};
     ghost use Rattle.case_engine.specs.Said.{said, IsShortStatement};
     ghost use Rattle.case_engine.specs.ScriptsRead.{script_is, Refuses};
@@ -75,6 +80,39 @@ impl Script {
             budget: None,
             asks: Vec::new(alloc),
             view_nodes: 0,
+        })
+    }
+
+    /// The parts of the script. Its user has the name `case`.
+    pub fn into_parts(self, alloc: Global) -> Result<Parts, AllocError>
+        ensures { IfOk result (ArePartsOf (script_is self)) }
+    {
+        let name = String::from_str(alloc, "case")?;
+        let Script {
+            domains: _domains,
+            relations: _relations,
+            schema,
+            facts,
+            method,
+            know,
+            secrets,
+            budget,
+            asks,
+            view_nodes: _,
+        } = self;
+        let user = User {
+            name,
+            method: method.unwrap_or(Method::Lying),
+            know,
+            secrets,
+            budget: budget.unwrap_or(BUDGET),
+            token: None,
+        };
+        Ok(Parts {
+            schema,
+            facts,
+            user,
+            asks,
         })
     }
 
