@@ -92,13 +92,6 @@ impl<'s> View<'s> {
         })
     }
 
-    /// What every view keeps: its log is of sentences of the schema, each of at most 20,000 nodes, and at most 60,000 nodes in all.
-    pub fn known(&self)
-        ensures { IsSmallLog (schema_of self.now) (log_of self.now) }
-    {
-        let _log = &self.log;
-    }
-
     /// How many sentences the log has.
     pub fn len(&self) -> usize
         ensures { result ≡ length (log_of self.now) }
