@@ -2,3 +2,12 @@ pub mod Booleans
 pub mod Growth
 pub mod Closing
 pub mod Declaring
+pub mod Soundness
+pub mod Nothing
+pub mod Refusing
+pub mod Lines
+pub mod Replying
+pub mod Admitting
+pub mod Telling
+pub mod Ending
+pub mod TwoDigits

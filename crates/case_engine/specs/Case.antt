@@ -1,8 +1,9 @@
 -- What a case writes, and what its lines mean for its user.
 use Rattle.std.specs.Prelude.{◌≡◌, ◌⊎◌, ℕ, true, List, [], ◌∷◌, ◌++◌, length, Ok, Err}
 use Rattle.std.specs.List.{flat_map, AllByRecursion}
-use Rattle.cqe_base.specs.Schema.{Text}
-use Rattle.cqe_base.specs.History.{History}
+use Rattle.cqe_base.specs.Schema.{Text, DatabaseSchema}
+use Rattle.cqe_base.specs.Facts.{FactSet}
+use Rattle.cqe_base.specs.History.{UserProfile}
 use Rattle.cqe_base.specs.Censor.{IsLegal, admitted}
 use Rattle.cqe_base.specs.Run.{Reply, Ending, want, kept, Event, ask, replies, final_history}
 use Rattle.cqe_base.specs.Transcript.{reply_text}
@@ -25,24 +26,19 @@ IsKeptOrWant ending = (ending ≡ kept) ⊎ (ending ≡ want)
 abbrev pub reply_lines : List Reply → List ℕ
 reply_lines told = flat_map (λ reply. reply_text reply ++ 10 ∷ []) told
 
--- the replies to these asks of a script, with these endings, from the empty history
-abbrev pub case_replies : Script → List Text → List Ending → List Reply
-case_replies script asks endings = replies (script_schema script) script.facts (script_user script) [] (ask_events asks endings)
-
--- the history with which these asks end
-abbrev pub case_history : Script → List Text → List Ending → History
-case_history script asks endings = final_history (script_schema script) script.facts (script_user script) [] (ask_events asks endings)
-
--- what was written answers these asks of a script: one line for each, the replies of a run in which each ask keeps its entry or finds no memory;
--- the history is legal, and where the user is admitted it hides his secrets
-pub record Answers (script : Script) (asks : List Text) (written : List ℕ) : Type 0 where
+-- what was written answers these asks of a user in a world: one line for each, the replies of a run from the empty history in which
+-- each ask keeps its entry or finds no memory; the history is legal, and where the user is admitted it hides his secrets
+pub record Answers (schema : DatabaseSchema) (world : FactSet) (user : UserProfile) (asks : List Text) (written : List ℕ) : Type 0 where
   pub endings : List Ending
   pub one_each : length endings ≡ length asks
   pub kept_or_want : AllByRecursion IsKeptOrWant endings
-  pub lines : written ≡ reply_lines (case_replies script asks endings)
-  pub legal : IsLegal (script_schema script) script.facts (script_user script) (case_history script asks endings)
-  pub hides : admitted (script_schema script) script.facts (script_user script) ≡ true
-      → Hides (script_schema script) script.facts (script_user script) (case_history script asks endings)
+  pub lines : written ≡ reply_lines (replies schema world user [] (ask_events asks endings))
+  pub legal : IsLegal schema world user (final_history schema world user [] (ask_events asks endings))
+  pub hides : admitted schema world user ≡ true → Hides schema world user (final_history schema world user [] (ask_events asks endings))
+
+-- the same of asks of a script
+abbrev pub AnswersOf : Script → List Text → List ℕ → Type 0
+AnswersOf script asks written = Answers (script_schema script) script.facts (script_user script) asks written
 
 -- what was written is the beginning of lines that answer the first asks of a script
 pub record Begins (script : Script) (written : List ℕ) : Type 0 where
@@ -50,7 +46,7 @@ pub record Begins (script : Script) (written : List ℕ) : Type 0 where
   pub back : List Text
   pub rest : List ℕ
   pub asks : script.asks ≡ front ++ back
-  pub answered : Answers script front (written ++ rest)
+  pub answered : AnswersOf script front (written ++ rest)
 
 -- the bytes are a script, and what was appended to the old output answers all its asks
 pub record Completes (bytes old new : List ℕ) : Type 0 where
@@ -58,7 +54,7 @@ pub record Completes (bytes old new : List ℕ) : Type 0 where
   pub read : script_of bytes ≡ Ok script
   pub written : List ℕ
   pub appended : new ≡ old ++ written
-  pub answers : Answers script script.asks written
+  pub answers : AnswersOf script script.asks written
 
 -- the bytes are a script, and what was appended begins such lines
 pub record Breaks (bytes old new : List ℕ) : Type 0 where

@@ -3,3 +3,10 @@ pub mod Memory
 pub mod Said
 pub mod Script
 pub mod Case
+pub mod Sound
+pub mod Scripts
+pub mod ScriptsRead
+pub mod SchemaRefusal
+pub mod Read
+pub mod Answering
+pub mod Written

@@ -1,4 +1,5 @@
 -- What a statement in memory says.
+use Rattle.std.specs.Prelude.{◌≤◌, length}
 use Rattle.cqe_base.specs.Memory.{declaration_of}
 use Rattle.case_engine.specs.Statements
 use Rattle.case_engine.specs.Statements.{silence, domain_is, relation_is, fact_is, method_is, user_knows, secret_is, budget_is, user_asks}
@@ -15,3 +16,11 @@ said (Know text) = user_knows text.now
 said (Secret text) = secret_is text.now
 said (Budget budget) = budget_is budget
 said (Ask text) = user_asks text.now
+
+-- the text of a statement has at most 4,096 bytes
+abbrev pub IsShortStatement : Statement → Type 0
+IsShortStatement (Fact text) = length text.now ≤ 4096
+IsShortStatement (Know text) = length text.now ≤ 4096
+IsShortStatement (Secret text) = length text.now ≤ 4096
+IsShortStatement (Ask text) = length text.now ≤ 4096
+IsShortStatement _ = Unit {0}

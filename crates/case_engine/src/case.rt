@@ -4,6 +4,8 @@ ghost use Rattle.std.specs.Prelude.{◌≡◌, ◌≤◌};
 ghost use Rattle.outside.specs.Faults.{Rose};
 ghost use Rattle.case_engine.specs.Case.{Ends};
 
+use crate::answering::answer_all;
+use crate::reading::{Reading, read_script};
 use cqe_base::text::ScriptError;
 use outside::{Sink, Source};
 use std::alloc::Global;
@@ -33,5 +35,14 @@ pub fn run_case<S: Source, K: Sink>(alloc: Global, source: &mut S, sink: &mut K)
     ensures read_cause { result ≡ CaseEnd.ReadFault → Rose (S.faults source.old) (S.faults source.new) }
     ensures write_cause { result ≡ CaseEnd.WriteFault → Rose (K.faults sink.old) (K.faults sink.new) }
 {
-    CaseEnd::Memory
+    let script = match read_script(alloc, source) {
+        Reading::Whole(script) => script,
+        Reading::Refused(error) => return CaseEnd::Script(error),
+        Reading::Fault => return CaseEnd::ReadFault,
+        Reading::Memory => return CaseEnd::Memory,
+    };
+    let Ok(parts) = script.into_parts(alloc) else {
+        return CaseEnd::Memory;
+    };
+    answer_all(alloc, &parts, sink)
 }

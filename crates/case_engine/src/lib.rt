@@ -1,8 +1,14 @@
 //! The case: a script with one user, read whole, checked, and answered.
 #![tactic(auto)]
 
+mod answering;
 mod case;
 mod declaration;
+mod fact;
+mod parts;
+mod reading;
+mod refusal;
+mod script;
 mod statement;
 
 pub use case::{CaseEnd, run_case};

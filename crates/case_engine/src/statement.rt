@@ -6,7 +6,7 @@ ghost use Rattle.std.specs.Char.{is_ascii_digit};
 ghost use Rattle.cqe_base.specs.Tokens.{is_blank};
 ghost use Rattle.cqe_base.specs.Memory.{declaration_of};
 ghost use Rattle.line_protocol.specs.Words.{is_printable};
-ghost use Rattle.case_engine.specs.Said.{said};
+ghost use Rattle.case_engine.specs.Said.{said, IsShortStatement};
 ghost use Rattle.case_engine.specs.Statements.{is_comment, is_silent, is_word, listed_names, names_or_none, closed_names, domain_shape, relation_shape, whole_tokens, method_named, decimal_value, budget_number, domain_is, relation_is, method_is, budget_is, worded, lone, spoken, statement_of};
 
 use crate::declaration::{Declared, domain_in, relation_in};
@@ -103,7 +103,8 @@ fn method_named(text: &str) -> Option<Method>
 /// The statement of a first word and the text behind the blank that ends it.
 fn worded<'a>(alloc: Global, word: &str, text: &'a str) -> Result<Option<Statement<'a>>, AllocError>
     requires { length text.now ≤ 4096 }
-    ensures { IfOk result (λ found. option_map said found ≡ worded word.now text.now) }
+    ensures says { IfOk result (λ found. option_map said found ≡ worded word.now text.now) }
+    ensures short { IfOk result (λ found. IfSome found IsShortStatement) }
 {
     if word == "domain" {
         Ok(domain_statement(domain_in(alloc, text)?))
@@ -127,7 +128,8 @@ fn worded<'a>(alloc: Global, word: &str, text: &'a str) -> Result<Option<Stateme
 }
 
 fn domain_statement<'a>(declared: Option<Declared>) -> Option<Statement<'a>>
-    ensures { option_map said result ≡ option_map domain_is (option_map declaration_of declared) }
+    ensures says { option_map said result ≡ option_map domain_is (option_map declaration_of declared) }
+    ensures short { IfSome result IsShortStatement }
 {
     match declared {
         Some(declared) => Some(Statement::Domain(declared)),
@@ -136,7 +138,8 @@ fn domain_statement<'a>(declared: Option<Declared>) -> Option<Statement<'a>>
 }
 
 fn relation_statement<'a>(declared: Option<Declared>) -> Option<Statement<'a>>
-    ensures { option_map said result ≡ option_map relation_is (option_map declaration_of declared) }
+    ensures says { option_map said result ≡ option_map relation_is (option_map declaration_of declared) }
+    ensures short { IfSome result IsShortStatement }
 {
     match declared {
         Some(declared) => Some(Statement::Relation(declared)),
@@ -145,7 +148,8 @@ fn relation_statement<'a>(declared: Option<Declared>) -> Option<Statement<'a>>
 }
 
 fn method_statement<'a>(method: Option<Method>) -> Option<Statement<'a>>
-    ensures { option_map said result ≡ option_map method_is method }
+    ensures says { option_map said result ≡ option_map method_is method }
+    ensures short { IfSome result IsShortStatement }
 {
     match method {
         Some(method) => Some(Statement::Method(method)),
@@ -154,7 +158,8 @@ fn method_statement<'a>(method: Option<Method>) -> Option<Statement<'a>>
 }
 
 fn budget_statement<'a>(budget: Option<u64>) -> Option<Statement<'a>>
-    ensures { option_map said result ≡ option_map budget_is budget }
+    ensures says { option_map said result ≡ option_map budget_is budget }
+    ensures short { IfSome result IsShortStatement }
 {
     match budget {
         Some(budget) => Some(Statement::Budget(budget)),
@@ -164,7 +169,8 @@ fn budget_statement<'a>(budget: Option<u64>) -> Option<Statement<'a>>
 
 /// The statement of a word alone.
 fn lone(word: &str) -> Option<Statement<'static>>
-    ensures { option_map said result ≡ lone word.now }
+    ensures says { option_map said result ≡ lone word.now }
+    ensures short { IfSome result IsShortStatement }
 {
     if word == "ask" {
         Some(Statement::Ask(""))
@@ -177,7 +183,8 @@ fn lone(word: &str) -> Option<Statement<'static>>
 fn spoken<'a>(alloc: Global, line: &'a [u8]) -> Result<Option<Statement<'a>>, AllocError>
     requires printable { list_all is_printable line.now ≡ true }
     requires short { length line.now ≤ 4096 }
-    ensures { IfOk result (λ found. option_map said found ≡ spoken line.now) }
+    ensures says { IfOk result (λ found. option_map said found ≡ spoken line.now) }
+    ensures short { IfOk result (λ found. IfSome found IsShortStatement) }
 {
     match split_at_blank(line) {
         Some((word, text)) => worded(alloc, printable_text(word), printable_text(text)),
@@ -189,7 +196,8 @@ fn spoken<'a>(alloc: Global, line: &'a [u8]) -> Result<Option<Statement<'a>>, Al
 #[tactic(auto, unfolding(crate::specs::Statements::statement_of))]
 pub fn statement_of<'a>(alloc: Global, line: &'a [u8]) -> Result<Option<Statement<'a>>, AllocError>
     requires { length line.now ≤ 4096 }
-    ensures { IfOk result (λ found. option_map said found ≡ statement_of line.now) }
+    ensures says { IfOk result (λ found. option_map said found ≡ statement_of line.now) }
+    ensures short { IfOk result (λ found. IfSome found IsShortStatement) }
 {
     if is_silent(line) {
         Ok(Some(Statement::Silence))

@@ -1,17 +1,16 @@
 -- The findings of each method from what its probes found.
-use Rattle.std.proofs.Common.{◌≡◌, ℕ, Bool, true, false, ◌||◌, List, [], ◌∷◌, ◌++◌, map, refl, sym, ap, subst, ◌∙◌}
-use Rattle.std.specs.Prelude.{Option, Some, None, if◌then◌else◌}
+use Rattle.std.proofs.Common.{◌≡◌, ℕ, Bool, true, false, ◌||◌, List, [], ◌∷◌, ◌++◌, refl, sym, ap, subst, ◌∙◌}
+use Rattle.std.specs.Prelude.{Some, None}
 use Rattle.std.specs.List.{list_any}
 use Rattle.std.proofs.lemmas.Bool.{or_parts}
 use Rattle.std.proofs.lemmas.List.Folds.{list_any-append}
-use Rattle.cqe_base.specs.declared.user.Method.{Method}
 use Rattle.cqe_base.specs.declared.user.Method.TheVariants.{Lying, Refusal, Combined}
 use Rattle.cqe_base.specs.Schema.{DatabaseSchema}
 use Rattle.cqe_base.specs.Formula.{Formula}
 use Rattle.cqe_base.specs.Entailment.{Signed}
 use Rattle.cqe_base.specs.Outcome.{outcome, is_spent}
 use Rattle.cqe_base.specs.History.{UserProfile, disjunction_of}
-use Rattle.cqe_base.specs.Censor.{Probe, probes_against, probes_by, guarded, guarded_by, with_query, with_negation, entails_some, implied_by, spent, yes_harm, no_harm, implied}
+use Rattle.cqe_base.specs.Censor.{Probe, probes_against, probes_by, guarded, guarded_by, with_query, with_negation, implied_by, spent, yes_harm, no_harm, implied}
 use Rattle.censors.specs.declared.examination.Harms.{Harms}
 use Rattle.censors.specs.declared.examination.Implied.{Implied}
 use Rattle.censors.specs.Asked.{is_spent_at, some_spent, AreHarms, IsImplied, findings_of}

@@ -4,6 +4,7 @@ ghost use Rattle.cqe_base.specs.Formula.{formula_of, nodes, is_sentence_of};
 ghost use Rattle.cqe_base.specs.History.{profile_of, known, disjunction_of};
 ghost use Rattle.cqe_base.specs.Limits.{KeepsLimits};
 ghost use Rattle.cqe_base.specs.Censor.{admitted};
+ghost use Rattle.entailment.specs.Logs.{log_nodes};
 ghost use Rattle.entailment.specs.Views.{schema_of, log_of};
 ghost use Rattle.censors.specs.Admitting.{probe_objection, secrets_objection, truth_objection, objection_of, admission_of};
 
@@ -17,8 +18,8 @@ use entailment::{Probe, Verdict, View, test};
 use std::alloc::{AllocError, Global};
 use truth_eval::holds;
 
-/// The budget of the probes at admission.
-const ADMISSION_BUDGET: u64 = 4_000_000;
+/// The budget of the probes at admission, in steps of the search.
+pub const ADMISSION_BUDGET: u64 = 4_000_000;
 
 /// Whether a user can be served in a world, and else the first test that fails: for refusal those of the sentences that
 /// he knows, in their order; then the probes of these against the disjunction of the secrets, for lying, or against each
@@ -132,6 +133,7 @@ fn probe_objection(
 ) -> Result<Option<Admission>, AllocError>
     requires sentence { is_sentence_of (schema_of view.old) (formula_of goal.now) ≡ true }
     requires goal_nodes { nodes (schema_of view.old) (formula_of goal.now) ≤ 40000 }
+    requires log_nodes { log_nodes (schema_of view.old) (log_of view.old) ≤ 40000 }
     ensures found { IfOk result (λ found. found ≡ probe_objection (schema_of view.old) (log_of view.old) (formula_of goal.now) number) }
     ensures schema { schema_of view.new ≡ schema_of view.old }
     ensures log { log_of view.new ≡ log_of view.old }

@@ -1,9 +1,10 @@
-ghost use Rattle.std.specs.Prelude.{◌≡◌, ◌≤◌, [], ◌∷◌, ◌++◌, true, false, Some, None, nat_le, map, IfOk, if◌then◌else◌};
+ghost use Rattle.std.specs.Prelude.{◌≡◌, ◌≤◌, ◌+◌, [], ◌∷◌, ◌++◌, true, false, Some, None, nat_le, map, IfOk, if◌then◌else◌};
 ghost use Rattle.std.specs.List.{list_all};
 ghost use Rattle.cqe_base.specs.Formula.{formula_of, nodes, is_sentence_of};
 ghost use Rattle.cqe_base.specs.Entailment.{are_sentences_of};
 ghost use Rattle.cqe_base.specs.History.{profile_of};
 ghost use Rattle.cqe_base.specs.Limits.{KeepsLimits};
+ghost use Rattle.entailment.specs.Logs.{log_nodes, sentence_nodes};
 ghost use Rattle.entailment.specs.Views.{schema_of, log_of};
 ghost use Rattle.entailment.specs.Probes.{premise_of, goal_of, signed_at};
 ghost use Rattle.censors.specs.Found.{HasFindings};
@@ -62,23 +63,25 @@ pub fn examine(
     requires limits { KeepsLimits (schema_of view.now) (profile_of user.now) }
     requires sentence { is_sentence_of (schema_of view.now) (formula_of query.now) ≡ true }
     requires query_nodes { nodes (schema_of view.now) (formula_of query.now) ≤ 20000 }
+    requires all_nodes { log_nodes (schema_of view.now) (log_of view.now) + nodes (schema_of view.now) (formula_of query.now) ≤ 60000 }
     ensures { IfOk result (HasFindings (schema_of view.now) (profile_of user.now) (log_of view.now) (formula_of query.now)) }
 {
     law_limits();
     let mut view = view.copy(alloc)?;
+    let secrets = user.secrets.as_slice();
     match user.method {
         Method::Lying => {
-            let guarded = [disjunction(alloc, user.secrets.as_slice())?];
+            let guarded = [disjunction(alloc, secrets)?];
             let harms = ask_both(alloc, &mut view, query, &guarded, user.budget)?;
             Ok(found(harms, None))
         }
         Method::Refusal => {
             let implied = ask_log(alloc, &mut view, query, user.budget)?;
-            let harms = ask_both(alloc, &mut view, query, user.secrets.as_slice(), user.budget)?;
+            let harms = ask_both(alloc, &mut view, query, secrets, user.budget)?;
             Ok(found(harms, Some(implied)))
         }
         Method::Combined => {
-            let harms = ask_both(alloc, &mut view, query, user.secrets.as_slice(), user.budget)?;
+            let harms = ask_both(alloc, &mut view, query, secrets, user.budget)?;
             Ok(found(harms, None))
         }
     }
@@ -113,13 +116,30 @@ fn ask_log(
 ) -> Result<Implied, AllocError>
     requires sentence { is_sentence_of (schema_of view.old) (formula_of query.now) ≡ true }
     requires query_nodes { nodes (schema_of view.old) (formula_of query.now) ≤ 20000 }
+    requires all_nodes { log_nodes (schema_of view.old) (log_of view.old) + nodes (schema_of view.old) (formula_of query.now) ≤ 60000 }
     requires budget { budget ≤ 4000000 }
     ensures implied { IfOk result (IsImplied (schema_of view.old) budget (log_of view.old) (formula_of query.now)) }
     ensures schema { schema_of view.new ≡ schema_of view.old }
     ensures log { log_of view.new ≡ log_of view.old }
 {
-    let yes = ask(alloc, view, &Probe { premise: None, goal: (query, true) }, budget)?;
-    let no = ask(alloc, view, &Probe { premise: None, goal: (query, false) }, budget)?;
+    let yes = ask(
+        alloc,
+        view,
+        &Probe {
+            premise: None,
+            goal: (query, true),
+        },
+        budget,
+    )?;
+    let no = ask(
+        alloc,
+        view,
+        &Probe {
+            premise: None,
+            goal: (query, false),
+        },
+        budget,
+    )?;
     Ok(Implied {
         spent: yes.spent || no.spent,
         answer: implied_answer(yes.entailed, no.entailed),
@@ -149,6 +169,7 @@ fn ask_both(
 ) -> Result<Harms, AllocError>
     requires sentence { is_sentence_of (schema_of view.old) (formula_of query.now) ≡ true }
     requires query_nodes { nodes (schema_of view.old) (formula_of query.now) ≤ 20000 }
+    requires all_nodes { log_nodes (schema_of view.old) (log_of view.old) + nodes (schema_of view.old) (formula_of query.now) ≤ 60000 }
     requires goals { list_all (is_sentence_of (schema_of view.old)) (map formula_of goals.now) ≡ true }
     requires goal_nodes { list_all (λ goal. nat_le (nodes (schema_of view.old) goal) 40000) (map formula_of goals.now) ≡ true }
     requires budget { budget ≤ 4000000 }
@@ -175,6 +196,7 @@ fn ask_each(
 ) -> Result<Answer, AllocError>
     requires premise { is_sentence_of (schema_of view.old) (signed_at premise).0 ≡ true }
     requires premise_nodes { nodes (schema_of view.old) (signed_at premise).0 ≤ 20000 }
+    requires all_nodes { log_nodes (schema_of view.old) (log_of view.old) + nodes (schema_of view.old) (signed_at premise).0 ≤ 60000 }
     requires goals { list_all (is_sentence_of (schema_of view.old)) (map formula_of goals.now) ≡ true }
     requires goal_nodes { list_all (λ goal. nat_le (nodes (schema_of view.old) goal) 40000) (map formula_of goals.now) ≡ true }
     requires budget { budget ≤ 4000000 }
@@ -218,6 +240,8 @@ fn ask(
     requires goal { is_sentence_of (schema_of view.old) (goal_of probe.now).0 ≡ true }
     requires premise_nodes { list_all (λ signed. nat_le (nodes (schema_of view.old) signed.0) 20000) (premise_of probe.now) ≡ true }
     requires goal_nodes { nodes (schema_of view.old) (goal_of probe.now).0 ≤ 40000 }
+    requires all_nodes { log_nodes (schema_of view.old) (log_of view.old) + sentence_nodes (schema_of view.old) (premise_of probe.now)
+        + nodes (schema_of view.old) (goal_of probe.now).0 ≤ 100000 }
     requires budget { budget ≤ 4000000 }
     ensures answer { IfOk result (IsAnswer (schema_of view.old) budget (log_of view.old ++ premise_of probe.now) (goal_of probe.now)) }
     ensures schema { schema_of view.new ≡ schema_of view.old }

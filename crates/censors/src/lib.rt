@@ -10,7 +10,7 @@ mod examination;
 mod marks;
 mod secrets;
 
-pub use admittance::{Admission, admit};
+pub use admittance::{ADMISSION_BUDGET, Admission, admit};
 pub use examination::{Findings, examine};
 pub use marks::decide;
 pub use secrets::disjunction;

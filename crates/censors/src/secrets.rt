@@ -14,7 +14,10 @@ pub fn disjunction(alloc: Global, sentences: &[Sentence]) -> Result<Sentence, Al
     };
     let mut made = first.copy(alloc)?;
     for sentence in rest {
-        made = Sentence::Or(Box::new(alloc, made)?, Box::new(alloc, sentence.copy(alloc)?)?);
+        made = Sentence::Or(
+            Box::new(alloc, made)?,
+            Box::new(alloc, sentence.copy(alloc)?)?,
+        );
     }
     Ok(made)
 }

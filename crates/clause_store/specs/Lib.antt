@@ -1,3 +1,4 @@
-pub mod LiteralNumbers
+pub mod SignedNumbers
+pub mod LiteralInside
 pub mod Ends
 pub mod PlainLines

@@ -10,3 +10,5 @@ pub mod clauses;
 pub mod literal;
 pub mod refutation;
 pub mod resolution;
+#[cfg(test)]
+mod tests;

@@ -1,5 +1,6 @@
 // Literals.
-ghost use Rattle.std.specs.Prelude.{◌≡◌, ◌<◌, ◌^◌, ◌+◌, ◌↔◌, IsTrue};
+ghost use Rattle.std.specs.Prelude.{◌≡◌, ◌<◌, ◌^◌, ◌+◌, ◌↔◌, IsTrue, IfSome, IsNone};
+ghost use Rattle.clause_store.specs.SignedNumbers.{number_of_literal, IsNoLiteral};
 ghost use Rattle.cqe_base.specs.Literal.{Literal, Positive, Negative, variable_of, opposite, same_literal, has_literal};
 
 use std::marker::Model;
@@ -14,7 +15,8 @@ impl Model for Lit {
     ghost Value = { Literal };
 
     ghost use Rattle.std.specs.Prelude.{◌≢◌, ◌-◌, ◌^◌, pos, negsuc};
-    ghost use Rattle.clause_store.specs.LiteralNumbers.{literal_inside, number_of_literal, number_of_literal-literal_of_number};
+    ghost use Rattle.clause_store.specs.SignedNumbers.{number_of_literal, number_of_literal-literal_of_number};
+    ghost use Rattle.clause_store.specs.LiteralInside.{literal_inside};
 
     ghost view = { literal_inside };
 
@@ -40,6 +42,25 @@ impl Lit {
         ensures { result ≡ Negative variable }
     {
         Lit(-((variable + 1) as i32))
+    }
+
+    /// The literal of a number: variable v is v + 1, and its negation -(v + 1). There is none for 0 and for the least number.
+    pub fn from_number(number: i32) -> Option<Lit>
+        ensures literal { IfSome result (λ l. number_of_literal l ≡ number) }
+        ensures none { IsNone result ↔ IsNoLiteral number }
+    {
+        if number == 0 || number == i32::MIN {
+            None
+        } else {
+            Some(Lit(number))
+        }
+    }
+
+    /// Its number.
+    pub fn number(self) -> i32
+        ensures { result ≡ number_of_literal self }
+    {
+        self.0
     }
 
     /// Its variable.

@@ -11,7 +11,7 @@ use Rattle.cqe_base.specs.Entailment.{all_hold_in, entails, IsCountermodel}
 use Rattle.cqe_base.specs.Outcome.{outcome, is_open}
 use Rattle.cqe_base.specs.History.{UserProfile, History, known, log}
 use Rattle.cqe_base.specs.Censor.{guarded, knows_truth_by, admitted, admission_budget, IsLegal}
-use Rattle.cqe_base.specs.OtherWorlds.{LogsKeepSecrets, CountermodelsAreAlike}
+use Rattle.cqe_base.specs.OtherWorlds.{LogsKeepSecrets, CountermodelsAreAlike, LegalEntriesReplyAlike}
 use Rattle.cqe_base.proofs.Truths.{true_is_not_false, false_if_not_true, and_second, and_both, list_any-false}
 use Rattle.cqe_base.proofs.Logs.{log-nil, known_holds}
 use Rattle.cqe_base.proofs.Worlds.{entails-true, entails-false}
@@ -27,6 +27,9 @@ admitted_again schema world user other admits holds = and_both _ _ (by user.meth
     by Lying = refl
     by Refusal = holds
     by Combined = refl
+
+pub legal_entries_reply_alike : LegalEntriesReplyAlike
+legal_entries_reply_alike schema user entries world other admits legal = replies_alike schema user world other entries legal admits
 
 pub countermodel_alike : CountermodelsAreAlike
 countermodel_alike schema world user entries goal other admits legal guards is =

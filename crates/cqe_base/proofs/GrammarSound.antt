@@ -35,12 +35,12 @@ typed-same x a d term domain =
     let make : Term → ℕ → TypedTerm = λ a d. record { term = a; domain = d } in
     ap (λ (y : Term). make y x.domain) term ∙ ap (make a) domain
 
-known_ok : {A : Type 0} (t : Token) (o : Option A) (x : A) → known t o ≡ Ok x → o ≡ Some x
+pub known_ok : {A : Type 0} (t : Token) (o : Option A) (x : A) → known t o ≡ Ok x → o ≡ Some x
 known_ok t (Some y) x h = cc
 known_ok t None x h = absurd (cc)
 
 -- what is read is what is said to be read
-moved : {A : Type 0} (P : A → List Token → Type 0) (x y : A × List Token) → ◌≡◌ {A = Result (A × List Token) Refusal} (Ok x) (Ok y) → P x.0 x.1 → P y.0 y.1
+pub moved : {A : Type 0} (P : A → List Token → Type 0) (x y : A × List Token) → ◌≡◌ {A = Result (A × List Token) Refusal} (Ok x) (Ok y) → P x.0 x.1 → P y.0 y.1
 moved P x y h p = let e : x ≡ y = cc in subst (λ z. P z.0 z.1) e p
 
 all_symbols : List Symbol
@@ -72,19 +72,19 @@ is_symbol-IsSymbol s t h =
     sym (numbered (symbol_of t.text)) ∙ (ap (λ n. get_or all_symbols n symbols.Name) (sym same) ∙ numbered s)
 
 module _ (schema : DatabaseSchema) (end : Refusal) where
-  name-sound : (ts rest : List Token) (t : Token) → Reading.name schema end ts ≡ Ok (t, rest) → (ts ≡ t ∷ rest) × IsSymbol symbols.Name t
+  pub name-sound : (ts rest : List Token) (t : Token) → Reading.name schema end ts ≡ Ok (t, rest) → (ts ≡ t ∷ rest) × IsSymbol symbols.Name t
   unfolding Reading.name
   name-sound [] rest t h = absurd (cc)
   name-sound (u ∷ ts) rest t h =
       let p = if_ok (is_symbol symbols.Name u) (u, ts) (t, rest) _ h in
       (ap (λ (x : Token × List Token). x.0 ∷ x.1) p.1, subst (IsSymbol symbols.Name) (ap (λ (x : Token × List Token). x.0) p.1) (is_symbol-IsSymbol symbols.Name u p.0))
 
-  pass-sound : (s : Symbol) (ts rest : List Token) → Reading.pass schema end s ts ≡ Ok rest → (t : Token) × (ts ≡ t ∷ rest) × IsSymbol s t
+  pub pass-sound : (s : Symbol) (ts rest : List Token) → Reading.pass schema end s ts ≡ Ok rest → (t : Token) × (ts ≡ t ∷ rest) × IsSymbol s t
   unfolding Reading.pass
   pass-sound s [] rest h = absurd (cc)
   pass-sound s (t ∷ ts) rest h = let p = if_ok (is_symbol s t) ts rest _ h in (t, ap (λ (us : List Token). t ∷ us) p.1, is_symbol-IsSymbol s t p.0)
 
-  term-sound : (scope : Scope) (d : ℕ) (ts rest : List Token) (a : Term) → Reading.term_of schema end scope d ts ≡ Ok (a, rest) → (t : Token) × (ts ≡ t ∷ rest) × IsTerm schema scope t a d
+  pub term-sound : (scope : Scope) (d : ℕ) (ts rest : List Token) (a : Term) → Reading.term_of schema end scope d ts ≡ Ok (a, rest) → (t : Token) × (ts ≡ t ∷ rest) × IsTerm schema scope t a d
   unfolding Reading.term_of
   term-sound scope d ts rest a h =
       let s = bind_ok (Reading.name schema end ts) _ (a, rest) h in
@@ -94,7 +94,7 @@ module _ (schema : DatabaseSchema) (end : Refusal) where
       let domain : k.0.domain ≡ d = grind (arith, nat_tests) in
       (s.0.0, n.0 ∙ ap (λ (x : Term × List Token). s.0.0 ∷ x.1) g.1, record { is_name = n.1; stands_for = known_ok s.0.0 (term_named schema scope s.0.0.text) k.0 k.1 ∙ ap Some (typed-same k.0 a d (ap (λ (x : Term × List Token). x.0) g.1) domain) })
 
-  domain-sound : (ts rest : List Token) (d : ℕ) → Reading.domain schema end ts ≡ Ok (d, rest) → (t : Token) × (ts ≡ t ∷ rest) × IsSymbol symbols.Name t × (domain_named schema t.text ≡ Some d)
+  pub domain-sound : (ts rest : List Token) (d : ℕ) → Reading.domain schema end ts ≡ Ok (d, rest) → (t : Token) × (ts ≡ t ∷ rest) × IsSymbol symbols.Name t × (domain_named schema t.text ≡ Some d)
   unfolding Reading.domain
   domain-sound ts rest d h =
       let s = bind_ok (Reading.name schema end ts) _ (d, rest) h in
@@ -103,7 +103,7 @@ module _ (schema : DatabaseSchema) (end : Refusal) where
       let e : (k.0, s.0.1) ≡ (d, rest) = cc in
       (s.0.0, n.0 ∙ ap (λ (x : ℕ × List Token). s.0.0 ∷ x.1) e, n.1, known_ok s.0.0 (domain_named schema s.0.0.text) k.0 k.1 ∙ ap (λ (x : ℕ × List Token). Some x.0) e)
 
-  after_column-sound : (last : Bool) (ts rest : List Token) → Reading.after_column schema end last ts ≡ Ok rest → (t : Token) × (ts ≡ t ∷ rest) × IsSymbol (if last then symbols.Close else symbols.Comma) t
+  pub after_column-sound : (last : Bool) (ts rest : List Token) → Reading.after_column schema end last ts ≡ Ok rest → (t : Token) × (ts ≡ t ∷ rest) × IsSymbol (if last then symbols.Close else symbols.Comma) t
   unfolding Reading.after_column
   after_column-sound last [] rest h = absurd (cc)
   after_column-sound last (t ∷ ts) rest h = at (is_symbol (if last then symbols.Close else symbols.Comma) t) refl h
@@ -189,10 +189,10 @@ module _ (schema : DatabaseSchema) (end : Refusal) where
       at true e = atom-sound scope t room u ts rest a name (is_symbol-IsSymbol symbols.Open u e) (rw (e, Reading.named) at h)
       at false e = comparison-sound scope t room (u ∷ ts) rest a name (rw (e, Reading.named) at h)
 
-  abbrev unary_reader : ℕ → Scope → Reader Formula
+  abbrev pub unary_reader : ℕ → Scope → Reader Formula
   unary_reader room scope = Reading.unary schema end (Reading.inside schema end room) scope
 
-  abbrev implied_reader : ℕ → Scope → Reader Formula
+  abbrev pub implied_reader : ℕ → Scope → Reader Formula
   implied_reader room scope = Reading.implied schema end (Reading.inside schema end room) scope
 
   -- what is read where so many constructs may still be opened is in the grammar
@@ -220,13 +220,13 @@ module _ (schema : DatabaseSchema) (end : Refusal) where
         at false e others = moved P (a, t ∷ us) (b, rest) (rw (e, chain) at h) p
 
   module _ (room : ℕ) (scope : Scope) (unary_is_sound : (ts rest : List Token) (a : Formula) → unary_reader room scope ts ≡ Ok (a, rest) → Begins schema unary room scope ts a rest) where
-    both-sound : (ts rest : List Token) (a : Formula) → Reading.both (unary_reader room scope) ts ≡ Ok (a, rest) → Begins schema both room scope ts a rest
+    pub both-sound : (ts rest : List Token) (a : Formula) → Reading.both (unary_reader room scope) ts ≡ Ok (a, rest) → Begins schema both room scope ts a rest
     unfolding Reading.both
     both-sound ts rest a h =
         let k = bind_ok (unary_reader room scope ts) _ (a, rest) h in
         chain-sound symbols.And conjunction (unary_reader room scope) (λ a rest. Begins schema both room scope ts a rest) (λ a t us b rest p e read. more_and p e (unary_is_sound us rest b read)) (length k.0.1) k.0.0 k.0.1 a rest (one_and (unary_is_sound ts k.0.1 k.0.0 k.1)) k.2
 
-    either-sound : (ts rest : List Token) (a : Formula) → Reading.either (unary_reader room scope) ts ≡ Ok (a, rest) → Begins schema either room scope ts a rest
+    pub either-sound : (ts rest : List Token) (a : Formula) → Reading.either (unary_reader room scope) ts ≡ Ok (a, rest) → Begins schema either room scope ts a rest
     unfolding Reading.either
     either-sound ts rest a h =
         let k = bind_ok (Reading.both (unary_reader room scope) ts) _ (a, rest) h in
@@ -372,12 +372,12 @@ module _ (schema : DatabaseSchema) (end : Refusal) where
   unary_by-sound room below symbols.Arrow scope t ts rest a e h = absurd (cc)
   unary_by-sound room below symbols.DoubleArrow scope t ts rest a e h = absurd (cc)
 
-  unary-sound : (room : ℕ) → SoundInside room → (scope : Scope) (ts rest : List Token) (a : Formula) → unary_reader room scope ts ≡ Ok (a, rest) → Begins schema unary room scope ts a rest
+  pub unary-sound : (room : ℕ) → SoundInside room → (scope : Scope) (ts rest : List Token) (a : Formula) → unary_reader room scope ts ≡ Ok (a, rest) → Begins schema unary room scope ts a rest
   unfolding Reading.unary
   unary-sound room below scope [] rest a h = absurd (cc)
   unary-sound room below scope (t ∷ ts) rest a h = unary_by-sound room below (symbol_of t.text) scope t ts rest a refl h
 
-  implied-sound : (room : ℕ) → SoundInside room → (scope : Scope) (ts rest : List Token) (a : Formula) → implied_reader room scope ts ≡ Ok (a, rest) → Begins schema implied room scope ts a rest
+  pub implied-sound : (room : ℕ) → SoundInside room → (scope : Scope) (ts rest : List Token) (a : Formula) → implied_reader room scope ts ≡ Ok (a, rest) → Begins schema implied room scope ts a rest
   unfolding Reading.implied
   implied-sound room below scope ts rest a h =
       let k = bind_ok (Reading.either (unary_reader room scope) ts) _ (a, rest) h in

@@ -9,6 +9,8 @@ unfolding step end_within ground_outcome outcome
 worked_trace = record {
   clauses_yes = refl;
   clauses_no = refl;
+  trail_yes = refl;
+  trail_no = refl;
   refuted = (11, refl);
   satisfied = (9, refl);
   follows_at_11 = refl;

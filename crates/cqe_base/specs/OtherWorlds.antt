@@ -9,7 +9,7 @@ use Rattle.cqe_base.specs.Truth.{true_in}
 use Rattle.cqe_base.specs.Entailment.{IsCountermodel}
 use Rattle.cqe_base.specs.History.{UserProfile, History, log, disjunction_of}
 use Rattle.cqe_base.specs.Censor.{guarded, entails_some, IsLegal, IsAdmissible, admitted}
-use Rattle.cqe_base.specs.Hiding.{IsAlike}
+use Rattle.cqe_base.specs.Hiding.{RepliesAlike, IsAlike}
 
 -- the secret with this number; `false` where there is none
 abbrev pub secret_at : UserProfile → ℕ → Formula
@@ -44,6 +44,13 @@ CountermodelsAreAlike =
     → admitted schema world user ≡ true → IsLegal schema world user entries
     → Contains (guarded user) goal → IsCountermodel schema (log user entries) (goal, true) other
     → IsAlike schema user entries world other
+
+-- where a history is legal in a world that admits the user as another does, each run that ends with it in the other world gets the same replies there
+abbrev pub LegalEntriesReplyAlike : Type 0
+LegalEntriesReplyAlike =
+    (schema : DatabaseSchema) (user : UserProfile) (entries : History) (world other : FactSet)
+    → admitted schema other user ≡ admitted schema world user → IsLegal schema other user entries
+    → RepliesAlike schema user entries world other
 
 -- where a disjunction is false, each of its sentences is
 abbrev pub FalseDisjunctions : Type 0

@@ -8,3 +8,6 @@
 mod instances;
 
 pub use instances::{GroundError, ground};
+
+#[cfg(test)]
+mod tests;

@@ -1,7 +1,7 @@
 -- Texts that are cut at their first blank, and printable bytes.
-use Rattle.std.proofs.Common.{◌≡◌, ℕ, zero, suc, ◌+◌, ◌-◌, ◌<◌, ◌≤◌, Bool, true, false, cond, List, [], ◌∷◌, ◌++◌, length, take, drop, get_or, refl, sym, ap, ◌∙◌, arith}
-use Rattle.std.specs.Prelude.{Option, Some, None, nat_lt, nat_le, position, slice_index, ◌&&◌, ◌||◌}
-use Rattle.std.specs.List.{position_or_len, prefix_len, list_all, list_any, before_first, after_first}
+use Rattle.std.proofs.Common.{◌≡◌, ℕ, zero, suc, ◌+◌, ◌<◌, ◌≤◌, Bool, true, false, List, [], ◌∷◌, length, take, drop, get_or, refl, sym, ap, ◌∙◌, arith}
+use Rattle.std.specs.Prelude.{Some, None, nat_lt, position, ◌&&◌}
+use Rattle.std.specs.List.{position_or_len, list_all, list_any, before_first, after_first}
 use Rattle.std.specs.Str.{IsAscii}
 use Rattle.std.proofs.lemmas.Bool.Decides.{nat_tests}
 use Rattle.std.proofs.lemmas.List.{drop_all, take-append-drop}
@@ -9,15 +9,9 @@ use Rattle.std.proofs.lemmas.List.Folds.{list_all-append, list_any_at}
 use Rattle.std.proofs.lemmas.List.Sums.{fails_before_first, passes_at_first}
 use Rattle.std.proofs.lemmas.List.Quantifiers.{position-Some}
 use Rattle.line_protocol.specs.Words.{is_printable}
+use Rattle.line_protocol.proofs.Positions.{place_of, past_end}
 
--- where a position is some, it is that
-place_of : (place size n : ℕ) → cond (nat_lt place size) (Some place) None ≡ Some n → place ≡ n
-place_of place size n is =
-    elim (nat_lt place size) as (λ t. cond t (Some place) None ≡ Some n → place ≡ n) [ true ↦ λ same. cc | false ↦ λ other. cc ] is
-
-past_end : (place size : ℕ) → cond (nat_lt place size) (Some place) None ≡ None → size ≤ place
-past_end place size none = grind (arith, nat_tests)
-
+-- what stands before the first place, and behind it
 pub before_is : (p : ℕ → Bool) (xs : List ℕ) (n : ℕ) → position p xs ≡ Some n → take n xs ≡ before_first p xs
 before_is p xs n is = ap (λ (k : ℕ). take k xs) (sym (place_of (position_or_len p xs) (length xs) n is))
 
@@ -46,13 +40,13 @@ pub after_none : (p : ℕ → Bool) (xs : List ℕ) → list_any p xs ≡ false 
 after_none p xs none =
     let place = position_or_len p xs in
     let past : length xs ≤ place =
-        elim (nat_lt place (length xs)) as (λ t. nat_lt place (length xs) ≡ t → length xs ≤ place) [
-          true ↦ λ is.
-            let inside : place < length xs = grind (arith, nat_tests) in
-            let found : list_any p xs ≡ true = list_any_at p xs place 0 inside (passes_at_first p xs 0 inside) in
-            absurd (cc)
-        | false ↦ λ is. grind (arith, nat_tests)
-        ] refl in
+    elim (nat_lt place (length xs)) as (λ t. nat_lt place (length xs) ≡ t → length xs ≤ place) [
+      | true ↦ λ is.
+          let inside : place < length xs = grind (arith, nat_tests) in
+          let found : list_any p xs ≡ true = list_any_at p xs place 0 inside (passes_at_first p xs 0 inside) in
+          absurd (cc)
+      | false ↦ λ is. grind (arith, nat_tests)
+    ] refl in
     drop_all (place + 1) xs (omega arith)
 
 -- each part of printable bytes is printable

@@ -1,6 +1,7 @@
 pub mod Blanks
 pub mod Digits
 pub mod FirstLine
+pub mod Positions
 pub mod RequestCases
 pub mod Returns
 pub mod Searched

@@ -1,11 +1,12 @@
 -- How far a buffer was searched for a line feed.
-use Rattle.std.proofs.Common.{◌≡◌, ◌≢◌, ℕ, ◌+◌, ◌-◌, ◌<◌, ◌≤◌, ◌==◌, Bool, true, false, cond, List, length, take, drop, get_or, arith, sym, ap, ◌∙◌, refl}
+use Rattle.std.proofs.Common.{◌≡◌, ◌≢◌, ℕ, ◌+◌, ◌-◌, ◌<◌, ◌≤◌, ◌==◌, Bool, true, false, List, length, take, drop, get_or, arith, sym, ap, ◌∙◌, refl}
 use Rattle.std.specs.Prelude.{Option, Some, None, IfNone, nat_lt, position}
 use Rattle.std.specs.List.{position_or_len}
 use Rattle.std.proofs.lemmas.Bool.Decides.{nat_tests}
 use Rattle.std.proofs.lemmas.List.{get_or-take, get_or-drop, length-drop}
 use Rattle.std.proofs.lemmas.List.Sums.{fails_before_first}
 use Rattle.std.proofs.lemmas.List.Quantifiers.{position-Some}
+use Rattle.line_protocol.proofs.Positions.{past_end}
 use Rattle.line_protocol.specs.Feeds.{HasNoFeedBelow, HasFeedAt}
 
 -- the front of so many bytes has no line feed
@@ -28,10 +29,6 @@ other_byte b test same = grind (arith, nat_tests)
 
 same_byte : (b : ℕ) → (b == 10) ≡ true → b ≡ 10
 same_byte b test = grind (arith, nat_tests)
-
--- where a position is none, it is past the end
-past_end : (place size : ℕ) → cond (nat_lt place size) (Some place) None ≡ None → size ≤ place
-past_end place size none = grind (arith, nat_tests)
 
 -- what has no line feed behind the front that was searched
 search_further : (bytes : List ℕ) (from n : ℕ) → HasNoFeedBelow from bytes → HasNoFeedBelow n (drop from bytes) → HasNoFeedBelow (from + n) bytes

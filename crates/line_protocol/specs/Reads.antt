@@ -1,5 +1,5 @@
 -- What reading one line does.
-use Rattle.std.specs.Prelude.{◌≡◌, ℕ, Bool, true, false, List, [], ◌∷◌, ◌++◌, if◌then◌else◌}
+use Rattle.std.specs.Prelude.{◌≡◌, ℕ, true, false, List, [], ◌∷◌, ◌++◌, if◌then◌else◌}
 use Rattle.cqe_base.specs.Lines.{TextLine, text_lines, content, is_too_long}
 use Rattle.line_protocol.specs.declared.lines.LineOutcome.{LineOutcome}
 use Rattle.line_protocol.specs.declared.lines.LineOutcome.TheVariants.{Line, End, TooLong, ReadFault}
@@ -29,8 +29,3 @@ Reads Line before after line = TakesLine before after line
 Reads End before after line = (before ≡ []) × (after ≡ []) × (line ≡ [])
 Reads TooLong before after line = BeginsTooLong before × (after ≡ before) × (line ≡ [])
 Reads ReadFault before after line = (after ≡ before) × (line ≡ [])
-
--- Whether the outcome is a fault of the source.
-abbrev pub is_fault : LineOutcome → Bool
-is_fault ReadFault = true
-is_fault _ = false

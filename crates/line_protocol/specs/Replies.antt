@@ -1,5 +1,5 @@
 -- The texts of replies.
-use Rattle.std.specs.Prelude.{[], ◌∷◌, ◌++◌, codes, decimal}
+use Rattle.std.specs.Prelude.{◌++◌, codes, decimal}
 use Rattle.cqe_base.specs.Schema.{Text}
 use Rattle.cqe_base.specs.Transcript.{mark_text}
 use Rattle.line_protocol.specs.declared.reply.Reply.{Reply}

@@ -1,5 +1,5 @@
 -- The request that a line makes.
-use Rattle.std.specs.Prelude.{◌==◌, ℕ, Bool, ◌&&◌, ◌||◌, nat_le, List, [], length, if◌then◌else◌, codes, bytes_eq}
+use Rattle.std.specs.Prelude.{Bool, ◌&&◌, nat_le, [], length, if◌then◌else◌, codes, bytes_eq}
 use Rattle.std.specs.List.{list_all, list_any, before_first, after_first}
 use Rattle.cqe_base.specs.Schema.{Text, is_schema_name}
 use Rattle.cqe_base.specs.Tokens.{is_blank}

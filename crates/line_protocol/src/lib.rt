@@ -3,7 +3,8 @@
 //! However a source cuts its bytes, the lines are the same, and each is read as one request by a definition; a reply
 //! is written whole or the sink has failed. Nothing here takes memory.
 //!
-//! Read `lines`, which reads a line into a `LineBuffer`, then `request`, `reply` and `login`.
+//! Read `lines`, which reads a line into a `LineBuffer`, then `request`, `reply` and `login`. `LineText`
+//! holds a short line while it is put together.
 #![tactic(auto)]
 
 mod line_text;
@@ -15,6 +16,7 @@ mod request;
 mod tests;
 pub mod words;
 
+pub use line_text::LineText;
 pub use lines::{LineBuffer, LineOutcome, read_line};
 pub use login::login_ok;
 pub use reply::{Reply, write_reply};

@@ -5,8 +5,9 @@ use std::marker::Model;
 
 const ROOM: usize = 32;
 
+/// A text of at most 32 bytes that is put together without memory.
 #[derive(Drop)]
-pub(crate) struct LineText {
+pub struct LineText {
     bytes: [u8; ROOM],
     length: usize,
 }
@@ -22,7 +23,8 @@ impl Model for LineText {
 }
 
 impl LineText {
-    pub(crate) fn new(text: &str) -> Self
+    /// A line that begins with this text.
+    pub fn new(text: &str) -> Self
         requires { length text.now ≤ 32 }
         ensures { result ≡ text.now }
     {
@@ -34,13 +36,15 @@ impl LineText {
         line
     }
 
-    pub(crate) fn bytes(&self) -> &[u8]
+    /// Its bytes.
+    pub fn bytes(&self) -> &[u8]
         ensures { result.now ≡ self.now }
     {
         &self.bytes[..self.length]
     }
 
-    pub(crate) fn push(&mut self, text: &str)
+    /// Appends a text.
+    pub fn push(&mut self, text: &str)
         requires { length self.old + length text.now ≤ 32 }
         ensures { self.new ≡ self.old ++ text.now }
     {
@@ -57,8 +61,8 @@ impl LineText {
         self.length += 1;
     }
 
-    // Appends the digits of a number.
-    pub(crate) fn push_decimal(&mut self, number: u32)
+    /// Appends the digits of a number.
+    pub fn push_decimal(&mut self, number: u32)
         requires { length self.old + length (decimal number) ≤ 32 }
         ensures { self.new ≡ self.old ++ decimal number }
     {

@@ -1,10 +1,10 @@
 // Lines out of the pieces that a source gives.
-ghost use Rattle.std.specs.Prelude.{◌≡◌, ℕ, ◌==◌, ◌+◌, position, ◌≤◌, List, [], false, length, take, IfOk, IfSome, IfNone, OnErr, IsTrue};
+ghost use Rattle.std.specs.Prelude.{◌≡◌, ◌≢◌, ◌==◌, ℕ, ◌+◌, ◌≤◌, List, [], length, take, position, IfOk, IfSome, IfNone, OnErr};
 ghost use Rattle.cqe_base.specs.Lines.{without_return};
 ghost use Rattle.outside.specs.Faults.{HasCause, Rose};
 ghost use Rattle.line_protocol.specs.Buffer.{unread};
 ghost use Rattle.line_protocol.specs.Feeds.{HasNoFeedBelow, HasFeedAt};
-ghost use Rattle.line_protocol.specs.Reads.{Reads, is_fault};
+ghost use Rattle.line_protocol.specs.Reads.{Reads};
 
 use outside::{Failed, Source};
 use std::marker::Model;
@@ -33,20 +33,26 @@ pub enum LineOutcome {
 pub struct LineBuffer {
     bytes: [u8; ROOM],
     line_start: usize,
-    line_length: usize,
+    line_end: usize,
     start: usize,
     end: usize,
 }
 
 impl Model for LineBuffer {
-    ghost use Rattle.std.specs.Prelude.{◌+◌, ◌-◌, ◌≤◌, take, drop};
+    ghost use Rattle.std.specs.Prelude.{◌+◌, ◌≤◌};
+    ghost use Rattle.std.specs.List.{between};
     ghost use Rattle.line_protocol.specs.Buffer.{BufferedLine};
 
     ghost Value = { BufferedLine };
 
-    ghost view = { λ b. record { line = take b.line_length (drop b.line_start b.bytes); ahead = take (b.end - b.start) (drop b.start b.bytes) } };
+    ghost view = { λ b. record {
+      line = between b.line_start b.line_end b.bytes;
+      ahead = between b.start b.end b.bytes;
+    } };
 
-    ghost invariant = { λ b. (b.start ≤ b.end) × (b.end ≤ 8192) × (b.line_start + b.line_length ≤ 8192) × (b.line_length ≤ 4096) };
+    ghost invariant = { λ b.
+        (b.line_start ≤ b.line_end) × (b.line_end ≤ b.line_start + 4096) × (b.line_end ≤ 8192)
+        × (b.start ≤ b.end) × (b.end ≤ 8192) };
 }
 
 impl LineBuffer {
@@ -58,7 +64,7 @@ impl LineBuffer {
         LineBuffer {
             bytes: [0; ROOM],
             line_start: 0,
-            line_length: 0,
+            line_end: 0,
             start: 0,
             end: 0,
         }
@@ -69,7 +75,7 @@ impl LineBuffer {
         ensures line { result.now ≡ self.now.line }
         ensures short { length result.now ≤ 4096 }
     {
-        &self.bytes[self.line_start..self.line_start + self.line_length]
+        &self.bytes[self.line_start..self.line_end]
     }
 
     // The bytes behind the line.
@@ -84,10 +90,10 @@ impl LineBuffer {
         ensures line { self.new.line ≡ [] }
         ensures ahead { self.new.ahead ≡ self.old.ahead }
     {
-        self.line_length = 0;
+        self.line_end = self.line_start;
     }
 
-    // Where the first line feed stands, if the first bytes, of this number, have none.
+    // Where the first line feed stands; so many bytes in front are known to have none.
     fn line_feed(&self, from: usize) -> Option<usize>
         requires within { from ≤ length self.now.ahead }
         requires earlier { HasNoFeedBelow from self.now.ahead }
@@ -102,15 +108,16 @@ impl LineBuffer {
     fn first_line(&mut self, at: usize) -> LineOutcome
         requires feed { HasFeedAt at self.old.ahead }
         requires no_line { self.old.line ≡ [] }
-        ensures reads { (left : List ℕ) → Reads result (unread self.old left) (unread self.new left) self.new.line }
-        ensures whose { is_fault result ≡ false }
+        ensures reads { (left : List ℕ) →
+            Reads result (unread self.old left) (unread self.new left) self.new.line }
+        ensures faultless { result ≢ LineOutcome.ReadFault }
     {
         if at > LINE {
             return LineOutcome::TooLong;
         }
         let length = content_length(&self.ahead()[..at]);
         self.line_start = self.start;
-        self.line_length = length;
+        self.line_end = self.start + length;
         self.start += at + 1;
         LineOutcome::Line
     }
@@ -121,13 +128,13 @@ impl LineBuffer {
         requires fits { length self.old.ahead ≤ 4096 }
         requires no_line { self.old.line ≡ [] }
         ensures reads { Reads result (unread self.old []) (unread self.new []) self.new.line }
-        ensures whose { is_fault result ≡ false }
+        ensures faultless { result ≢ LineOutcome.ReadFault }
     {
         if self.start == self.end {
             return LineOutcome::End;
         }
         self.line_start = self.start;
-        self.line_length = self.end - self.start;
+        self.line_end = self.end;
         self.start = self.end;
         LineOutcome::Line
     }
@@ -136,15 +143,17 @@ impl LineBuffer {
     fn fill<S: Source>(&mut self, source: &mut S) -> Result<usize, Failed>
         requires room { length self.old.ahead ≤ 4096 }
         ensures line { self.new.line ≡ [] }
-        ensures more { IfOk result (λ n. (length self.new.ahead ≡ length self.old.ahead + n) × (self.old.ahead ≡ take (length self.old.ahead) self.new.ahead)) }
+        ensures more { IfOk result (λ n. length self.new.ahead ≡ length self.old.ahead + n) }
+        ensures behind { IfOk result (λ n. self.old.ahead ≡ take (length self.old.ahead) self.new.ahead) }
         ensures same { OnErr result (self.new.ahead ≡ self.old.ahead) }
-        ensures unread { S.told → unread self.new (S.left source.new) ≡ unread self.old (S.left source.old) }
+        ensures unread { S.told →
+            unread self.new (S.left source.new) ≡ unread self.old (S.left source.old) }
         ensures end { S.told → IfOk result (λ n. n ≡ 0 → S.left source.old ≡ []) }
         ensures held { S.held source.new ≡ S.held source.old }
         ensures cause { HasCause (S.faults source.old) (S.faults source.new) result }
     {
         self.bytes.copy_within(self.start..self.end, 0);
-        self.line_length = 0;
+        self.line_end = self.line_start;
         self.end -= self.start;
         self.start = 0;
         let count = source.take(&mut self.bytes[self.end..])?;
@@ -175,12 +184,14 @@ fn content_length(bytes: &[u8]) -> usize
 }
 
 /// Reads the next line into the buffer. Lines end with a line feed; a carriage return before that is dropped, and a
-/// rest without a line feed is a line unless it is empty.
+/// rest without a line feed is a line unless it is empty. Give a source the same buffer each time, since the buffer
+/// has what was taken of the lines behind.
 pub fn read_line<S: Source>(source: &mut S, buffer: &mut LineBuffer) -> LineOutcome
-    ensures reads { S.told → Reads result (unread buffer.old (S.left source.old)) (unread buffer.new (S.left source.new)) buffer.new.line }
+    ensures reads { S.told → Reads result
+        (unread buffer.old (S.left source.old)) (unread buffer.new (S.left source.new)) buffer.new.line }
     ensures held { S.held source.new ≡ S.held source.old }
     ensures later { S.faults source.old ≤ S.faults source.new }
-    ensures cause { IsTrue (is_fault result) → Rose (S.faults source.old) (S.faults source.new) }
+    ensures cause { result ≡ LineOutcome.ReadFault → Rose (S.faults source.old) (S.faults source.new) }
 {
     buffer.forget_line();
     let mut searched = 0;

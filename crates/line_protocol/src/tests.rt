@@ -33,7 +33,10 @@ fn requests() -> [(&'static str, Request<'static>); 42] {
         ("ask\tdrug(ann)", Request::Ask("drug(ann)")),
         ("ask drug(ann)", Request::Ask("drug(ann)")),
         ("ask \tdrug(ann) ", Request::Ask("\tdrug(ann) ")),
-        ("ask not hiv(ann) or drug(bob)", Request::Ask("not hiv(ann) or drug(bob)")),
+        (
+            "ask not hiv(ann) or drug(bob)",
+            Request::Ask("not hiv(ann) or drug(bob)"),
+        ),
         ("ask ~!#", Request::Ask("~!#")),
         ("asks true", Request::Other),
         ("ASK true", Request::Other),
@@ -147,12 +150,7 @@ fn lines_end_with_a_line_feed(rt: HostRuntime) -> Result<(), Fail> {
 fn a_failed_call_loses_no_byte(rt: HostRuntime) -> Result<(), Fail> {
     let alloc = rt.alloc();
     let bytes = b"ab\r\nc\n";
-    let at_call = [
-        "/ab|c|end",
-        "/ab|c|end",
-        "ab|/c|end",
-        "ab|c|/end",
-    ];
+    let at_call = ["/ab|c|end", "/ab|c|end", "ab|/c|end", "ab|c|/end"];
     for (call, want) in at_call.iter().enumerate() {
         let plan = Plan::At(vec![in alloc; call as u64]?);
         let text = transcript(alloc, bytes, Pieces::UpTo(2), plan)?;
@@ -208,23 +206,23 @@ fn a_line_has_at_most_4096_bytes(rt: HostRuntime) -> Result<(), Fail> {
 }
 
 #[test]
-fn a_login_has_a_name_and_a_phrase(rt: HostRuntime) -> Result<(), Fail> {
+fn names_and_phrases_have_their_lengths(rt: HostRuntime) -> Result<(), Fail> {
     let alloc = rt.alloc();
-    let name = letters(alloc, 32, b"")?;
-    let phrase = letters(alloc, 256, b"")?;
-    let mut line = Vec::from_slice(alloc, b"login ")?;
-    line.extend_from_slice(&name)?;
-    line.push(b' ')?;
-    line.extend_from_slice(&phrase)?;
-    let request = Request::Login {
-        user: str::from_utf8(&name)?,
-        phrase: str::from_utf8(&phrase)?,
-    };
-    assert_eq!(rt; read_request(&line), request);
-    line.push(b' ')?;
-    assert_eq!(rt; read_request(&line), Request::Other);
-    line[38] = b'_';
-    assert_eq!(rt; read_request(&line), Request::Other);
+    let table = [
+        (1, 1, true),
+        (32, 256, true),
+        (33, 256, false),
+        (32, 257, false),
+        (0, 1, false),
+        (1, 0, false),
+    ];
+    for (name, phrase, is_login) in table {
+        let mut line = Vec::from_slice(alloc, b"login ")?;
+        line.extend_from_slice(&letters(alloc, name, b" ")?)?;
+        line.extend_from_slice(&letters(alloc, phrase, b"")?)?;
+        let request = read_request(&line);
+        assert_eq!(rt; matches!(request, Request::Login { .. }), is_login);
+    }
     Ok(())
 }
 

@@ -2,4 +2,3 @@ pub mod Pieces
 pub mod Fronts
 pub mod Appends
 pub mod Reading
-pub mod Laws

@@ -10,6 +10,7 @@ use crate::put::put;
 use outside::{Disk, Failed};
 use std::alloc::{AllocError, Global};
 
+/// An opened journal, to which records are appended.
 #[derive(Drop)]
 pub struct Journal<D: Disk> {
     disk: D,
@@ -112,7 +113,7 @@ impl<D: Disk> Journal<D> {
     }
 }
 
-// Writes a record at the closed gate. It makes the first piece in some room.
+// Writes a record at the closed gate. Its first piece is made in the room.
 fn put_record<D: Disk>(
     disk: &mut D,
     gate: u64,

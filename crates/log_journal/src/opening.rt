@@ -6,6 +6,7 @@ ghost use Rattle.log_journal.specs.Records.{Recorded, length_of, is_whole, damag
 ghost use Rattle.log_journal.specs.Bytes.{EndsAt};
 ghost use Rattle.log_journal.specs.Opening.{header_bytes, recorded, IsRecord, Refuses, IsRefused, IsOutside, StartsWithRecord, IsRead};
 ghost use Rattle.log_journal.specs.Journal.{is_broken, disk_after};
+ghost use Rattle.log_journal.specs.declared.header.OpenError.{OpenError};
 
 use crate::put::write_synced;
 use crate::{Header, Journal, OpenError, Record, Refused};
@@ -184,7 +185,9 @@ pub fn open<D: Disk>(
     ensures each { IfOk result (λ r. All IsRecord r.1.items) }
     ensures whole { IfOk result (λ r. is_broken r.0 ≡ false) }
 
-    // A refusal has its cause, and a journal with this header is refused for a fault or for want of memory alone.
+    // Bytes are refused exactly where they show a reason: what is opened shows none, a refusal has its cause, and a
+    // journal with this header is refused for a fault or for want of memory alone.
+    ensures sound { D.told → OnOk result ((why : OpenError) → ¬ Refuses (header_bytes header.now) (D.reads disk) why) }
     ensures refused { IfErr result (λ r. IsRefused D.told (header_bytes header.now) (D.reads disk) (D.faults disk) (D.faults r.disk) r.why) }
     ensures good { D.told → (all : List Recorded) → IsJournal (header_bytes header.now) all (D.reads disk) → IfErr result (λ r. IsOutside r.why) }
 

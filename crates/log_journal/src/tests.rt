@@ -1,7 +1,7 @@
 ghost use Rattle.std.specs.Prelude.{◌≤◌};
 
 use crate::{AppendError, Header, Journal, OpenError, format, open};
-use outside::{MemoryDisk, Plan};
+use outside::{MemoryDisk, Operation, Plan};
 use std::alloc::Global;
 use std::test::Fail;
 
@@ -18,13 +18,13 @@ const FROM_THE_GATE: [u8; 14] = [
 // The device calls of an opening: a sync, the length and one read.
 const OPENING: u64 = 3;
 
-// A journal with one record, as bytes.
-fn one_record(alloc: Global) -> Result<Vec<u8>, Fail> {
+// The bytes of a journal with this behind its header.
+fn with_header(alloc: Global, behind: &[u8]) -> Result<Vec<u8>, Fail> {
     let mut bytes = Vec::new(alloc);
     bytes.extend_from_slice(b"CQEJRNL1")?;
     bytes.extend_from_slice(&[7; 32])?;
     bytes.extend_from_slice(&[9; 32])?;
-    bytes.extend_from_slice(&FROM_THE_GATE)?;
+    bytes.extend_from_slice(behind)?;
     Ok(bytes)
 }
 
@@ -59,6 +59,15 @@ fn is_appended(journal: &mut Journal<MemoryDisk>, kind: u8, text: &[u8; 9]) -> R
     Ok(journal.append(kind, text).is_ok())
 }
 
+fn letter(operation: &Operation) -> u8 {
+    match operation {
+        Operation::Length => b'L',
+        Operation::Read { .. } => b'r',
+        Operation::Write { .. } => b'w',
+        Operation::Sync => b's',
+    }
+}
+
 #[test]
 fn one_append_writes_its_bytes(rt: HostRuntime) -> Result<(), Fail> {
     let alloc = rt.alloc();
@@ -68,42 +77,105 @@ fn one_append_writes_its_bytes(rt: HostRuntime) -> Result<(), Fail> {
     let mut journal = journal_of(alloc, disk)?;
     assert!(rt; is_appended(&mut journal, 2, b"drug(ann)")?);
     let disk = journal.close();
-    let want = one_record(alloc)?;
+    let want = with_header(alloc, &FROM_THE_GATE)?;
     assert_eq!(rt; disk.bytes(), want.as_slice());
     assert_eq!(rt; disk.bytes().len(), 86);
     // Two calls of `format`, three of `open`, four of `append`.
-    assert_eq!(rt; disk.calls().len(), 9);
+    let mut letters = Vec::new(alloc);
+    for call in disk.calls() {
+        letters.push(letter(&call.operation))?;
+    }
+    assert_eq!(rt; letters.as_slice(), b"wssLrwsws".as_slice());
     Ok(())
 }
 
+// Behind the header stands what each case names: a gate, and then records with their next gates.
 #[test]
-fn changed_bytes_are_refused_or_end_the_journal(rt: HostRuntime) -> Result<(), Fail> {
+fn any_bytes_are_opened_or_refused(rt: HostRuntime) -> Result<(), Fail> {
+    let alloc = rt.alloc();
+    let cases: [(&[u8], Result<(usize, u8), OpenError>); 24] = [
+        (&[], Err(OpenError::NotAJournal)),
+        (&[0], Ok((0, 0))),
+        (&[2, 1, 0, 0, 0], Ok((0, 0))),
+        (&[255], Ok((0, 0))),
+        (&[1], Err(OpenError::Damaged(0))),
+        (&[1, 1], Err(OpenError::Damaged(0))),
+        (&[1, 1, 0], Err(OpenError::Damaged(0))),
+        (&[1, 1, 0, 0], Err(OpenError::Damaged(0))),
+        (&[1, 1, 0, 0, 0], Ok((1, 1))),
+        (&[1, 1, 0, 2, 120, 0], Err(OpenError::Damaged(0))),
+        (&[1, 1, 0, 2, 120, 120, 0], Ok((1, 1))),
+        (&[1, 1, 1, 0, 120, 0], Err(OpenError::Damaged(0))),
+        (&[1, 0, 0, 0, 0], Err(OpenError::Damaged(0))),
+        (&[1, 5, 0, 0, 0], Err(OpenError::Damaged(0))),
+        (&[1, 9, 0, 0, 0], Err(OpenError::Damaged(0))),
+        (&[1, 255, 0, 0, 0], Err(OpenError::Damaged(0))),
+        (&[1, 4, 0, 0, 1], Err(OpenError::Damaged(1))),
+        (&[1, 4, 0, 0, 9, 1, 0], Ok((1, 4))),
+        (
+            &[1, 1, 0, 1, 120, 1, 0, 0, 0, 0],
+            Err(OpenError::Damaged(1)),
+        ),
+        (
+            &[1, 1, 0, 1, 120, 1, 2, 0, 1, 120],
+            Err(OpenError::Damaged(1)),
+        ),
+        (
+            &[1, 1, 0, 0, 1, 2, 0, 0, 1, 3, 0, 0],
+            Err(OpenError::Damaged(2)),
+        ),
+        (
+            &[1, 1, 0, 0, 1, 6, 0, 0, 1, 7, 0, 0, 0],
+            Err(OpenError::Damaged(1)),
+        ),
+        (&[1, 1, 0, 0, 1, 2, 0, 0, 1, 3, 0, 0, 0], Ok((3, 3))),
+        (&[1, 3, 255, 255, 120, 0], Err(OpenError::Damaged(0))),
+    ];
+    for (behind, want) in cases {
+        assert_eq!(rt;
+            opened(alloc, with_header(alloc, behind)?)?,
+            want,
+            "{behind:?}"
+        );
+    }
+    assert_eq!(rt;
+        opened(alloc, Vec::new(alloc))?,
+        Err(OpenError::NotAJournal)
+    );
+    for (length, want) in [(4096, Ok((1, 2))), (4097, Err(OpenError::Damaged(0)))] {
+        let mut bytes = with_header(alloc, &[1, 2, 16, (length - 4096) as u8])?;
+        bytes.resize(76 + length + 1, 0)?;
+        assert_eq!(rt; opened(alloc, bytes)?, want, "a text of {length}");
+    }
+    Ok(())
+}
+
+// One byte of a journal with one record is changed.
+#[test]
+fn a_changed_byte_is_refused_or_read(rt: HostRuntime) -> Result<(), Fail> {
     let alloc = rt.alloc();
     let cases = [
+        (0, 99, Err(OpenError::NotAJournal)),
+        (7, 50, Err(OpenError::NotAJournal)),
+        (8, 0, Err(OpenError::OtherPolicy)),
+        (39, 0, Err(OpenError::OtherPolicy)),
+        (40, 0, Err(OpenError::OtherPolicy)),
+        (71, 0, Err(OpenError::OtherPolicy)),
         (72, 1, Ok((1, 2))),
         (72, 7, Ok((0, 0))),
         (73, 1, Ok((1, 1))),
         (73, 9, Err(OpenError::Damaged(0))),
-        (73, 0, Err(OpenError::Damaged(0))),
         (74, 16, Err(OpenError::Damaged(0))),
         (75, 10, Err(OpenError::Damaged(0))),
         (85, 1, Err(OpenError::Damaged(1))),
         (85, 2, Ok((1, 2))),
-        (7, 50, Err(OpenError::NotAJournal)),
-        (8, 0, Err(OpenError::OtherPolicy)),
-        (71, 0, Err(OpenError::OtherPolicy)),
     ];
     for (place, byte, want) in cases {
-        let mut bytes = one_record(alloc)?;
+        let mut bytes = with_header(alloc, &FROM_THE_GATE)?;
         if let Some(changed) = bytes.get_mut(place) {
             *changed = byte;
         }
         assert_eq!(rt; opened(alloc, bytes)?, want, "byte {place} set to {byte}");
-    }
-    for length in [0, 72] {
-        let mut bytes = one_record(alloc)?;
-        bytes.truncate(length);
-        assert_eq!(rt; opened(alloc, bytes)?, Err(OpenError::NotAJournal));
     }
     Ok(())
 }
@@ -121,16 +193,13 @@ fn two_appends(alloc: Global, disk: MemoryDisk) -> Result<(MemoryDisk, usize), F
 }
 
 // A stop at each device call, and several pictures of what was torn. A tail of an earlier crash stands behind the
-// closed gate: a whole record and an open gate, which nothing may bring back.
+// closed gate: a record and an open gate with another record, which nothing may bring back.
 #[test]
 fn a_stop_leaves_the_acknowledged_records(rt: HostRuntime) -> Result<(), Fail> {
     let alloc = rt.alloc();
     for stop in 0..OPENING + 8 + 1 {
-        for picture in [0, 1, 2, 3, 6, 7, 11, 15, 23, 35, 51, 1022] {
-            let mut bytes = one_record(alloc)?;
-            if let Some(gate) = bytes.get_mut(72) {
-                *gate = 0;
-            }
+        for picture in [0, 1, 2, 4, 7, 8, 9, 13, 18, 38, 53, 1277] {
+            let mut bytes = with_header(alloc, b"\0\x02\0\x09drug(eve)")?;
             bytes.extend_from_slice(&FROM_THE_GATE)?;
             let (disk, acknowledged) = two_appends(
                 alloc,
@@ -151,7 +220,11 @@ fn a_stop_leaves_the_acknowledged_records(rt: HostRuntime) -> Result<(), Fail> {
 #[test]
 fn a_failed_sync_breaks_the_journal(rt: HostRuntime) -> Result<(), Fail> {
     let alloc = rt.alloc();
-    let disk = MemoryDisk::with_plan(alloc, one_record(alloc)?, Plan::At(vec![in alloc; OPENING + 1]?))?;
+    let disk = MemoryDisk::with_plan(
+        alloc,
+        with_header(alloc, &FROM_THE_GATE)?,
+        Plan::At(vec![in alloc; OPENING + 1]?),
+    )?;
     let mut journal = journal_of(alloc, disk)?;
     journal.reserve(9)?;
     assert_eq!(rt;
@@ -168,12 +241,19 @@ fn a_failed_sync_breaks_the_journal(rt: HostRuntime) -> Result<(), Fail> {
 fn a_disk_fault_at_the_opening(rt: HostRuntime) -> Result<(), Fail> {
     let alloc = rt.alloc();
     for call in 0..OPENING {
-        let disk = MemoryDisk::with_plan(alloc, one_record(alloc)?, Plan::At(vec![in alloc; call]?))?;
+        let disk = MemoryDisk::with_plan(
+            alloc,
+            with_header(alloc, &FROM_THE_GATE)?,
+            Plan::At(vec![in alloc; call]?),
+        )?;
         match open(alloc, disk, &HEADER) {
             Ok(_) => assert!(rt; false),
             Err(refused) => {
                 assert_eq!(rt; refused.why, OpenError::DiskFault);
-                assert_eq!(rt; refused.disk.bytes(), one_record(alloc)?.as_slice());
+                assert_eq!(rt;
+                    refused.disk.bytes(),
+                    with_header(alloc, &FROM_THE_GATE)?.as_slice()
+                );
             }
         }
     }
@@ -185,7 +265,10 @@ fn crosses_threads<T: Send + Sync>(_value: &T) {}
 #[test]
 fn a_journal_crosses_threads(rt: HostRuntime) -> Result<(), Fail> {
     let alloc = rt.alloc();
-    let journal = journal_of(alloc, MemoryDisk::new(alloc, one_record(alloc)?)?)?;
+    let journal = journal_of(
+        alloc,
+        MemoryDisk::new(alloc, with_header(alloc, &FROM_THE_GATE)?)?,
+    )?;
     crosses_threads(&journal);
     Ok(())
 }

@@ -116,6 +116,12 @@ quiet_refusal first old new operation reading (inr one) = quiet_call first old n
 pub only_synced : (first : List ℕ) (old new : List Call) → new ≡ old ++ called Sync false ∷ [] → Only (bytes_after first old) (IsImage first new)
 only_synced first old new is c now = image_after-push first (λ d. d ≡ first) old Sync false c (subst (λ (l : List Call). IsImage first l c) is now)
 
+pub only_after : {T E : Type 0} (first : List ℕ) (old new : List Call) (operation : Operation) (bytes : List ℕ) (result : Result T E) → operation ≡ Sync → bytes ≡ bytes_after first old
+    → OnOk result (new ≡ old ++ called operation false ∷ []) → OnOk result (Only bytes (IsImage first new))
+only_after first old new operation bytes (Ok value) is kept added =
+    subst (λ b. Only b (IsImage first new)) (sym kept) (only_synced first old new (added ∙ ap (λ (o : Operation). old ++ called o false ∷ []) is))
+only_after first old new operation bytes (Err why) is kept added = tt
+
 -- what a write leaves
 pub record Writing (first : List ℕ) (at n : ℕ) (old new : List Call) : Type 0 where
   pub time : Elapses (length old) (length new) (IsImageSince first old) (IsImageSince first new)

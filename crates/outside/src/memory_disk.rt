@@ -37,7 +37,11 @@ pub struct MemoryDisk {
 }
 
 impl MemoryDisk {
-    ghost use Rattle.outside.specs.MemoryDisk.{memory_bytes, memory_calls, memory_faults, IsMemoryImage, IsFresh};
+    ghost use Rattle.outside.specs.MemoryDisk.{memory_bytes, memory_calls, memory_faults, memory_moment, IsMemoryImage, IsMemoryImageSince, IsFresh};
+    ghost use Rattle.outside.specs.Disk.{Only, Elapses};
+    ghost use Rattle.outside.specs.Record.{IsReading};
+    ghost use Rattle.outside.specs.declared.memory_disk.Operation.TheVariants.{Sync};
+    ghost use Rattle.std.specs.Prelude.{List, ℕ};
 
     /// A disk that has these bytes, all of them synced, and that fails for want of memory alone.
     pub fn new(alloc: Global, bytes: Vec<u8>) -> Result<Self, AllocError>
@@ -96,6 +100,20 @@ impl MemoryDisk {
         ensures { result.now ≡ memory_calls self.now }
     {
         &self.calls
+    }
+
+    // Puts a call that changes no bytes into the record.
+    fn note_reading(&mut self, operation: Operation) -> Result<(), Failed>
+        requires { IsReading operation }
+        ensures reads { memory_bytes self.new ≡ memory_bytes self.old }
+        ensures images { (c : List ℕ) → IsMemoryImage self.new c → IsMemoryImage self.old c }
+        ensures durable { operation ≡ Sync → OnOk result (Only (memory_bytes self.old) (IsMemoryImage self.new)) }
+        ensures time { Elapses (memory_moment self.old) (memory_moment self.new) (IsMemoryImageSince self.old) (IsMemoryImageSince self.new) }
+        ensures moments { (c : List ℕ) → IsMemoryImageSince self.new (memory_moment self.old) c → IsMemoryImage self.old c }
+        ensures cause { HasCause (memory_faults self.old) (memory_faults self.new) result }
+    {
+        let fails = self.plan.fails(self.calls.len() as u64);
+        note(&mut self.calls, &mut self.faults, operation, fails)
     }
 }
 
@@ -158,18 +176,13 @@ impl Disk for MemoryDisk {
     ghost only_now = { λ d c since. image_only d.first.items d.calls.items c since };
 
     fn length(&mut self) -> Result<u64, Failed> {
-        let fails = self.plan.fails(self.calls.len() as u64);
-        note(&mut self.calls, &mut self.faults, Operation::Length, fails)?;
+        self.note_reading(Operation::Length)?;
         Ok(self.bytes.len() as u64)
     }
 
     fn read_at(&mut self, at: u64, into: &mut [u8]) -> Result<usize, Failed> {
-        let operation = Operation::Read {
-            at,
-            length: into.len(),
-        };
-        let fails = self.plan.fails(self.calls.len() as u64);
-        note(&mut self.calls, &mut self.faults, operation, fails)?;
+        let length = into.len();
+        self.note_reading(Operation::Read { at, length })?;
         Ok(fill(&self.bytes, at, into))
     }
 
@@ -189,9 +202,7 @@ impl Disk for MemoryDisk {
     }
 
     fn sync(&mut self) -> Result<(), Failed> {
-        let fails = self.plan.fails(self.calls.len() as u64);
-        note(&mut self.calls, &mut self.faults, Operation::Sync, fails)?;
-        Ok(())
+        self.note_reading(Operation::Sync)
     }
 }
 
@@ -238,7 +249,11 @@ fn torn(
         2 => vec![in alloc; byte; piece.len()]?,
         _ => piece[..piece.len().min(choice as usize)].to_vec(alloc)?,
     };
-    let past_the_end = if number % 5 == 4 { vec![in alloc; byte; 8]? } else { Vec::new(alloc) };
+    let past_the_end = if number % 5 == 4 {
+        vec![in alloc; byte; 8]?
+    } else {
+        Vec::new(alloc)
+    };
     torn_to(alloc, image, at, piece.len(), &left, &past_the_end)
 }
 

@@ -3,8 +3,11 @@
 /// Which calls of an object in memory are to fail, counted from 0. A call that finds no memory fails too.
 #[derive(Drop)]
 pub enum Plan {
+    /// None of them.
     Never,
+    /// Those of this list.
     At(Vec<u64>),
+    /// This one and each after it.
     From(u64),
 }
 

@@ -7,6 +7,7 @@ use Rattle.cqe_base.specs.declared.sentence.Sentence.{Sentence}
 use Rattle.cqe_base.specs.Formula.{Formula, formula_of, is_sentence_of}
 use Rattle.cqe_base.specs.Schema.{DatabaseSchema, Text}
 use Rattle.cqe_base.specs.Reading.{ReadingsAreSentences, reading}
+use Rattle.cqe_base.specs.Refusals.{Refused, RefusalsAreOfTheTable}
 use Rattle.cqe_base.specs.Grammar.{IsSentence, ReadingsAreDerived}
 use Rattle.sentence_text.specs.declared.error.ReadError.{ReadError}
 use Rattle.sentence_text.specs.declared.error.ReadError.TheVariants as errors
@@ -27,6 +28,11 @@ pub is_refused : (schema : DatabaseSchema) (text : Text) (r : Result Sentence Re
 is_refused schema text (Ok s) h = tt
 is_refused schema text (Err errors.Memory) h = tt
 is_refused schema text (Err (errors.Text e)) h = h
+
+pub is_of_table : (schema : DatabaseSchema) (text : Text) (r : Result Sentence ReadError) → Gives formula_of r (reading schema text) → RefusalsAreOfTheTable → IfRefused r (λ e. Refused schema text e)
+is_of_table schema text (Ok s) h law = tt
+is_of_table schema text (Err errors.Memory) h law = tt
+is_of_table schema text (Err (errors.Text e)) h law = law schema text e h
 
 pub isnt_refused : (schema : DatabaseSchema) (text : Text) (r : Result Sentence ReadError) → Gives formula_of r (reading schema text) → (a : Formula) → IsSentence schema text a → IfRefused r (λ e. ⊥)
 isnt_refused schema text (Ok s) h a is = tt

@@ -5,6 +5,7 @@ ghost use Rattle.cqe_base.specs.Formula.{Formula, formula_of, is_sentence_of, un
 ghost use Rattle.cqe_base.specs.Grammar.{IsSentence};
 ghost use Rattle.cqe_base.specs.Reading;
 ghost use Rattle.cqe_base.specs.Reading.{reading};
+ghost use Rattle.cqe_base.specs.Refusals.{Refused};
 ghost use Rattle.sentence_text.specs.Binders.{binders, typed_term};
 ghost use Rattle.sentence_text.specs.Upcoming.{token_of};
 ghost use Rattle.sentence_text.specs.Position.{IsSameText, Passes, Reads, Gives, IfRefused, sign_of, quantifier_of};
@@ -15,7 +16,7 @@ use crate::names::columns;
 use crate::reader::{Reader, refused, unexpected};
 use crate::scope::{Scope, TypedTerm};
 use crate::token::Token;
-use cqe_base::laws::law_reading;
+use cqe_base::laws::{law_reading, law_refusals};
 use cqe_base::schema::Schema;
 use cqe_base::sentence::{Sentence, Term, Terms};
 use cqe_base::text::Symbol;
@@ -439,12 +440,14 @@ pub fn read_sentence(alloc: Global, schema: &Schema, text: &str) -> Result<Sente
     // The grammar derives it, and it is a closed sentence of the schema.
     ensures derived { IfOk result (λ s. IsSentence schema.now text.now (formula_of s)) }
     ensures of_schema { IfOk result (λ s. is_sentence_of schema.now (formula_of s) ≡ true) }
-    // A refusal has the kind and the place that the text is refused with.
+    // A refusal has the kind and the place that the text is refused with, and the table of refusals has it.
     ensures refused { IfRefused result (λ e. reading schema.now text.now ≡ Err e) }
+    ensures table { IfRefused result (λ e. Refused schema.now text.now e) }
     // A text that the grammar derives isn't refused.
     ensures complete { (a : Formula) → IsSentence schema.now text.now a → IfRefused result (λ e. ⊥) }
 {
     law_reading();
+    law_refusals();
     read_exactly(alloc, schema, text)
 }
 

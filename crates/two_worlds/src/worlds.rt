@@ -1,15 +1,23 @@
-ghost use Rattle.std.specs.Prelude.{◌≡◌, ◌<◌, ◌↔◌, true, map, IfOk, IfSome, IsNone, vec_len};
-ghost use Rattle.cqe_base.specs.History.{profile_of, answered_query_of, log};
+ghost use Rattle.std.specs.Prelude.{◌≡◌, ◌<◌, ◌≤◌, ◌↔◌, ◌+◌, ◌++◌, true, false, map, IfOk, OnOk, IfSome, IsNone, vec_len};
+ghost use Rattle.cqe_base.specs.Formula.{formula_of, nodes, is_sentence_of};
+ghost use Rattle.cqe_base.specs.Entailment.{entails, IsCountermodel};
 ghost use Rattle.cqe_base.specs.Outcome.{Spent, outcome};
+ghost use Rattle.cqe_base.specs.History.{profile_of, answered_query_of, told_by, log};
 ghost use Rattle.cqe_base.specs.Censor.{admission_budget};
 ghost use Rattle.cqe_base.specs.Limits.{KeepsLimits, KeepsSizes};
 ghost use Rattle.cqe_base.specs.Hiding.{LegalHistoriesHide};
 ghost use Rattle.cqe_base.specs.OtherWorlds.{IsLegalSomewhere, guard_at};
+ghost use Rattle.entailment.specs.Logs.{log_nodes};
+ghost use Rattle.entailment.specs.Views.{schema_of, log_of};
 ghost use Rattle.two_worlds.specs.Others.{HidesSecret};
 
+use censors::{ADMISSION_BUDGET, disjunction};
+use cqe_base::laws::{law_admissible, law_alike, law_entailment, law_limits, law_logs};
 use cqe_base::schema::Schema;
-use cqe_base::user::{Entry, User};
+use cqe_base::sentence::Sentence;
+use cqe_base::user::{Entry, Mark, Method, User};
 use cqe_base::world::World;
+use entailment::{Probe, Verdict, View, test};
 use std::alloc::{AllocError, Global};
 
 /// Confidentiality: a legal history of an admitted user of the schema hides his secrets. It computes nothing.
@@ -37,5 +45,85 @@ pub fn other_world(
     ensures spent { IfOk result (λ found. IsNone found
         ↔ (outcome schema.now (log (profile_of user.now) (map answered_query_of entries.now)) (guard_at (profile_of user.now) secret, true) admission_budget ≡ Spent)) }
 {
-    Err(AllocError)
+    law_limits();
+    law_admissible();
+    law_alike();
+    schema.known();
+    let mut view = told_view(alloc, schema, user, entries)?;
+    let goal = guard(alloc, user, secret)?;
+    countermodel(alloc, &mut view, &goal)
+}
+
+/// The view whose log is that of the entries.
+fn told_view<'s>(
+    alloc: Global,
+    schema: &'s Schema,
+    user: &User,
+    entries: &[Entry],
+) -> Result<View<'s>, AllocError>
+    requires limits { KeepsLimits schema.now (profile_of user.now) }
+    requires sizes { KeepsSizes schema.now (profile_of user.now) (map answered_query_of entries.now) }
+    ensures schema { IfOk result (λ view. schema_of view ≡ schema.now) }
+    ensures log { IfOk result (λ view. log_of view ≡ log (profile_of user.now) (map answered_query_of entries.now)) }
+    ensures nodes { IfOk result (λ view. log_nodes (schema_of view) (log_of view) ≤ 60000) }
+{
+    law_limits();
+    law_logs();
+    let mut view = View::new(alloc, schema, user)?;
+    for entry in entries {
+        tell(alloc, &mut view, entry)?;
+    }
+    Ok(view)
+}
+
+/// Appends what an entry tells to the log.
+fn tell(alloc: Global, view: &mut View<'_>, entry: &Entry) -> Result<(), AllocError>
+    requires sentence { is_sentence_of (schema_of view.old) (formula_of entry.now.query) ≡ true }
+    requires query { nodes (schema_of view.old) (formula_of entry.now.query) ≤ 20000 }
+    requires room { log_nodes (schema_of view.old) (log_of view.old) + (1 + nodes (schema_of view.old) (formula_of entry.now.query)) ≤ 60000 }
+    ensures schema { schema_of view.new ≡ schema_of view.old }
+    ensures log { OnOk result (log_of view.new ≡ log_of view.old ++ told_by entry.now.mark (formula_of entry.now.query)) }
+    ensures nodes { OnOk result (log_nodes (schema_of view.new) (log_of view.new) ≤ 60000) }
+{
+    match entry.mark {
+        Mark::Yes => view.add(alloc, &entry.query, true),
+        Mark::No => view.add(alloc, &entry.query, false),
+        Mark::Refused | Mark::Undecided => Ok(()),
+    }
+}
+
+/// What is guarded in the place of a secret: for lying the disjunction of the secrets, and else the secret.
+fn guard(alloc: Global, user: &User, secret: u32) -> Result<Sentence, AllocError>
+    requires { secret < vec_len user.now.secrets }
+    ensures { IfOk result (λ made. formula_of made ≡ guard_at (profile_of user.now) secret) }
+{
+    match user.method {
+        Method::Lying => disjunction(alloc, user.secrets.as_slice()),
+        Method::Refusal | Method::Combined => user.secrets[secret as usize].copy(alloc),
+    }
+}
+
+/// A world in which the log is true and the goal false, where the log doesn't entail the goal.
+fn countermodel(
+    alloc: Global,
+    view: &mut View<'_>,
+    goal: &Sentence,
+) -> Result<Option<World>, AllocError>
+    requires sentence { is_sentence_of (schema_of view.old) (formula_of goal.now) ≡ true }
+    requires goal_nodes { nodes (schema_of view.old) (formula_of goal.now) ≤ 40000 }
+    requires log_nodes { log_nodes (schema_of view.old) (log_of view.old) ≤ 60000 }
+    requires unknown { entails (schema_of view.old) (log_of view.old) (formula_of goal.now, true) ≡ false }
+    ensures open { IfOk result (λ found. IfSome found (IsCountermodel (schema_of view.old) (log_of view.old) (formula_of goal.now, true))) }
+    ensures spent { IfOk result (λ found. IsNone found
+        ↔ (outcome (schema_of view.old) (log_of view.old) (formula_of goal.now, true) admission_budget ≡ Spent)) }
+{
+    law_entailment();
+    let probe = Probe {
+        premise: None,
+        goal: (goal, true),
+    };
+    match test(alloc, view, &probe, ADMISSION_BUDGET)? {
+        Verdict::Open(world) => Ok(Some(world)),
+        Verdict::Follows | Verdict::Spent => Ok(None),
+    }
 }

@@ -5,6 +5,7 @@
 //! Read `reply` first, then `log`.
 #![tactic(auto)]
 
+pub mod laws;
 mod log;
 mod reply;
 

@@ -3,10 +3,11 @@ use Rattle.std.specs.List.{list_all}
 use Rattle.std.proofs.lemmas.Bool.{leb-true}
 use Rattle.cqe_base.specs.Formula.{formula_of, nodes, is_sentence_of}
 use Rattle.cqe_base.specs.History.{profile_of, known}
-use Rattle.entailment.specs.Views.{schema_of, log_of}
+use Rattle.entailment.specs.Logs.{log_nodes}
+use Rattle.entailment.specs.Views.{log_of}
 use Rattle.censors.specs.Admitting.{probe_objection, secrets_objection}
 use Rattle.censors.proofs.Probing.{each_passes}
-use Rattle.censors.proofs.Objections.{objection_here, objection_nowhere, silent_before-more}
+use Rattle.censors.proofs.Objections.{objection_here, silent_before-more}
 use Rattle.censors.proofs.admittance.secrets_objection.Goals as goal
 
 pub probe_objection-requires-clause-sentence : goal.probe_objection-requires-clause-sentence
@@ -22,6 +23,12 @@ probe_objection-requires-clause-goal_nodes c =
     subst (λ schema. nodes schema (formula_of c.secret-item.result) ≤ 40000) (sym c.loop-number.invariant.schema)
     (leb-true _ 40000 (each_passes (λ goal. nat_le (nodes c.args.schema.now goal) 40000) c.deref-secret-items.result.now c.loop-number.number c.secret-item.result c.secret-item.is c.loop-number-test.true
     (ap (λ secrets. list_all (λ goal. nat_le (nodes c.args.schema.now goal) 40000) (map formula_of secrets)) c.deref-secret-items.ensures.value ∙ fits.secret_nodes)))
+
+pub probe_objection-requires-clause-log_nodes : goal.probe_objection-requires-clause-log_nodes
+probe_objection-requires-clause-log_nodes c =
+    let fits = c.law_limits.ensures.probes c.args.schema.now (profile_of c.args.user.now) c.requires in
+    subst (λ schema. log_nodes schema (log_of c.loop-number.view) ≤ 40000) (sym c.loop-number.invariant.schema)
+    (subst (λ log. log_nodes c.args.schema.now log ≤ 40000) (sym c.loop-number.invariant.log) fits.known_nodes)
 
 pub returns-then-is_some : goal.returns-then-is_some
 returns-then-is_some c =

@@ -1,6 +1,6 @@
-use Rattle.std.proofs.Common.{◌≡◌, ◌<◌, ◌≤◌, true, false, not, sym, ap, ◌∙◌}
+use Rattle.std.proofs.Common.{not, sym, ap, ◌∙◌}
 use Rattle.std.specs.Prelude.{option_map}
-use Rattle.cqe_base.specs.Formula.{formula_of, is_sentence_of}
+use Rattle.cqe_base.specs.Formula.{is_sentence_of}
 use Rattle.cqe_base.specs.Truth.{true_in}
 use Rattle.censors.specs.declared.admittance.Admission.TheVariants.{KnowFalse}
 use Rattle.censors.proofs.Probing.{each_passes}

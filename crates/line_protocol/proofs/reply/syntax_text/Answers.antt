@@ -1,4 +1,4 @@
-use Rattle.std.proofs.Common.{◌≡◌, ◌≤◌, ◌+◌, ◌∷◌, [], length, ap, arith, length-append}
+use Rattle.std.proofs.Common.{◌≤◌, ◌∷◌, [], length, ap, arith, length-append}
 use Rattle.std.specs.Prelude.{decimal}
 use Rattle.line_protocol.proofs.Digits.{byte_digits, word_digits}
 use Rattle.line_protocol.proofs.reply.syntax_text.Goals as goal

@@ -1,4 +1,4 @@
-use Rattle.std.proofs.Common.{◌≡◌, sym, ◌∙◌}
+use Rattle.std.proofs.Common.{sym, ◌∙◌}
 use Rattle.line_protocol.proofs.RequestCases.{login_holds, login_fails, no_login}
 use Rattle.line_protocol.proofs.request.login.Goals as goal
 

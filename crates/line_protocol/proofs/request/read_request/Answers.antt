@@ -1,4 +1,4 @@
-use Rattle.std.proofs.Common.{◌≡◌, sym, ap, ◌∙◌}
+use Rattle.std.proofs.Common.{sym, ap, ◌∙◌}
 use Rattle.line_protocol.specs.Requests.{lone}
 use Rattle.line_protocol.proofs.RequestCases.{unprintable, word_and_text, word_alone}
 use Rattle.line_protocol.proofs.request.read_request.Goals as goal

@@ -1,6 +1,6 @@
-use Rattle.std.proofs.Common.{◌≡◌, ◌+◌, true, sym, ap, ◌∙◌}
-use Rattle.std.specs.Prelude.{Option, Some, None, is_some}
-use Rattle.std.specs.List.{list_all, list_any}
+use Rattle.std.proofs.Common.{◌+◌, sym, ap, ◌∙◌}
+use Rattle.std.specs.Prelude.{is_some}
+use Rattle.std.specs.List.{list_all}
 use Rattle.std.proofs.lemmas.List.{take_rest}
 use Rattle.cqe_base.specs.Tokens.{is_blank}
 use Rattle.line_protocol.specs.Words.{is_printable}
@@ -15,7 +15,8 @@ pub returns-clause-blank : goal.returns-clause-blank
 returns-clause-blank c = sym (any_found is_blank c.args.bytes.now c.in_ok-blank.blank (sym c.first_blank.ensures ∙ c.in_ok-blank.was))
 
 pub returns-clause-printable : goal.returns-clause-printable
-returns-clause-printable c =
-    (all_front is_printable c.args.bytes.now c.in_ok-blank.blank c.requires,
-    ap (λ l. list_all is_printable l) (take_rest c.args.bytes.now (c.in_ok-blank.blank + 1))
-    ∙ all_rest is_printable c.args.bytes.now (c.in_ok-blank.blank + 1) c.requires)
+returns-clause-printable c = (
+  all_front is_printable c.args.bytes.now c.in_ok-blank.blank c.requires,
+  ap (λ l. list_all is_printable l) (take_rest c.args.bytes.now (c.in_ok-blank.blank + 1))
+      ∙ all_rest is_printable c.args.bytes.now (c.in_ok-blank.blank + 1) c.requires,
+)

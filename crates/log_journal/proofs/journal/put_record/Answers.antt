@@ -1,4 +1,4 @@
-use Rattle.std.proofs.Common.{◌≡◌, ◌+◌, ◌<◌, ◌^◌, List, ℕ, length, take, ◌∙◌, ap, subst}
+use Rattle.std.proofs.Common.{◌≡◌, ◌+◌, List, ℕ, length, take, ◌∙◌, ap, subst}
 use Rattle.std.proofs.lemmas.Result.{on_ok_weaker}
 use Rattle.log_journal.specs.Bytes.{piece_of, with_piece, IsBetween}
 use Rattle.log_journal.proofs.Appends.{added, between, ends_behind, on_both}

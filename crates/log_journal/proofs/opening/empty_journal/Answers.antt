@@ -1,4 +1,4 @@
-use Rattle.std.proofs.Common.{rules, ◌≡◌, ◌++◌, ◌∷◌, [], List, ℕ, length, arith, length-append, append-nil}
+use Rattle.std.proofs.Common.{rules, ◌≡◌, ◌++◌, ◌∷◌, [], length}
 use Rattle.log_journal.specs.Opening.{header_bytes}
 use Rattle.log_journal.proofs.Fronts.{empty_journal_of}
 use Rattle.log_journal.proofs.opening.empty_journal.Goals as goal

@@ -19,8 +19,7 @@ loop-rest-preserved c =
     let old = c.loop-rest.records.items in
     let added : Record = record { kind = c.in-Some.kind; text = c.in_ok-text.text } in
     let grown = ap (λ l. map recorded l) c.in_ok-push.ensures.items ∙ map-append recorded old (added ∷ []) in
-    let is_record : IsRecord added = record { kind_from = starts.kind_from; kind_to = starts.kind_to; short = omega (arith, ap length same, starts.short) } in
-    (
+    let is_record : IsRecord added = record { kind_from = starts.kind_from; kind_to = starts.kind_to; short = omega (arith, ap length same, starts.short) } in (
       one_more c.args.bytes.now (map recorded old) (map recorded c.push.new.self.items) c.loop-rest.rest.now _ c.in-Some.kind c.in-Some.text.now c.in_ok-text.text.items c.in-Some.after.now
           c.loop-rest.invariant.0 c.loop-rest-test.true refl starts same grown,
       All-same IsRecord c.push.new.self.items (old ++ added ∷ []) c.in_ok-push.ensures.items

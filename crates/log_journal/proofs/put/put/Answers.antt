@@ -1,4 +1,4 @@
-use Rattle.std.proofs.Common.{◌≡◌, ◌+◌, ℕ, List, length, subst, arith}
+use Rattle.std.proofs.Common.{◌≡◌, ◌+◌, length, subst, arith}
 use Rattle.outside.specs.Disk.{Holds, Torn}
 use Rattle.outside.proofs.Moments.{over_both}
 use Rattle.log_journal.specs.Bytes.{IsBetween}

@@ -1,4 +1,4 @@
-use Rattle.sentence_text.proofs.Clauses.{is_read, is_derived, is_of_schema, is_refused, isnt_refused}
+use Rattle.sentence_text.proofs.Clauses.{is_read, is_derived, is_of_schema, is_refused, is_of_table, isnt_refused}
 use Rattle.sentence_text.proofs.parser.read_sentence.Goals as goal
 
 pub returns-clause-read : goal.returns-clause-read
@@ -15,3 +15,6 @@ returns-clause-refused c = is_refused c.args.schema.now c.args.text.now c.read_e
 
 pub returns-clause-complete : goal.returns-clause-complete
 returns-clause-complete c = λ a is. isnt_refused c.args.schema.now c.args.text.now c.read_exactly.result c.read_exactly.ensures a is
+
+pub returns-clause-table : goal.returns-clause-table
+returns-clause-table c = is_of_table c.args.schema.now c.args.text.now c.read_exactly.result c.read_exactly.ensures c.law_refusals.ensures

@@ -23,8 +23,9 @@ returns-clause-reads c left =
     length-part inside.bytes inside.start inside.end (omega arith) (omega arith) in
     let room : at + 1 ≤ inside.end - inside.start = omega (arith, ap length held, size) in
     let short : n ≤ at = omega (arith, c.content_length-length.ensures.short, length-take at c.ahead.result.now) in
-    let line : take n (drop inside.start inside.bytes) ≡ without_return (take at ahead) =
-    sym (take-take n (inside.end - inside.start) (drop inside.start inside.bytes) (omega arith))
+    let whole : inside.start + n - inside.start ≡ n = omega arith in
+    let line : take (inside.start + n - inside.start) (drop inside.start inside.bytes) ≡ without_return (take at ahead) =
+    ap (λ (k : ℕ). take k (drop inside.start inside.bytes)) whole ∙ sym (take-take n (inside.end - inside.start) (drop inside.start inside.bytes) (omega arith))
     ∙ ap (λ (l : List ℕ). take n l) held
     ∙ sym (take-take n at ahead short)
     ∙ ap (λ (l : List ℕ). take n (take at l)) (sym c.ahead.ensures.ahead)

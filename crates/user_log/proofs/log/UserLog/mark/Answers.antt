@@ -1,7 +1,20 @@
-use Rattle.std.proofs.Common.{ap, ◌∙◌}
+use Rattle.std.proofs.Common.{◌≤◌, ◌+◌, true, map, sym, ap, subst, ◌∙◌}
+use Rattle.cqe_base.specs.Formula.{formula_of, nodes}
+use Rattle.cqe_base.specs.History.{profile_of, answered_query_of}
 use Rattle.cqe_base.specs.Censor.{mark_by}
+use Rattle.entailment.specs.Logs.{log_nodes}
+use Rattle.entailment.specs.Views.{log_of}
 use Rattle.user_log.proofs.Keeping.{decided}
 use Rattle.user_log.proofs.log.UserLog.mark.Goals as goal
+
+pub examine-requires-clause-all_nodes : goal.examine-requires-clause-all_nodes
+examine-requires-clause-all_nodes c =
+    let kept = c.args.self.now.kept in
+    let schema = c.args.self.now.schema.now in
+    let query = formula_of c.args.query.now in
+    let fits = c.law_limits.ensures.queries schema (profile_of c.args.self.now.user.now) (map answered_query_of c.args.self.now.entries.items) query kept.limits c.requires.small in
+    subst (λ s. log_nodes s (log_of c.args.self.now.view) + nodes s query ≤ 60000) (sym kept.schema_is)
+    (subst (λ told. log_nodes schema told + nodes schema query ≤ 60000) (sym kept.log_is) (fits.log_nodes true))
 
 pub returns : goal.returns
 returns c =

@@ -1,0 +1,138 @@
+-- Replies ask by ask.
+use Rattle.std.proofs.Common.{◌≡◌, ◌⊎◌, inl, inr, ℕ, Bool, true, false, List, [], ◌∷◌, ◌++◌, length, refl, sym, ap, subst, ◌∙◌, append_assoc, append-nil, arith}
+use Rattle.std.specs.Prelude.{Option, None, Result, Ok, Err, option_to_list, if◌then◌else◌}
+use Rattle.std.specs.List.{flat_map, AllByRecursion}
+use Rattle.std.proofs.lemmas.Grind.{common_steps}
+use Rattle.cqe_base.specs.Schema.{Text, DatabaseSchema, is_valid_schema}
+use Rattle.cqe_base.specs.Facts.{FactSet}
+use Rattle.cqe_base.specs.Formula.{Formula}
+use Rattle.cqe_base.specs.Reading.{Refusal, reading}
+use Rattle.cqe_base.specs.History.{UserProfile, AnsweredQuery, History, is_user_of}
+use Rattle.cqe_base.specs.Censor.{IsLegal, admitted, EmptyHistoryIsLegal}
+use Rattle.cqe_base.specs.Headline.{RunsStayLegal}
+use Rattle.cqe_base.specs.Hiding.{Hides, LegalHistoriesHide}
+use Rattle.cqe_base.specs.Run.{Reply, Standing, standing_open, standing_closed, user_closed, no_memory, Ending, want, kept, Event, ask, UserState, opening, after_event, after_events, replies_from, replies_to_event, replies, final_history, entry_added, reply_at, entry_at}
+use Rattle.cqe_base.specs.Transcript.{reply_text}
+use Rattle.user_log.specs.Asked.{IsAsked, wanted, answered, open_reply}
+use Rattle.case_engine.specs.Answering.{IsTold}
+use Rattle.case_engine.specs.Case.{ask_events, IsKeptOrWant, reply_lines, Answers}
+
+-- ---- lists
+
+ask_events-push : (asks : List Text) (endings : List Ending) (text : Text) (ending : Ending) → length endings ≡ length asks → ask_events (asks ++ text ∷ []) (endings ++ ending ∷ []) ≡ ask_events asks endings ++ ask text ending ∷ []
+ask_events-push [] [] text ending same = refl
+ask_events-push [] (e ∷ endings) text ending same = absurd (omega arith)
+ask_events-push (t ∷ asks) [] text ending same = absurd (omega arith)
+ask_events-push (t ∷ asks) (e ∷ endings) text ending same = ap (λ events. ask t e ∷ events) (ask_events-push asks endings text ending (omega arith))
+
+all_push : (endings : List Ending) (ending : Ending) → AllByRecursion IsKeptOrWant endings → IsKeptOrWant ending → AllByRecursion IsKeptOrWant (endings ++ ending ∷ [])
+all_push [] ending all here = (here, tt)
+all_push (e ∷ endings) ending all here = (all.0, all_push endings ending all.1 here)
+
+lines-append : (first second : List Reply) → reply_lines (first ++ second) ≡ reply_lines first ++ reply_lines second
+lines-append first second = grind (arith, common_steps)
+
+module _ (schema : DatabaseSchema) (world : FactSet) (user : UserProfile) where
+  after_events-push : (state : UserState) (events : List Event) (event : Event) → after_events schema world user state (events ++ event ∷ []) ≡ after_event schema world user (after_events schema world user state events) event
+  after_events-push state [] event = refl
+  after_events-push state (e ∷ events) event = after_events-push (after_event schema world user state e) events event
+
+  replies_from-push : (state : UserState) (events : List Event) (event : Event) → replies_from schema world user state (events ++ event ∷ []) ≡ replies_from schema world user state events ++ replies_to_event schema world user (after_events schema world user state events) event
+  replies_from-push state [] event = append-nil (replies_to_event schema world user state event)
+  replies_from-push state (e ∷ events) event =
+      ap (λ later. replies_to_event schema world user state e ++ later) (replies_from-push (after_event schema world user state e) events event)
+      ∙ sym (append_assoc (replies_to_event schema world user state e) (replies_from schema world user (after_event schema world user state e) events) (replies_to_event schema world user (after_events schema world user (after_event schema world user state e) events) event))
+
+  -- ---- the run so far
+
+  abbrev pub standing_by : Bool → Standing
+  standing_by true = standing_open
+  standing_by false = standing_closed
+
+  abbrev pub state_with : Bool → History → UserState
+  state_with is_open history = record { entries = history; standing = standing_by is_open; broken = false; pending = None }
+
+  -- these asks were answered with these lines, and the user then has this history
+  pub record SoFar (is_open : Bool) (asks : List Text) (output : List ℕ) (history : History) : Type 0 where
+    pub endings : List Ending
+    pub one_each : length endings ≡ length asks
+    pub kept_or_want : AllByRecursion IsKeptOrWant endings
+    pub lines : output ≡ reply_lines (replies_from schema world user (opening schema world user []) (ask_events asks endings))
+    pub state : after_events schema world user (opening schema world user []) (ask_events asks endings) ≡ state_with is_open history
+
+  standing_is : (is_open : Bool) → is_open ≡ admitted schema world user → (if admitted schema world user then standing_open else standing_closed) ≡ standing_by is_open
+  standing_is true e = ap (λ b. if b then standing_open else standing_closed) (sym e)
+  standing_is false e = ap (λ b. if b then standing_open else standing_closed) (sym e)
+
+  pub so_far_empty : (is_open : Bool) → is_open ≡ admitted schema world user → SoFar is_open [] [] []
+  so_far_empty is_open e = record {
+    endings = [];
+    one_each = refl;
+    kept_or_want = tt;
+    lines = refl;
+    state = ap (λ s. record { entries = []; standing = s; broken = false; pending = None }) (standing_is is_open e);
+  }
+
+  -- one more ask with this ending, its reply and the state behind it
+  pushed : (is_open : Bool) (asks : List Text) (output : List ℕ) (history new : History) (text : Text) (told : Reply) (ending : Ending) → SoFar is_open asks output history → IsKeptOrWant ending → replies_to_event schema world user (state_with is_open history) (ask text ending) ≡ told ∷ [] → after_event schema world user (state_with is_open history) (ask text ending) ≡ state_with is_open new → SoFar is_open (asks ++ text ∷ []) (output ++ (reply_text told ++ 10 ∷ [])) new
+  pushed is_open asks output history new text told ending so_far here replied next =
+      let start = opening schema world user [] in
+      let before = ask_events asks so_far.endings in
+      let events = ask_events-push asks so_far.endings text ending so_far.one_each in
+      record {
+        endings = so_far.endings ++ ending ∷ [];
+        one_each = let was = so_far.one_each in grind (arith, common_steps, was);
+        kept_or_want = all_push so_far.endings ending so_far.kept_or_want here;
+        lines =
+            ap (λ o. o ++ (reply_text told ++ 10 ∷ [])) so_far.lines
+            ∙ one_line (replies_from schema world user start before) told
+            ∙ sym (ap (λ r. reply_lines (replies_from schema world user start before ++ r)) (ap (λ s. replies_to_event schema world user s (ask text ending)) so_far.state ∙ replied))
+            ∙ sym (ap reply_lines (ap (replies_from schema world user start) events ∙ replies_from-push start before (ask text ending)));
+        state =
+            ap (after_events schema world user start) events ∙ after_events-push start before (ask text ending)
+            ∙ ap (λ s. after_event schema world user s (ask text ending)) so_far.state ∙ next;
+      }
+    where
+      one_line : (earlier : List Reply) (told : Reply) → reply_lines earlier ++ (reply_text told ++ 10 ∷ []) ≡ reply_lines (earlier ++ told ∷ [])
+      one_line earlier told = sym (lines-append earlier (told ∷ []) ∙ ap (λ l. reply_lines earlier ++ l) (append-nil (reply_text told ++ 10 ∷ [])))
+
+  same_entries : (history : History) (added : Option AnsweredQuery) → added ≡ None → history ++ option_to_list added ≡ history
+  same_entries history added none = ap (λ a. history ++ option_to_list a) none ∙ append-nil history
+
+  -- that a user isn't admitted adds no entry
+  no_entry : (text : Text) (read : Result Formula Refusal) → entry_added text read user_closed ≡ None
+  no_entry text (Ok query) = refl
+  no_entry text (Err refusal) = refl
+
+  -- a user who is admitted is told what his log answers
+  told_open : (asks : List Text) (output : List ℕ) (history new : History) (text : Text) (told : Reply) → SoFar true asks output history → IsAsked schema world user history new text told → SoFar true (asks ++ text ∷ []) (output ++ (reply_text told ++ 10 ∷ [])) new
+  told_open asks output history new text told so_far (wanted same) =
+      pushed true asks output history new text no_memory want so_far (inr refl) refl (ap (state_with true) (sym same))
+  told_open asks output history new text told so_far (answered is added) =
+      pushed true asks output history new text told kept so_far (inl refl) (ap (λ t. t ∷ []) (sym is))
+      (ap (state_with true) (sym (added ∙ ap (λ t. history ++ option_to_list (entry_added text (reading schema text) t)) is)))
+
+  -- one who isn't is told so
+  told_closed : (asks : List Text) (output : List ℕ) (history new : History) (text : Text) (told : Reply) → SoFar false asks output history → (told ≡ user_closed) × (new ≡ history) → SoFar false (asks ++ text ∷ []) (output ++ (reply_text told ++ 10 ∷ [])) new
+  told_closed asks output history new text told so_far (is, same) =
+      pushed false asks output history new text told kept so_far (inl refl) (ap (λ t. t ∷ []) (sym is))
+      (ap (state_with false) (same_entries history (entry_added text (reading schema text) user_closed) (no_entry text (reading schema text)) ∙ sym same))
+
+  pub told_next : (is_open : Bool) (asks : List Text) (output : List ℕ) (history new : History) (text : Text) (told : Reply) → SoFar is_open asks output history → IsTold is_open schema world user history new text told → SoFar is_open (asks ++ text ∷ []) (output ++ (reply_text told ++ 10 ∷ [])) new
+  told_next true = told_open
+  told_next false = told_closed
+
+  -- ---- the end of the run
+
+  pub answers_asks : (is_open : Bool) (asks : List Text) (output : List ℕ) (history : History) → SoFar is_open asks output history → EmptyHistoryIsLegal → RunsStayLegal → LegalHistoriesHide → is_valid_schema schema ≡ true → is_user_of schema user ≡ true → Answers schema world user asks output
+  unfolding replies
+  answers_asks is_open asks output history so_far empty runs hide valid is_user =
+      let legal = runs schema world user [] (ask_events asks so_far.endings) (empty schema world user) in
+      record {
+        endings = so_far.endings;
+        one_each = so_far.one_each;
+        kept_or_want = so_far.kept_or_want;
+        lines = so_far.lines;
+        legal = legal;
+        hides = λ is_admitted. hide schema world user (final_history schema world user [] (ask_events asks so_far.endings)) valid is_user is_admitted legal;
+      }

@@ -1,0 +1,40 @@
+//! The program: it makes the real streams, calls `top` and ends with its answer.
+//!
+//! `streams` has the standard streams as a source and sinks that count their faults.
+#![tactic(auto)]
+
+mod streams;
+
+use cqe_top::top;
+use outside::write_all;
+use std::process::ExitCode;
+use std::{env, io};
+use streams::{StreamSink, StreamSource};
+
+const OUT_OF_MEMORY: u8 = 13;
+
+fn main(rt: HostRuntime) -> ExitCode {
+    let mut source = StreamSource::new(rt.stdin());
+    let mut sink = StreamSink::new(rt.stdout());
+    let mut complaints = StreamSink::new(rt.stderr());
+    let Ok(words) = words(&rt) else {
+        let _given = write_all(&mut complaints, b"cqe: out of memory\n");
+        return ExitCode::from(OUT_OF_MEMORY);
+    };
+    let status = top(rt.alloc(), &words, &mut source, &mut sink, &mut complaints);
+    ExitCode::from(status)
+}
+
+// The words behind the program's name, or want of memory. Words that aren't text have no reading, and no words have
+// none.
+fn words(rt: &HostRuntime) -> io::Result<Vec<String>> {
+    let mut words = Vec::new(rt.alloc());
+    let arguments = match env::args(rt) {
+        Err(error) if error.kind() == io::ErrorKind::InvalidData => return Ok(words),
+        arguments => arguments?,
+    };
+    for word in arguments.skip(1) {
+        words.push(word)?;
+    }
+    Ok(words)
+}

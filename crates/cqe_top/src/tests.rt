@@ -1,0 +1,436 @@
+use crate::top;
+use outside::{MemorySink, MemorySource, Pieces, Plan};
+use std::alloc::{AllocError, Global};
+use std::process::Abort;
+use std::test::Fail;
+
+// Two persons, of whom ann takes a drug and has hiv.
+const CLINIC: &str =
+    "domain person = ann, bob\nrelation hiv(person)\nrelation drug(person)\nfact hiv(ann)\nfact drug(ann)\n";
+
+// Who takes the drug has hiv.
+const RULE: &str = "know forall x: person . drug(x) -> hiv(x)\n";
+
+// The same rule, and a lying censor that guards ann.
+const LIAR: &str =
+    "know drug(ann) -> hiv(ann)\nknow drug(bob) -> hiv(bob)\nmethod lying\nsecret hiv(ann)\nask drug(ann)\nask hiv(ann)\nask hiv(bob)\n";
+
+// A sentence of 11,111 nodes over ten constants.
+const TEN: &str = "domain d = a, b, c, e, f, g, h, i, j, k\n";
+
+const LARGE: &str = "know forall x: d . forall y: d . forall z: d . forall w: d . true\n";
+
+// What the program did.
+#[derive(Drop)]
+struct Run {
+    status: u8,
+    source: MemorySource,
+    sink: MemorySink,
+    complaints: MemorySink,
+}
+
+impl Run {
+    fn new(
+        alloc: Global,
+        words: &[&str],
+        mut source: MemorySource,
+        mut sink: MemorySink,
+        mut complaints: MemorySink,
+    ) -> Result<Run, AllocError> {
+        let mut texts = Vec::new(alloc);
+        for word in words {
+            texts.push(String::from_str(alloc, word)?)?;
+        }
+        let status = top(alloc, &texts, &mut source, &mut sink, &mut complaints);
+        Ok(Run {
+            status,
+            source,
+            sink,
+            complaints,
+        })
+    }
+
+    // A case whose script has these parts.
+    fn case(alloc: Global, script: &[&str]) -> Result<Run, AllocError> {
+        Run::cut_case(alloc, script, Pieces::Whole, Pieces::Whole)
+    }
+
+    fn cut_case(
+        alloc: Global,
+        script: &[&str],
+        taken: Pieces,
+        given: Pieces,
+    ) -> Result<Run, AllocError> {
+        let source = MemorySource::with_plan(joined(alloc, script)?, taken, Plan::Never);
+        let sink = MemorySink::with_plan(alloc, given, Plan::Never);
+        Run::new(alloc, &["case"], source, sink, MemorySink::new(alloc))
+    }
+
+    fn check(&self, rt: &impl Abort, status: u8, output: &str, complaint: &str, what: &str) {
+        assert_eq!(rt; self.complaints.bytes(), complaint.as_bytes(), "{what}");
+        assert_eq!(rt; self.sink.bytes(), output.as_bytes(), "{what}");
+        assert_eq!(rt; self.status, status, "{what}");
+    }
+}
+
+fn joined(alloc: Global, parts: &[&str]) -> Result<Vec<u8>, AllocError> {
+    let mut bytes = Vec::new(alloc);
+    for part in parts {
+        bytes.extend_from_slice(part.as_bytes())?;
+    }
+    Ok(bytes)
+}
+
+// Scripts that are answered, with what is written.
+fn answered() -> [(&'static [&'static str], &'static str); 19] {
+    [
+        (&[CLINIC, LIAR], "no\nno\nno\n"),
+        (
+            &[
+                CLINIC,
+                RULE,
+                "method refusal\nsecret hiv(ann)\nask drug(ann)\nask hiv(bob)\nask hiv(bob)\n",
+            ],
+            "refused\nno\nno\n",
+        ),
+        (
+            &[
+                CLINIC,
+                RULE,
+                "method refusal\nsecret hiv(ann)\nask not drug(ann)",
+            ],
+            "refused\n",
+        ),
+        (
+            &[
+                CLINIC,
+                RULE,
+                "method combined\nsecret hiv(ann)\nask drug(ann)\n",
+            ],
+            "no\n",
+        ),
+        (
+            &[
+                CLINIC,
+                RULE,
+                "method combined\nsecret hiv(ann)\nsecret hiv(bob)\nask hiv(ann) or hiv(bob)\nask hiv(ann)\n",
+            ],
+            "yes\nrefused\n",
+        ),
+        (
+            &[
+                CLINIC,
+                RULE,
+                "method lying\nsecret hiv(ann)\nsecret hiv(bob)\nask hiv(ann) or hiv(bob)\nask hiv(bob)\n",
+            ],
+            "no\nno\n",
+        ),
+        // a probe of cost 11 and one of cost 9, whatever the facts are
+        (
+            &[
+                CLINIC,
+                RULE,
+                "method lying\nsecret hiv(ann)\nbudget 10\nask drug(ann)\n",
+            ],
+            "undecided\n",
+        ),
+        (
+            &[
+                CLINIC,
+                RULE,
+                "method lying\nsecret hiv(ann)\nbudget 0000000011\nask drug(ann)\n",
+            ],
+            "no\n",
+        ),
+        (
+            &[
+                "domain person = ann, bob\nrelation hiv(person)\nrelation drug(person)\nfact hiv(ann)\n",
+                RULE,
+                "method lying\nsecret hiv(ann)\nbudget 10\nask drug(ann)\n",
+            ],
+            "undecided\n",
+        ),
+        (
+            &[
+                "domain person = ann, bob\nrelation hiv(person)\nrelation drug(person)\nfact hiv(ann)\n",
+                RULE,
+                "method lying\nsecret hiv(ann)\nbudget 11\nask drug(ann)\n",
+            ],
+            "no\n",
+        ),
+        // nothing is secret
+        (
+            &[
+                CLINIC,
+                RULE,
+                "method lying\nsecret false\nask drug(ann)\nask hiv(bob)\n",
+            ],
+            "yes\nno\n",
+        ),
+        (
+            &[
+                CLINIC,
+                RULE,
+                "method refusal\nsecret false\nask drug(ann)\nask hiv(bob)\n",
+            ],
+            "yes\nno\n",
+        ),
+        (
+            &[
+                CLINIC,
+                RULE,
+                "method combined\nsecret false\nask drug(ann)\nask hiv(bob)\n",
+            ],
+            "yes\nno\n",
+        ),
+        // texts that are no sentences
+        (
+            &[
+                CLINIC,
+                RULE,
+                "method refusal\nsecret hiv(ann)\nask hiv(carl)\nask hiv(ann\nask\nask hiv(ann, bob)\nask hiv(bob)\n",
+            ],
+            "error 20 3 4\nerror 20 2 7\nerror 20 2 0\nerror 20 6 7\nno\n",
+        ),
+        // one who knows his secret isn't admitted
+        (
+            &[
+                CLINIC,
+                "know hiv(ann)\nmethod lying\nsecret hiv(ann)\nask hiv(bob)\nask hiv(\n",
+            ],
+            "error 24\nerror 24\n",
+        ),
+        // blanks, carriage returns and comments
+        (
+            &[
+                "# one\r\ndomain\tperson =\tann ,bob \r\n \t\r\nrelation hiv ( person )\r\nfact  hiv( ann )\r\nmethod lying\r\nsecret hiv(bob)\r\nask\thiv(ann)",
+            ],
+            "yes\n",
+        ),
+        // no asks
+        (&[], ""),
+        (&["#\u{e9}"], ""),
+        (
+            &[
+                CLINIC,
+                RULE,
+                "method lying\nsecret hiv(ann)\nbudget 4000000",
+            ],
+            "",
+        ),
+    ]
+}
+
+#[test]
+fn each_ask_is_answered_however_the_streams_cut(rt: HostRuntime) -> Result<(), Fail> {
+    let alloc = rt.alloc();
+    for (script, output) in answered() {
+        for most in [1, 2, 7, 4096] {
+            let run = Run::cut_case(alloc, script, Pieces::UpTo(most), Pieces::UpTo(most))?;
+            run.check(&rt, 0, output, "", output);
+            assert!(rt; run.source.left().is_empty());
+        }
+    }
+    Ok(())
+}
+
+#[test]
+fn other_words_have_no_reading(rt: HostRuntime) -> Result<(), Fail> {
+    let alloc = rt.alloc();
+    let readings: [&[&str]; 6] = [
+        &[],
+        &["case", "extra"],
+        &["batch", "--policy", "p"],
+        &["Case"],
+        &[""],
+        &["--help"],
+    ];
+    for words in readings {
+        let source = MemorySource::new(joined(alloc, &[CLINIC, LIAR])?);
+        let run = Run::new(
+            alloc,
+            words,
+            source,
+            MemorySink::new(alloc),
+            MemorySink::new(alloc),
+        )?;
+        run.check(&rt, 2, "", "cqe: usage\n", "words");
+        assert_eq!(rt; run.source.left(), run.source.held());
+    }
+    Ok(())
+}
+
+// Scripts that are refused: the head, a part and how often it is repeated, the tail, and the kind and the line.
+fn refused() -> [(
+    &'static str,
+    &'static str,
+    usize,
+    &'static str,
+    &'static str,
+); 47] {
+    [
+        // no shape
+        ("hello", "", 0, "", "1 1"),
+        (CLINIC, "", 0, "know", "1 6"),
+        ("method lie", "", 0, "", "1 1"),
+        ("budget 12345678901", "", 0, "", "1 1"),
+        ("budget -1", "", 0, "", "1 1"),
+        ("domain d = a b", "", 0, "", "1 1"),
+        ("domain d = a,", "", 0, "", "1 1"),
+        ("relation r(", "", 0, "", "1 1"),
+        (" domain d = a", "", 0, "", "1 1"),
+        ("ask \u{1}", "", 0, "", "1 1"),
+        ("ask a\rb", "", 0, "", "1 1"),
+        ("method lying\r", "", 0, "", "1 1"),
+        // too long
+        ("#", "a", 4096, "", "2 1"),
+        ("\n#", "a", 4095, "\r\n", "2 2"),
+        ("", "\n", 100_000, "#", "3 100001"),
+        // the schema: a name twice, an unknown domain, too many columns, no constant, a keyword, a variable's name
+        ("domain person = ann, ann", "", 0, "", "4 1"),
+        (CLINIC, "", 0, "relation bob(person)", "4 6"),
+        (CLINIC, "", 0, "relation has(people)", "4 6"),
+        ("domain d = a\nrelation r(d", ", d", 6, ")", "4 2"),
+        ("domain d =", "", 0, "", "4 1"),
+        ("domain not = a", "", 0, "", "4 1"),
+        ("domain d = v8", "", 0, "", "4 1"),
+        ("domain ", "d", 33, " = a", "4 1"),
+        // the facts
+        ("fact hiv(ann)", "", 0, "", "5 1"),
+        (CLINIC, "", 0, "fact hiv(carl)", "5 6"),
+        (CLINIC, "", 0, "fact hiv(ann, bob)", "5 6"),
+        (CLINIC, "", 0, "fact not hiv(ann)", "5 6"),
+        (CLINIC, "", 0, "fact ", "5 6"),
+        ("# one\n\n \t\nfact hiv(ann)\r\n", "", 0, "", "5 4"),
+        // what is known and what is secret
+        (CLINIC, "", 0, "know hiv(carl)", "6 6"),
+        (CLINIC, "", 0, "secret hiv(ann", "6 6"),
+        (CLINIC, "", 0, "secret ", "6 6"),
+        // limits: the budget, the sentences known and secret, the nodes of one and of all
+        ("budget 0", "", 0, "", "7 1"),
+        ("budget 4000001", "", 0, "", "7 1"),
+        (CLINIC, "know true\n", 257, "", "7 262"),
+        (CLINIC, "secret hiv(ann)\n", 17, "", "7 22"),
+        (
+            TEN,
+            "",
+            0,
+            "know forall x: d . forall y: d . forall z: d . forall w: d . not true",
+            "7 2",
+        ),
+        (TEN, LARGE, 4, "", "7 5"),
+        (
+            TEN,
+            LARGE,
+            3,
+            "secret forall x: d . forall y: d . forall z: d . forall w: d . true",
+            "7 5",
+        ),
+        // the order
+        ("ask true", "", 0, "", "8 1"),
+        (CLINIC, "", 0, "method lying\nask true", "8 7"),
+        (CLINIC, "", 0, "secret hiv(ann)\nask true", "8 7"),
+        ("method lying\nmethod lying", "", 0, "", "8 2"),
+        ("budget 5\nbudget 0", "", 0, "", "8 2"),
+        (
+            CLINIC,
+            "",
+            0,
+            "method lying\nsecret hiv(ann)\nask true\nfact hiv(bob)",
+            "8 9",
+        ),
+        (
+            CLINIC,
+            "",
+            0,
+            "method lying\nsecret hiv(ann)\nask true\nknow hiv(carl)",
+            "8 9",
+        ),
+        (
+            CLINIC,
+            "",
+            0,
+            "method lying\nsecret hiv(ann)\nask true\nhello",
+            "1 9",
+        ),
+    ]
+}
+
+#[test]
+fn each_refusal_has_its_kind_and_its_line(rt: HostRuntime) -> Result<(), Fail> {
+    let alloc = rt.alloc();
+    for (head, part, times, tail, refusal) in refused() {
+        let mut script = joined(alloc, &[head])?;
+        for _ in 0..times {
+            script.extend_from_slice(part.as_bytes())?;
+        }
+        script.extend_from_slice(tail.as_bytes())?;
+        let source = MemorySource::new(script);
+        let complaints = MemorySink::new(alloc);
+        let run = Run::new(alloc, &["case"], source, MemorySink::new(alloc), complaints)?;
+        let complaint = format!(in alloc; "cqe: script {refusal}\n")?;
+        run.check(&rt, 5, "", &complaint, tail);
+    }
+    Ok(())
+}
+
+#[test]
+fn a_stream_may_fail_at_any_call(rt: HostRuntime) -> Result<(), Fail> {
+    let alloc = rt.alloc();
+    let whole = "no\nno\nno\n";
+    for k in 0..40 {
+        let script = joined(alloc, &[CLINIC, LIAR])?;
+        let plan = Plan::At(vec![in alloc; k]?);
+        let source = MemorySource::with_plan(script, Pieces::UpTo(7), plan);
+        let run = Run::new(
+            alloc,
+            &["case"],
+            source,
+            MemorySink::new(alloc),
+            MemorySink::new(alloc),
+        )?;
+        match run.source.faults() {
+            0 => run.check(&rt, 0, whole, "", "no read failed"),
+            _ => run.check(&rt, 6, "", "cqe: read fault\n", "a read failed"),
+        }
+        assert!(rt; k > 0 || run.status == 6);
+
+        let source = MemorySource::new(joined(alloc, &[CLINIC, LIAR])?);
+        let plan = Plan::At(vec![in alloc; k]?);
+        let sink = MemorySink::with_plan(alloc, Pieces::UpTo(1), plan);
+        let run = Run::new(alloc, &["case"], source, sink, MemorySink::new(alloc))?;
+        match whole.get(..k as usize) {
+            Some(part) if k < 9 => run.check(&rt, 7, part, "cqe: write fault\n", "a write failed"),
+            _ => run.check(&rt, 0, whole, "", "no write failed"),
+        }
+    }
+    let source = MemorySource::new(joined(alloc, &[CLINIC, LIAR])?);
+    let sink = MemorySink::with_plan(alloc, Pieces::Whole, Plan::At(vec![in alloc; 1]?));
+    let run = Run::new(alloc, &["case"], source, sink, MemorySink::new(alloc))?;
+    run.check(
+        &rt,
+        7,
+        "no\n",
+        "cqe: write fault\n",
+        "the second line failed",
+    );
+    Ok(())
+}
+
+#[test]
+fn failing_complaints_change_nothing_else(rt: HostRuntime) -> Result<(), Fail> {
+    let alloc = rt.alloc();
+    let trials: [(&[&str], &str, u8, &str, u64); 4] = [
+        (&["case"], "fact hiv(ann)\n", 5, "", 0),
+        (&["case"], "fact hiv(ann)\n", 5, "cqe: scr", 1),
+        (&[], "", 2, "cqe: usa", 1),
+        (&["case"], "", 0, "", 0),
+    ];
+    for (words, script, status, complaint, first) in trials {
+        let source = MemorySource::new(joined(alloc, &[script])?);
+        let complaints = MemorySink::with_plan(alloc, Pieces::UpTo(8), Plan::From(first));
+        let run = Run::new(alloc, words, source, MemorySink::new(alloc), complaints)?;
+        run.check(&rt, status, "", complaint, "complaints fail");
+    }
+    Ok(())
+}

@@ -1,0 +1,74 @@
+-- Each countermodel of the log against what is guarded for a secret hides it.
+use Rattle.std.proofs.Common.{◌≡◌, ℕ, ◌<◌, Bool, true, false, List, length, refl, sym, ap, subst, ◌∙◌, arith}
+use Rattle.std.specs.Prelude.{Contains, Option, Some, None, Result, Ok, Err, IfOk, IfSome}
+use Rattle.std.specs.List.{list_any}
+use Rattle.std.proofs.lemmas.Bool.{both_ways}
+use Rattle.std.proofs.lemmas.List.Elements.{Contains-get_or}
+use Rattle.std.proofs.lemmas.List.Folds.{list_any_at}
+use Rattle.cqe_base.specs.declared.user.Method.{Method}
+use Rattle.cqe_base.specs.declared.user.Method.TheVariants.{Lying, Refusal, Combined}
+use Rattle.cqe_base.specs.Schema.{DatabaseSchema, is_valid_schema}
+use Rattle.cqe_base.specs.Facts.{FactSet}
+use Rattle.cqe_base.specs.Formula.{Formula, falsum}
+use Rattle.cqe_base.specs.Truth.{true_in}
+use Rattle.cqe_base.specs.Entailment.{entails, IsCountermodel}
+use Rattle.cqe_base.specs.History.{UserProfile, History, log, is_user_of}
+use Rattle.cqe_base.specs.Censor.{guarded, guarded_by}
+use Rattle.cqe_base.specs.Hiding.{IsAlike, AdmittedAreAdmissible}
+use Rattle.cqe_base.specs.OtherWorlds.{secret_at, guard_by, guard_at, IsLegalSomewhere, LogsKeepSecrets, CountermodelsAreAlike, LegalEntriesReplyAlike, FalseDisjunctions}
+use Rattle.two_worlds.specs.Others.{HidesSecret}
+
+-- what is guarded for a secret is one of the guarded sentences
+guards : (m : Method) (secrets : List Formula) (k : ℕ) (s : Formula) → Contains secrets s → Contains (guarded_by m secrets) (guard_by m secrets s)
+guards Lying secrets k s within = (0, omega arith, refl)
+guards Refusal secrets k s within = within
+guards Combined secrets k s within = within
+
+-- an element of a list in which none passes doesn't pass
+none_of : (p : Formula → Bool) (xs : List Formula) (x : Formula) → list_any p xs ≡ false → Contains xs x → p x ≡ false
+none_of p xs x none (k, low, is) = by (p x) refl
+  where
+    by : (b : Bool) → p x ≡ b → b ≡ false
+    by true e = absurd (both_ways _ none (list_any_at p xs k x low (ap p is ∙ e)))
+    by false e = refl
+
+module _ (schema : DatabaseSchema) (user : UserProfile) (entries : History) (secret : ℕ) (low : secret < length user.secrets) where
+  is_secret : Contains user.secrets (secret_at user secret)
+  is_secret = Contains-get_or user.secrets secret falsum low
+
+  is_guarded : Contains (guarded user) (guard_at user secret)
+  is_guarded = guards user.method user.secrets secret (secret_at user secret) is_secret
+
+  -- the log doesn't entail what is guarded for the secret
+  pub unknown : AdmittedAreAdmissible → LogsKeepSecrets → is_valid_schema schema ≡ true → is_user_of schema user ≡ true → IsLegalSomewhere schema user entries
+      → entails schema (log user entries) (guard_at user secret, true) ≡ false
+  unknown admissible kept valid of_schema somewhere =
+      none_of (λ goal. entails schema (log user entries) (goal, true)) (guarded user) (guard_at user secret)
+      (kept schema somewhere.world user entries (admissible schema somewhere.world user valid of_schema somewhere.admits) somewhere.legal) is_guarded
+
+  module _ (other : FactSet) (disjunctions : FalseDisjunctions) where
+    -- where it is false the secret is
+    secret_is_false : (m : Method) → true_in schema other (guard_by m user.secrets (secret_at user secret)) ≡ false → true_in schema other (secret_at user secret) ≡ false
+    secret_is_false Lying e = disjunctions schema other user.secrets e (secret_at user secret) is_secret
+    secret_is_false Refusal e = e
+    secret_is_false Combined e = e
+
+    pub hidden : CountermodelsAreAlike → LegalEntriesReplyAlike → IsLegalSomewhere schema user entries → IsCountermodel schema (log user entries) (guard_at user secret, true) other
+        → HidesSecret schema user entries secret other
+    hidden alike replies somewhere is =
+        let same : IsAlike schema user entries somewhere.world other = alike schema somewhere.world user entries (guard_at user secret) other somewhere.admits somewhere.legal is_guarded is in
+        record {
+          of_schema = same.of_schema;
+          knowledge_true = same.knowledge_true;
+          secret_false = secret_is_false user.method is.goal_false;
+          all_false = λ lies. disjunctions schema other user.secrets (subst (λ m. true_in schema other (guard_by m user.secrets (secret_at user secret)) ≡ false) lies is.goal_false);
+          admits = same.admits;
+          legal = same.legal;
+          same_replies = λ world admits. replies schema user entries world other (same.admits ∙ sym admits) same.legal;
+        }
+
+-- what holds of each world that is found
+pub of_found : {E : Type 0} (P Q : FactSet → Type 0) → ((world : FactSet) → P world → Q world) → (result : Result (Option FactSet) E) → IfOk result (λ found. IfSome found P) → IfOk result (λ found. IfSome found Q)
+of_found P Q more (Ok (Some world)) holds = more world holds
+of_found P Q more (Ok None) holds = holds
+of_found P Q more (Err e) holds = holds
