@@ -52,9 +52,22 @@ impl Run {
 
     // A case whose script has these parts.
     fn case(alloc: Global, script: &[&str]) -> Result<Run, AllocError> {
-        Run::cut_case(alloc, script, Pieces::Whole, Pieces::Whole)
+        Run::script(alloc, joined(alloc, script)?)
     }
 
+    fn script(alloc: Global, script: Vec<u8>) -> Result<Run, AllocError> {
+        let sink = MemorySink::new(alloc);
+        let complaints = MemorySink::new(alloc);
+        Run::new(
+            alloc,
+            &["case"],
+            MemorySource::new(script),
+            sink,
+            complaints,
+        )
+    }
+
+    // The same, where the streams cut.
     fn cut_case(
         alloc: Global,
         script: &[&str],
@@ -78,6 +91,22 @@ fn joined(alloc: Global, parts: &[&str]) -> Result<Vec<u8>, AllocError> {
     for part in parts {
         bytes.extend_from_slice(part.as_bytes())?;
     }
+    Ok(bytes)
+}
+
+// A part that stands so many times between two others.
+fn repeated(
+    alloc: Global,
+    head: &str,
+    part: &str,
+    times: usize,
+    tail: &str,
+) -> Result<Vec<u8>, AllocError> {
+    let mut bytes = joined(alloc, &[head])?;
+    for _ in 0..times {
+        bytes.extend_from_slice(part.as_bytes())?;
+    }
+    bytes.extend_from_slice(tail.as_bytes())?;
     Ok(bytes)
 }
 
@@ -260,98 +289,69 @@ fn other_words_have_no_reading(rt: HostRuntime) -> Result<(), Fail> {
     Ok(())
 }
 
-// Scripts that are refused: the head, a part and how often it is repeated, the tail, and the kind and the line.
-fn refused() -> [(
-    &'static str,
-    &'static str,
-    usize,
-    &'static str,
-    &'static str,
-); 47] {
+// Scripts that are refused: what stands above, the last lines, and the kind and the line.
+fn refused() -> [(&'static str, &'static str, &'static str); 38] {
     [
         // no shape
-        ("hello", "", 0, "", "1 1"),
-        (CLINIC, "", 0, "know", "1 6"),
-        ("method lie", "", 0, "", "1 1"),
-        ("budget 12345678901", "", 0, "", "1 1"),
-        ("budget -1", "", 0, "", "1 1"),
-        ("domain d = a b", "", 0, "", "1 1"),
-        ("domain d = a,", "", 0, "", "1 1"),
-        ("relation r(", "", 0, "", "1 1"),
-        (" domain d = a", "", 0, "", "1 1"),
-        ("ask \u{1}", "", 0, "", "1 1"),
-        ("ask a\rb", "", 0, "", "1 1"),
-        ("method lying\r", "", 0, "", "1 1"),
-        // too long
-        ("#", "a", 4096, "", "2 1"),
-        ("\n#", "a", 4095, "\r\n", "2 2"),
-        ("", "\n", 100_000, "#", "3 100001"),
-        // the schema: a name twice, an unknown domain, too many columns, no constant, a keyword, a variable's name
-        ("domain person = ann, ann", "", 0, "", "4 1"),
-        (CLINIC, "", 0, "relation bob(person)", "4 6"),
-        (CLINIC, "", 0, "relation has(people)", "4 6"),
-        ("domain d = a\nrelation r(d", ", d", 6, ")", "4 2"),
-        ("domain d =", "", 0, "", "4 1"),
-        ("domain not = a", "", 0, "", "4 1"),
-        ("domain d = v8", "", 0, "", "4 1"),
-        ("domain ", "d", 33, " = a", "4 1"),
+        ("", "hello", "1 1"),
+        (CLINIC, "know", "1 6"),
+        ("", "method lie", "1 1"),
+        ("", "budget 12345678901", "1 1"),
+        ("", "budget -1", "1 1"),
+        ("", "domain d = a b", "1 1"),
+        ("", "domain d = a,", "1 1"),
+        ("", "relation r(", "1 1"),
+        ("", " domain d = a", "1 1"),
+        ("", "ask \u{1}", "1 1"),
+        ("", "ask a\rb", "1 1"),
+        ("", "method lying\r", "1 1"),
+        // the schema: a name twice, an unknown domain, no constant, a keyword, a variable's name
+        ("", "domain person = ann, ann", "4 1"),
+        (CLINIC, "relation bob(person)", "4 6"),
+        (CLINIC, "relation has(people)", "4 6"),
+        ("", "domain d =", "4 1"),
+        ("", "domain not = a", "4 1"),
+        ("", "domain d = v8", "4 1"),
         // the facts
-        ("fact hiv(ann)", "", 0, "", "5 1"),
-        (CLINIC, "", 0, "fact hiv(carl)", "5 6"),
-        (CLINIC, "", 0, "fact hiv(ann, bob)", "5 6"),
-        (CLINIC, "", 0, "fact not hiv(ann)", "5 6"),
-        (CLINIC, "", 0, "fact ", "5 6"),
-        ("# one\n\n \t\nfact hiv(ann)\r\n", "", 0, "", "5 4"),
+        ("", "fact hiv(ann)", "5 1"),
+        (CLINIC, "fact hiv(carl)", "5 6"),
+        (CLINIC, "fact hiv(ann, bob)", "5 6"),
+        (CLINIC, "fact not hiv(ann)", "5 6"),
+        (CLINIC, "fact ", "5 6"),
+        ("# one\n\n \t\n", "fact hiv(ann)\r\n", "5 4"),
         // what is known and what is secret
-        (CLINIC, "", 0, "know hiv(carl)", "6 6"),
-        (CLINIC, "", 0, "secret hiv(ann", "6 6"),
-        (CLINIC, "", 0, "secret ", "6 6"),
-        // limits: the budget, the sentences known and secret, the nodes of one and of all
-        ("budget 0", "", 0, "", "7 1"),
-        ("budget 4000001", "", 0, "", "7 1"),
-        (CLINIC, "know true\n", 257, "", "7 262"),
-        (CLINIC, "secret hiv(ann)\n", 17, "", "7 22"),
-        (
-            TEN,
-            "",
-            0,
-            "know forall x: d . forall y: d . forall z: d . forall w: d . not true",
-            "7 2",
-        ),
-        (TEN, LARGE, 4, "", "7 5"),
-        (
-            TEN,
-            LARGE,
-            3,
-            "secret forall x: d . forall y: d . forall z: d . forall w: d . true",
-            "7 5",
-        ),
+        (CLINIC, "know hiv(carl)", "6 6"),
+        (CLINIC, "secret hiv(ann", "6 6"),
+        (CLINIC, "secret ", "6 6"),
+        // the budget
+        ("", "budget 0", "7 1"),
+        ("", "budget 4000001", "7 1"),
         // the order
-        ("ask true", "", 0, "", "8 1"),
-        (CLINIC, "", 0, "method lying\nask true", "8 7"),
-        (CLINIC, "", 0, "secret hiv(ann)\nask true", "8 7"),
-        ("method lying\nmethod lying", "", 0, "", "8 2"),
-        ("budget 5\nbudget 0", "", 0, "", "8 2"),
+        ("", "ask true", "8 1"),
+        (CLINIC, "method lying\nask true", "8 7"),
+        (CLINIC, "secret hiv(ann)\nask true", "8 7"),
+        ("method lying\n", "method lying", "8 2"),
+        ("budget 5\n", "budget 0", "8 2"),
         (
             CLINIC,
-            "",
-            0,
             "method lying\nsecret hiv(ann)\nask true\nfact hiv(bob)",
             "8 9",
         ),
         (
             CLINIC,
-            "",
-            0,
             "method lying\nsecret hiv(ann)\nask true\nknow hiv(carl)",
             "8 9",
         ),
         (
             CLINIC,
-            "",
-            0,
             "method lying\nsecret hiv(ann)\nask true\nhello",
             "1 9",
+        ),
+        // a sentence of 21,111 nodes
+        (
+            TEN,
+            "know forall x: d . forall y: d . forall z: d . forall w: d . not true",
+            "7 2",
         ),
     ]
 }
@@ -359,17 +359,56 @@ fn refused() -> [(
 #[test]
 fn each_refusal_has_its_kind_and_its_line(rt: HostRuntime) -> Result<(), Fail> {
     let alloc = rt.alloc();
-    for (head, part, times, tail, refusal) in refused() {
-        let mut script = joined(alloc, &[head])?;
-        for _ in 0..times {
-            script.extend_from_slice(part.as_bytes())?;
-        }
-        script.extend_from_slice(tail.as_bytes())?;
-        let source = MemorySource::new(script);
-        let complaints = MemorySink::new(alloc);
-        let run = Run::new(alloc, &["case"], source, MemorySink::new(alloc), complaints)?;
+    for (above, last, refusal) in refused() {
         let complaint = format!(in alloc; "cqe: script {refusal}\n")?;
-        run.check(&rt, 5, "", &complaint, tail);
+        let run = Run::case(alloc, &[above, last])?;
+        run.check(&rt, 5, "", &complaint, last);
+    }
+    Ok(())
+}
+
+// Scripts at a limit: a part between two others, how often it may stand there, and the refusal where it does once more.
+fn at_a_limit() -> [(
+    &'static str,
+    &'static str,
+    usize,
+    &'static str,
+    &'static str,
+); 10] {
+    [
+        // the bytes of a line, a carriage return among them, and the lines
+        ("#", "a", 4095, "", "2 1"),
+        ("\n#", "a", 4094, "\r\n", "2 2"),
+        ("", "\n", 99_999, "#", "3 100001"),
+        // columns, and the bytes of a name
+        ("domain d = a\nrelation r(d", ", d", 5, ")", "4 2"),
+        ("domain ", "d", 32, " = a", "4 1"),
+        ("domain d = a", "b", 31, "", "4 1"),
+        // sentences known and secret, and the nodes of all
+        (CLINIC, "know true\n", 256, "", "7 262"),
+        (CLINIC, "secret hiv(ann)\n", 16, "", "7 22"),
+        (TEN, LARGE, 3, "", "7 5"),
+        (
+            TEN,
+            LARGE,
+            2,
+            "secret forall x: d . forall y: d . forall z: d . forall w: d . true",
+            "7 5",
+        ),
+    ]
+}
+
+#[test]
+fn each_limit_may_be_reached_and_not_passed(rt: HostRuntime) -> Result<(), Fail> {
+    let alloc = rt.alloc();
+    for (head, part, most, tail, refusal) in at_a_limit() {
+        let enough = repeated(alloc, head, part, most, tail)?;
+        let run = Run::script(alloc, enough)?;
+        run.check(&rt, 0, "", "", part);
+        let complaint = format!(in alloc; "cqe: script {refusal}\n")?;
+        let too_much = repeated(alloc, head, part, most.saturating_add(1), tail)?;
+        let run = Run::script(alloc, too_much)?;
+        run.check(&rt, 5, "", &complaint, part);
     }
     Ok(())
 }
