@@ -111,7 +111,7 @@ fn repeated(
 }
 
 // Scripts that are answered, with what is written.
-fn answered() -> [(&'static [&'static str], &'static str); 19] {
+fn answered() -> [(&'static [&'static str], &'static str); 21] {
     [
         (&[CLINIC, LIAR], "no\nno\nno\n"),
         (
@@ -153,6 +153,23 @@ fn answered() -> [(&'static [&'static str], &'static str); 19] {
                 "method lying\nsecret hiv(ann)\nsecret hiv(bob)\nask hiv(ann) or hiv(bob)\nask hiv(bob)\n",
             ],
             "no\nno\n",
+        ),
+        // the registry and the office of the examples
+        (
+            &[
+                CLINIC,
+                RULE,
+                "secret hiv(ann)\nmethod refusal\nask drug(ann)\nask not drug(ann)\nask hiv(bob)\nask hiv(bob)\n",
+            ],
+            "refused\nrefused\nno\nno\n",
+        ),
+        (
+            &[
+                CLINIC,
+                RULE,
+                "secret hiv(ann)\nsecret hiv(bob)\nmethod combined\nask hiv(ann) or hiv(bob)\nask hiv(ann)\nask drug(ann)\n",
+            ],
+            "yes\nrefused\nno\n",
         ),
         // a probe of cost 11 and one of cost 9, whatever the facts are
         (
