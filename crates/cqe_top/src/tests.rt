@@ -111,9 +111,45 @@ fn repeated(
 }
 
 // Scripts that are answered, with what is written.
-fn answered() -> [(&'static [&'static str], &'static str); 21] {
+fn answered() -> [(&'static [&'static str], &'static str); 25] {
     [
         (&[CLINIC, LIAR], "no\nno\nno\n"),
+        // the same rule with a quantifier
+        (
+            &[
+                CLINIC,
+                RULE,
+                "method lying\nsecret hiv(ann)\nask drug(ann)\nask hiv(ann)\nask hiv(bob)",
+            ],
+            "no\nno\nno\n",
+        ),
+        // texts that are no sentences, behind the answers
+        (
+            &[
+                CLINIC,
+                LIAR,
+                "\nask hiv(carl)\nask hiv(ann\nask\nask hiv(ann, bob)",
+            ],
+            "no\nno\nno\nerror 20 3 4\nerror 20 2 7\nerror 20 2 0\nerror 20 6 7\n",
+        ),
+        // two secrets and a liar: each answer says that nobody has hiv
+        (
+            &[
+                CLINIC,
+                RULE,
+                "method lying\nsecret hiv(ann)\nsecret hiv(bob)\nask hiv(ann) or hiv(bob)\nask hiv(ann)",
+            ],
+            "no\nno\n",
+        ),
+        // twenty facts in one query: not all, and some but perhaps the secret one
+        (
+            &[
+                "domain d = a1, a2, a3, a4, a5, a6, a7, a8, a9, a10, a11, a12, a13, a14, a15, a16, a17, a18, a19, a20\n",
+                "relation r(d)\nfact r(a2)\nmethod lying\nsecret r(a1)\n",
+                "ask forall x: d . r(x)\nask exists x: d . r(x)",
+            ],
+            "no\nyes\n",
+        ),
         (
             &[
                 CLINIC,
@@ -277,6 +313,18 @@ fn each_ask_is_answered_however_the_streams_cut(rt: HostRuntime) -> Result<(), F
             assert!(rt; run.source.left().is_empty());
         }
     }
+    Ok(())
+}
+
+#[test]
+fn the_entry_behind_the_last_is_refused(rt: HostRuntime) -> Result<(), Fail> {
+    let alloc = rt.alloc();
+    let mut script = joined(alloc, &[CLINIC, RULE, "method refusal\nsecret hiv(ann)\n"])?;
+    script.extend_from_slice(&repeated(alloc, "", "ask drug(ann)\n", 4097, "")?)?;
+    let wanted = repeated(alloc, "", "refused\n", 4096, "error 22\n")?;
+    let run = Run::script(alloc, script)?;
+    assert_eq!(rt; run.status, 0);
+    assert_eq!(rt; run.sink.bytes(), wanted.as_slice());
     Ok(())
 }
 
