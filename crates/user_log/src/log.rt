@@ -3,9 +3,9 @@
 ghost use Rattle.std.specs.Prelude.{◌≡◌, ◌≤◌, ◌<◌, ◌+◌, ◌++◌, ◌∷◌, [], ◌&&◌, true, false, Bool, length, map, sum_by, IfOk, OnOk, OnErr};
 ghost use Rattle.cqe_base.specs.Formula.{formula_of, nodes, is_sentence_of};
 ghost use Rattle.cqe_base.specs.History.{profile_of, answered_query_of, log, view_size, told_by, signed_nodes};
-ghost use Rattle.cqe_base.specs.Censor.{rule};
+ghost use Rattle.cqe_base.specs.Censor.{rule, IsLegal};
 ghost use Rattle.cqe_base.specs.Run.{is_full, is_too_large};
-ghost use Rattle.cqe_base.specs.Limits.{KeepsLimits};
+ghost use Rattle.cqe_base.specs.Limits.{KeepsLimits, KeepsSizes};
 ghost use Rattle.entailment.specs.Views.{schema_of, log_of};
 ghost use Rattle.entailment.specs.Logs.{log_nodes};
 ghost use Rattle.user_log.specs.Nodes.{told_nodes};
@@ -88,6 +88,13 @@ impl<'w> UserLog<'w> {
     {
         self.entries.as_slice()
     }
+
+    /// What is known of the entries: the user keeps the limits, and each entry was added within them with the mark of the rule. It computes nothing.
+    pub fn known(&self)
+        ensures limits { KeepsLimits (kept_schema self.now) (kept_user self.now) }
+        ensures sizes { KeepsSizes (kept_schema self.now) (kept_user self.now) (kept_history self.now) }
+        ensures legal { IsLegal (kept_schema self.now) (kept_world self.now) (kept_user self.now) (kept_history self.now) }
+    {}
 
     /// The reply to a text by the entries so far, which it doesn't change.
     pub fn weigh(&self, alloc: Global, text: &str) -> Result<Weighed, AllocError>
