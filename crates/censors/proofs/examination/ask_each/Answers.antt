@@ -21,11 +21,11 @@ ask-requires-clause-goal_nodes c =
 pub ask-requires-clause-all_nodes : goal.ask-requires-clause-all_nodes
 ask-requires-clause-all_nodes c =
     let goal_nodes : nodes (schema_of c.loop-goal.view) (formula_of c.goal-item.result) ≤ 40000 =
-        subst (λ schema. nodes schema (formula_of c.goal-item.result) ≤ 40000) (sym c.loop-goal.invariant.schema)
-        (leb-true _ 40000 (each_passes (λ goal. nat_le (nodes (schema_of c.args.view.now) goal) 40000) c.args.goals.now c.loop-goal.goal-index c.goal-item.result c.goal-item.is c.loop-goal-test.true c.requires.goal_nodes)) in
+    subst (λ schema. nodes schema (formula_of c.goal-item.result) ≤ 40000) (sym c.loop-goal.invariant.schema)
+    (leb-true _ 40000 (each_passes (λ goal. nat_le (nodes (schema_of c.args.view.now) goal) 40000) c.args.goals.now c.loop-goal.goal-index c.goal-item.result c.goal-item.is c.loop-goal-test.true c.requires.goal_nodes)) in
     let other_nodes : log_nodes (schema_of c.loop-goal.view) (log_of c.loop-goal.view) + nodes (schema_of c.loop-goal.view) (formula_of c.args.premise.0.now) ≤ 60000 =
-        subst (λ schema. log_nodes schema (log_of c.loop-goal.view) + nodes schema (formula_of c.args.premise.0.now) ≤ 60000) (sym c.loop-goal.invariant.schema)
-        (subst (λ log. log_nodes (schema_of c.args.view.now) log + nodes (schema_of c.args.view.now) (formula_of c.args.premise.0.now) ≤ 60000) (sym c.loop-goal.invariant.log) c.requires.all_nodes) in
+    subst (λ schema. log_nodes schema (log_of c.loop-goal.view) + nodes schema (formula_of c.args.premise.0.now) ≤ 60000) (sym c.loop-goal.invariant.schema)
+    (subst (λ log. log_nodes (schema_of c.args.view.now) log + nodes (schema_of c.args.view.now) (formula_of c.args.premise.0.now) ≤ 60000) (sym c.loop-goal.invariant.log) c.requires.all_nodes) in
     omega arith
 
 pub loop-goal-preserved : goal.loop-goal-preserved
