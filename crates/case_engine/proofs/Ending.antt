@@ -1,12 +1,14 @@
 -- How a case ends, from its script and what was appended.
-use Rattle.std.proofs.Common.{◌≡◌, ℕ, ◌+◌, List, [], ◌∷◌, ◌++◌, length, map, refl, sym, ap, subst, ◌∙◌, true}
-use Rattle.std.specs.Prelude.{Ok, string_bytes, nat_le}
+use Rattle.std.proofs.Common.{◌≡◌, ℕ, List, [], ◌++◌, map, inl, refl, sym, ap, subst, ◌∙◌}
+use Rattle.std.specs.Prelude.{Ok, string_bytes}
 use Rattle.cqe_base.specs.Schema.{Text, DatabaseSchema}
 use Rattle.cqe_base.specs.Facts.{FactSet}
 use Rattle.cqe_base.specs.History.{UserProfile, profile_of}
 use Rattle.case_engine.specs.Script.{Script, script_of, script_schema, script_user}
-use Rattle.case_engine.specs.Case.{Answers, AnswersOf, Completes, Breaks}
-use Rattle.case_engine.specs.Written.{AppendsAll, AppendsSome}
+use Rattle.case_engine.specs.Case.{Answers, AnswersOf, Completes, Breaks, Ends}
+use Rattle.case_engine.specs.declared.case.CaseEnd.{CaseEnd}
+use Rattle.case_engine.specs.declared.case.CaseEnd.TheVariants.{Done, Script as Refused, ReadFault, WriteFault, Memory}
+use Rattle.case_engine.specs.Written.{AppendsAll, AppendsSome, IsAnswered}
 use Rattle.case_engine.specs.Answering.{ArePartsOf}
 use Rattle.case_engine.specs.declared.parts.Parts.{Parts}
 
@@ -40,10 +42,9 @@ module _ (script : Script) (parts : Parts) (are : ArePartsOf script parts) (byte
     };
   }
 
--- as many asks in memory as the script has
-pub asks_counted : (script : Script) (parts : Parts) → ArePartsOf script parts → length parts.asks.items ≡ length script.asks
-asks_counted script parts are = sym (length_map parts.asks.items) ∙ ap length are.asks
-  where
-    length_map : (xs : List _) → length (map string_bytes xs) ≡ length xs
-    length_map [] = refl
-    length_map (x ∷ xs) = ap (λ n. 1 + n) (length_map xs)
+  pub case_ends : (after : List ℕ) → after ≡ [] → (old new : List ℕ) (end : CaseEnd) → IsAnswered parts.schema parts.facts (profile_of parts.user) (map string_bytes parts.asks.items) old new end → Ends end bytes after old new
+  case_ends after over old new Done all = (over, completes old new all)
+  case_ends after over old new WriteFault some = breaks old new some
+  case_ends after over old new Memory same = inl same
+  case_ends after over old new (Refused refusal) never = absurd never
+  case_ends after over old new ReadFault never = absurd never

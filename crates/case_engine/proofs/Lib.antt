@@ -9,5 +9,5 @@ pub mod Lines
 pub mod Replying
 pub mod Admitting
 pub mod Telling
-pub mod Parts
 pub mod Ending
+pub mod TwoDigits

@@ -1,12 +1,13 @@
 -- Replies ask by ask.
 use Rattle.std.proofs.Common.{◌≡◌, ◌⊎◌, inl, inr, ℕ, Bool, true, false, List, [], ◌∷◌, ◌++◌, length, refl, sym, ap, subst, ◌∙◌, append_assoc, append-nil, arith}
-use Rattle.std.specs.Prelude.{Option, None, option_to_list, if◌then◌else◌}
+use Rattle.std.specs.Prelude.{Option, None, Result, Ok, Err, option_to_list, if◌then◌else◌}
 use Rattle.std.specs.List.{flat_map, AllByRecursion}
 use Rattle.std.proofs.lemmas.Grind.{common_steps}
 use Rattle.cqe_base.specs.Schema.{Text, DatabaseSchema, is_valid_schema}
 use Rattle.cqe_base.specs.Facts.{FactSet}
-use Rattle.cqe_base.specs.Reading.{reading}
-use Rattle.cqe_base.specs.History.{UserProfile, History, is_user_of}
+use Rattle.cqe_base.specs.Formula.{Formula}
+use Rattle.cqe_base.specs.Reading.{Refusal, reading}
+use Rattle.cqe_base.specs.History.{UserProfile, AnsweredQuery, History, is_user_of}
 use Rattle.cqe_base.specs.Censor.{IsLegal, admitted, EmptyHistoryIsLegal}
 use Rattle.cqe_base.specs.Headline.{RunsStayLegal}
 use Rattle.cqe_base.specs.Hiding.{Hides, LegalHistoriesHide}
@@ -95,8 +96,13 @@ module _ (schema : DatabaseSchema) (world : FactSet) (user : UserProfile) where
       one_line : (earlier : List Reply) (told : Reply) → reply_lines earlier ++ (reply_text told ++ 10 ∷ []) ≡ reply_lines (earlier ++ told ∷ [])
       one_line earlier told = sym (lines-append earlier (told ∷ []) ∙ ap (λ l. reply_lines earlier ++ l) (append-nil (reply_text told ++ 10 ∷ [])))
 
-  same_entries : (history : History) (added : Option _) → added ≡ None → history ++ option_to_list added ≡ history
+  same_entries : (history : History) (added : Option AnsweredQuery) → added ≡ None → history ++ option_to_list added ≡ history
   same_entries history added none = ap (λ a. history ++ option_to_list a) none ∙ append-nil history
+
+  -- that a user isn't admitted adds no entry
+  no_entry : (text : Text) (read : Result Formula Refusal) → entry_added text read user_closed ≡ None
+  no_entry text (Ok query) = refl
+  no_entry text (Err refusal) = refl
 
   -- a user who is admitted is told what his log answers
   told_open : (asks : List Text) (output : List ℕ) (history new : History) (text : Text) (told : Reply) → SoFar true asks output history → IsAsked schema world user history new text told → SoFar true (asks ++ text ∷ []) (output ++ (reply_text told ++ 10 ∷ [])) new
@@ -110,7 +116,7 @@ module _ (schema : DatabaseSchema) (world : FactSet) (user : UserProfile) where
   told_closed : (asks : List Text) (output : List ℕ) (history new : History) (text : Text) (told : Reply) → SoFar false asks output history → (told ≡ user_closed) × (new ≡ history) → SoFar false (asks ++ text ∷ []) (output ++ (reply_text told ++ 10 ∷ [])) new
   told_closed asks output history new text told so_far (is, same) =
       pushed false asks output history new text told kept so_far (inl refl) (ap (λ t. t ∷ []) (sym is))
-      (ap (state_with false) (append-nil history ∙ sym same))
+      (ap (state_with false) (same_entries history (entry_added text (reading schema text) user_closed) (no_entry text (reading schema text)) ∙ sym same))
 
   pub told_next : (is_open : Bool) (asks : List Text) (output : List ℕ) (history new : History) (text : Text) (told : Reply) → SoFar is_open asks output history → IsTold is_open schema world user history new text told → SoFar is_open (asks ++ text ∷ []) (output ++ (reply_text told ++ 10 ∷ [])) new
   told_next true = told_open

@@ -1,8 +1,10 @@
 -- The asks of a script, one after the other, and what was written.
-use Rattle.std.proofs.Common.{◌≡◌, ◌<◌, ℕ, ◌+◌, Bool, true, List, [], ◌∷◌, ◌++◌, length, take, drop, map, refl, sym, ap, subst, ◌∙◌, append_assoc, append-nil, arith}
-use Rattle.std.specs.Prelude.{String, string_bytes}
+use Rattle.std.proofs.Common.{◌≡◌, ◌<◌, ◌≤◌, ℕ, zero, suc, ◌+◌, Bool, true, false, get_or, List, [], ◌∷◌, ◌++◌, length, take, drop, map, refl, sym, ap, subst, ◌∙◌, append_assoc, append-nil, arith}
+use Rattle.std.specs.Prelude.{String, string_bytes, nat_le}
+use Rattle.std.specs.List.{list_all}
+use Rattle.std.proofs.lemmas.List.Folds.{list_all-map, list_all_at}
 use Rattle.std.specs.declared.alloc.Global.{Global}
-use Rattle.std.proofs.lemmas.List.{take-append-drop}
+use Rattle.std.proofs.lemmas.List.{take-append-drop, take_more}
 use Rattle.cqe_base.specs.Schema.{Text, DatabaseSchema, is_valid_schema}
 use Rattle.cqe_base.specs.Facts.{FactSet}
 use Rattle.cqe_base.specs.History.{UserProfile, History, is_user_of}
@@ -12,6 +14,7 @@ use Rattle.cqe_base.specs.Hiding.{LegalHistoriesHide}
 use Rattle.cqe_base.specs.Run.{Reply}
 use Rattle.cqe_base.specs.Transcript.{reply_text}
 use Rattle.case_engine.specs.Answering.{IsTold}
+use Rattle.case_engine.specs.Sound.{is_short}
 use Rattle.case_engine.specs.Case.{Answers}
 use Rattle.case_engine.specs.Written.{AppendsAll, AppendsSome}
 use Rattle.case_engine.proofs.Replying.{SoFar, so_far_empty, told_next, answers_asks}
@@ -29,13 +32,15 @@ module _ (schema : DatabaseSchema) (world : FactSet) (user : UserProfile) (is_op
   told_nothing asks old history e none = ([], sym (append-nil old), subst (λ h. SoFar schema world user is_open [] [] h) (sym none) (so_far_empty schema world user is_open e))
 
   -- with one more ask
-  pub told_more : (asks : List (String Global)) (i : ℕ) (text : String Global) (old before after line : List ℕ) (history new : History) (told : Reply) → Told (map string_bytes (take i asks)) old before history → take (i + 1) asks ≡ take i asks ++ text ∷ [] → after ≡ before ++ line → line ≡ reply_text told ++ 10 ∷ [] → IsTold is_open schema world user history new (string_bytes text) told → Told (map string_bytes (take (i + 1) asks)) old after new
-  told_more asks i text old before after line history new told (output, written, so_far) more appended is here =
-      (output ++ line,
-      appended ∙ ap (λ w. w ++ line) written ∙ append_assoc old output line,
-      subst (λ a. SoFar schema world user is_open a (output ++ line) new) (sym (ap (map string_bytes) more ∙ map-append string_bytes (take i asks) (text ∷ [])))
+  more : (asks : List (String Global)) (i : ℕ) (text : String Global) (output line : List ℕ) (history new : History) (told : Reply) → SoFar schema world user is_open (map string_bytes (take i asks)) output history → take (i + 1) asks ≡ take i asks ++ text ∷ [] → line ≡ reply_text told ++ 10 ∷ [] → IsTold is_open schema world user history new (string_bytes text) told → SoFar schema world user is_open (map string_bytes (take (i + 1) asks)) (output ++ line) new
+  more asks i text output line history new told so_far next is here =
+      subst (λ a. SoFar schema world user is_open a (output ++ line) new) (sym (ap (map string_bytes) next ∙ map-append string_bytes (take i asks) (text ∷ [])))
       (subst (λ l. SoFar schema world user is_open (map string_bytes (take i asks) ++ string_bytes text ∷ []) (output ++ l) new) (sym is)
-      (told_next schema world user is_open (map string_bytes (take i asks)) output history new (string_bytes text) told so_far here)))
+      (told_next schema world user is_open (map string_bytes (take i asks)) output history new (string_bytes text) told so_far here))
+
+  pub told_more : (asks : List (String Global)) (i : ℕ) (text : String Global) (old before after line : List ℕ) (history new : History) (told : Reply) → Told (map string_bytes (take i asks)) old before history → take (i + 1) asks ≡ take i asks ++ text ∷ [] → after ≡ before ++ line → line ≡ reply_text told ++ 10 ∷ [] → IsTold is_open schema world user history new (string_bytes text) told → Told (map string_bytes (take (i + 1) asks)) old after new
+  told_more asks i text old before after line history new told (output, written, so_far) next appended is here =
+      (output ++ line, appended ∙ ap (λ w. w ++ line) written ∙ append_assoc old output line, more asks i text output line history new told so_far next is here)
 
   module _ (empty : EmptyHistoryIsLegal) (runs : RunsStayLegal) (hide : LegalHistoriesHide) (valid : is_valid_schema schema ≡ true) (is_user : is_user_of schema user ≡ true) where
     -- at the end
@@ -48,16 +53,42 @@ module _ (schema : DatabaseSchema) (world : FactSet) (user : UserProfile) (is_op
 
     -- where the sink failed in the middle of a line
     pub told_some : (asks : List (String Global)) (i n : ℕ) (text : String Global) (old before after line : List ℕ) (history new : History) (told : Reply) → Told (map string_bytes (take i asks)) old before history → take (i + 1) asks ≡ take i asks ++ text ∷ [] → after ≡ before ++ take n line → line ≡ reply_text told ++ 10 ∷ [] → IsTold is_open schema world user history new (string_bytes text) told → AppendsSome schema world user (map string_bytes asks) old after
-    told_some asks i n text old before after line history new told (output, written, so_far) more appended is here =
-        let whole = told_more asks i text old before (before ++ line) line history new told (output, written, so_far) more refl is here in
-        record {
-          front = map string_bytes (take (i + 1) asks);
-          back = map string_bytes (drop (i + 1) asks);
-          split = sym (ap (map string_bytes) (take-append-drop (i + 1) asks)) ∙ map-append string_bytes (take (i + 1) asks) (drop (i + 1) asks);
-          written = output ++ take n line;
-          rest = drop n line;
-          appended = appended ∙ ap (λ w. w ++ take n line) written ∙ append_assoc old output (take n line);
-          answers = subst (λ o. Answers schema world user (map string_bytes (take (i + 1) asks)) o)
-              (sym (append_assoc output (take n line) (drop n line) ∙ ap (λ l. output ++ l) (take-append-drop n line)))
-              (answers_asks schema world user is_open (map string_bytes (take (i + 1) asks)) whole.0 new whole.2 empty runs hide valid is_user);
-        }
+    told_some asks i n text old before after line history new told (output, written, so_far) next appended is here = record {
+      front = map string_bytes (take (i + 1) asks);
+      back = map string_bytes (drop (i + 1) asks);
+      split = sym (ap (map string_bytes) (take-append-drop (i + 1) asks)) ∙ map-append string_bytes (take (i + 1) asks) (drop (i + 1) asks);
+      written = output ++ take n line;
+      rest = drop n line;
+      appended = appended ∙ ap (λ w. w ++ take n line) written ∙ append_assoc old output (take n line);
+      answers = subst (λ o. Answers schema world user (map string_bytes (take (i + 1) asks)) o)
+          (sym (append_assoc output (take n line) (drop n line) ∙ ap (λ l. output ++ l) (take-append-drop n line)))
+          (answers_asks schema world user is_open (map string_bytes (take (i + 1) asks)) (output ++ line) new (more asks i text output line history new told so_far next is here) empty runs hide valid is_user);
+    }
+
+-- an ask of a script is short
+pub short_item : (asks items : List (String Global)) (i : ℕ) (text : String Global) → items ≡ asks → i < length items → text ≡ get_or items i text → list_all is_short (map string_bytes asks) ≡ true → length (string_bytes text) ≤ 4096
+short_item asks items i text same low is all = at (is_short (string_bytes (get_or items i text))) refl
+  where
+    tests : list_all (λ t. is_short (string_bytes t)) items ≡ true
+    tests = sym (list_all-map is_short string_bytes items) ∙ ap (λ l. list_all is_short (map string_bytes l)) same ∙ all
+
+    at : (b : Bool) → is_short (string_bytes (get_or items i text)) ≡ b → length (string_bytes text) ≤ 4096
+    at true e = let here : nat_le (length (string_bytes text)) 4096 ≡ true = ap (λ t. is_short (string_bytes t)) is ∙ e in grind (arith, here)
+    at false e = let clash : true ≡ false = sym tests ∙ list_all_at (λ t. is_short (string_bytes t)) items i text low e in absurd cc
+
+-- the asks so far with one more
+pub next_item : (asks items : List (String Global)) (i : ℕ) (text : String Global) → items ≡ asks → i < length items → text ≡ get_or items i text → take (i + 1) asks ≡ take i asks ++ text ∷ []
+next_item asks items i text same low is = subst (λ xs. take (i + 1) xs ≡ take i xs ++ text ∷ []) same (take_more items i text low ∙ ap (λ t. take i items ++ t ∷ []) (sym is))
+
+-- what is told at a log is told in its schema, world and user
+pub told_there : (is_open : Bool) (schema schema' : DatabaseSchema) (world world' : FactSet) (user user' : UserProfile) (history new : History) (text text' : Text) (told : Reply) → schema ≡ schema' → world ≡ world' → user ≡ user' → text ≡ text' → IsTold is_open schema world user history new text told → IsTold is_open schema' world' user' history new text' told
+told_there is_open schema schema' world world' user user' history new text text' told a b c d here =
+    subst (λ s. IsTold is_open s world' user' history new text' told) a (subst (λ w. IsTold is_open schema w user' history new text' told) b
+    (subst (λ u. IsTold is_open schema world u history new text' told) c (subst (λ t. IsTold is_open schema world user history new t told) d here)))
+
+-- all asks
+pub all_items : (asks : List (String Global)) (n : ℕ) → length asks ≤ n → take n asks ≡ asks
+all_items [] zero all = refl
+all_items [] (suc n) all = refl
+all_items (x ∷ asks) zero all = absurd (omega arith)
+all_items (x ∷ asks) (suc n) all = ap (λ l. x ∷ l) (all_items asks n (omega arith))

@@ -19,7 +19,7 @@ use crate::parts::Parts;
 use censors::{Admission, admit};
 use cqe_base::laws::{law_hides, law_legal_grows, law_runs_legal};
 use line_protocol::write_reply;
-use outside::Sink;
+use outside::{Failed, Sink};
 use std::alloc::{AllocError, Global};
 use user_log::{Reply, UserLog};
 
@@ -73,6 +73,7 @@ pub fn answer_all<K: Sink>(alloc: Global, parts: &Parts, sink: &mut K) -> CaseEn
     requires limits { nat_le 1 (vec_len parts.now.asks) ≡ true → KeepsLimits parts.now.schema (profile_of parts.now.user) }
     ensures answered { K.told → IsAnswered parts.now.schema parts.now.facts (profile_of parts.now.user) (map string_bytes parts.now.asks.items)
         (K.written sink.old) (K.written sink.new) result }
+    ensures no_read { result ≡ CaseEnd.ReadFault → ⊥ }
     ensures later { K.faults sink.old ≤ K.faults sink.new }
     ensures cause { result ≡ CaseEnd.WriteFault → Rose (K.faults sink.old) (K.faults sink.new) }
 {
@@ -91,8 +92,9 @@ pub fn answer_all<K: Sink>(alloc: Global, parts: &Parts, sink: &mut K) -> CaseEn
     };
     for text in &parts.asks {
         let reply = told(alloc, &mut log, is_open, text.as_str());
-        if write_reply(sink, &line_reply(reply)).is_err() {
-            return CaseEnd::WriteFault;
+        match write_reply(sink, &line_reply(reply)) {
+            Ok(()) => (),
+            Err(Failed) => return CaseEnd::WriteFault,
         }
     }
     CaseEnd::Done

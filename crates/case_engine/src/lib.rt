@@ -1,9 +1,9 @@
 //! The case: a script with one user, read whole, checked, and answered.
 #![tactic(auto)]
 
+mod answering;
 mod case;
 mod declaration;
-mod answering;
 mod fact;
 mod parts;
 mod reading;
