@@ -68,13 +68,13 @@ closed_names ts = if is_closed (slice_get ts (length ts - 1)) then names_or_none
 abbrev pub declared_as : Text → List Text → Declaration
 declared_as name parts = record { name = name; parts = parts }
 
--- `NAME = C1, C2`
+-- `NAME = CONSTANT, CONSTANT`
 abbrev pub domain_shape : List Token → Option Declaration
 domain_shape (name ∷ equals ∷ rest) =
     if is_word name && is_symbol Equal equals then option_map (declared_as name.text) (names_or_none rest) else None
 domain_shape _ = None
 
--- `NAME(D1, D2)`
+-- `NAME(DOMAIN, DOMAIN)`
 abbrev pub relation_shape : List Token → Option Declaration
 relation_shape (name ∷ opening ∷ rest) =
     if is_word name && is_symbol Open opening then option_map (declared_as name.text) (closed_names rest) else None

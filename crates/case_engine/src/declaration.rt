@@ -138,7 +138,7 @@ fn declared(
     }
 }
 
-/// The domain that tokens declare: `NAME = C1, C2`.
+/// The domain that tokens declare: `NAME = CONSTANT, CONSTANT`.
 fn domain_shape(alloc: Global, tokens: &[Token<'_>]) -> Result<Option<Declared>, AllocError>
     ensures { IfOk result (λ made. option_map declaration_of made ≡ domain_shape (map token_of tokens.now)) }
 {
@@ -151,7 +151,7 @@ fn domain_shape(alloc: Global, tokens: &[Token<'_>]) -> Result<Option<Declared>,
     }
 }
 
-/// The relation that tokens declare: `NAME(D1, D2)`.
+/// The relation that tokens declare: `NAME(DOMAIN, DOMAIN)`.
 fn relation_shape(alloc: Global, tokens: &[Token<'_>]) -> Result<Option<Declared>, AllocError>
     ensures { IfOk result (λ made. option_map declaration_of made ≡ relation_shape (map token_of tokens.now)) }
 {

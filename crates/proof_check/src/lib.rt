@@ -8,3 +8,5 @@
 
 pub mod model;
 pub mod refutation;
+#[cfg(test)]
+mod tests;
