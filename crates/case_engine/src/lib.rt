@@ -10,6 +10,8 @@ mod reading;
 mod refusal;
 mod script;
 mod statement;
+#[cfg(test)]
+mod tests;
 
 pub use case::{CaseEnd, run_case};
 pub use statement::Statement;
