@@ -316,6 +316,27 @@ fn each_ask_is_answered_however_the_streams_cut(rt: HostRuntime) -> Result<(), F
     Ok(())
 }
 
+// Four relations over seven and 408 constants. That all of their facts hold has 20,000 nodes, and the negation one more.
+const GRID: &str =
+    "\nrelation r(one, two)\nrelation s(one, two)\nrelation t(one, two)\nrelation u(one, two)\nrelation z()\nmethod lying\nsecret z()\nask not (forall x: one . forall y: two . r(x, y) and s(x, y) and t(x, y) and u(x, y))\n";
+
+#[test]
+fn a_query_has_at_most_20000_nodes(rt: HostRuntime) -> Result<(), Fail> {
+    let alloc = rt.alloc();
+    let mut script = joined(
+        alloc,
+        &["domain one = a1, a2, a3, a4, a5, a6, a7\ndomain two = b1"],
+    )?;
+    for number in 2..409 {
+        let name = format!(in alloc; ", b{number}")?;
+        script.extend_from_slice(name.as_bytes())?;
+    }
+    script.extend_from_slice(GRID.as_bytes())?;
+    let run = Run::script(alloc, script)?;
+    run.check(&rt, 0, "error 21\n", "", "a negation");
+    Ok(())
+}
+
 #[test]
 fn the_entry_behind_the_last_is_refused(rt: HostRuntime) -> Result<(), Fail> {
     let alloc = rt.alloc();
