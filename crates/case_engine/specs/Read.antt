@@ -39,10 +39,12 @@ ReadsRest error (reading.Refused found) = found ≡ error
 ReadsRest error reading.Fault = Unit {0}
 ReadsRest error reading.Memory = ⊥
 
+-- whether reading a script ended at a fault of the source
 abbrev pub is_read_fault : Reading → Bool
 is_read_fault reading.Fault = true
 is_read_fault _ = false
 
+-- whether reading a line ended at a fault of the source
 abbrev pub is_next_fault : NextLine → Bool
 is_next_fault next.Fault = true
 is_next_fault _ = false

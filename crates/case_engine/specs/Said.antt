@@ -6,6 +6,7 @@ use Rattle.case_engine.specs.Statements.{silence, domain_is, relation_is, fact_i
 use Rattle.case_engine.specs.declared.statement.Statement.{Statement}
 use Rattle.case_engine.specs.declared.statement.Statement.TheVariants.{Silence, Domain, Relation, Fact, Method, Know, Secret, Budget, Ask}
 
+-- what a statement in memory says
 abbrev pub said : Statement → Statements.Statement
 said Silence = silence
 said (Domain declared) = domain_is (declaration_of declared)

@@ -40,6 +40,7 @@ empty_script = record {
   asks = [];
 }
 
+-- the schema of the declarations of a script
 abbrev pub script_schema : Script → DatabaseSchema
 script_schema script = schema_of script.domains script.relations
 
@@ -54,15 +55,19 @@ script_user script = record {
 
 -- ---- what one more statement says
 
+-- one more domain
 abbrev pub with_domain : Script → Declaration → Script
 with_domain script declared = record script { domains = script.domains ++ declared ∷ [] }
 
+-- one more relation
 abbrev pub with_relation : Script → Declaration → Script
 with_relation script declared = record script { relations = script.relations ++ declared ∷ [] }
 
+-- one more sentence that the user knows
 abbrev pub with_known : Script → Formula → Script
 with_known script sentence = record script { know = script.know ++ sentence ∷ [] }
 
+-- one more secret
 abbrev pub with_secret : Script → Formula → Script
 with_secret script sentence = record script { secrets = script.secrets ++ sentence ∷ [] }
 
@@ -129,6 +134,7 @@ with_statement script (user_asks text) = ask_next script text
 
 -- ---- whole scripts
 
+-- the script with one more line that says this, or that has none of the shapes
 abbrev pub with_spoken : Script → Option Statement → Step
 with_spoken script None = Err NotALine
 with_spoken script (Some statement) = with_statement script statement

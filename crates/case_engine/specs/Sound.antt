@@ -9,10 +9,12 @@ use Rattle.cqe_base.specs.History.{view_size}
 use Rattle.cqe_base.specs.Limits.{is_small}
 use Rattle.case_engine.specs.Script.{Script, script_schema, script_user}
 
+-- whether a budget that was said is from 1 to 4,000,000
 abbrev pub is_fit_budget : Option ℕ → Bool
 is_fit_budget None = true
 is_fit_budget (Some budget) = nat_le 1 budget && nat_le budget 4000000
 
+-- whether a text has at most 4,096 bytes
 abbrev pub is_short : Text → Bool
 is_short text = nat_le (length text) 4096
 

@@ -48,6 +48,7 @@ are_listed (t ∷ comma ∷ rest) = is_word t && (is_symbol Comma comma && are_l
 abbrev pub listed_words : List Token → List Text
 listed_words ts = map (λ t. t.text) (filter is_word ts)
 
+-- the names of a list, if it is one
 abbrev pub listed_names : List Token → Option (List Text)
 listed_names ts = if are_listed ts then Some (listed_words ts) else None
 
@@ -65,6 +66,7 @@ is_closed (Some t) = is_symbol Close t
 abbrev pub closed_names : List Token → Option (List Text)
 closed_names ts = if is_closed (slice_get ts (length ts - 1)) then names_or_none (take (length ts - 1) ts) else None
 
+-- the declaration of a name with these parts
 abbrev pub declared_as : Text → List Text → Declaration
 declared_as name parts = record { name = name; parts = parts }
 
@@ -86,6 +88,7 @@ whole_tokens text = if end_of_tokens text == length text then Some (tokens text)
 
 -- ---- words and numbers
 
+-- the method that a word names
 abbrev pub method_named : Text → Option Method
 method_named text =
     if bytes_eq text (codes "lying") then Some Lying

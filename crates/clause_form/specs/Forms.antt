@@ -32,6 +32,7 @@ pub record FormSize : Type 0 where
   pub facts : ℕ
   pub variables : ℕ
 
+-- how far a form has come: how many facts, variables and clauses it has
 abbrev pub size_of : Form → FormSize
 size_of form = record { clauses = length form.clauses; facts = length form.numbering.facts; variables = form.numbering.variables }
 

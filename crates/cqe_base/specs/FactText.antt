@@ -14,6 +14,7 @@ abbrev pub fact_in : Formula → Option Fact
 fact_in (atom relation terms) = Some (fact_of relation (map (λ t. (value_of [] t).index) terms))
 fact_in _ = None
 
+-- the fact that a sentence which was read states, if it is an atom
 abbrev pub fact_read : Result Formula Refusal → Option Fact
 fact_read (Ok sentence) = fact_in sentence
 fact_read (Err refusal) = None

@@ -12,6 +12,7 @@ use Rattle.cqe_base.specs.Reading.{Scope, column_domains, term_named, reading, g
 pub data Part : Type 0 where
   unary both either implied whole : Part
 
+-- a token is this symbol
 abbrev pub IsSymbol : Symbol → Token → Type 0
 IsSymbol s t = symbol_of t.text ≡ s
 

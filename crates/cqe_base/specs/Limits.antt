@@ -55,6 +55,7 @@ pub record FitsLog (schema : DatabaseSchema) (user : UserProfile) (entries : His
   pub query_nodes : nodes schema query ≤ 20000
   pub log_nodes : (yes : Bool) → sum_by (λ signed. signed_nodes schema signed.0 signed.1) (log user entries) + signed_nodes schema query yes ≤ 60000
 
+-- the log of a user who keeps the limits fits a query that isn't too large
 abbrev pub SmallQueriesFit : Type 0
 SmallQueriesFit =
     (schema : DatabaseSchema) (user : UserProfile) (entries : History) (query : Formula)

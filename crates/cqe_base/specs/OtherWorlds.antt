@@ -21,6 +21,7 @@ guard_by Lying secrets secret = disjunction_of secrets
 guard_by Refusal secrets secret = secret
 guard_by Combined secrets secret = secret
 
+-- what is guarded in the place of the secret with this number
 abbrev pub guard_at : UserProfile → ℕ → Formula
 guard_at user k = guard_by user.method user.secrets (secret_at user k)
 

@@ -60,6 +60,7 @@ may_stand _ _ = false
 abbrev pub OpensQuantifier : Token → Type 0
 OpensQuantifier t = IsSymbol symbols.Forall t ⊎ IsSymbol symbols.Exists t
 
+-- a token opens a construct that encloses what follows: `not`, a quantifier or `(`
 abbrev pub OpensConstruct : Token → Type 0
 OpensConstruct t = IsSymbol symbols.Not t ⊎ IsSymbol symbols.Open t ⊎ OpensQuantifier t
 

@@ -16,6 +16,7 @@ pub record Token : Type 0 where
 abbrev pub is_blank : ℕ → Bool
 is_blank byte = byte == 32 || byte == 9
 
+-- whether bytes begin with a text
 abbrev pub begins : String → List ℕ → Bool
 begins mark text = starts_with nat_eq text (codes mark)
 
@@ -64,6 +65,7 @@ tokens text = tokens_from 0 0 text
 abbrev pub end_of_tokens : List ℕ → ℕ
 end_of_tokens text = end_from 0 0 text
 
+-- whether bytes spell a text
 abbrev pub is_spelled : String → List ℕ → Bool
 is_spelled word text = bytes_eq text (codes word)
 
@@ -88,6 +90,7 @@ symbol_of text =
     else if is_spelled "<->" text then DoubleArrow
     else Name
 
+-- a number for each symbol
 abbrev pub number_of : Symbol → ℕ
 number_of Name = 0
 number_of Not = 1
@@ -107,12 +110,15 @@ number_of Differs = 14
 number_of Arrow = 15
 number_of DoubleArrow = 16
 
+-- whether two symbols are the same
 abbrev pub same_symbol : Symbol → Symbol → Bool
 same_symbol a b = number_of a == number_of b
 
+-- the tokens that aren't words
 abbrev pub marks : List (List ℕ)
 marks = codes "(" ∷ codes ")" ∷ codes "," ∷ codes ":" ∷ codes "." ∷ codes "=" ∷ codes "!=" ∷ codes "->" ∷ codes "<->" ∷ []
 
+-- bytes are one of these lists
 abbrev pub IsOneOf : List ℕ → List (List ℕ) → Type 0
 IsOneOf word [] = ⊥
 IsOneOf word (other ∷ others) = (word ≡ other) ⊎ IsOneOf word others

@@ -8,7 +8,7 @@ use cqe_base::text::{ScriptError, ScriptKind};
 use line_protocol::LineText;
 use outside::{Sink, write_all};
 
-// Gives the complaint of an end to a sink. Where that fails nobody is left to be told.
+/// Gives the complaint of an end to a sink. Where that fails nobody is left to be told.
 pub(crate) fn complain<E: Sink>(complaints: &mut E, end: CommandEnd)
     ensures given { E.told → Gives (complaint_of end) (E.written complaints.old) (E.written complaints.new) (Rose (E.faults complaints.old) (E.faults complaints.new)) }
     ensures later { E.faults complaints.old ≤ E.faults complaints.new }

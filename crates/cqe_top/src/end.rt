@@ -22,7 +22,7 @@ pub enum CommandEnd {
     Memory,
 }
 
-// The end of the command `case` for the end of its case.
+/// The end of the command `case` for the end of its case.
 pub(crate) fn end_of_case(end: CaseEnd) -> CommandEnd
     ensures { result ≡ end_of_case end }
 {
@@ -35,7 +35,7 @@ pub(crate) fn end_of_case(end: CaseEnd) -> CommandEnd
     }
 }
 
-// The status with which the program ends.
+/// The status with which the program ends.
 pub(crate) fn status_of(end: CommandEnd) -> u8
     ensures { result ≡ status_of end }
 {

@@ -2,7 +2,7 @@
 ghost use Rattle.std.specs.Prelude.{◌↔◌, IsTrue};
 ghost use Rattle.cqe_top.specs.Words.{IsCase};
 
-// Whether the words are `case` alone.
+/// Whether the words are `case` alone.
 pub(crate) fn is_case(words: &[String]) -> bool
     ensures { IsTrue result ↔ IsCase words.now }
 {

@@ -14,6 +14,7 @@ use Rattle.entailment.specs.declared.Verdict.TheVariants as verdict
 abbrev pub signed_at : Bor Sentence × Bool → Signed
 signed_at s = (formula_of s.0.now, s.1)
 
+-- the further premise of a probe, if it has one
 abbrev pub premise_list : Option (Bor Sentence × Bool) → List Signed
 premise_list None = []
 premise_list (Some s) = signed_at s ∷ []

@@ -31,7 +31,7 @@ impl<D: Disk> Journal<D> {
     ghost use Rattle.log_journal.specs.Records.{Adds, KeepsOrAdds};
     ghost use Rattle.log_journal.specs.Journal.{disk_of, is_broken, room_of, HasRoom};
 
-    // A journal whose closed gate stands at this place.
+    /// A journal whose closed gate stands at this place.
     pub(crate) fn at(alloc: Global, disk: D, gate: u64) -> Self
         requires ends { D.told → EndsAt (D.reads disk) gate }
         requires durable { Only (D.reads disk) (D.image disk) }

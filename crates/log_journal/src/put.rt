@@ -6,7 +6,7 @@ ghost use Rattle.log_journal.specs.Bytes.{with_piece, IsBetween};
 
 use outside::{Disk, Failed};
 
-// Writes a piece and syncs.
+/// Writes a piece and syncs.
 pub(crate) fn write_synced<D: Disk>(disk: &mut D, at: u64, piece: &[u8]) -> Result<(), Failed>
     requires within { D.told → at ≤ length (D.reads disk.old) }
     requires durable { Only (D.reads disk.old) (D.image disk.old) }
@@ -22,7 +22,7 @@ pub(crate) fn write_synced<D: Disk>(disk: &mut D, at: u64, piece: &[u8]) -> Resu
     disk.sync()
 }
 
-// Writes a piece behind the closed gate, and opens the gate once the piece is on the disk.
+/// Writes a piece behind the closed gate, and opens the gate once the piece is on the disk.
 pub(crate) fn put<D: Disk>(disk: &mut D, gate: u64, piece: &[u8]) -> Result<(), Failed>
     requires within { D.told → gate < length (D.reads disk.old) }
     requires fits { D.told → length (D.reads disk.old) < 2 ^ 64 }

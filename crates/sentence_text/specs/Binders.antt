@@ -10,5 +10,6 @@ abbrev pub binders : Scope → List Binder
 binders Outermost = []
 binders (Within' variable domain _ outer) = record { variable = variable.now; domain = domain } ∷ binders outer
 
+-- what a term with its domain in memory is
 abbrev pub typed_term : TypedTerm → Reading.TypedTerm
 typed_term t = record { term = t.term; domain = t.domain }

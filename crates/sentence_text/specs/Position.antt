@@ -24,6 +24,7 @@ abbrev pub Refuses : {A : Type 0} → ReadError → Result A Refusal → Type 0
 Refuses errors.Memory reading = Unit {0}
 Refuses (errors.Text e) reading = reading ≡ Err e
 
+-- a reader gives what its definition gives, and stands behind the tokens that it took; want of memory aside
 abbrev pub Reads : {X A : Type 0} → (X → A) → Result X ReadError → List Token → Result (A × List Token) Refusal → Type 0
 Reads view (Ok x) rest reading = reading ≡ Ok (view x, rest)
 Reads view (Err e) rest reading = Refuses e reading

@@ -66,10 +66,12 @@ impl<'a> Reader<'a> {
         }
     }
 
+    /// The allocator.
     pub fn alloc(&self) -> Global {
         self.alloc
     }
 
+    /// The schema of which the names are.
     pub fn schema(&self) -> &'a Schema
         ensures { result.now ≡ self.now.schema }
     {

@@ -11,6 +11,7 @@ pub record OnceBetween (low high : ℕ) (count : ℕ → ℕ) : Type 0 where
   pub below : (x : ℕ) → x < low → count x ≡ 0
   pub above : (x : ℕ) → high ≤ x → count x ≡ 0
 
+-- pairs of a ticket and an item, oldest first
 abbrev pub Entries : Type 0 → Type 0
 Entries I = List (ℕ × I)
 

@@ -15,7 +15,7 @@ pub struct Pass<I, F> {
 }
 
 impl<I, F> Pass<I, F> {
-    // What stands in for a pass in a turn.
+    /// What stands in for a pass in a turn.
     pub(crate) fn away() -> Pass<I, F>
         ensures { result.badge.views ≡ [] }
     {

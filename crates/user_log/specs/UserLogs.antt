@@ -9,9 +9,11 @@ use Rattle.user_log.specs.declared.log.UserLog.{UserLog}
 abbrev pub kept_schema : UserLog → DatabaseSchema
 kept_schema log = log.schema.now
 
+-- its world
 abbrev pub kept_world : UserLog → FactSet
 kept_world log = log.world.now
 
+-- its user
 abbrev pub kept_user : UserLog → UserProfile
 kept_user log = profile_of log.user.now
 
