@@ -1,16 +1,15 @@
 -- Each world in which the log of a legal history is true and a guarded sentence false is alike, and there is one.
 use Rattle.std.proofs.Common.{◌≡◌, suc, Bool, true, false, ◌||◌, List, [], ◌∷◌, refl, sym, subst, ◌∙◌, arith}
 use Rattle.std.specs.Prelude.{Contains}
-use Rattle.std.specs.List.{list_any, list_all}
+use Rattle.std.specs.List.{list_any}
 use Rattle.cqe_base.specs.declared.user.Method.{Method}
 use Rattle.cqe_base.specs.declared.user.Method.TheVariants.{Lying, Refusal, Combined}
 use Rattle.cqe_base.specs.Schema.{DatabaseSchema}
 use Rattle.cqe_base.specs.Facts.{FactSet}
 use Rattle.cqe_base.specs.Formula.{Formula}
 use Rattle.cqe_base.specs.Entailment.{all_hold_in, entails, IsCountermodel}
-use Rattle.cqe_base.specs.Outcome.{outcome, is_open}
-use Rattle.cqe_base.specs.History.{UserProfile, History, known, log}
-use Rattle.cqe_base.specs.Censor.{guarded, knows_truth_by, admitted, admission_budget, IsLegal}
+use Rattle.cqe_base.specs.History.{UserProfile, known, log}
+use Rattle.cqe_base.specs.Censor.{guarded, knows_truth_by, admitted, IsLegal}
 use Rattle.cqe_base.specs.OtherWorlds.{LogsKeepSecrets, CountermodelsAreAlike, LegalEntriesReplyAlike}
 use Rattle.cqe_base.proofs.Truths.{true_is_not_false, false_if_not_true, and_second, and_both, list_any-false}
 use Rattle.cqe_base.proofs.Logs.{log-nil, known_holds}

@@ -1,5 +1,5 @@
 -- A text that stands twice, found by the texts that were seen.
-use Rattle.std.proofs.Common.{◌≡◌, ◌∙◌, ap, sym, refl, ℕ, suc, List, [], ◌∷◌, drop, Bool, true, false, cond, ◌||◌, Option, Some, None, is_some, bytes_eq, Bor}
+use Rattle.std.proofs.Common.{◌≡◌, ◌∙◌, ap, sym, refl, ℕ, suc, List, [], ◌∷◌, drop, Bool, true, false, cond, ◌||◌, Option, Some, is_some, bytes_eq, Bor}
 use Rattle.std.specs.Cmp.Lexicographic.{slice_cmp}
 use Rattle.std.specs.Ordering.{nat_cmp}
 use Rattle.std.specs.BTreeMap as tree

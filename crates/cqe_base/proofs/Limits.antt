@@ -1,17 +1,16 @@
 -- What the limits of a user bound.
-use Rattle.std.proofs.Common.{◌≡◌, ℕ, ◌+◌, ◌≤◌, Bool, true, false, ltb, List, [], ◌∷◌, length, refl, sym, ap, subst, ◌∙◌, arith}
+use Rattle.std.proofs.Common.{◌≡◌, ℕ, ◌+◌, ◌≤◌, Bool, true, false, ltb, List, [], ◌∷◌, length, refl, subst, ◌∙◌, arith}
 use Rattle.std.specs.Prelude.{nat_le, sum_by, fold}
 use Rattle.std.specs.List.{list_all}
-use Rattle.std.proofs.lemmas.Bool.{ltb-false, leb-true}
+use Rattle.std.proofs.lemmas.Bool.{ltb-false}
 use Rattle.std.proofs.lemmas.Bool.Decides.{nat_tests}
 use Rattle.std.proofs.lemmas.List.Sums.{sum_by-cons}
 use Rattle.cqe_base.specs.declared.user.Method.{Method}
 use Rattle.cqe_base.specs.declared.user.Method.TheVariants.{Lying, Refusal, Combined}
 use Rattle.cqe_base.specs.Schema.{DatabaseSchema}
 use Rattle.cqe_base.specs.Formula.{Formula, disjunction, nodes, is_sentence_of}
-use Rattle.cqe_base.specs.History.{UserProfile, History, known, log, signed_nodes, view_size, disjunction_of}
-use Rattle.cqe_base.specs.Censor.{guarded, guarded_by}
-use Rattle.cqe_base.specs.Run.{is_too_large}
+use Rattle.cqe_base.specs.History.{UserProfile, known, signed_nodes, view_size, disjunction_of}
+use Rattle.cqe_base.specs.Censor.{guarded_by}
 use Rattle.cqe_base.specs.Limits.{is_small, KeepsLimits, LimitsFitProbes, SmallQueriesFit}
 use Rattle.cqe_base.proofs.Truths.{list_all-map, and_first, and_second, and_both, or_first, or_second}
 use Rattle.cqe_base.proofs.Logs.{log-nil}

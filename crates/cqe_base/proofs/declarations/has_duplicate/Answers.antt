@@ -1,4 +1,4 @@
-use Rattle.std.proofs.Common.{◌∙◌, ap, sym, ◌||◌, ◌+◌, length, is_some, suc}
+use Rattle.std.proofs.Common.{◌∙◌, ap, sym, ◌||◌, is_some}
 use native.Mathlib.Numerals.{unary_clauses}
 use Rattle.std.proofs.Math.Seq.{drop-cons}
 use Rattle.std.proofs.lemmas.Map.Text.{btree_map_updates_str}
