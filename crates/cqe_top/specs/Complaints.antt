@@ -1,7 +1,7 @@
 -- What is said where a command didn't do all that it does.
 use Rattle.std.specs.Prelude.{◌≡◌, ◌⊎◌, ℕ, List, [], ◌++◌, codes, decimal}
 use Rattle.cqe_base.specs.declared.text.ScriptKind.{ScriptKind}
-use Rattle.cqe_base.specs.declared.text.ScriptKind.TheVariants.{NotALine, TooLong, TooMany, Schema, Fact, Sentence, Limit, Order}
+use Rattle.cqe_base.specs.declared.text.ScriptKind.TheVariants.{NotALine, TooLong, TooMany, Schema, Fact, Sentence, Limit, Order, Unsupported}
 use Rattle.cqe_base.specs.declared.text.ScriptError.{ScriptError}
 use Rattle.outside.specs.Streams.{AppendsPart}
 use Rattle.cqe_top.specs.declared.end.CommandEnd.{CommandEnd}
@@ -18,6 +18,7 @@ kind_number Fact = 5
 kind_number Sentence = 6
 kind_number Limit = 7
 kind_number Order = 8
+kind_number Unsupported = 9
 
 -- the kind and the line of a script's refusal
 abbrev pub script_complaint : ScriptError → List ℕ

@@ -43,7 +43,7 @@ fn script_complaint(refusal: ScriptError) -> LineText
 
 fn kind_number(kind: ScriptKind) -> u32
     ensures number { result ≡ kind_number kind }
-    ensures digit { result ≤ 8 }
+    ensures digit { result ≤ 9 }
 {
     match kind {
         ScriptKind::NotALine => 1,
@@ -54,5 +54,6 @@ fn kind_number(kind: ScriptKind) -> u32
         ScriptKind::Sentence => 6,
         ScriptKind::Limit => 7,
         ScriptKind::Order => 8,
+        ScriptKind::Unsupported => 9,
     }
 }
