@@ -13,7 +13,10 @@ fn a_shelf_reads_the_first_file_of_a_name(rt: HostRuntime) -> Result<(), Fail> {
     assert_eq!(rt; policy.as_slice(), b"version = 1".as_slice());
     assert!(rt; shelf.read_file(alloc, "f").is_ok());
     assert_eq!(rt; shelf.read_file(alloc, "").err(), Some(ShelfError::Missing));
-    assert_eq!(rt; shelf.read_file(alloc, "p ").err(), Some(ShelfError::Missing));
+    assert_eq!(rt;
+        shelf.read_file(alloc, "p ").err(),
+        Some(ShelfError::Missing)
+    );
     assert_eq!(rt; shelf.faults(), 0);
     Ok(())
 }

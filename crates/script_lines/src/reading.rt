@@ -83,7 +83,11 @@ fn pass_rest<S: Source, T: Drop>(
 
 /// Reads a script whole, from a beginning on. It is refused at the first line that is, after the source was read to its
 /// end, or to a line that is too long or one too many.
-pub fn read_script<S: Source, T: Script + Drop>(alloc: Global, source: &mut S, start: T) -> Reading<T>
+pub fn read_script<S: Source, T: Script + Drop>(
+    alloc: Global,
+    source: &mut S,
+    start: T,
+) -> Reading<T>
     ensures reads { S.told → ReadsScript T.step T.said (T.said start) result (S.left source.old) (S.left source.new) }
     ensures held { S.held source.new ≡ S.held source.old }
     ensures later { S.faults source.old ≤ S.faults source.new }
