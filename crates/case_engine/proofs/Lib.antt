@@ -5,7 +5,6 @@ pub mod Declaring
 pub mod Soundness
 pub mod Nothing
 pub mod Refusing
-pub mod Lines
 pub mod Replying
 pub mod Admitting
 pub mod Telling

@@ -11,7 +11,7 @@ use Rattle.cqe_base.specs.History.{UserProfile, AnsweredQuery, History, is_user_
 use Rattle.cqe_base.specs.Censor.{IsLegal, admitted, EmptyHistoryIsLegal}
 use Rattle.cqe_base.specs.Headline.{RunsStayLegal}
 use Rattle.cqe_base.specs.Hiding.{Hides, LegalHistoriesHide}
-use Rattle.cqe_base.specs.Run.{Reply, Standing, standing_open, standing_closed, user_closed, no_memory, Ending, want, kept, Event, ask, UserState, opening, after_event, after_events, replies_from, replies_to_event, replies, final_history, entry_added, reply_at, entry_at}
+use Rattle.cqe_base.specs.Run.{Reply, Standing, standing_open, standing_closed, user_closed, no_memory, Ending, want, kept, Event, ask, UserState, opening, after_event, after_events, replies_from, replies_to_event, reply_to_ask, replies, final_history, entry_added, reply_at, entry_at}
 use Rattle.cqe_base.specs.Transcript.{reply_text}
 use Rattle.user_log.specs.Asked.{IsAsked, wanted, answered, open_reply}
 use Rattle.case_engine.specs.Answering.{IsTold}
@@ -60,7 +60,7 @@ module _ (schema : DatabaseSchema) (world : FactSet) (user : UserProfile) where
     pub lines : output ≡ reply_lines (replies_from schema world user (opening schema world user []) (ask_events asks endings))
     pub state : after_events schema world user (opening schema world user []) (ask_events asks endings) ≡ state_with is_open history
 
-  standing_is : (is_open : Bool) → is_open ≡ admitted schema world user → (if admitted schema world user then standing_open else standing_closed) ≡ standing_by is_open
+  pub standing_is : (is_open : Bool) → is_open ≡ admitted schema world user → (if admitted schema world user then standing_open else standing_closed) ≡ standing_by is_open
   standing_is true e = ap (λ b. if b then standing_open else standing_closed) (sym e)
   standing_is false e = ap (λ b. if b then standing_open else standing_closed) (sym e)
 
@@ -104,23 +104,40 @@ module _ (schema : DatabaseSchema) (world : FactSet) (user : UserProfile) where
   no_entry text (Ok query) = refl
   no_entry text (Err refusal) = refl
 
+  -- what one ask's ending makes of the reply, and of the state behind it
+  pub record OneAsk (is_open : Bool) (history new : History) (text : Text) (told : Reply) : Type 0 where
+    pub ending : Ending
+    pub kept_or_want : IsKeptOrWant ending
+    pub replied : reply_to_ask schema world user (state_with is_open history) text ending ≡ told
+    pub next : after_event schema world user (state_with is_open history) (ask text ending) ≡ state_with is_open new
+
   -- a user who is admitted is told what his log answers
-  told_open : (asks : List Text) (output : List ℕ) (history new : History) (text : Text) (told : Reply) → SoFar true asks output history → IsAsked schema world user history new text told → SoFar true (asks ++ text ∷ []) (output ++ (reply_text told ++ 10 ∷ [])) new
-  told_open asks output history new text told so_far (wanted same) =
-      pushed true asks output history new text no_memory want so_far (inr refl) refl (ap (state_with true) (sym same))
-  told_open asks output history new text told so_far (answered is added) =
-      pushed true asks output history new text told kept so_far (inl refl) (ap (λ t. t ∷ []) (sym is))
-      (ap (state_with true) (sym (added ∙ ap (λ t. history ++ option_to_list (entry_added text (reading schema text) t)) is)))
+  one_open : (history new : History) (text : Text) (told : Reply) → IsAsked schema world user history new text told → OneAsk true history new text told
+  one_open history new text told (wanted same) = record { ending = want; kept_or_want = inr refl; replied = refl; next = ap (state_with true) (sym same) }
+  one_open history new text told (answered is added) = record {
+    ending = kept;
+    kept_or_want = inl refl;
+    replied = sym is;
+    next = ap (state_with true) (sym (added ∙ ap (λ t. history ++ option_to_list (entry_added text (reading schema text) t)) is));
+  }
 
   -- one who isn't is told so
-  told_closed : (asks : List Text) (output : List ℕ) (history new : History) (text : Text) (told : Reply) → SoFar false asks output history → (told ≡ user_closed) × (new ≡ history) → SoFar false (asks ++ text ∷ []) (output ++ (reply_text told ++ 10 ∷ [])) new
-  told_closed asks output history new text told so_far (is, same) =
-      pushed false asks output history new text told kept so_far (inl refl) (ap (λ t. t ∷ []) (sym is))
-      (ap (state_with false) (same_entries history (entry_added text (reading schema text) user_closed) (no_entry text (reading schema text)) ∙ sym same))
+  one_closed : (history new : History) (text : Text) (told : Reply) → (told ≡ user_closed) × (new ≡ history) → OneAsk false history new text told
+  one_closed history new text told (is, same) = record {
+    ending = kept;
+    kept_or_want = inl refl;
+    replied = sym is;
+    next = ap (state_with false) (same_entries history (entry_added text (reading schema text) user_closed) (no_entry text (reading schema text)) ∙ sym same);
+  }
+
+  pub one_ask : (is_open : Bool) (history new : History) (text : Text) (told : Reply) → IsTold is_open schema world user history new text told → OneAsk is_open history new text told
+  one_ask true = one_open
+  one_ask false = one_closed
 
   pub told_next : (is_open : Bool) (asks : List Text) (output : List ℕ) (history new : History) (text : Text) (told : Reply) → SoFar is_open asks output history → IsTold is_open schema world user history new text told → SoFar is_open (asks ++ text ∷ []) (output ++ (reply_text told ++ 10 ∷ [])) new
-  told_next true = told_open
-  told_next false = told_closed
+  told_next is_open asks output history new text told so_far here =
+      let one : OneAsk is_open history new text told = one_ask is_open history new text told here in
+      pushed is_open asks output history new text told one.ending so_far one.kept_or_want (ap (λ t. t ∷ []) one.replied) one.next
 
   -- ---- the end of the run
 

@@ -7,6 +7,5 @@ pub mod Sound
 pub mod Scripts
 pub mod ScriptsRead
 pub mod SchemaRefusal
-pub mod Read
 pub mod Answering
 pub mod Written

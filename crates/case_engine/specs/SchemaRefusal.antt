@@ -4,8 +4,8 @@ use Rattle.cqe_base.specs.declared.text.ScriptKind.TheVariants.{Schema, Sentence
 use Rattle.cqe_base.specs.Schema.{Declaration, schema_refusal}
 use Rattle.cqe_base.specs.Formula.{Formula}
 use Rattle.cqe_base.specs.Reading.{Refusal}
-use Rattle.case_engine.specs.declared.refusal.LineError.{LineError}
-use Rattle.case_engine.specs.declared.refusal.LineError.TheVariants.{Refused, Memory}
+use Rattle.script_lines.specs.declared.error.LineError.{LineError}
+use Rattle.script_lines.specs.declared.error.LineError.TheVariants.{Refused, Memory}
 
 -- want of memory, or the refusal of these declarations
 abbrev pub IsSchemaRefusal : List Declaration → List Declaration → LineError → Type 0

@@ -1,10 +1,10 @@
 -- What a script means, and where it is refused.
-use Rattle.std.specs.Prelude.{ℕ, ◌+◌, Bool, true, false, not, ◌&&◌, ◌||◌, nat_le, nat_lt, List, [], ◌∷◌, ◌++◌, length, Option, Some, None, is_some, is_none, unwrap_or, Result, Ok, Err, if◌then◌else◌}
+use Rattle.std.specs.Prelude.{ℕ, Bool, true, false, not, ◌&&◌, ◌||◌, nat_le, List, [], ◌∷◌, ◌++◌, length, Option, Some, None, is_some, is_none, unwrap_or, Result, Ok, Err, if◌then◌else◌}
 use Rattle.std.specs.FinSet as set
 use Rattle.cqe_base.specs.declared.user.Method.{Method}
 use Rattle.cqe_base.specs.declared.user.Method.TheVariants.{Lying}
 use Rattle.cqe_base.specs.declared.text.ScriptKind.{ScriptKind}
-use Rattle.cqe_base.specs.declared.text.ScriptKind.TheVariants.{NotALine, TooLong, TooMany, Schema, Fact, Sentence, Limit, Order}
+use Rattle.cqe_base.specs.declared.text.ScriptKind.TheVariants.{NotALine, Schema, Fact, Sentence, Limit, Order}
 use Rattle.cqe_base.specs.declared.text.ScriptError.{ScriptError}
 use Rattle.cqe_base.specs.declared.world.Fact.{Fact as GroundFact}
 use Rattle.cqe_base.specs.Schema.{Text, Declaration, DatabaseSchema, schema_refusal, schema_of}
@@ -12,7 +12,7 @@ use Rattle.cqe_base.specs.Facts.{FactSet}
 use Rattle.cqe_base.specs.Formula.{Formula, nodes}
 use Rattle.cqe_base.specs.Reading.{Refusal, reading}
 use Rattle.cqe_base.specs.FactText.{stated_fact}
-use Rattle.cqe_base.specs.Lines.{TextLine, text_lines, content, is_too_long}
+use Rattle.script_lines.specs.Scripts.{script_from}
 use Rattle.cqe_base.specs.History.{UserProfile, view_size}
 use Rattle.case_engine.specs.Statements.{Statement, silence, domain_is, relation_is, fact_is, method_is, user_knows, secret_is, budget_is, user_asks, statement_of}
 
@@ -139,24 +139,10 @@ abbrev pub with_spoken : Script → Option Statement → Step
 with_spoken script None = Err NotALine
 with_spoken script (Some statement) = with_statement script statement
 
--- the script with one more line, which has this number
-abbrev pub with_line : ℕ → Script → TextLine → Step
-with_line number script line =
-    if is_too_long line then Err TooLong
-    else if nat_lt 100000 number then Err TooMany
-    else with_spoken script (statement_of (content line))
-
--- what follows a line, unless it is refused
-abbrev pub then_lines : ℕ → Step → (Script → Result Script ScriptError) → Result Script ScriptError
-then_lines number (Err kind) rest = Err (record { kind = kind; line = number })
-then_lines number (Ok script) rest = rest script
-
--- the lines from this number on, up to the first that is refused
-abbrev pub script_after : ℕ → Script → List TextLine → Result Script ScriptError
-script_after number script [] = Ok script
-script_after number script (line ∷ lines) =
-    then_lines number (with_line number script line) (λ next. script_after (number + 1) next lines)
+-- the script with one more line
+abbrev pub with_line : Script → Text → Step
+with_line script line = with_spoken script (statement_of line)
 
 -- the script that bytes are, or the first line that is refused, with its kind
 unfoldable pub script_of : List ℕ → Result Script ScriptError
-script_of bytes = script_after 1 empty_script (text_lines bytes)
+script_of bytes = script_from with_line empty_script bytes

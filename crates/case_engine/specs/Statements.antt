@@ -9,6 +9,7 @@ use Rattle.cqe_base.specs.Schema.{Text, Declaration, is_identifier}
 use Rattle.cqe_base.specs.Tokens.{Token, tokens, end_of_tokens, is_blank}
 use Rattle.cqe_base.specs.Reading.{is_symbol}
 use Rattle.line_protocol.specs.Words.{is_printable}
+use Rattle.script_lines.specs.Silence.{is_silent}
 
 -- what a line says
 pub data Statement : Type 0 where
@@ -22,15 +23,6 @@ pub data Statement : Type 0 where
   secret_is : (text : Text) → Statement
   budget_is : (budget : ℕ) → Statement
   user_asks : (text : Text) → Statement
-
--- a comment begins with `#`
-abbrev pub is_comment : Text → Bool
-is_comment [] = false
-is_comment (b ∷ rest) = b == 35
-
--- a line that says nothing may hold any bytes
-abbrev pub is_silent : Text → Bool
-is_silent line = list_all is_blank line || is_comment line
 
 -- ---- declarations
 

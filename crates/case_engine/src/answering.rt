@@ -18,13 +18,16 @@ use crate::case::CaseEnd;
 use crate::parts::Parts;
 use censors::{Admission, admit};
 use cqe_base::laws::{law_hides, law_legal_grows, law_runs_legal};
+use cqe_base::schema::Schema;
+use cqe_base::user::User;
+use cqe_base::world::World;
 use line_protocol::write_reply;
 use outside::{Failed, Sink};
 use std::alloc::{AllocError, Global};
 use user_log::{Reply, UserLog};
 
 /// A reply in the words of the line protocol.
-fn line_reply(reply: Reply) -> line_protocol::Reply
+pub fn line_reply(reply: Reply) -> line_protocol::Reply
     ensures { text_of result ≡ reply_text (reply_of reply) }
 {
     match reply {
@@ -43,7 +46,7 @@ fn line_reply(reply: Reply) -> line_protocol::Reply
 }
 
 /// The reply to one text: by the user's log where he is admitted, else that he isn't.
-fn told(alloc: Global, log: &mut UserLog<'_>, is_open: bool, text: &str) -> Reply
+pub fn told(alloc: Global, log: &mut UserLog<'_>, is_open: bool, text: &str) -> Reply
     requires { length text.now ≤ 4096 }
     ensures same { IsOfSame log.old log.new }
     ensures told { IsTold is_open (kept_schema log.old) (kept_world log.old) (kept_user log.old) (kept_history log.old) (kept_history log.new) text.now (reply_of result) }
@@ -55,12 +58,17 @@ fn told(alloc: Global, log: &mut UserLog<'_>, is_open: bool, text: &str) -> Repl
     }
 }
 
-/// Whether the user is admitted in the database.
-fn is_admitted(alloc: Global, parts: &Parts) -> Result<bool, AllocError>
-    requires { KeepsLimits parts.now.schema (profile_of parts.now.user) }
-    ensures { IfOk result (λ is_open. is_open ≡ admitted parts.now.schema parts.now.facts (profile_of parts.now.user)) }
+/// Whether a user is admitted in a database.
+pub fn is_admitted(
+    alloc: Global,
+    schema: &Schema,
+    facts: &World,
+    user: &User,
+) -> Result<bool, AllocError>
+    requires { KeepsLimits schema.now (profile_of user.now) }
+    ensures { IfOk result (λ is_open. is_open ≡ admitted schema.now facts.now (profile_of user.now)) }
 {
-    match admit(alloc, &parts.schema, &parts.facts, &parts.user)? {
+    match admit(alloc, schema, facts, user)? {
         Admission::Open => Ok(true),
         Admission::KnowFalse(_) | Admission::Implied(_) | Admission::Spent(_) => Ok(false),
     }
@@ -84,7 +92,7 @@ pub fn answer_all<K: Sink>(alloc: Global, parts: &Parts, sink: &mut K) -> CaseEn
     if parts.asks.is_empty() {
         return CaseEnd::Done;
     }
-    let Ok(is_open) = is_admitted(alloc, parts) else {
+    let Ok(is_open) = is_admitted(alloc, &parts.schema, &parts.facts, &parts.user) else {
         return CaseEnd::Memory;
     };
     let Ok(mut log) = UserLog::new(alloc, &parts.schema, &parts.facts, &parts.user) else {

@@ -5,9 +5,10 @@ ghost use Rattle.outside.specs.Faults.{Rose};
 ghost use Rattle.case_engine.specs.Case.{Ends};
 
 use crate::answering::answer_all;
-use crate::reading::{Reading, read_script};
+use crate::script::Script;
 use cqe_base::text::ScriptError;
 use outside::{Sink, Source};
+use script_lines::{Reading, read_script};
 use std::alloc::Global;
 
 /// How a case ends.
@@ -35,7 +36,10 @@ pub fn run_case<S: Source, K: Sink>(alloc: Global, source: &mut S, sink: &mut K)
     ensures read_cause { result ≡ CaseEnd.ReadFault → Rose (S.faults source.old) (S.faults source.new) }
     ensures write_cause { result ≡ CaseEnd.WriteFault → Rose (K.faults sink.old) (K.faults sink.new) }
 {
-    let script = match read_script(alloc, source) {
+    let Ok(start) = Script::new(alloc) else {
+        return CaseEnd::Memory;
+    };
+    let script = match read_script(alloc, source, start) {
         Reading::Whole(script) => script,
         Reading::Refused(error) => return CaseEnd::Script(error),
         Reading::Fault => return CaseEnd::ReadFault,

@@ -13,13 +13,13 @@ ghost use Rattle.case_engine.specs.SchemaRefusal.{IsSchemaRefusal};
 use crate::declaration::Declared;
 use crate::fact::stated_fact;
 use crate::parts::Parts;
-use crate::refusal::LineError;
 use crate::statement::{Statement, statement_of};
 use cqe_base::schema::{Schema, SchemaError};
 use cqe_base::sentence::{Sentence, nodes};
 use cqe_base::text::ScriptKind;
 use cqe_base::user::{Method, User};
 use cqe_base::world::{World, WorldError};
+use script_lines::LineError;
 use sentence_text::{ReadError, read_sentence};
 use std::alloc::{AllocError, Global};
 use user_log::laws::law_views_without_entries;
@@ -61,7 +61,8 @@ impl Script {
     ghost use Rattle.case_engine.specs.Answering.{ArePartsOf};
     ghost use Rattle.case_engine.specs.Statements.{statement_of};
     ghost use Rattle.case_engine.specs.Said.{said, IsShortStatement};
-    ghost use Rattle.case_engine.specs.ScriptsRead.{script_is, Refuses};
+    ghost use Rattle.case_engine.specs.ScriptsRead.{script_is};
+    ghost use Rattle.script_lines.specs.Lines.{Refuses};
 
     /// No line has said anything.
     pub fn new(alloc: Global) -> Result<Script, LineError>
@@ -114,18 +115,6 @@ impl Script {
             user,
             asks,
         })
-    }
-
-    /// One more line, which isn't too long.
-    pub fn take(&mut self, alloc: Global, line: &[u8]) -> Result<(), LineError>
-        requires { length line.now ≤ 4096 }
-        ensures added { OnOk result (with_spoken (script_is self.old) (statement_of line.now) ≡ Ok (script_is self.new)) }
-        ensures refused { IfErr result (Refuses (with_spoken (script_is self.old) (statement_of line.now))) }
-    {
-        match statement_of(alloc, line)? {
-            Some(statement) => self.say(alloc, statement),
-            None => Err(LineError::Refused(ScriptKind::NotALine)),
-        }
     }
 
     /// One more statement. A refusal changes nothing.
@@ -319,6 +308,25 @@ impl Script {
         let text = String::from_str(alloc, text)?;
         self.asks.push(text)?;
         Ok(())
+    }
+}
+
+impl script_lines::Script for Script {
+    ghost use Rattle.case_engine.specs.Script;
+    ghost use Rattle.case_engine.specs.Script.{with_line};
+    ghost use Rattle.case_engine.specs.ScriptsRead.{script_is};
+
+    ghost Said = { Script.Script };
+
+    ghost said = { script_is };
+
+    ghost step = { with_line };
+
+    fn take(&mut self, alloc: Global, line: &[u8]) -> Result<(), LineError> {
+        match statement_of(alloc, line)? {
+            Some(statement) => self.say(alloc, statement),
+            None => Err(LineError::Refused(ScriptKind::NotALine)),
+        }
     }
 }
 

@@ -6,12 +6,14 @@ ghost use Rattle.std.specs.Char.{is_ascii_digit};
 ghost use Rattle.cqe_base.specs.Tokens.{is_blank};
 ghost use Rattle.cqe_base.specs.Memory.{declaration_of};
 ghost use Rattle.line_protocol.specs.Words.{is_printable};
+ghost use Rattle.script_lines.specs.Silence.{is_silent};
 ghost use Rattle.case_engine.specs.Said.{said, IsShortStatement};
-ghost use Rattle.case_engine.specs.Statements.{is_comment, is_silent, is_word, listed_names, names_or_none, closed_names, domain_shape, relation_shape, whole_tokens, method_named, decimal_value, budget_number, domain_is, relation_is, method_is, budget_is, worded, lone, spoken, statement_of};
+ghost use Rattle.case_engine.specs.Statements.{is_word, listed_names, names_or_none, closed_names, domain_shape, relation_shape, whole_tokens, method_named, decimal_value, budget_number, domain_is, relation_is, method_is, budget_is, worded, lone, spoken, statement_of};
 
 use crate::declaration::{Declared, domain_in, relation_in};
 use cqe_base::user::Method;
-use line_protocol::words::{are_printable, is_blank, printable_text, split_at_blank};
+use line_protocol::words::{are_printable, printable_text, split_at_blank};
+use script_lines::is_silent;
 use std::alloc::{AllocError, Global};
 
 /// What a line says. Texts are slices of the line.
@@ -27,30 +29,6 @@ pub enum Statement<'a> {
     Secret(&'a str),
     Budget(u64),
     Ask(&'a str),
-}
-
-/// Whether a line says nothing.
-fn is_silent(line: &[u8]) -> bool
-    ensures { result ≡ is_silent line.now }
-{
-    are_blank(line) || is_comment(line)
-}
-
-/// Whether all of these are blanks.
-fn are_blank(bytes: &[u8]) -> bool
-    ensures { result ≡ list_all is_blank bytes.now }
-{
-    bytes.iter().all(|byte| is_blank(*byte))
-}
-
-/// Whether a line is a comment.
-fn is_comment(line: &[u8]) -> bool
-    ensures { result ≡ is_comment line.now }
-{
-    match line {
-        [first, ..] => *first == b'#',
-        [] => false,
-    }
 }
 
 /// The number that one to ten digits write.

@@ -3,9 +3,9 @@ ghost use Rattle.std.specs.Prelude.{◌≡◌, ◌+◌, ◌<◌, ◌≤◌, [], 
 
 use std::marker::Model;
 
-const ROOM: usize = 32;
+const ROOM: usize = 64;
 
-/// A text of at most 32 bytes that is put together without memory.
+/// A text of at most 64 bytes that is put together without memory.
 #[derive(Drop)]
 pub struct LineText {
     bytes: [u8; ROOM],
@@ -19,13 +19,13 @@ impl Model for LineText {
 
     ghost view = { λ t. take t.length t.bytes };
 
-    ghost invariant = { λ t. t.length ≤ 32 };
+    ghost invariant = { λ t. t.length ≤ 64 };
 }
 
 impl LineText {
     /// A line that begins with this text.
     pub fn new(text: &str) -> Self
-        requires { length text.now ≤ 32 }
+        requires { length text.now ≤ 64 }
         ensures { result ≡ text.now }
     {
         let mut line = LineText {
@@ -45,16 +45,24 @@ impl LineText {
 
     /// Appends a text.
     pub fn push(&mut self, text: &str)
-        requires { length self.old + length text.now ≤ 32 }
+        requires { length self.old + length text.now ≤ 64 }
         ensures { self.new ≡ self.old ++ text.now }
     {
-        let end = self.length + text.len();
-        self.bytes[self.length..end].copy_from_slice(text.as_bytes());
+        self.push_bytes(text.as_bytes());
+    }
+
+    /// Appends the bytes of a text.
+    pub fn push_bytes(&mut self, bytes: &[u8])
+        requires { length self.old + length bytes.now ≤ 64 }
+        ensures { self.new ≡ self.old ++ bytes.now }
+    {
+        let end = self.length + bytes.len();
+        self.bytes[self.length..end].copy_from_slice(bytes);
         self.length = end;
     }
 
     fn push_byte(&mut self, byte: u8)
-        requires { length self.old < 32 }
+        requires { length self.old < 64 }
         ensures { self.new ≡ self.old ++ byte ∷ [] }
     {
         self.bytes[self.length] = byte;
@@ -63,7 +71,7 @@ impl LineText {
 
     /// Appends the digits of a number.
     pub fn push_decimal(&mut self, number: u32)
-        requires { length self.old + length (decimal number) ≤ 32 }
+        requires { length self.old + length (decimal number) ≤ 64 }
         ensures { self.new ≡ self.old ++ decimal number }
     {
         if number >= 10 {

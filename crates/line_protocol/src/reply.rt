@@ -42,7 +42,8 @@ fn line_of(reply: &Reply) -> LineText
     line
 }
 
-fn text_of(reply: &Reply) -> LineText
+/// The text of a reply, without its line feed.
+pub fn text_of(reply: &Reply) -> LineText
     ensures text { result ≡ text_of reply.now }
     ensures short { length result ≤ 23 }
 {

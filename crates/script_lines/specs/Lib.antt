@@ -1,3 +1,4 @@
 pub mod Scripts
 pub mod Lines
 pub mod Read
+pub mod Silence

@@ -1,0 +1,77 @@
+-- What one line of a batch says, and what its lines add up to.
+use Rattle.std.specs.Prelude.{◌==◌, ℕ, ◌+◌, ◌-◌, ◌*◌, Bool, true, false, not, ◌&&◌, nat_le, List, [], ◌∷◌, ◌++◌, Option, Some, None, Result, Ok, Err, if◌then◌else◌, codes, bytes_eq}
+use Rattle.std.specs.List.{list_all, list_any, before_first, after_first}
+use Rattle.std.specs.Char.{is_ascii_digit}
+use Rattle.cqe_base.specs.declared.text.ScriptKind.{ScriptKind}
+use Rattle.cqe_base.specs.declared.text.ScriptKind.TheVariants.{NotALine, Unsupported}
+use Rattle.cqe_base.specs.declared.text.ScriptError.{ScriptError}
+use Rattle.cqe_base.specs.Schema.{Text, is_schema_name}
+use Rattle.cqe_base.specs.Tokens.{is_blank}
+use Rattle.line_protocol.specs.Words.{is_printable}
+use Rattle.line_protocol.specs.Requests.{LineRequest, ask_for, login_as, quit_session, other_line, request_of}
+use Rattle.script_lines.specs.Scripts.{script_from}
+use Rattle.script_lines.specs.Silence.{is_silent}
+
+-- an ask of a named user in one of his sessions
+pub record NamedAsk : Type 0 where
+  pub name : Text
+  pub session : ℕ
+  pub text : Text
+
+-- what a line says
+pub data BatchLine : Type 0 where
+  -- nothing: a line of blanks, or a comment
+  silence : BatchLine
+  restarts : BatchLine
+  asks : (ask : NamedAsk) → BatchLine
+
+-- the number that one or two digits write, from 1 to 64 and without a leading zero
+abbrev pub session_number : Text → Option ℕ
+session_number (a ∷ []) = if is_ascii_digit a && not (a == 48) then Some (a - 48) else None
+session_number (a ∷ b ∷ []) =
+    if (is_ascii_digit a && not (a == 48)) && (is_ascii_digit b && nat_le (10 * (a - 48) + (b - 48)) 64)
+    then Some (10 * (a - 48) + (b - 48)) else None
+session_number _ = None
+
+-- the ask of a name, a session and a request, if the request is an ask
+abbrev pub asked_by : Text → Option ℕ → LineRequest → Option BatchLine
+asked_by name (Some session) (ask_for text) = Some (asks (record { name = name; session = session; text = text }))
+asked_by name session request = None
+
+-- a name of the form of a constant's, one blank, a session, one blank, and `ask TEXT` or `ask`
+abbrev pub named_ask : Text → Text → Option BatchLine
+named_ask name rest =
+    if is_schema_name name && list_any is_blank rest
+    then asked_by name (session_number (before_first is_blank rest)) (request_of (after_first is_blank rest)) else None
+
+-- the line of a first word, and the text behind the blank that ends it: `* restart`, or an ask of a name
+abbrev pub worded : Text → Text → Option BatchLine
+worded word rest =
+    if bytes_eq word (codes "*") then (if bytes_eq rest (codes "restart") then Some restarts else None)
+    else named_ask word rest
+
+-- what printable bytes say
+abbrev pub spoken : Text → Option BatchLine
+spoken line = if list_any is_blank line then worded (before_first is_blank line) (after_first is_blank line) else None
+
+-- what a line says, if it has one of the shapes
+unfoldable pub batch_line : Text → Option BatchLine
+batch_line line =
+    if is_silent line then Some silence
+    else if list_all is_printable line then spoken line
+    else None
+
+-- the asks with what one more line says; a restart can't be done yet
+abbrev pub with_said : List NamedAsk → Option BatchLine → Result (List NamedAsk) ScriptKind
+with_said before None = Err NotALine
+with_said before (Some silence) = Ok before
+with_said before (Some restarts) = Err Unsupported
+with_said before (Some (asks ask)) = Ok (before ++ ask ∷ [])
+
+-- the asks with one more line
+abbrev pub with_line : List NamedAsk → Text → Result (List NamedAsk) ScriptKind
+with_line before line = with_said before (batch_line line)
+
+-- the asks of a batch that bytes are, or the first line that is refused, with its kind
+unfoldable pub batch_of : List ℕ → Result (List NamedAsk) ScriptError
+batch_of bytes = script_from with_line [] bytes

@@ -1,0 +1,10 @@
+-- The text behind the name and the session of a line.
+use Rattle.std.specs.Prelude.{Option, Some, None, codes}
+use Rattle.cqe_base.specs.Schema.{Text}
+use Rattle.cqe_base.specs.Run.{Reply}
+use Rattle.cqe_base.specs.Transcript.{reply_text}
+
+-- the text of a reply, or that no user has the name
+abbrev pub told_text : Option Reply → Text
+told_text (Some told) = reply_text told
+told_text None = codes "error 23"
