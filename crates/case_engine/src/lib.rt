@@ -4,7 +4,6 @@
 mod answering;
 mod case;
 mod declaration;
-mod fact;
 mod parts;
 mod reading;
 mod refusal;

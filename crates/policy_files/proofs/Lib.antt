@@ -1,0 +1,4 @@
+pub mod OkSteps
+pub mod SentencesKept
+pub mod UsersKept
+pub mod PoliciesKept
