@@ -2,3 +2,6 @@ pub mod OkSteps
 pub mod SentencesKept
 pub mod UsersKept
 pub mod PoliciesKept
+pub mod Trees
+pub mod LinesSplit
+pub mod ViewSizes

@@ -21,7 +21,11 @@ pub when_ok : {A : Type 0} (b : Bool) (why : PolicyError) (s : Step A) (y : A) �
 when_ok true why s y e = (refl, e)
 when_ok false why s y e = absurd (cc)
 
-pub same_ok : {A : Type 0} (x y : A) → (Ok {T = A} {E = PolicyError} x) ≡ Ok y → x ≡ y
+-- a step that is Ok
+abbrev pub ok_step : {A : Type 0} → A → Step A
+ok_step x = Ok x
+
+pub same_ok : {A : Type 0} (x y : A) → ok_step x ≡ Ok y → x ≡ y
 same_ok x y e = cc
 
 -- a number that is within

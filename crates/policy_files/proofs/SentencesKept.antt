@@ -59,7 +59,7 @@ module _ (schema : DatabaseSchema) where
   unfolding sentences_of
   sentences_ok law user key least greatest value all e =
       let h = when_ok (is_string_array value) _ _ all e in
-      first_ok _ _ all h.1 (λ count here rest.
+      first_ok {A = ℕ} _ _ all h.1 (λ count here rest.
       let fits = within_ok least greatest _ (length (elements value)) count here in
       let read = behind_ok law user key [] (elements value) all none_are rest in
       let size : length all ≡ 0 + length (elements value) = read.1 in

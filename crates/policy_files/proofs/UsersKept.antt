@@ -14,6 +14,7 @@ use Rattle.cqe_base.specs.Formula.{Formula, is_sentence_of}
 use Rattle.cqe_base.specs.History.{UserProfile, view_size, is_user_of}
 use Rattle.cqe_base.specs.Reading.{ReadingsAreSentences}
 use Rattle.cqe_base.specs.Limits.{KeepsLimits, is_small}
+use Rattle.cqe_base.specs.declared.user.Method.{Method}
 use Rattle.policy_files.specs.declared.error.Place.{Place}
 use Rattle.policy_files.specs.declared.error.PolicyError.TheVariants.{WrongKind, DuplicateUser, Limit}
 use Rattle.policy_files.specs.Tree.{natural}
@@ -108,21 +109,21 @@ view_ok schema user named out e =
     let test : nat_le (view_size schema named.profile []) 40000 ≡ true = h.0 in
     (grind (arith, nat_tests), same_ok named out h.1)
 
-user_ok : ReadingsAreSentences → (schema : DatabaseSchema) (earlier : List Text) (user : ℕ) (table : Data) (named : NamedUser) → user_of schema earlier user table ≡ Ok named → IsKeptUser schema earlier named
+user_ok : ReadingsAreSentences → (schema : DatabaseSchema) (earlier : List Text) (user : ℕ) (keys : Data) (named : NamedUser) → user_of schema earlier user keys ≡ Ok named → IsKeptUser schema earlier named
 unfolding user_of
-user_ok law schema earlier user table named e =
-    first_ok _ _ named e (λ none none_is e.
-    first_ok _ _ named e (λ name name_is e.
-    first_ok _ _ named e (λ method method_is e.
-    first_ok _ _ named e (λ know know_is e.
-    first_ok _ _ named e (λ secrets secrets_is e.
-    first_ok _ _ named e (λ budget budget_is e.
-    first_ok _ _ named e (λ token token_is e.
+user_ok law schema earlier user keys named e =
+    first_ok {A = Unit {0}} _ _ named e (λ none none_is e.
+    first_ok {A = Text} _ _ named e (λ name name_is e.
+    first_ok {A = Method} _ _ named e (λ method method_is e.
+    first_ok {A = List Formula} _ _ named e (λ know know_is e.
+    first_ok {A = List Formula} _ _ named e (λ secrets secrets_is e.
+    first_ok {A = ℕ} _ _ named e (λ budget budget_is e.
+    first_ok {A = Option (List ℕ)} _ _ named e (λ token token_is e.
     let made : NamedUser = record { name = name; profile = record { method = method; know = know; secrets = secrets; budget = budget }; token = token } in
     let view = view_ok schema user made named e in
     let kept : IsKeptUser schema earlier made = record {
-      limits = limits_kept schema made.profile (known_ok schema law user _ know know_is) (secrets_ok schema law user _ secrets secrets_is) (budget_ok user _ budget budget_is) view.0;
-      name = name_ok earlier user _ name name_is;
+      limits = limits_kept schema made.profile (known_ok schema law user (get (codes "know") keys) know know_is) (secrets_ok schema law user (get (codes "secrets") keys) secrets secrets_is) (budget_ok user (get (codes "budget") keys) budget budget_is) view.0;
+      name = name_ok earlier user (get (codes "name") keys) name name_is;
     } in
     subst (IsKeptUser schema earlier) view.1 kept)))))))
 
@@ -149,8 +150,8 @@ pub users_ok : ReadingsAreSentences → (schema : DatabaseSchema) (read : List N
 users_ok law schema read [] all kept e =
     let same : read ≡ all = same_ok read all e in
     (subst (AreKept schema) same kept, omega (arith, ap length same))
-users_ok law schema read (table ∷ tables) all kept e =
-    first_ok (user_of schema (names_of read) (length read) table) (λ user. users_behind schema (read ++ user ∷ []) tables) all e (λ user here rest.
-    let one = user_ok law schema (names_of read) (length read) table user here in
+users_ok law schema read (keys ∷ tables) all kept e =
+    first_ok (user_of schema (names_of read) (length read) keys) (λ user. users_behind schema (read ++ user ∷ []) tables) all e (λ user here rest.
+    let one = user_ok law schema (names_of read) (length read) keys user here in
     let more = users_ok law schema (read ++ user ∷ []) tables all (kept_more schema read user kept one) rest in
     (more.0, omega (arith, more.1, length-append read (user ∷ []))))

@@ -43,7 +43,7 @@ without_unknown user None = Ok tt
 without_unknown user (Some key) = Err (UnknownKey (key_place user key))
 
 abbrev pub only_keys : Option ℕ → Data → Step (Unit {0})
-only_keys user table = without_unknown user (unknown_key (keys_at user) (members table))
+only_keys user value = without_unknown user (unknown_key (keys_at user) (members value))
 
 -- a value of the kind that is wanted
 abbrev pub of_kind : {A : Type 0} → Place → Option A → Step A

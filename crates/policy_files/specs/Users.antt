@@ -72,8 +72,7 @@ sentences_behind schema user key read (text ∷ rest) =
 unfoldable pub sentences_of : DatabaseSchema → ℕ → Text → ℕ → ℕ → Data → Step (List Formula)
 sentences_of schema user key least greatest value =
     if is_string_array value then
-    within least greatest (user_place user key) (length (elements value))
-    >>= λ count. sentences_behind schema user key [] (elements value)
+    (within least greatest (user_place user key) (length (elements value)) >>= λ count. sentences_behind schema user key [] (elements value))
     else Err (WrongKind (user_place user key))
 
 -- at most 256 sentences that he knows; the key may be absent
@@ -121,14 +120,14 @@ with_small_view schema user named =
 
 -- the user of this number, behind users of these names: unknown keys, then key by key, then the size of his view
 unfoldable pub user_of : DatabaseSchema → List Text → ℕ → Data → Step NamedUser
-user_of schema earlier user table = do
-  none ← only_keys (Some user) table
-  name ← name_of earlier user (get (codes "name") table)
-  method ← method_of user (get (codes "method") table)
-  know ← known_of schema user (get (codes "know") table)
-  secrets ← secrets_of schema user (get (codes "secrets") table)
-  budget ← budget_of user (get (codes "budget") table)
-  token ← token_of user (get (codes "token") table)
+user_of schema earlier user keys = do
+  none ← only_keys (Some user) keys
+  name ← name_of earlier user (get (codes "name") keys)
+  method ← method_of user (get (codes "method") keys)
+  know ← known_of schema user (get (codes "know") keys)
+  secrets ← secrets_of schema user (get (codes "secrets") keys)
+  budget ← budget_of user (get (codes "budget") keys)
+  token ← token_of user (get (codes "token") keys)
   with_small_view schema user (record {
     name = name;
     profile = record { method = method; know = know; secrets = secrets; budget = budget };
@@ -142,6 +141,6 @@ names_of users = map (λ u. u.name) users
 -- the users of the tables that are left, behind those that were read
 abbrev pub users_behind : DatabaseSchema → List NamedUser → List Data → Step (List NamedUser)
 users_behind schema read [] = Ok read
-users_behind schema read (table ∷ rest) =
-    user_of schema (names_of read) (length read) table
+users_behind schema read (keys ∷ rest) =
+    user_of schema (names_of read) (length read) keys
     >>= λ user. users_behind schema (read ++ user ∷ []) rest

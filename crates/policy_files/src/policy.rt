@@ -86,6 +86,7 @@ fn policy_of(alloc: Global, root: &Value) -> Result<Policy, Stop>
 }
 
 /// The tree of a TOML document in UTF-8.
+#[tactic(auto, using(crate::proofs::Trees::the_documents))]
 fn tree_in(alloc: Global, bytes: &[u8]) -> Result<Value, Stop>
     ensures { Gives view result (tree_in bytes.now) }
 {

@@ -34,14 +34,24 @@ pub fn elements(value: &Value) -> &[Value]
 fn are_strings(values: &[Value]) -> bool
     ensures { result ≡ list_all is_string (map view values.now) }
 {
-    values.iter().all(|value| value.is_str())
+    for value in values {
+        if !value.is_str() {
+            return false;
+        }
+    }
+    true
 }
 
 /// Whether all of these are tables.
 fn are_tables(values: &[Value]) -> bool
     ensures { result ≡ list_all is_table (map view values.now) }
 {
-    values.iter().all(|value| value.is_table())
+    for value in values {
+        if !value.is_table() {
+            return false;
+        }
+    }
+    true
 }
 
 /// Whether it is an array of strings.

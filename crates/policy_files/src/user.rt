@@ -44,7 +44,12 @@ const COUNTED_NODES: u64 = 1 << 32;
 fn is_named(users: &[User], name: &str) -> bool
     ensures { result ≡ contains_text (names_of (map named_user_of users.now)) name.now }
 {
-    users.iter().any(|user| name == user.name.as_str())
+    for user in users {
+        if name == user.name.as_str() {
+            return true;
+        }
+    }
+    false
 }
 
 /// The user's name, which has the form of a constant's and is no earlier user's.
@@ -202,6 +207,7 @@ fn negated_nodes_of_all(schema: &Schema, sentences: &[Sentence]) -> u64
 }
 
 /// The nodes of the user's view before he has asked anything.
+#[tactic(auto, using(crate::proofs::ViewSizes::the_sizes))]
 fn view_nodes(schema: &Schema, user: &User) -> u64
     ensures { result ≡ min (view_size schema.now (profile_of user.now) []) (2 ^ 32) }
 {
