@@ -1,6 +1,10 @@
 -- The first line of bytes, by where the first line feed stands.
-use Rattle.std.proofs.Common.{◌≡◌, ℕ, zero, suc, ◌+◌, ◌<◌, ◌≤◌, ◌==◌, Bool, true, false, List, [], ◌∷◌, ◌++◌, length, take, drop, get_or, Some, None, refl, sym, ap, ◌∙◌, arith, append_assoc}
-use Rattle.std.specs.Prelude.{if◌then◌else◌, position}
+use Rattle.std.proofs.Common.{◌≡◌, ℕ, zero, suc, ◌+◌, ◌<◌, ◌≤◌, ◌==◌, Bool, true, false, not, List, [], ◌∷◌, ◌++◌, length, take, drop, get_or, Some, None, refl, sym, ap, ◌∙◌, arith, append_assoc, inl, inr}
+use Rattle.std.specs.Prelude.{if◌then◌else◌, nat_lt, position}
+use Rattle.std.specs.List.{position_or_len}
+use Rattle.std.proofs.lemmas.Bool.{cases_Bool}
+use Rattle.std.proofs.lemmas.Bool.Decides.{nat_tests}
+use Rattle.std.proofs.lemmas.List.Sums.{prefix_len_passes}
 use Rattle.std.proofs.lemmas.List.{append-nil, take_all, drop_all, drop_more}
 use Rattle.std.proofs.lemmas.List.Quantifiers.{position-Some}
 use Rattle.cqe_base.specs.Lines.{TextLine, lines_after, text_lines, without_return}
@@ -11,6 +15,10 @@ is_feed b = b == 10
 -- none among the first n bytes
 abbrev HasNoFeedBelow : ℕ → List ℕ → Type 0
 HasNoFeedBelow n bytes = (k : ℕ) → k < n → is_feed (get_or bytes k 0) ≡ false
+
+opposite : (b : Bool) → not b ≡ true → b ≡ false
+opposite true e = absurd (cc)
+opposite false e = refl
 
 -- what one more byte does
 more : (line rest : List ℕ) (b : ℕ) → lines_after line (b ∷ rest) ≡ (if b == 10 then record { bytes = line; ended = true } ∷ lines_after [] rest else lines_after (line ++ b ∷ []) rest)
@@ -42,12 +50,22 @@ first_line bytes n found =
     ∙ more (take n bytes) (drop (n + 1) bytes) (get_or bytes n 0)
     ∙ rw equal refl
 
+-- where none is found there is none
+none_found : (bytes : List ℕ) → position is_feed bytes ≡ None → HasNoFeedBelow (length bytes) bytes
+none_found bytes none k below =
+    elim (cases_Bool (nat_lt (position_or_len is_feed bytes) (length bytes))) [
+      | inl early ↦ absurd (let some : Some (position_or_len is_feed bytes) ≡ None = rw early at none in cc)
+      | inr late ↦
+          let all : length bytes ≤ position_or_len is_feed bytes = grind (arith, nat_tests) in
+          opposite (is_feed (get_or bytes k 0)) (prefix_len_passes (λ b. not (is_feed b)) bytes k 0 (omega arith))
+    ]
+
 -- a rest without a line feed
 pub last_line : (bytes : List ℕ) → position is_feed bytes ≡ None → 0 < length bytes → text_lines bytes ≡ record { bytes = bytes; ended = false } ∷ text_lines []
 unfolding text_lines
 last_line [] none some = absurd (omega arith)
 last_line (b ∷ bytes) none some =
-    let no_feed : HasNoFeedBelow (length (b ∷ bytes)) (b ∷ bytes) = ? in
+    let no_feed : HasNoFeedBelow (length (b ∷ bytes)) (b ∷ bytes) = none_found (b ∷ bytes) none in
     let all : take (length bytes) bytes ≡ bytes = take_all (length bytes) bytes (omega arith) in
     let none_left : drop (length bytes) bytes ≡ [] = drop_all (length bytes) bytes (omega arith) in
     skip [] (b ∷ bytes) (length (b ∷ bytes)) (omega arith) no_feed ∙ rw (all, none_left) refl
@@ -63,3 +81,9 @@ pub with_last : (front : List ℕ) (last : ℕ) → (last == 13) ≡ false → w
 with_last [] last is = rw is refl
 with_last (b ∷ []) last is = rw is refl
 with_last (b ∷ c ∷ front) last is = ap (λ (l : List ℕ). b ∷ l) (with_last (c ∷ front) last is)
+
+-- no bytes have no lines
+pub no_lines : (bytes : List ℕ) → length bytes ≡ 0 → text_lines bytes ≡ []
+unfolding text_lines
+no_lines [] empty = refl
+no_lines (b ∷ bytes) empty = absurd (omega arith)

@@ -14,13 +14,12 @@ use Rattle.cqe_base.specs.Formula.{Formula, is_sentence_of}
 use Rattle.cqe_base.specs.History.{UserProfile, view_size, is_user_of}
 use Rattle.cqe_base.specs.Reading.{ReadingsAreSentences}
 use Rattle.cqe_base.specs.Limits.{KeepsLimits, is_small}
-use Rattle.cqe_base.specs.declared.user.Method.{Method}
 use Rattle.policy_files.specs.declared.error.Place.{Place}
 use Rattle.policy_files.specs.declared.error.PolicyError.TheVariants.{WrongKind, DuplicateUser, Limit}
 use Rattle.policy_files.specs.Tree.{natural}
 use Rattle.policy_files.specs.Policies.{NamedUser}
-use Rattle.policy_files.specs.Keys.{Step, ◌>>=◌, key_place, required, of_kind, within}
-use Rattle.policy_files.specs.Users.{user_place, new_name, name_of, known_of, secrets_of, fit_budget, budget_of, with_small_view, user_of, users_behind, names_of}
+use Rattle.policy_files.specs.Keys.{Step, ◌>>=◌, key_place, only_keys, required, of_kind, within}
+use Rattle.policy_files.specs.Users.{user_place, new_name, name_of, method_of, known_of, secrets_of, fit_budget, budget_of, token_of, with_small_view, user_of, users_behind, names_of}
 use Rattle.policy_files.proofs.OkSteps.{first_ok, unless_ok, when_ok, same_ok, within_ok}
 use Rattle.policy_files.proofs.SentencesKept.{all_more, AreSomeSentences, known_ok, secrets_ok}
 
@@ -112,13 +111,13 @@ view_ok schema user named out e =
 user_ok : ReadingsAreSentences → (schema : DatabaseSchema) (earlier : List Text) (user : ℕ) (keys : Data) (named : NamedUser) → user_of schema earlier user keys ≡ Ok named → IsKeptUser schema earlier named
 unfolding user_of
 user_ok law schema earlier user keys named e =
-    first_ok {A = Unit {0}} _ _ named e (λ none none_is e.
-    first_ok {A = Text} _ _ named e (λ name name_is e.
-    first_ok {A = Method} _ _ named e (λ method method_is e.
-    first_ok {A = List Formula} _ _ named e (λ know know_is e.
-    first_ok {A = List Formula} _ _ named e (λ secrets secrets_is e.
-    first_ok {A = ℕ} _ _ named e (λ budget budget_is e.
-    first_ok {A = Option (List ℕ)} _ _ named e (λ token token_is e.
+    first_ok (only_keys (Some user) keys) _ named e (λ none none_is e.
+    first_ok (name_of earlier user (get (codes "name") keys)) _ named e (λ name name_is e.
+    first_ok (method_of user (get (codes "method") keys)) _ named e (λ method method_is e.
+    first_ok (known_of schema user (get (codes "know") keys)) _ named e (λ know know_is e.
+    first_ok (secrets_of schema user (get (codes "secrets") keys)) _ named e (λ secrets secrets_is e.
+    first_ok (budget_of user (get (codes "budget") keys)) _ named e (λ budget budget_is e.
+    first_ok (token_of user (get (codes "token") keys)) _ named e (λ token token_is e.
     let made : NamedUser = record { name = name; profile = record { method = method; know = know; secrets = secrets; budget = budget }; token = token } in
     let view = view_ok schema user made named e in
     let kept : IsKeptUser schema earlier made = record {

@@ -122,9 +122,11 @@ pub fn read_facts(alloc: Global, schema: &Schema, bytes: &[u8]) -> Result<World,
 {
     schema.known();
     law_facts_are_worlds();
-    if str::from_utf8(bytes).is_err() {
+    let Ok(_text) = str::from_utf8(bytes) else {
         return Err(FactsError::NotUtf8);
+    };
+    match world_of_lines(alloc, schema, bytes) {
+        Ok(world) => Ok(world),
+        Err(why) => Err(why),
     }
-    let world = world_of_lines(alloc, schema, bytes)?;
-    Ok(world)
 }

@@ -1,6 +1,6 @@
 //! The lines of bytes in memory.
 
-ghost use Rattle.std.specs.Prelude.{◌≡◌, ◌<◌, ◌==◌, ◌∷◌, position, length};
+ghost use Rattle.std.specs.Prelude.{◌≡◌, ◌<◌, ◌≤◌, ◌==◌, ◌∷◌, position, length};
 ghost use Rattle.cqe_base.specs.Lines.{text_lines, content, without_return};
 ghost use Rattle.policy_files.specs.LinesRead.{line_of};
 
@@ -14,7 +14,8 @@ pub struct Line<'a> {
 impl<'a> Line<'a> {
     /// What the line says: a carriage return before its line feed is dropped.
     pub fn content(&self) -> &'a [u8]
-        ensures { result.now ≡ content (line_of self.now) }
+        ensures content { result.now ≡ content (line_of self.now) }
+        ensures short { length result.now ≤ length self.now.bytes.now }
     {
         if self.ended {
             without_return(self.bytes)
@@ -26,7 +27,8 @@ impl<'a> Line<'a> {
 
 /// The bytes without a carriage return at their end.
 fn without_return(bytes: &[u8]) -> &[u8]
-    ensures { result.now ≡ without_return bytes.now }
+    ensures content { result.now ≡ without_return bytes.now }
+    ensures short { length result.now ≤ length bytes.now }
 {
     let Some((last, front)) = bytes.split_last() else {
         return bytes;

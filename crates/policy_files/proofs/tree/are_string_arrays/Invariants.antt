@@ -5,4 +5,4 @@ use Rattle.policy_files.proofs.tree.are_string_arrays.Given as goal
 
 -- the members that are left decide
 abbrev pub invariant-loop-key : goal.invariant-loop-key
-invariant-loop-key l = are_string_arrays (members_view l.key-iterator) ≡ are_string_arrays (table_view l.table)
+invariant-loop-key l = are_string_arrays (members_view l._key-iterator) ≡ are_string_arrays (table_view l.table)
