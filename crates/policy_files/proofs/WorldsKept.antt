@@ -2,18 +2,21 @@
 use Rattle.std.proofs.Common.{◌≡◌, ℕ, ◌+◌, ◌≤◌, ◌<◌, Bool, true, false, not, ◌&&◌, ◌||◌, List, [], ◌∷◌, map, Result, Ok, Err, Option, Some, None, Ordering, Less, Equal, Greater, refl, sym, ap, ◌∙◌, arith, subst, inl, inr, nat_cmp}
 use Rattle.std.specs.Prelude.{nat_le, if◌then◌else◌, IsUtf8}
 use Rattle.std.specs.FinSet as set
+use Rattle.std.specs.FinSet.{nat_cmp-IsAntisymmetric, slice_cmp-IsAntisymmetric}
 use Rattle.std.specs.Ordering.{eq_by_cmp, is_eq, ordering_then}
-use Rattle.std.specs.Cmp.{IsTotalOrder, IsAntisymmetric}
+use Rattle.std.specs.Cmp.{IsTotalOrder}
 use Rattle.std.specs.Cmp.Lexicographic.{slice_cmp}
+use Rattle.std.specs.List.{list_all}
 use Rattle.std.specs.Str.{is_utf8}
 use Rattle.std.proofs.lemmas.Bool.{cases_Bool, and_parts}
 use Rattle.std.proofs.lemmas.Bool.Decides.{nat_tests}
-use Rattle.std.proofs.lemmas.Cmp.{then_total, on_total, nat_cmp_total, nat_list_cmp_total, nat_cmp-IsAntisymmetric, slice_cmp-IsAntisymmetric}
+use Rattle.std.proofs.lemmas.Cmp.{then_total, on_total, nat_cmp_total, nat_list_cmp_total}
 use Rattle.std.proofs.lemmas.Str.{IsUtf8-from_is_utf8, is_utf8-from_IsUtf8}
 use Rattle.cqe_base.specs.declared.world.Fact.{Fact}
 use Rattle.cqe_base.specs.declared.text.Symbol.TheVariants.{Open}
 use Rattle.cqe_base.specs.Schema.{DatabaseSchema, Text, is_valid_schema}
-use Rattle.cqe_base.specs.Facts.{FactSet, fact_cmp, is_fact_of, IsWorldOf}
+use Rattle.cqe_base.specs.Facts.{FactSet, fact_cmp, fact_of, is_fact_of, IsWorldOf}
+use Rattle.cqe_base.specs.Truth.{value_of}
 use Rattle.cqe_base.specs.Formula.{Formula, atom, is_sentence_of}
 use Rattle.cqe_base.specs.FactText.{fact_in, fact_read, stated_fact}
 use Rattle.cqe_base.specs.Lines.{TextLine, text_lines, content, is_too_long}
@@ -53,7 +56,11 @@ same_fact f g e = by_order f g (nat_cmp f.relation g.relation) refl (is_equal (f
 module _ (grounded : GroundedFactsAreOfSchema) (reads : ReadingsAreSentences) (schema : DatabaseSchema) (valid : is_valid_schema schema ≡ true) where
   in_schema : (s : Formula) (fact : Fact) → is_sentence_of schema s ≡ true → fact_in s ≡ Some fact → is_fact_of schema fact ≡ true
   in_schema (atom r terms) fact of_schema e =
-      let all = grounded schema (atom r terms) valid of_schema in ?
+      let made : Fact = fact_of r (map (λ t. (value_of [] t).index) terms) in
+      let all : list_all (is_fact_of schema) (made ∷ []) ≡ true = grounded schema (atom r terms) valid of_schema in
+      let here = and_parts (is_fact_of schema made) true all in
+      let same : made ≡ fact = cc in
+      subst (λ f. is_fact_of schema f ≡ true) same here.0
   in_schema _ fact of_schema e = absurd (cc)
 
   read_in_schema : (read : Result Formula Refusal) (fact : Fact) → ((s : Formula) → read ≡ Ok s → is_sentence_of schema s ≡ true) → fact_read read ≡ Some fact → is_fact_of schema fact ≡ true
@@ -120,11 +127,14 @@ module _ (grounded : GroundedFactsAreOfSchema) (reads : ReadingsAreSentences) (s
 
   lines_ok : (number : ℕ) (world : FactSet) (lines : List TextLine) (all : FactSet) → IsSmallWorldOf schema world → with_lines schema number world lines ≡ Ok all → IsSmallWorldOf schema all
   lines_ok number world [] all small e = let same : world ≡ all = cc in subst (IsSmallWorldOf schema) same small
-  lines_ok number world (line ∷ lines) all small e = at (with_line schema number world line) refl e
+  lines_ok number world (line ∷ lines) all small e =
+      at (with_line schema number world line) refl e (λ next here rest. lines_ok (number + 1) next lines all (line_ok number world line next small here) rest)
     where
-      at : (step : Result FactSet FactsError) → with_line schema number world line ≡ step → (step >>= λ next. with_lines schema (number + 1) next lines) ≡ Ok all → IsSmallWorldOf schema all
-      at (Err why) is e = absurd (cc)
-      at (Ok next) is e = lines_ok (number + 1) next lines all (line_ok number world line next small is) e
+      at : (step : Result FactSet FactsError) → with_line schema number world line ≡ step → (step >>= λ next. with_lines schema (number + 1) next lines) ≡ Ok all
+          → ((next : FactSet) → with_line schema number world line ≡ Ok next → with_lines schema (number + 1) next lines ≡ Ok all → IsSmallWorldOf schema all)
+          → IsSmallWorldOf schema all
+      at (Err why) is e more = absurd (cc)
+      at (Ok next) is e more = more next is e
 
   empty_ok : IsSmallWorldOf schema set.empty
   empty_ok = record {

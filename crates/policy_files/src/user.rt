@@ -207,7 +207,6 @@ fn negated_nodes_of_all(schema: &Schema, sentences: &[Sentence]) -> u64
 }
 
 /// The nodes of the user's view before he has asked anything.
-#[tactic(auto, using(crate::proofs::ViewSizes::the_sizes))]
 fn view_nodes(schema: &Schema, user: &User) -> u64
     ensures { result ≡ min (view_size schema.now (profile_of user.now) []) (2 ^ 32) }
 {
