@@ -9,7 +9,6 @@
 mod answering;
 mod case;
 mod declaration;
-mod fact;
 mod parts;
 mod script;
 mod statement;

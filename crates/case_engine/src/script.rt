@@ -11,7 +11,6 @@ ghost use Rattle.case_engine.specs.Scripts.{script_in};
 ghost use Rattle.case_engine.specs.SchemaRefusal.{IsSchemaRefusal};
 
 use crate::declaration::Declared;
-use crate::fact::stated_fact;
 use crate::parts::Parts;
 use crate::statement::{Statement, statement_of};
 use cqe_base::schema::{Schema, SchemaError};
@@ -20,7 +19,7 @@ use cqe_base::text::ScriptKind;
 use cqe_base::user::{Method, User};
 use cqe_base::world::{World, WorldError};
 use script_lines::LineError;
-use sentence_text::{ReadError, read_sentence};
+use sentence_text::{ReadError, read_sentence, stated_fact};
 use std::alloc::{AllocError, Global};
 use user_log::laws::law_views_without_entries;
 

@@ -6,11 +6,14 @@
 //! `print_sentence` gives the canonical form, which reads as the sentence that was printed where it isn't too deep.
 //! Grammar, reading and table are definitions of cqe_base: its specs Tokens, Grammar, Reading, Refusals and Canonical.
 //!
-//! Read `lexer` first, then `reader`, which sees one token ahead, `parser`, a method for each line of the grammar, and
-//! `printer`.
+//! `stated_fact` gives the fact that a text states.
+//!
+//! Read `lexer` first, then `reader`, which sees one token ahead, `parser`, a method for each line of the grammar,
+//! `printer` and `fact`.
 #![tactic(auto)]
 
 mod error;
+mod fact;
 pub mod laws;
 mod lexer;
 mod names;
@@ -21,6 +24,7 @@ mod scope;
 mod token;
 
 pub use error::ReadError;
+pub use fact::stated_fact;
 pub use lexer::{TokenIter, symbol_of, tokens};
 pub use parser::read_sentence;
 pub use printer::print_sentence;

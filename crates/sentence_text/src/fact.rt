@@ -8,13 +8,16 @@ ghost use Rattle.cqe_base.specs.Reading.{is_next};
 ghost use Rattle.cqe_base.specs.Tokens.{tokens};
 ghost use Rattle.cqe_base.specs.declared.text.Symbol.TheVariants.{Open};
 
+use crate::error::ReadError;
+use crate::lexer::{symbol_of, tokens};
+use crate::parser::read_sentence;
 use cqe_base::assignment::fact_of;
 use cqe_base::machine_laws::law_grounded_facts_are_of_schema;
 use cqe_base::schema::Schema;
 use cqe_base::sentence::Sentence;
 use cqe_base::text::Symbol;
 use cqe_base::world::Fact;
-use sentence_text::{ReadError, read_sentence, symbol_of, tokens};
+
 use std::alloc::{AllocError, Global};
 
 /// Whether the first token is `(`.

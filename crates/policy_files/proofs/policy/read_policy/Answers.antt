@@ -1,0 +1,6 @@
+use Rattle.policy_files.specs.Memory.{policy_value_of}
+use Rattle.policy_files.proofs.PoliciesKept.{read_kept}
+use Rattle.policy_files.proofs.policy.read_policy.Goals as goal
+
+pub returns-in-Ok-clause-kept : goal.returns-in-Ok-clause-kept
+returns-in-Ok-clause-kept c = read_kept c.law_policies_are_kept.ensures c.args.bytes.now (policy_value_of c.in-Ok.policy) c.in-Ok.ensures

@@ -1,0 +1,11 @@
+pub mod Tree
+pub mod Policies
+pub mod Keys
+pub mod Users
+pub mod Policy
+pub mod Memory
+pub mod Gives
+pub mod Facts
+pub mod LinesRead
+pub mod FactLines
+pub mod Laws

@@ -1,0 +1,64 @@
+-- What is read off the values of a TOML document.
+use Rattle.std.specs.Prelude.{ℕ, ℤ, pos, negsuc, Bool, true, false, ◌&&◌, List, [], ◌∷◌, map, Option, Some, None, option_map, is_some, unwrap_or, if◌then◌else◌}
+use Rattle.std.specs.List.{list_all}
+use Rattle.toml.specs.Data.{Data, Items, no_items, item, Members, no_members, member, as_str, as_array, as_table}
+use Rattle.cqe_base.specs.Schema.{Text, Declaration, contains_text}
+
+-- the values of an array, in their order
+abbrev pub listed : Items → List Data
+listed no_items = []
+listed (item value rest) = value ∷ listed rest
+
+-- the elements of a value; one that is no array has none
+abbrev pub elements : Data → List Data
+elements value = unwrap_or (option_map listed (as_array value)) []
+
+-- whether a value is a string, and a table
+abbrev pub is_string : Data → Bool
+is_string value = is_some (as_str value)
+
+abbrev pub is_table : Data → Bool
+is_table value = is_some (as_table value)
+
+-- whether a value is an array of strings, and of tables
+abbrev pub is_string_array : Data → Bool
+is_string_array value = is_some (as_array value) && list_all is_string (elements value)
+
+abbrev pub is_table_array : Data → Bool
+is_table_array value = is_some (as_array value) && list_all is_table (elements value)
+
+-- the elements of an array of tables
+abbrev pub tables_in : Data → Option (List Data)
+tables_in value = if is_table_array value then Some (elements value) else None
+
+-- the text of a string; any other value has the empty one
+abbrev pub text_in : Data → Text
+text_in value = unwrap_or (as_str value) []
+
+-- the texts of an array of strings
+abbrev pub texts_in : Data → List Text
+texts_in value = map text_in (elements value)
+
+-- the members of a table; any other value has none
+abbrev pub members : Data → Members
+members value = unwrap_or (as_table value) no_members
+
+-- whether each value of a table is an array of strings
+abbrev pub are_string_arrays : Members → Bool
+are_string_arrays no_members = true
+are_string_arrays (member key value rest) = is_string_array value && are_string_arrays rest
+
+-- the declarations that a table has: each key with the texts of its array, in the order of the keys
+abbrev pub declarations : Members → List Declaration
+declarations no_members = []
+declarations (member key value rest) = record { name = key; parts = texts_in value } ∷ declarations rest
+
+-- the first key that isn't one of these; the keys of a table ascend
+abbrev pub unknown_key : List Text → Members → Option Text
+unknown_key known no_members = None
+unknown_key known (member key value rest) = if contains_text known key then unknown_key known rest else Some key
+
+-- a number that isn't negative
+abbrev pub natural : ℤ → Option ℕ
+natural (pos n) = Some n
+natural (negsuc n) = None

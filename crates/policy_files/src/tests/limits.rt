@@ -1,0 +1,1 @@
+//! A policy at every limit at once.

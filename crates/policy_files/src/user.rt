@@ -1,0 +1,269 @@
+//! The users of a policy.
+
+ghost use Rattle.std.specs.Prelude.{◌≡◌, ◌≤◌, ◌+◌, ◌^◌, [], min, length, map, sum_by, codes};
+ghost use Rattle.toml.specs.Data.{get};
+ghost use Rattle.toml.specs.View.{view};
+ghost use Rattle.cqe_base.specs.Schema.{contains_text};
+ghost use Rattle.cqe_base.specs.Formula.{formula_of, nodes};
+ghost use Rattle.cqe_base.specs.History.{profile_of, view_size};
+ghost use Rattle.policy_files.specs.Users.{name_of, method_named, method_of, known_of, secrets_of, budget_of, token_of, with_small_view, user_of, names_of, users_behind};
+ghost use Rattle.policy_files.specs.Memory.{named_user_of};
+ghost use Rattle.policy_files.specs.Gives.{Gives};
+
+use crate::error::{PolicyError, Stop};
+use crate::keys::{key_place, only_keys, string_at, within};
+use crate::text::sentences_of;
+use crate::tree::{natural, value_at};
+use cqe_base::declarations::is_schema_name;
+use cqe_base::schema::Schema;
+use cqe_base::sentence::{Sentence, nodes};
+use cqe_base::user::{Method, User};
+use hex::FromHex;
+use std::alloc::Global;
+use toml::Value;
+
+/// A user knows at most so many sentences beforehand.
+const KNOWN: u64 = 256;
+
+/// A user has at most so many secrets.
+const SECRETS: u64 = 16;
+
+/// The budget of a user for whom the policy has none.
+const BUDGET: u64 = 1_000_000;
+
+/// The greatest budget.
+const GREATEST_BUDGET: u64 = 4_000_000;
+
+/// The view of a user who has asked nothing has at most so many nodes.
+const VIEW_NODES: u64 = 40_000;
+
+/// Up to this number nodes are counted.
+const COUNTED_NODES: u64 = 1 << 32;
+
+/// Whether one of the users has this name.
+fn is_named(users: &[User], name: &str) -> bool
+    ensures { result ≡ contains_text (names_of (map named_user_of users.now)) name.now }
+{
+    for user in users {
+        if name == user.name.as_str() {
+            return true;
+        }
+    }
+    false
+}
+
+/// The user's name, which has the form of a constant's and is no earlier user's.
+fn name_of<'a>(
+    alloc: Global,
+    earlier: &[User],
+    user: u32,
+    table: &'a Value,
+) -> Result<&'a str, Stop>
+    ensures { Gives (λ name. name.now) result (name_of (names_of (map named_user_of earlier.now)) user (get (codes "name") (view table.now))) }
+{
+    let name = string_at(alloc, Some(user), table, "name")?;
+    if !is_schema_name(name) {
+        let place = key_place(alloc, Some(user), "name")?;
+        return Err(Stop::Refused(PolicyError::WrongKind(place)));
+    }
+    if is_named(earlier, name) {
+        let place = key_place(alloc, Some(user), "name")?;
+        return Err(Stop::Refused(PolicyError::DuplicateUser(place)));
+    }
+    Ok(name)
+}
+
+/// The method of this word.
+fn method_named(word: &str) -> Option<Method>
+    ensures { result ≡ method_named word.now }
+{
+    if word == "lying" {
+        Some(Method::Lying)
+    } else if word == "refusal" {
+        Some(Method::Refusal)
+    } else if word == "combined" {
+        Some(Method::Combined)
+    } else {
+        None
+    }
+}
+
+/// The user's method.
+fn method_of(alloc: Global, user: u32, table: &Value) -> Result<Method, Stop>
+    ensures { Gives (λ method. method) result (method_of user (get (codes "method") (view table.now))) }
+{
+    let word = string_at(alloc, Some(user), table, "method")?;
+    match method_named(word) {
+        Some(method) => Ok(method),
+        None => {
+            let place = key_place(alloc, Some(user), "method")?;
+            Err(Stop::Refused(PolicyError::WrongKind(place)))
+        }
+    }
+}
+
+/// What the user knows beforehand.
+fn known_of(alloc: Global, schema: &Schema, user: u32, table: &Value) -> Result<Vec<Sentence>, Stop>
+    ensures { Gives (λ read. map formula_of read.items) result (known_of schema.now user (get (codes "know") (view table.now))) }
+{
+    match value_at(table, "know") {
+        Some(value) => sentences_of(alloc, schema, user, "know", 0, KNOWN, value),
+        None => Ok(Vec::new(alloc)),
+    }
+}
+
+/// The user's secrets.
+fn secrets_of(
+    alloc: Global,
+    schema: &Schema,
+    user: u32,
+    table: &Value,
+) -> Result<Vec<Sentence>, Stop>
+    ensures { Gives (λ read. map formula_of read.items) result (secrets_of schema.now user (get (codes "secrets") (view table.now))) }
+{
+    match value_at(table, "secrets") {
+        Some(value) => sentences_of(alloc, schema, user, "secrets", 1, SECRETS, value),
+        None => {
+            let place = key_place(alloc, Some(user), "secrets")?;
+            Err(Stop::Refused(PolicyError::MissingKey(place)))
+        }
+    }
+}
+
+/// The user's budget.
+fn budget_of(alloc: Global, user: u32, table: &Value) -> Result<u64, Stop>
+    ensures { Gives (λ budget. budget) result (budget_of user (get (codes "budget") (view table.now))) }
+{
+    let Some(value) = value_at(table, "budget") else {
+        return Ok(BUDGET);
+    };
+    let Some(number) = value.as_integer() else {
+        let place = key_place(alloc, Some(user), "budget")?;
+        return Err(Stop::Refused(PolicyError::WrongKind(place)));
+    };
+    match natural(number) {
+        Some(budget) => within(alloc, Some(user), "budget", 1, GREATEST_BUDGET, budget),
+        None => {
+            let place = key_place(alloc, Some(user), "budget")?;
+            Err(Stop::Refused(PolicyError::Limit(place)))
+        }
+    }
+}
+
+/// The SHA-256 of the user's pass phrase, if he has one.
+fn token_of(alloc: Global, user: u32, table: &Value) -> Result<Option<[u8; 32]>, Stop>
+    ensures { Gives (λ token. token) result (token_of user (get (codes "token") (view table.now))) }
+{
+    let Some(value) = value_at(table, "token") else {
+        return Ok(None);
+    };
+    let Some(text) = value.as_str() else {
+        let place = key_place(alloc, Some(user), "token")?;
+        return Err(Stop::Refused(PolicyError::WrongKind(place)));
+    };
+    match <[u8; 32] as FromHex>::from_hex(text) {
+        Ok(token) => Ok(Some(token)),
+        Err(_) => {
+            let place = key_place(alloc, Some(user), "token")?;
+            Err(Stop::Refused(PolicyError::WrongKind(place)))
+        }
+    }
+}
+
+/// The sum, up to the number to which nodes are counted.
+fn counted_sum(first: u64, second: u64) -> u64
+    requires first { first ≤ 2 ^ 32 }
+    requires second { second ≤ 2 ^ 32 + 1 }
+    ensures { result ≡ min (first + second) (2 ^ 32) }
+{
+    let sum = first + second;
+    if sum < COUNTED_NODES {
+        sum
+    } else {
+        COUNTED_NODES
+    }
+}
+
+/// The nodes of these sentences.
+fn nodes_of_all(schema: &Schema, sentences: &[Sentence]) -> u64
+    ensures { result ≡ min (sum_by (nodes schema.now) (map formula_of sentences.now)) (2 ^ 32) }
+{
+    let mut total = 0;
+    for sentence in sentences {
+        total = counted_sum(total, nodes(sentence, schema));
+    }
+    total
+}
+
+/// The nodes of the negations of these sentences.
+fn negated_nodes_of_all(schema: &Schema, sentences: &[Sentence]) -> u64
+    ensures { result ≡ min (sum_by (λ s. 1 + nodes schema.now s) (map formula_of sentences.now)) (2 ^ 32) }
+{
+    let mut total = 0;
+    for sentence in sentences {
+        total = counted_sum(total, 1 + nodes(sentence, schema));
+    }
+    total
+}
+
+/// The nodes of the user's view before he has asked anything.
+fn view_nodes(schema: &Schema, user: &User) -> u64
+    ensures { result ≡ min (view_size schema.now (profile_of user.now) []) (2 ^ 32) }
+{
+    let known = nodes_of_all(schema, user.know.as_slice());
+    let secret = negated_nodes_of_all(schema, user.secrets.as_slice());
+    counted_sum(known, secret)
+}
+
+/// The user of this number, if his view isn't too large.
+fn with_small_view(alloc: Global, schema: &Schema, number: u32, user: User) -> Result<User, Stop>
+    ensures { Gives named_user_of result (with_small_view schema.now number (named_user_of user)) }
+{
+    if view_nodes(schema, &user) > VIEW_NODES {
+        let place = key_place(alloc, Some(number), "secrets")?;
+        return Err(Stop::Refused(PolicyError::Limit(place)));
+    }
+    Ok(user)
+}
+
+/// The user of this number, behind these users.
+#[tactic(auto, unfolding(crate::specs::Users::user_of))]
+fn user_of(
+    alloc: Global,
+    schema: &Schema,
+    earlier: &[User],
+    number: u32,
+    table: &Value,
+) -> Result<User, Stop>
+    ensures { Gives named_user_of result (user_of schema.now (names_of (map named_user_of earlier.now)) number (view table.now)) }
+{
+    only_keys(alloc, Some(number), table)?;
+    let name = name_of(alloc, earlier, number, table)?;
+    let method = method_of(alloc, number, table)?;
+    let know = known_of(alloc, schema, number, table)?;
+    let secrets = secrets_of(alloc, schema, number, table)?;
+    let budget = budget_of(alloc, number, table)?;
+    let token = token_of(alloc, number, table)?;
+    let user = User {
+        name: String::from_str(alloc, name)?,
+        method,
+        know,
+        secrets,
+        budget,
+        token,
+    };
+    with_small_view(alloc, schema, number, user)
+}
+
+/// The users of these tables.
+pub fn read_users(alloc: Global, schema: &Schema, tables: &[Value]) -> Result<Vec<User>, Stop>
+    requires { length tables.now ≤ 256 }
+    ensures { Gives (λ users. map named_user_of users.items) result (users_behind schema.now [] (map view tables.now)) }
+{
+    let mut users = Vec::new(alloc);
+    for table in tables {
+        let number = users.len() as u32;
+        users.push(user_of(alloc, schema, users.as_slice(), number, table)?)?;
+    }
+    Ok(users)
+}
