@@ -92,7 +92,6 @@ batch_after policy facts (u ∷ uses) =
           ] refl
     ] refl
 
-
 -- `case` takes no use
 abbrev case_end : Option GivenTexts → Option Reading
 case_end o = option_and_then (λ (g : GivenTexts). case_with g.policy g.facts) o

@@ -10,6 +10,8 @@
 
 mod command;
 mod given;
+#[cfg(test)]
+mod tests;
 mod uses;
 
 pub use command::{Command, read_words};
