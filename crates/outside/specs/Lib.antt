@@ -5,3 +5,5 @@ pub mod Disk
 pub mod Record
 pub mod RecordLaws
 pub mod MemoryDisk
+pub mod MemoryFiles
+pub mod MemoryShelves

@@ -1,9 +1,9 @@
-//! What lies outside of the program: sources, sinks and disks, each a trait with an object in memory that meets it.
+//! What lies outside of the program: sources, sinks, disks and shelves of files, each a trait with an object in memory that meets it.
 //!
 //! A call answers `Failed` only where the count of faults of its object rose, and code that is generic over a trait
 //! can't raise a count. What an object gives or holds is told over memory and isn't told over a real stream or file.
 //!
-//! Read `stream` and `disk` first, then the objects in memory, which keep to a `Plan` of the calls that are to fail.
+//! Read `stream`, `disk` and `shelf` first, then the objects in memory, which keep to a `Plan` of the calls that are to fail.
 #![tactic(auto)]
 
 mod disk;
@@ -11,8 +11,12 @@ mod disk;
 mod disk_tests;
 mod fault;
 mod memory_disk;
+mod memory_shelf;
 mod memory_stream;
 mod plan;
+mod shelf;
+#[cfg(test)]
+mod shelf_tests;
 mod stream;
 #[cfg(test)]
 mod stream_tests;
@@ -21,7 +25,9 @@ mod write;
 pub use disk::Disk;
 pub use fault::Failed;
 pub use memory_disk::{Call, MemoryDisk, Operation};
+pub use memory_shelf::{MemoryFile, MemoryShelf};
 pub use memory_stream::{MemorySink, MemorySource};
 pub use plan::{Pieces, Plan};
+pub use shelf::{Shelf, ShelfError};
 pub use stream::{Sink, Source};
 pub use write::write_all;

@@ -12,7 +12,7 @@ pub enum Plan {
 }
 
 impl Plan {
-    // Whether the call of this number is to fail.
+    /// Whether the call of this number is to fail.
     pub(crate) fn fails(&self, number: u64) -> bool {
         match self {
             Plan::Never => false,
@@ -34,7 +34,7 @@ pub enum Pieces {
 }
 
 impl Pieces {
-    // The most that the call of this number moves.
+    /// The most that the call of this number moves.
     pub(crate) fn most(&self, number: u64) -> usize {
         match self {
             Pieces::Whole => usize::MAX,
