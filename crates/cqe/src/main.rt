@@ -1,15 +1,11 @@
 //! The program: it makes the real streams, calls `top` and ends with its answer.
-//!
-//! `streams` has the standard streams as a source and sinks that count their faults.
 #![tactic(auto)]
-
-mod streams;
 
 use cqe_top::top;
 use outside::write_all;
+use real_edge::{StreamSink, StreamSource};
 use std::process::ExitCode;
 use std::{env, io};
-use streams::{StreamSink, StreamSource};
 
 const OUT_OF_MEMORY: u8 = 13;
 

@@ -1,6 +1,6 @@
 // The standard streams as a source and as sinks. They aren't told to clauses, since nobody knows what they will give
 // and what becomes of what they take.
-ghost use Rattle.std.specs.Prelude.{[]};
+ghost use Rattle.std.specs.Prelude.{◌≡◌, []};
 
 use outside::{Failed, Sink, Source};
 use std::io::{Read, Write};
@@ -13,8 +13,20 @@ pub struct StreamSource<R> {
 }
 
 impl<R> StreamSource<R> {
-    pub fn new(input: R) -> Self {
+    ghost use Rattle.real_edge.specs.Counts.{source_faults};
+
+    /// A source that hasn't failed.
+    pub fn new(input: R) -> Self
+        ensures { source_faults result ≡ 0 }
+    {
         StreamSource { input, faults: 0 }
+    }
+
+    /// How often it failed.
+    pub fn faults(&self) -> u64
+        ensures { result ≡ source_faults self.now }
+    {
+        self.faults
     }
 }
 
@@ -49,8 +61,20 @@ pub struct StreamSink<W> {
 }
 
 impl<W> StreamSink<W> {
-    pub fn new(output: W) -> Self {
+    ghost use Rattle.real_edge.specs.Counts.{sink_faults};
+
+    /// A sink that hasn't failed.
+    pub fn new(output: W) -> Self
+        ensures { sink_faults result ≡ 0 }
+    {
         StreamSink { output, faults: 0 }
+    }
+
+    /// How often it failed.
+    pub fn faults(&self) -> u64
+        ensures { result ≡ sink_faults self.now }
+    {
+        self.faults
     }
 }
 

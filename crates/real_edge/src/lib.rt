@@ -1,0 +1,16 @@
+//! The real outside: the standard streams as a source and as sinks, and the files of the system as a shelf.
+//!
+//! Each object counts its faults, and fails only where its count rises. Nothing is told to clauses of what a real
+//! stream or file holds, since nobody knows what it will give and what becomes of what it takes: that the bytes are the
+//! system's is tested and not proved.
+//!
+//! Read `streams`, then `files`.
+#![tactic(auto)]
+
+mod files;
+mod streams;
+#[cfg(test)]
+mod tests;
+
+pub use files::FileShelf;
+pub use streams::{StreamSink, StreamSource};
