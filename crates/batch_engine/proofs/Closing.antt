@@ -23,16 +23,17 @@ use Rattle.batch_engine.proofs.Telling.{IsSeated, SoFar, so_far_more}
 -- a user who is found begins with no entries, and keeps the limits
 found_user : (schema : DatabaseSchema) (p : NamedUser → Bool) (users : List User) (user : NamedUser) → All (λ u. KeepsLimits schema (profile_of u)) users → find p (map named_user users) ≡ Some user → (user.opened ≡ []) × KeepsLimits schema user.profile
 found_user schema p [] user limits found = absurd cc
-found_user schema p (u ∷ users) user limits found = by (p (named_user u)) refl
+found_user schema p (u ∷ users) user limits found =
+    by (p (named_user u)) refl (λ among. found_user schema p users user (All-tail (λ v. KeepsLimits schema (profile_of v)) u users limits) among)
   where
     inside : {x y : NamedUser} → Some x ≡ Some y → x ≡ y
     inside e = cc
 
-    by : (b : Bool) → p (named_user u) ≡ b → (user.opened ≡ []) × KeepsLimits schema user.profile
-    by true e =
+    by : (b : Bool) → p (named_user u) ≡ b → (find p (map named_user users) ≡ Some user → (user.opened ≡ []) × KeepsLimits schema user.profile) → (user.opened ≡ []) × KeepsLimits schema user.profile
+    by true e more =
         let same : named_user u ≡ user = inside (sym (ap (λ b. if b then Some (named_user u) else find p (map named_user users)) e) ∙ found) in
         (sym (ap (λ x. x.opened) same), subst (λ x. KeepsLimits schema x.profile) same (All-head (λ v. KeepsLimits schema (profile_of v)) u users limits))
-    by false e = found_user schema p users user (All-tail (λ v. KeepsLimits schema (profile_of v)) u users limits) (sym (ap (λ b. if b then Some (named_user u) else find p (map named_user users)) e) ∙ found)
+    by false e more = more (sym (ap (λ b. if b then Some (named_user u) else find p (map named_user users)) e) ∙ found)
 
 module _ (schema : DatabaseSchema) (world : FactSet) (users : List User) where
   -- at first nobody has asked anything
@@ -94,7 +95,8 @@ module _ (schema : DatabaseSchema) (world : FactSet) (users : List User) where
         → all ≡ (asks ++ new_ask ∷ []) ++ back
         → AppendsSome schema world (map named_user users) all old after
     answered_some asks back all n old before after line seats new new_ask told distinct sofar tells is appended split =
-        let whole : Told (asks ++ new_ask ∷ []) old (before ++ line) new = told_more asks old before (before ++ line) line seats new new_ask told distinct sofar tells is refl in
+        let whole : SoFar schema world (map named_user users) (asks ++ new_ask ∷ []) (sofar.0 ++ line) new =
+            subst (λ l. SoFar schema world (map named_user users) (asks ++ new_ask ∷ []) (sofar.0 ++ l) new) (sym is) (so_far_more schema world (map named_user users) asks sofar.0 seats new new_ask told distinct sofar.2 tells) in
         record {
           front = asks ++ new_ask ∷ [];
           back = back;
@@ -104,5 +106,5 @@ module _ (schema : DatabaseSchema) (world : FactSet) (users : List User) where
           appended = appended ∙ ap (λ w. w ++ take n line) sofar.1 ∙ append_assoc old sofar.0 (take n line);
           answers = subst (λ o. Answers schema world (map named_user users) (asks ++ new_ask ∷ []) o)
               (sym (append_assoc sofar.0 (take n line) (drop n line) ∙ ap (λ l. sofar.0 ++ l) (take-append-drop n line)))
-              (answers (asks ++ new_ask ∷ []) (sofar.0 ++ line) new whole.2);
+              (answers (asks ++ new_ask ∷ []) (sofar.0 ++ line) new whole);
         }

@@ -97,8 +97,8 @@ module _ (schema : DatabaseSchema) (world : FactSet) where
       → bytes_eq seat.name name ≡ true → IsTold seat.is_open schema world seat.profile seat.entries entries text told
       → list_any (bytes_eq seat.name) (names others) ≡ false → AllByRecursion (IsSeated events) (seat ∷ others)
       → Next events name session text (seat ∷ others) (with_entries seat entries ∷ others) (Some told)
-  told_here events name session text seat others entries told is here distinct seated =
-      let one : OneAsk schema world seat.profile seat.is_open seat.entries entries text told = one_ask schema world seat.profile seat.is_open seat.entries entries text told here in
+  told_here events name session text seat others entries told is answer distinct seated =
+      let one : OneAsk schema world seat.profile seat.is_open seat.entries entries text told = one_ask schema world seat.profile seat.is_open seat.entries entries text told answer in
       let same : seat.name ≡ name = same_text seat.name name (sym is) in
       record {
         ending = one.ending;
@@ -121,9 +121,9 @@ module _ (schema : DatabaseSchema) (world : FactSet) where
       → has_duplicate (names old) ≡ false → AllByRecursion (IsSeated events) old → Tells schema world name text old new told
       → Next events name session text old new told
   told_next events name session text old new told distinct seated nobody = record { ending = kept; kept_or_want = inl refl; replied = refl; seated = tt; users = refl }
-  told_next events name session text old new told distinct seated (here {seat} {others} {entries} {reply} is answer) =
+  told_next events name session text old new told distinct seated (here {seat} {others} {entries} {told = reply} is answer) =
       told_here events name session text seat others entries reply is answer (left_false _ _ distinct) seated
-  told_next events name session text old new told distinct seated (further {seat} {others} {after} {reply} other more) =
+  told_next events name session text old new told distinct seated (further {seat} {others} {after} {told = reply} other more) =
       let rest : Next events name session text others after reply = told_next events name session text others after reply (right_false _ _ distinct) seated.1 more in
       record {
         ending = rest.ending;

@@ -8,7 +8,6 @@ use Rattle.cqe_base.specs.declared.text.ScriptError.{ScriptError}
 use Rattle.cqe_base.specs.Schema.{Text, is_schema_name}
 use Rattle.cqe_base.specs.Tokens.{is_blank}
 use Rattle.line_protocol.specs.Words.{is_printable}
-use Rattle.line_protocol.specs.Requests.{LineRequest, ask_for, login_as, quit_session, other_line, request_of}
 use Rattle.script_lines.specs.Scripts.{script_from}
 use Rattle.script_lines.specs.Silence.{is_silent}
 
@@ -33,16 +32,24 @@ session_number (a ∷ b ∷ []) =
     then Some (10 * (a - 48) + (b - 48)) else None
 session_number _ = None
 
--- the ask of a name, a session and a request, if the request is an ask
-abbrev pub asked_by : Text → Option ℕ → LineRequest → Option BatchLine
-asked_by name (Some session) (ask_for text) = Some (asks (record { name = name; session = session; text = text }))
-asked_by name session request = None
+-- the text of an ask: `ask`, one blank, and the text, or `ask` alone, which asks the empty text
+abbrev pub ask_text : Text → Option Text
+ask_text request =
+    if list_any is_blank request
+    then (if bytes_eq (before_first is_blank request) (codes "ask") then Some (after_first is_blank request) else None)
+    else (if bytes_eq request (codes "ask") then Some [] else None)
+
+-- the ask of a name with a session and a text, if both are there
+abbrev pub ask_of : Text → Option ℕ → Option Text → Option BatchLine
+ask_of name (Some session) (Some text) = Some (asks (record { name = name; session = session; text = text }))
+ask_of name (Some session) None = None
+ask_of name None text = None
 
 -- a name of the form of a constant's, one blank, a session, one blank, and `ask TEXT` or `ask`
 abbrev pub named_ask : Text → Text → Option BatchLine
 named_ask name rest =
     if is_schema_name name && list_any is_blank rest
-    then asked_by name (session_number (before_first is_blank rest)) (request_of (after_first is_blank rest)) else None
+    then ask_of name (session_number (before_first is_blank rest)) (ask_text (after_first is_blank rest)) else None
 
 -- the line of a first word, and the text behind the blank that ends it: `* restart`, or an ask of a name
 abbrev pub worded : Text → Text → Option BatchLine

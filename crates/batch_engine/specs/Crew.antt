@@ -27,6 +27,10 @@ seat_of member = record {
   entries = kept_history member.log;
 }
 
+-- whether a member has this name
+abbrev pub is_named : Text → Member → Bool
+is_named name member = bytes_eq (string_bytes member.user.now.name) name
+
 -- a member's log is of this schema and this world, and of his user
 pub record IsServed (schema : DatabaseSchema) (world : FactSet) (member : Member) : Type 0 where
   pub schema_is : kept_schema member.log ≡ schema

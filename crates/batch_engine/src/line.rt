@@ -1,15 +1,13 @@
 //! What one line of a batch says, by its shape alone.
 
-ghost use Rattle.std.specs.Prelude.{◌≡◌, ◌≤◌, true, length, option_map, IfSome};
+ghost use Rattle.std.specs.Prelude.{◌≡◌, ◌≤◌, true, Some, None, length, option_map, IfSome, bytes_eq, codes, if◌then◌else◌};
 ghost use Rattle.std.specs.List.{list_all, list_any};
 ghost use Rattle.line_protocol.specs.Words.{is_printable};
-ghost use Rattle.line_protocol.specs.Requests.{meaning_of};
-ghost use Rattle.batch_engine.specs.BatchLines.{session_number, asked_by, named_ask, worded, spoken, batch_line};
+ghost use Rattle.batch_engine.specs.BatchLines.{session_number, ask_text, ask_of, named_ask, worded, spoken, batch_line};
 ghost use Rattle.batch_engine.specs.Said.{said, IsShortLine};
 
 use cqe_base::declarations::is_schema_name;
 use line_protocol::words::{are_printable, printable_text, split_at_blank};
-use line_protocol::{Request, read_request};
 use script_lines::is_silent;
 
 /// An ask in the slices of its line.
@@ -46,37 +44,65 @@ fn session_number(text: &[u8]) -> Option<u8>
     }
 }
 
-/// The ask of a name, a session and a request, if the request is an ask.
-fn asked_by<'a>(name: &'a str, session: Option<u8>, request: Request<'a>) -> Option<BatchLine<'a>>
-    ensures { option_map said result ≡ asked_by name.now session (meaning_of request) }
+/// The text of an ask, if it is one.
+fn ask_text(request: &[u8]) -> Option<&str>
+    requires printable { list_all is_printable request.now ≡ true }
+    requires short { length request.now ≤ 4096 }
+    ensures text { option_map (λ t. t.now) result ≡ ask_text request.now }
+    ensures short { IfSome result (λ t. length t.now ≤ 4096) }
+{
+    match split_at_blank(request) {
+        Some((word, text)) => text_behind(printable_text(word), printable_text(text)),
+        None => text_behind(printable_text(request), ""),
+    }
+}
+
+/// The text behind a word, if that is `ask`.
+fn text_behind<'a>(word: &str, text: &'a str) -> Option<&'a str>
+    requires { length text.now ≤ 4096 }
+    ensures text { option_map (λ t. t.now) result ≡ (if bytes_eq word.now (codes "ask") then Some text.now else None) }
+    ensures short { IfSome result (λ t. length t.now ≤ 4096) }
+{
+    if word == "ask" { Some(text) } else { None }
+}
+
+/// The ask of a name with a session and a text, if both are there.
+fn ask_of<'a>(name: &'a str, session: Option<u8>, text: Option<&'a str>) -> Option<BatchLine<'a>>
+    requires name { length name.now ≤ 32 }
+    requires session { IfSome session (λ n. n ≤ 64) }
+    requires text { IfSome text (λ t. length t.now ≤ 4096) }
+    ensures says { option_map said result ≡ ask_of name.now session (option_map (λ t. t.now) text.entry) }
+    ensures short { IfSome result IsShortLine }
 {
     let session = session?;
-    match request {
-        Request::Ask(text) => Some(BatchLine::Ask(LineAsk {
-            name,
-            session,
-            text,
-        })),
-        Request::Login { .. } | Request::Quit | Request::Other => None,
-    }
+    let text = text?;
+    Some(BatchLine::Ask(LineAsk {
+        name,
+        session,
+        text,
+    }))
 }
 
 /// The ask of a name and what stands behind it.
 fn named_ask<'a>(name: &'a str, rest: &'a [u8]) -> Option<BatchLine<'a>>
-    requires { list_all is_printable rest.now ≡ true }
-    ensures { option_map said result ≡ named_ask name.now rest.now }
+    requires printable { list_all is_printable rest.now ≡ true }
+    requires short { length rest.now ≤ 4096 }
+    ensures says { option_map said result ≡ named_ask name.now rest.now }
+    ensures short { IfSome result IsShortLine }
 {
     if !is_schema_name(name) {
         return None;
     }
     let (session, request) = split_at_blank(rest)?;
-    asked_by(name, session_number(session), read_request(request))
+    ask_of(name, session_number(session), ask_text(request))
 }
 
 /// The line of a first word and the text behind the blank that ends it.
 fn worded<'a>(word: &'a str, rest: &'a [u8]) -> Option<BatchLine<'a>>
-    requires { list_all is_printable rest.now ≡ true }
-    ensures { option_map said result ≡ worded word.now rest.now }
+    requires printable { list_all is_printable rest.now ≡ true }
+    requires short { length rest.now ≤ 4096 }
+    ensures says { option_map said result ≡ worded word.now rest.now }
+    ensures short { IfSome result IsShortLine }
 {
     if word != "*" {
         return named_ask(word, rest);
@@ -90,14 +116,17 @@ fn worded<'a>(word: &'a str, rest: &'a [u8]) -> Option<BatchLine<'a>>
 
 /// What printable bytes say.
 fn spoken(line: &[u8]) -> Option<BatchLine<'_>>
-    requires { list_all is_printable line.now ≡ true }
-    ensures { option_map said result ≡ spoken line.now }
+    requires printable { list_all is_printable line.now ≡ true }
+    requires short { length line.now ≤ 4096 }
+    ensures says { option_map said result ≡ spoken line.now }
+    ensures short { IfSome result IsShortLine }
 {
     let (word, rest) = split_at_blank(line)?;
     worded(printable_text(word), rest)
 }
 
 /// What a line says, if it has one of the shapes. An ask has a short name, session and text.
+#[tactic(auto, unfolding(crate::specs::BatchLines::batch_line))]
 pub fn batch_line(line: &[u8]) -> Option<BatchLine<'_>>
     requires { length line.now ≤ 4096 }
     ensures says { option_map said result ≡ batch_line line.now }

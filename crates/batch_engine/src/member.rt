@@ -1,13 +1,13 @@
 //! The users of a batch.
 
-ghost use Rattle.std.specs.Prelude.{◌≡◌, ◌≤◌, List, map, length, IfOk, option_map, All};
+ghost use Rattle.std.specs.Prelude.{◌≡◌, ◌≤◌, ◌<◌, map, length, position, IfOk, IfSome, option_map, All};
 ghost use Rattle.std.specs.List.{AllByRecursion};
 ghost use Rattle.cqe_base.specs.History.{profile_of};
 ghost use Rattle.cqe_base.specs.Limits.{KeepsLimits};
 ghost use Rattle.cqe_base.specs.Schema.{DatabaseSchema};
 ghost use Rattle.cqe_base.specs.Facts.{FactSet};
 ghost use Rattle.user_log.specs.Replies.{reply_of};
-ghost use Rattle.batch_engine.specs.Crew.{seat_of, first_seat, IsServed, Tells};
+ghost use Rattle.batch_engine.specs.Crew.{seat_of, first_seat, is_named, IsServed, Tells};
 
 use case_engine::{is_admitted, told};
 use cqe_base::schema::Schema;
@@ -60,20 +60,26 @@ pub fn enroll<'w>(
     Ok(members)
 }
 
+/// The place of the first user who has this name.
+fn place_of(members: &[Member<'_>], name: &str) -> Option<usize>
+    ensures place { result ≡ position (is_named name.now) members.now }
+    ensures within { IfSome result (λ place. place < length members.now) }
+{
+    members.iter().position(|member| member.user.name.as_str() == name)
+}
+
 /// The reply to a text of the user who has this name, if one has.
 pub fn answer(
     alloc: Global,
-    members: &mut [Member<'_>],
+    members: &mut Vec<Member<'_>>,
     name: &str,
     text: &str,
 ) -> Option<Reply>
     requires { length text.now ≤ 4096 }
-    ensures served { (schema : DatabaseSchema) (world : FactSet) → AllByRecursion (IsServed schema world) members.old → AllByRecursion (IsServed schema world) members.new }
-    ensures told { (schema : DatabaseSchema) (world : FactSet) → AllByRecursion (IsServed schema world) members.old → Tells schema world name.now text.now (map seat_of members.old) (map seat_of members.new) (option_map reply_of result) }
+    ensures served { (schema : DatabaseSchema) (world : FactSet) → AllByRecursion (IsServed schema world) members.old.items → AllByRecursion (IsServed schema world) members.new.items }
+    ensures told { (schema : DatabaseSchema) (world : FactSet) → AllByRecursion (IsServed schema world) members.old.items → Tells schema world name.now text.now (map seat_of members.old.items) (map seat_of members.new.items) (option_map reply_of result) }
 {
-    let (member, others) = members.split_first_mut()?;
-    if member.user.name.as_str() != name {
-        return answer(alloc, others, name, text);
-    }
+    let place = place_of(members.as_slice(), name)?;
+    let member = &mut members[place];
     Some(told(alloc, &mut member.log, member.is_open, text))
 }

@@ -95,7 +95,8 @@ fn answer_all<K: Sink>(
     let Ok(mut members) = enroll(alloc, schema, world, users) else {
         return BatchEnd::Memory;
     };
-    for ask in batch.asks() {
+    let asks = batch.asks();
+    for ask in asks {
         let told = answer(alloc, &mut members, ask.name.as_str(), ask.text.as_str());
         let line = line_of(ask, told);
         match write_all(sink, line.bytes()) {

@@ -1,5 +1,5 @@
 -- Who is admitted, as a test.
-use Rattle.std.proofs.Common.{◌≡◌, ◌↔◌, Bool, true, false, refl, sym}
+use Rattle.std.proofs.Common.{◌≡◌, ◌↔◌, Bool, true, false, refl}
 use Rattle.censors.specs.declared.admittance.Admission.{Admission}
 use Rattle.censors.specs.declared.admittance.Admission.TheVariants.{Open}
 

@@ -1,6 +1,6 @@
 -- Names before a `)` at the end of tokens in memory.
-use Rattle.std.proofs.Common.{◌≡◌, ◌-◌, true, List, length, take, map, refl, sym, ap, ◌∙◌}
-use Rattle.std.specs.Prelude.{Option, slice_get, if◌then◌else◌, None}
+use Rattle.std.proofs.Common.{◌≡◌, ◌-◌, true, List, length, take, map}
+use Rattle.std.specs.Prelude.{Option, slice_get}
 use Rattle.std.proofs.lemmas.List.{take-map, length-map}
 use Rattle.cqe_base.specs.Schema.{Text}
 use Rattle.sentence_text.specs.declared.token.Token.{Token}

@@ -1,12 +1,11 @@
 -- One more declaration makes the schema grow.
-use Rattle.std.proofs.Common.{◌≡◌, ◌<◌, ◌≤◌, ◌+◌, ℕ, zero, suc, Bool, true, false, cond, not, List, [], ◌∷◌, ◌++◌, map, length, refl, sym, ap, subst, ◌∙◌, arith, length-append, append-nil}
-use Rattle.std.specs.Prelude.{◌||◌, ◌&&◌, Option, Some, None, is_some, nat_lt, nat_le, bytes_eq, unwrap_or, if◌then◌else◌, slice_get, option_map, position}
+use Rattle.std.proofs.Common.{◌≡◌, ◌<◌, ◌+◌, ℕ, zero, suc, Bool, true, false, cond, not, List, [], ◌∷◌, ◌++◌, map, length, refl, sym, ap, subst, ◌∙◌, arith, length-append, append-nil}
+use Rattle.std.specs.Prelude.{◌||◌, Option, Some, None, nat_lt, nat_le, bytes_eq, unwrap_or, if◌then◌else◌, slice_get, option_map, position}
 use Rattle.std.specs.List.{list_any, list_all, prefix_len}
 use Rattle.std.proofs.lemmas.Bool.{lt-ltb}
 use Rattle.std.proofs.lemmas.Option.{none-some}
-use Rattle.std.proofs.lemmas.Grind.{common_steps}
 use Rattle.cqe_base.specs.declared.schema.SchemaError.TheVariants.{DuplicateName, UnknownDomain, TooMany, EmptyDomain, BadName}
-use Rattle.cqe_base.specs.Schema.{Text, NamedDomain, RelationSchema, DatabaseSchema, Declaration, contains_text, names_unknown_domain, declared_names, has_duplicate, is_within_limits, is_schema_name, schema_refusal, domain_number, made_domain, made_relation, schema_of, domain_size, columns_of}
+use Rattle.cqe_base.specs.Schema.{Text, NamedDomain, RelationSchema, DatabaseSchema, Declaration, contains_text, names_unknown_domain, declared_names, has_duplicate, is_within_limits, is_schema_name, schema_refusal, domain_number, made_domain, made_relation, schema_of}
 use Rattle.case_engine.proofs.Booleans.{both_true}
 use Rattle.case_engine.proofs.Growth.{Grows}
 

@@ -1,11 +1,11 @@
 -- How a case ends, from its script and what was appended.
-use Rattle.std.proofs.Common.{◌≡◌, ℕ, List, [], ◌++◌, map, inl, refl, sym, ap, subst, ◌∙◌}
+use Rattle.std.proofs.Common.{◌≡◌, ℕ, List, [], ◌++◌, map, inl, refl, sym, subst, ◌∙◌}
 use Rattle.std.specs.Prelude.{Ok, string_bytes}
 use Rattle.cqe_base.specs.Schema.{Text, DatabaseSchema}
 use Rattle.cqe_base.specs.Facts.{FactSet}
 use Rattle.cqe_base.specs.History.{UserProfile, profile_of}
-use Rattle.case_engine.specs.Script.{Script, script_of, script_schema, script_user}
-use Rattle.case_engine.specs.Case.{Answers, AnswersOf, Completes, Breaks, Ends}
+use Rattle.case_engine.specs.Script.{Script, script_of}
+use Rattle.case_engine.specs.Case.{Answers, Completes, Breaks, Ends}
 use Rattle.case_engine.specs.declared.case.CaseEnd.{CaseEnd}
 use Rattle.case_engine.specs.declared.case.CaseEnd.TheVariants.{Done, Script as Refused, ReadFault, WriteFault, Memory}
 use Rattle.case_engine.specs.Written.{AppendsAll, AppendsSome, IsAnswered}

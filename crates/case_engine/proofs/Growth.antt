@@ -1,10 +1,10 @@
 -- A schema that grew: what was a sentence of it still is one, with as many nodes.
-use Rattle.std.proofs.Common.{◌≡◌, ◌<◌, ℕ, ◌+◌, ◌*◌, Bool, true, false, List, [], ◌∷◌, ◌++◌, length, refl, sym, ap, ◌∙◌, arith, subst}
-use Rattle.std.specs.Prelude.{Option, Some, None, ◌&&◌, nat_lt, nat_eq, if◌then◌else◌, slice_get, option_map, unwrap_or}
+use Rattle.std.proofs.Common.{◌≡◌, ℕ, ◌+◌, Bool, true, false, List, [], ◌∷◌, ◌++◌, length, refl, ap}
+use Rattle.std.specs.Prelude.{Option, Some, None, nat_lt, if◌then◌else◌}
 use Rattle.cqe_base.specs.declared.sentence.Term.{Term}
 use Rattle.cqe_base.specs.declared.sentence.Term.TheVariants.{Constant as constant, Place}
 use Rattle.cqe_base.specs.Schema.{DatabaseSchema, domain_size, columns_of}
-use Rattle.cqe_base.specs.Formula.{Formula, verum, falsum, atom, equality, inequality, negation, conjunction, disjunction, implication, biconditional, universal, existential, nodes, term_domain, is_domain, have_one_domain, have_domains, fit_relation, may_quantify, is_well_formed, is_sentence_of}
+use Rattle.cqe_base.specs.Formula.{Formula, verum, falsum, atom, equality, inequality, negation, conjunction, disjunction, implication, biconditional, universal, existential, nodes, term_domain, is_domain, have_one_domain, have_domains, fit_relation, may_quantify, is_well_formed}
 use Rattle.case_engine.proofs.Booleans.{both_true, true_both}
 
 -- the domains and relations of a schema are those of another, which may have more

@@ -1,6 +1,6 @@
 -- A script in memory to which nothing was added.
-use Rattle.std.proofs.Common.{◌≡◌, List, [], map, refl, sym, ap, subst, ◌∙◌}
-use Rattle.std.specs.Prelude.{Option, None, String, Vec}
+use Rattle.std.proofs.Common.{◌≡◌, List, [], map, sym, ap, ◌∙◌}
+use Rattle.std.specs.Prelude.{None, String, Vec}
 use Rattle.std.specs.declared.alloc.Global.{Global}
 use Rattle.std.specs.FinSet as set
 use Rattle.cqe_base.specs.declared.sentence.Sentence.{Sentence}

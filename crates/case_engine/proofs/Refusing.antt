@@ -1,5 +1,5 @@
 -- A sentence that passes a limit is refused.
-use Rattle.std.proofs.Common.{◌≡◌, ◌≤◌, ◌<◌, ◌+◌, ℕ, Bool, true, false, List, [], ◌∷◌, ◌++◌, length, refl, sym, ap, subst, ◌∙◌, arith}
+use Rattle.std.proofs.Common.{◌≡◌, ◌≤◌, ◌<◌, ◌+◌, ℕ, Bool, true, false, [], ◌∷◌, ◌++◌, length, refl, sym, ap, subst, ◌∙◌, arith}
 use Rattle.std.specs.Prelude.{◌&&◌, Result, Ok, Err, nat_le, nat_lt, if◌then◌else◌}
 use Rattle.std.proofs.lemmas.Grind.{common_steps}
 use Rattle.cqe_base.specs.declared.text.ScriptKind.TheVariants.{Limit}
@@ -8,7 +8,7 @@ use Rattle.cqe_base.specs.Formula.{Formula, nodes}
 use Rattle.cqe_base.specs.History.{view_size}
 use Rattle.cqe_base.specs.Reading.{Refusal}
 use Rattle.user_log.specs.ViewSizes.{ViewsWithoutEntries}
-use Rattle.case_engine.specs.Script.{Script, script_schema, script_user, with_known, with_secret, limit, say}
+use Rattle.case_engine.specs.Script.{Script, script_schema, script_user, with_known, with_secret, say}
 use Rattle.case_engine.specs.Sound.{IsSound}
 use Rattle.case_engine.proofs.Soundness.{known_more, secret_more}
 

@@ -1,19 +1,19 @@
 -- Replies ask by ask.
-use Rattle.std.proofs.Common.{◌≡◌, ◌⊎◌, inl, inr, ℕ, Bool, true, false, List, [], ◌∷◌, ◌++◌, length, refl, sym, ap, subst, ◌∙◌, append_assoc, append-nil, arith}
+use Rattle.std.proofs.Common.{◌≡◌, inl, inr, ℕ, Bool, true, false, List, [], ◌∷◌, ◌++◌, length, refl, sym, ap, ◌∙◌, append_assoc, append-nil, arith}
 use Rattle.std.specs.Prelude.{Option, None, Result, Ok, Err, option_to_list, if◌then◌else◌}
-use Rattle.std.specs.List.{flat_map, AllByRecursion}
+use Rattle.std.specs.List.{AllByRecursion}
 use Rattle.std.proofs.lemmas.Grind.{common_steps}
 use Rattle.cqe_base.specs.Schema.{Text, DatabaseSchema, is_valid_schema}
 use Rattle.cqe_base.specs.Facts.{FactSet}
 use Rattle.cqe_base.specs.Formula.{Formula}
 use Rattle.cqe_base.specs.Reading.{Refusal, reading}
 use Rattle.cqe_base.specs.History.{UserProfile, AnsweredQuery, History, is_user_of}
-use Rattle.cqe_base.specs.Censor.{IsLegal, admitted, EmptyHistoryIsLegal}
+use Rattle.cqe_base.specs.Censor.{admitted, EmptyHistoryIsLegal}
 use Rattle.cqe_base.specs.Headline.{RunsStayLegal}
-use Rattle.cqe_base.specs.Hiding.{Hides, LegalHistoriesHide}
-use Rattle.cqe_base.specs.Run.{Reply, Standing, standing_open, standing_closed, user_closed, no_memory, Ending, want, kept, Event, ask, UserState, opening, after_event, after_events, replies_from, replies_to_event, reply_to_ask, replies, final_history, entry_added, reply_at, entry_at}
+use Rattle.cqe_base.specs.Hiding.{LegalHistoriesHide}
+use Rattle.cqe_base.specs.Run.{Reply, Standing, standing_open, standing_closed, user_closed, Ending, want, kept, Event, ask, UserState, opening, after_event, after_events, replies_from, replies_to_event, reply_to_ask, replies, final_history, entry_added}
 use Rattle.cqe_base.specs.Transcript.{reply_text}
-use Rattle.user_log.specs.Asked.{IsAsked, wanted, answered, open_reply}
+use Rattle.user_log.specs.Asked.{IsAsked, wanted, answered}
 use Rattle.case_engine.specs.Answering.{IsTold}
 use Rattle.case_engine.specs.Case.{ask_events, IsKeptOrWant, reply_lines, Answers}
 

@@ -1,6 +1,6 @@
 -- Scripts stay sound as their lines are read.
 use Rattle.std.proofs.Common.{◌≡◌, ◌≤◌, ◌<◌, ◌+◌, ℕ, Bool, true, false, List, [], ◌∷◌, ◌++◌, length, refl, sym, ap, subst, ◌∙◌, arith}
-use Rattle.std.specs.Prelude.{◌&&◌, ◌||◌, Option, Some, None, is_none, nat_le, sum_by}
+use Rattle.std.specs.Prelude.{◌||◌, Some, None, is_none, nat_le, sum_by}
 use Rattle.std.specs.List.{list_all}
 use Rattle.std.proofs.lemmas.Grind.{common_steps}
 use Rattle.cqe_base.specs.declared.user.Method.{Method}

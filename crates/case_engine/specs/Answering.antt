@@ -1,7 +1,7 @@
 -- A script that was read, and one reply to it.
 use Rattle.std.specs.Prelude.{◌≡◌, Bool, true, false, nat_le, length, map, string_bytes}
 use Rattle.std.specs.List.{list_all}
-use Rattle.cqe_base.specs.Schema.{Text, DatabaseSchema, is_valid_schema}
+use Rattle.cqe_base.specs.Schema.{Text, DatabaseSchema}
 use Rattle.cqe_base.specs.Facts.{FactSet}
 use Rattle.cqe_base.specs.History.{UserProfile, History, profile_of, is_user_of}
 use Rattle.cqe_base.specs.Limits.{KeepsLimits}

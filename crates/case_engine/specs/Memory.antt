@@ -1,7 +1,7 @@
 -- Statements and declarations in memory.
 use Rattle.std.specs.Prelude.{List, map, Vec, String, string_bytes}
 use Rattle.std.specs.declared.alloc.Global.{Global}
-use Rattle.cqe_base.specs.Schema.{Text, Declaration}
+use Rattle.cqe_base.specs.Schema.{Text}
 use Rattle.cqe_base.specs.Tokens
 use Rattle.sentence_text.specs.declared.token.Token.{Token}
 use Rattle.sentence_text.specs.Upcoming.{token_of}

@@ -1,5 +1,5 @@
 -- What a script keeps while its lines are read.
-use Rattle.std.specs.Prelude.{◌≡◌, ◌≤◌, ℕ, Bool, true, false, ◌&&◌, ◌||◌, nat_le, List, [], length, Option, Some, None, is_none}
+use Rattle.std.specs.Prelude.{◌≡◌, ◌≤◌, ℕ, Bool, true, false, ◌&&◌, ◌||◌, nat_le, [], length, Option, Some, None, is_none}
 use Rattle.std.specs.List.{list_all}
 use Rattle.std.proofs.Props.{props}
 use Rattle.cqe_base.specs.Schema.{Text, DatabaseSchema, schema_refusal}

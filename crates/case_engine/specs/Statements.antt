@@ -1,5 +1,5 @@
 -- What one line of a script says, by its shape alone.
-use Rattle.std.specs.Prelude.{◌==◌, ◌-◌, ℕ, ◌+◌, ◌*◌, Bool, true, false, ◌&&◌, ◌||◌, nat_le, List, [], ◌∷◌, length, take, fold, map, filter, Option, Some, None, option_map, option_and_then, slice_get, if◌then◌else◌, codes, bytes_eq}
+use Rattle.std.specs.Prelude.{◌==◌, ◌-◌, ℕ, ◌+◌, ◌*◌, Bool, false, ◌&&◌, nat_le, List, [], ◌∷◌, length, take, fold, map, filter, Option, Some, None, option_map, option_and_then, slice_get, if◌then◌else◌, codes, bytes_eq}
 use Rattle.std.specs.List.{list_all, list_any, before_first, after_first}
 use Rattle.std.specs.Char.{is_ascii_digit}
 use Rattle.cqe_base.specs.declared.user.Method.{Method}

@@ -1,15 +1,16 @@
-//! The program: it makes the real streams, calls `top` and ends with its answer.
+//! The program: it makes the real files and streams, calls `top` and ends with its answer.
 #![tactic(auto)]
 
 use cqe_top::top;
 use outside::write_all;
-use real_edge::{StreamSink, StreamSource};
+use real_edge::{FileShelf, StreamSink, StreamSource};
 use std::process::ExitCode;
 use std::{env, io};
 
 const OUT_OF_MEMORY: u8 = 13;
 
 fn main(rt: HostRuntime) -> ExitCode {
+    let mut shelf = FileShelf::new(&rt);
     let mut source = StreamSource::new(rt.stdin());
     let mut sink = StreamSink::new(rt.stdout());
     let mut complaints = StreamSink::new(rt.stderr());
@@ -17,7 +18,14 @@ fn main(rt: HostRuntime) -> ExitCode {
         let _given = write_all(&mut complaints, b"cqe: out of memory\n");
         return ExitCode::from(OUT_OF_MEMORY);
     };
-    let status = top(rt.alloc(), &words, &mut source, &mut sink, &mut complaints);
+    let status = top(
+        rt.alloc(),
+        &words,
+        &mut shelf,
+        &mut source,
+        &mut sink,
+        &mut complaints,
+    );
     ExitCode::from(status)
 }
 

@@ -1,45 +1,126 @@
 -- What is said where a command didn't do all that it does.
-use Rattle.std.specs.Prelude.{◌≡◌, ◌⊎◌, ℕ, List, [], ◌++◌, codes, decimal}
+use Rattle.std.specs.Prelude.{◌≡◌, ◌⊎◌, ℕ, List, [], ◌∷◌, ◌++◌, Option, Some, None, codes, decimal}
+use Rattle.cqe_base.specs.Schema.{Text}
 use Rattle.cqe_base.specs.declared.text.ScriptKind.{ScriptKind}
-use Rattle.cqe_base.specs.declared.text.ScriptKind.TheVariants.{NotALine, TooLong, TooMany, Schema, Fact, Sentence, Limit, Order, Unsupported}
+use Rattle.cqe_base.specs.declared.text.ScriptKind.TheVariants as kinds
 use Rattle.cqe_base.specs.declared.text.ScriptError.{ScriptError}
+use Rattle.cqe_base.specs.declared.text.TextError.{TextError}
+use Rattle.cqe_base.specs.declared.schema.SchemaError.{SchemaError}
+use Rattle.cqe_base.specs.declared.schema.SchemaError.TheVariants as schema_errors
+use Rattle.policy_files.specs.declared.error.Place.{Place}
+use Rattle.policy_files.specs.declared.error.PolicyError.{PolicyError}
+use Rattle.policy_files.specs.declared.error.PolicyError.TheVariants as policy_errors
+use Rattle.policy_files.specs.declared.error.FactsError.{FactsError}
+use Rattle.policy_files.specs.declared.error.FactsError.TheVariants as facts_errors
 use Rattle.outside.specs.Streams.{AppendsPart}
 use Rattle.cqe_top.specs.declared.end.CommandEnd.{CommandEnd}
-use Rattle.cqe_top.specs.declared.end.CommandEnd.TheVariants.{Done, Usage, Script, ReadFault, WriteFault, Memory}
-use Rattle.cqe_top.specs.Statuses.{status_of}
+use Rattle.cqe_top.specs.declared.end.CommandEnd.TheVariants.{Done, Usage, Missing, ShelfFault, Policy, Facts, Script, ReadFault, WriteFault, Memory}
 
 -- the number of a script's refusal
 abbrev pub kind_number : ScriptKind → ℕ
-kind_number NotALine = 1
-kind_number TooLong = 2
-kind_number TooMany = 3
-kind_number Schema = 4
-kind_number Fact = 5
-kind_number Sentence = 6
-kind_number Limit = 7
-kind_number Order = 8
-kind_number Unsupported = 9
+kind_number kinds.NotALine = 1
+kind_number kinds.TooLong = 2
+kind_number kinds.TooMany = 3
+kind_number kinds.Schema = 4
+kind_number kinds.Fact = 5
+kind_number kinds.Sentence = 6
+kind_number kinds.Limit = 7
+kind_number kinds.Order = 8
+kind_number kinds.Unsupported = 9
 
 -- the kind and the line of a script's refusal
-abbrev pub script_complaint : ScriptError → List ℕ
+abbrev pub script_complaint : ScriptError → Text
 script_complaint refusal = codes "cqe: script " ++ decimal (kind_number refusal.kind) ++ codes " " ++ decimal refusal.line ++ codes "\n"
 
+-- the number of a schema's refusal
+abbrev pub schema_number : SchemaError → ℕ
+schema_number schema_errors.DuplicateName = 1
+schema_number schema_errors.UnknownDomain = 2
+schema_number schema_errors.TooMany = 3
+schema_number schema_errors.EmptyDomain = 4
+schema_number schema_errors.BadName = 5
+schema_number schema_errors.Memory = 6
+
+-- the number of a policy's refusal
+abbrev pub policy_number : PolicyError → ℕ
+policy_number policy_errors.NotToml = 1
+policy_number (policy_errors.MissingKey place) = 2
+policy_number (policy_errors.WrongKind place) = 3
+policy_number (policy_errors.UnknownKey place) = 4
+policy_number (policy_errors.Schema why) = 5
+policy_number (policy_errors.Sentence place) = 6
+policy_number (policy_errors.Limit place) = 7
+policy_number (policy_errors.DuplicateUser place) = 8
+policy_number policy_errors.Version = 9
+policy_number policy_errors.Memory = 10
+
+-- a number in brackets behind a key, where there is one
+abbrev pub index_text : Option ℕ → Text
+index_text None = []
+index_text (Some n) = codes "[" ++ decimal n ++ codes "]"
+
+-- the user before a key: none for a key of the document
+abbrev pub user_text : Option ℕ → Text
+user_text None = codes " "
+user_text (Some n) = codes " users[" ++ decimal n ++ codes "]."
+
+-- why a text is no sentence, where that is the cause
+abbrev pub cause_text : Option TextError → Text
+cause_text None = []
+cause_text (Some why) = codes " " ++ decimal why.kind ++ codes " " ++ decimal why.place
+
+-- a place: the key, as `users[0].know[1]`, and why its text is no sentence
+abbrev pub place_text : Place → Text
+place_text place = user_text place.user ++ place.key ++ index_text place.index ++ cause_text place.text
+
+-- what follows the number of a policy's refusal
+abbrev pub policy_text : PolicyError → Text
+policy_text policy_errors.NotToml = []
+policy_text (policy_errors.MissingKey place) = place_text place
+policy_text (policy_errors.WrongKind place) = place_text place
+policy_text (policy_errors.UnknownKey place) = place_text place
+policy_text (policy_errors.Schema why) = codes " " ++ decimal (schema_number why)
+policy_text (policy_errors.Sentence place) = place_text place
+policy_text (policy_errors.Limit place) = place_text place
+policy_text (policy_errors.DuplicateUser place) = place_text place
+policy_text policy_errors.Version = []
+policy_text policy_errors.Memory = []
+
+-- the number of a policy's refusal, and its place
+abbrev pub policy_complaint : PolicyError → Text
+policy_complaint why = codes "cqe: policy " ++ decimal (policy_number why) ++ policy_text why ++ codes "\n"
+
+-- the number of a facts file's refusal
+abbrev pub facts_number : FactsError → ℕ
+facts_number (facts_errors.NotAFact line) = 1
+facts_number (facts_errors.Limit line) = 2
+facts_number facts_errors.NotUtf8 = 3
+facts_number facts_errors.Memory = 4
+
+-- its line; 0 where the whole file is refused
+abbrev pub facts_line : FactsError → ℕ
+facts_line (facts_errors.NotAFact line) = line
+facts_line (facts_errors.Limit line) = line
+facts_line facts_errors.NotUtf8 = 0
+facts_line facts_errors.Memory = 0
+
+-- the number and the line of a facts file's refusal
+abbrev pub facts_complaint : FactsError → Text
+facts_complaint why = codes "cqe: facts " ++ decimal (facts_number why) ++ codes " " ++ decimal (facts_line why) ++ codes "\n"
+
 -- what is said of an end
-abbrev pub complaint_of : CommandEnd → List ℕ
+abbrev pub complaint_of : CommandEnd → Text
 complaint_of Done = []
 complaint_of Usage = codes "cqe: usage\n"
+complaint_of (Policy why) = policy_complaint why
+complaint_of (Facts why) = facts_complaint why
 complaint_of (Script refusal) = script_complaint refusal
 complaint_of ReadFault = codes "cqe: read fault\n"
 complaint_of WriteFault = codes "cqe: write fault\n"
+complaint_of (Missing name) = codes "cqe: missing " ++ name.now ++ codes "\n"
+complaint_of ShelfFault = codes "cqe: shelf fault\n"
 complaint_of Memory = codes "cqe: out of memory\n"
 
 -- a text was appended, or a part of it where the sink failed
 abbrev pub Gives : List ℕ → List ℕ → List ℕ → Type 0 → Type 0
 Gives text old new failed = (new ≡ old ++ text) ⊎ (failed × AppendsPart old new text)
-
--- what was appended is the complaint of an end with this status, and where that is a script's refusal, for its cause
-pub record Complains (status : ℕ) (IsCause : ScriptError → Type 0) (old new : List ℕ) (failed : Type 0) : Type 0 where
-  pub end : CommandEnd
-  pub of_status : status ≡ status_of end
-  pub cause : (refusal : ScriptError) → end ≡ Script refusal → IsCause refusal
-  pub given : Gives (complaint_of end) old new failed

@@ -1,49 +1,172 @@
 // What is said where a command didn't do all that it does.
-ghost use Rattle.std.specs.Prelude.{◌≡◌, ◌≤◌, ◌++◌, length, codes, decimal};
-ghost use Rattle.outside.specs.Faults.{Rose};
-ghost use Rattle.cqe_top.specs.Complaints.{complaint_of, kind_number, script_complaint, Gives};
+ghost use Rattle.std.specs.Prelude.{◌≡◌, ◌≤◌, ◌++◌, length, codes, decimal, OnOk, OnErr};
+ghost use Rattle.outside.specs.Faults.{Rose, HasCause};
+ghost use Rattle.outside.specs.Streams.{AppendsPart};
+ghost use Rattle.cqe_top.specs.Complaints.{complaint_of, kind_number, schema_number, policy_number, facts_number, facts_line, script_complaint, policy_complaint, facts_complaint, user_text, index_text, cause_text, Gives};
+ghost use Rattle.cqe_top.specs.Parts.{joined};
 
 use crate::end::CommandEnd;
-use cqe_base::text::{ScriptError, ScriptKind};
+use cqe_base::schema::SchemaError;
+use cqe_base::text::{ScriptError, ScriptKind, TextError};
 use line_protocol::LineText;
-use outside::{Sink, write_all};
+use outside::{Failed, Sink, write_all};
+use policy_files::{FactsError, Place, PolicyError};
 
 /// Gives the complaint of an end to a sink. Where that fails nobody is left to be told.
-pub(crate) fn complain<E: Sink>(complaints: &mut E, end: CommandEnd)
-    ensures given { E.told → Gives (complaint_of end) (E.written complaints.old) (E.written complaints.new) (Rose (E.faults complaints.old) (E.faults complaints.new)) }
+pub(crate) fn complain<E: Sink>(complaints: &mut E, end: &CommandEnd<'_>)
+    ensures given { E.told → Gives (complaint_of end.now) (E.written complaints.old) (E.written complaints.new) (Rose (E.faults complaints.old) (E.faults complaints.new)) }
     ensures later { E.faults complaints.old ≤ E.faults complaints.new }
 {
-    let text = complaint_of(end);
-    let _given = write_all(complaints, text.bytes());
+    let _given = give(complaints, end);
 }
 
-fn complaint_of(end: CommandEnd) -> LineText
-    ensures { result ≡ complaint_of end }
+fn give<E: Sink>(complaints: &mut E, end: &CommandEnd<'_>) -> Result<(), Failed>
+    ensures all { E.told → OnOk result (E.written complaints.new ≡ E.written complaints.old ++ complaint_of end.now) }
+    ensures part { E.told → OnErr result (AppendsPart (E.written complaints.old) (E.written complaints.new) (complaint_of end.now)) }
+    ensures cause { HasCause (E.faults complaints.old) (E.faults complaints.new) result }
 {
     match end {
-        CommandEnd::Done => LineText::new(""),
-        CommandEnd::Usage => LineText::new("cqe: usage\n"),
-        CommandEnd::Script(refusal) => script_complaint(refusal),
-        CommandEnd::ReadFault => LineText::new("cqe: read fault\n"),
-        CommandEnd::WriteFault => LineText::new("cqe: write fault\n"),
-        CommandEnd::Memory => LineText::new("cqe: out of memory\n"),
+        CommandEnd::Done => Ok(()),
+        CommandEnd::Usage => write_all(complaints, b"cqe: usage\n"),
+        CommandEnd::Missing(name) => {
+            write_parts(complaints, &[b"cqe: missing ", name.as_bytes(), b"\n"])
+        }
+        CommandEnd::ShelfFault => write_all(complaints, b"cqe: shelf fault\n"),
+        CommandEnd::Policy(why) => give_policy(complaints, why),
+        CommandEnd::Facts(why) => write_all(complaints, facts_complaint(*why).bytes()),
+        CommandEnd::Script(refusal) => write_all(complaints, script_complaint(*refusal).bytes()),
+        CommandEnd::ReadFault => write_all(complaints, b"cqe: read fault\n"),
+        CommandEnd::WriteFault => write_all(complaints, b"cqe: write fault\n"),
+        CommandEnd::Memory => write_all(complaints, b"cqe: out of memory\n"),
+    }
+}
+
+/// Appends all of these parts, one after the other. Where it fails, a front of them was appended.
+fn write_parts<K: Sink>(sink: &mut K, parts: &[&[u8]]) -> Result<(), Failed>
+    ensures all { K.told → OnOk result (K.written sink.new ≡ K.written sink.old ++ joined parts.now) }
+    ensures part { K.told → OnErr result (AppendsPart (K.written sink.old) (K.written sink.new) (joined parts.now)) }
+    ensures cause { HasCause (K.faults sink.old) (K.faults sink.new) result }
+{
+    for part in parts {
+        write_all(sink, part)?;
+    }
+    Ok(())
+}
+
+/// Gives the complaint of a policy's refusal.
+fn give_policy<E: Sink>(complaints: &mut E, why: &PolicyError) -> Result<(), Failed>
+    ensures all { E.told → OnOk result (E.written complaints.new ≡ E.written complaints.old ++ policy_complaint why.now) }
+    ensures part { E.told → OnErr result (AppendsPart (E.written complaints.old) (E.written complaints.new) (policy_complaint why.now)) }
+    ensures cause { HasCause (E.faults complaints.old) (E.faults complaints.new) result }
+{
+    let number = numbered("cqe: policy ", policy_number(why));
+    match why {
+        PolicyError::MissingKey(place)
+        | PolicyError::WrongKind(place)
+        | PolicyError::UnknownKey(place)
+        | PolicyError::Sentence(place)
+        | PolicyError::Limit(place)
+        | PolicyError::DuplicateUser(place) => {
+            let user = user_text(place.user);
+            let key = place.key.as_str().as_bytes();
+            let index = index_text(place.index);
+            let cause = cause_text(place.text);
+            write_parts(
+                complaints,
+                &[number.bytes(), user.bytes(), key, index.bytes(), cause.bytes(), b"\n"],
+            )
+        }
+        PolicyError::Schema(why) => {
+            let schema = numbered(" ", schema_number(*why));
+            write_parts(complaints, &[number.bytes(), schema.bytes(), b"\n"])
+        }
+        PolicyError::NotToml | PolicyError::Version | PolicyError::Memory => {
+            write_parts(complaints, &[number.bytes(), b"\n"])
+        }
+    }
+}
+
+/// A text with a number behind it.
+fn numbered(text: &str, number: u32) -> LineText
+    requires { length text.now ≤ 32 }
+    ensures text { result ≡ text.now ++ decimal number }
+    ensures short { length result ≤ 42 }
+{
+    let mut line = LineText::new(text);
+    line.push_decimal(number);
+    line
+}
+
+/// The user before a key: none for a key of the document.
+fn user_text(user: Option<u32>) -> LineText
+    ensures { result ≡ user_text user }
+{
+    match user {
+        Some(number) => {
+            let mut line = numbered(" users[", number);
+            line.push("].");
+            line
+        }
+        None => LineText::new(" "),
+    }
+}
+
+/// A number in brackets behind a key, where there is one.
+fn index_text(index: Option<u32>) -> LineText
+    ensures { result ≡ index_text index }
+{
+    match index {
+        Some(number) => {
+            let mut line = numbered("[", number);
+            line.push("]");
+            line
+        }
+        None => LineText::new(""),
+    }
+}
+
+/// Why a text is no sentence, where that is the cause.
+fn cause_text(why: Option<TextError>) -> LineText
+    ensures { result ≡ cause_text why }
+{
+    match why {
+        Some(why) => numbers_behind(" ", u32::from(why.kind), why.place, ""),
+        None => LineText::new(""),
+    }
+}
+
+/// A text, two numbers with a blank between them, and a text.
+fn numbers_behind(text: &str, first: u32, second: u32, end: &str) -> LineText
+    requires text { length text.now ≤ 16 }
+    requires end { length end.now ≤ 1 }
+    ensures { result ≡ text.now ++ decimal first ++ codes " " ++ decimal second ++ end.now }
+{
+    let mut line = numbered(text, first);
+    line.push(" ");
+    line.push_decimal(second);
+    line.push(end);
+    line
+}
+
+fn facts_complaint(why: FactsError) -> LineText
+    ensures { result ≡ facts_complaint why }
+{
+    match why {
+        FactsError::NotAFact(line) => numbers_behind("cqe: facts ", 1, line, "\n"),
+        FactsError::Limit(line) => numbers_behind("cqe: facts ", 2, line, "\n"),
+        FactsError::NotUtf8 => numbers_behind("cqe: facts ", 3, 0, "\n"),
+        FactsError::Memory => numbers_behind("cqe: facts ", 4, 0, "\n"),
     }
 }
 
 fn script_complaint(refusal: ScriptError) -> LineText
     ensures { result ≡ script_complaint refusal }
 {
-    let mut line = LineText::new("cqe: script ");
-    line.push_decimal(kind_number(refusal.kind));
-    line.push(" ");
-    line.push_decimal(refusal.line);
-    line.push("\n");
-    line
+    numbers_behind("cqe: script ", kind_number(refusal.kind), refusal.line, "\n")
 }
 
 fn kind_number(kind: ScriptKind) -> u32
-    ensures number { result ≡ kind_number kind }
-    ensures digit { result ≤ 9 }
+    ensures { result ≡ kind_number kind }
 {
     match kind {
         ScriptKind::NotALine => 1,
@@ -55,5 +178,35 @@ fn kind_number(kind: ScriptKind) -> u32
         ScriptKind::Limit => 7,
         ScriptKind::Order => 8,
         ScriptKind::Unsupported => 9,
+    }
+}
+
+fn schema_number(why: SchemaError) -> u32
+    ensures { result ≡ schema_number why }
+{
+    match why {
+        SchemaError::DuplicateName => 1,
+        SchemaError::UnknownDomain => 2,
+        SchemaError::TooMany => 3,
+        SchemaError::EmptyDomain => 4,
+        SchemaError::BadName => 5,
+        SchemaError::Memory => 6,
+    }
+}
+
+fn policy_number(why: &PolicyError) -> u32
+    ensures { result ≡ policy_number why.now }
+{
+    match why {
+        PolicyError::NotToml => 1,
+        PolicyError::MissingKey(_) => 2,
+        PolicyError::WrongKind(_) => 3,
+        PolicyError::UnknownKey(_) => 4,
+        PolicyError::Schema(_) => 5,
+        PolicyError::Sentence(_) => 6,
+        PolicyError::Limit(_) => 7,
+        PolicyError::DuplicateUser(_) => 8,
+        PolicyError::Version => 9,
+        PolicyError::Memory => 10,
     }
 }

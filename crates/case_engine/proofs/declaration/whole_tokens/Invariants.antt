@@ -1,6 +1,6 @@
-use Rattle.std.proofs.Common.{◌≡◌, ◌++◌, length}
+use Rattle.std.proofs.Common.{◌≡◌, ◌++◌}
 use Rattle.cqe_base.specs.Tokens.{tokens, end_of_tokens}
-use Rattle.sentence_text.specs.Upcoming.{upcoming_tokens, upcoming_end, text_end}
+use Rattle.sentence_text.specs.Upcoming.{upcoming_tokens, upcoming_end}
 use Rattle.case_engine.specs.Memory.{tokens_in}
 use Rattle.case_engine.proofs.declaration.whole_tokens.Given as goal
 

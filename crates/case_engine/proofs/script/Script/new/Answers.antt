@@ -1,7 +1,4 @@
-use Rattle.std.proofs.Common.{ap, ◌∙◌, refl, [], map}
-use Rattle.std.specs.Prelude.{None}
-use Rattle.cqe_base.specs.Memory.{declaration_of}
-use Rattle.cqe_base.specs.Schema.{schema_of, schema_refusal}
+use Rattle.std.proofs.Common.{◌∙◌}
 use Rattle.case_engine.proofs.Soundness.{sound_nothing}
 use Rattle.case_engine.proofs.Nothing.{nothing_said, no_declarations}
 use Rattle.case_engine.proofs.script.Script.new.Goals as goal

@@ -1,0 +1,7 @@
+-- Texts in parts.
+use Rattle.std.specs.Prelude.{ℕ, List, Bor}
+use Rattle.std.specs.List.{flat_map}
+
+-- the parts, one after the other
+abbrev pub joined : List (Bor (List ℕ)) → List ℕ
+joined parts = flat_map (λ part. part.now) parts

@@ -1,0 +1,89 @@
+// The policy file and the facts file of a command.
+ghost use Rattle.std.specs.Prelude.{◌≡◌, ◌≤◌, ◌⊎◌, List, ℕ, Some, Ok, IfOk, IfErr};
+ghost use Rattle.outside.specs.Faults.{Rose};
+ghost use Rattle.policy_files.specs.Memory.{policy_value_of};
+ghost use Rattle.policy_files.specs.Laws.{IsKeptPolicy};
+ghost use Rattle.cqe_top.specs.Files.{files_say, both};
+ghost use Rattle.policy_files.specs.Policy.{policy_in};
+ghost use Rattle.policy_files.specs.Facts.{facts_of};
+ghost use Rattle.cqe_top.specs.Refusals.{RefusesFiles, RefusesFile, RefusesPolicy, RefusesFacts};
+ghost use Rattle.cqe_top.specs.declared.end.CommandEnd.{CommandEnd};
+
+use crate::end::CommandEnd;
+use cqe_base::schema::Schema;
+use cqe_base::world::World;
+use outside::{Shelf, ShelfError};
+use policy_files::{FactsError, Policy, PolicyError, read_facts, read_policy};
+use std::alloc::Global;
+
+/// A policy, and a database of its schema.
+#[derive(Drop)]
+pub struct Files {
+    pub policy: Policy,
+    pub world: World,
+}
+
+/// Reads both files: the policy file first, then the facts file.
+pub(crate) fn read_files<'w, F: Shelf>(
+    alloc: Global,
+    shelf: &mut F,
+    policy: &'w str,
+    facts: &'w str,
+) -> Result<Files, CommandEnd<'w>>
+    ensures read { F.told → IfOk result (λ files. files_say (F.file shelf.old policy.now) (F.file shelf.old facts.now) ≡ both (policy_value_of files.policy) files.world) }
+    ensures kept { IfOk result (λ files. IsKeptPolicy (policy_value_of files.policy)) }
+    ensures refused { IfErr result (λ end. F.told → RefusesFiles policy.now facts.now (files_say (F.file shelf.old policy.now) (F.file shelf.old facts.now)) end) }
+    ensures later { F.faults shelf.old ≤ F.faults shelf.new }
+    ensures cause { IfErr result (λ end. end ≡ CommandEnd.ShelfFault → Rose (F.faults shelf.old) (F.faults shelf.new)) }
+{
+    let bytes = read_file(alloc, shelf, policy)?;
+    let policy = policy_of(alloc, &bytes)?;
+    let bytes = read_file(alloc, shelf, facts)?;
+    let world = world_of(alloc, &policy.schema, &bytes)?;
+    Ok(Files { policy, world })
+}
+
+/// Reads one file whole.
+fn read_file<'w, F: Shelf>(
+    alloc: Global,
+    shelf: &mut F,
+    name: &'w str,
+) -> Result<Vec<u8>, CommandEnd<'w>>
+    ensures read { F.told → IfOk result (λ bytes. F.file shelf.old name.now ≡ Some bytes.items) }
+    ensures refused { IfErr result (λ end. F.told → RefusesFile name.now (F.file shelf.old name.now) end) }
+    ensures files { (other : List ℕ) → F.file shelf.new other ≡ F.file shelf.old other }
+    ensures later { F.faults shelf.old ≤ F.faults shelf.new }
+    ensures cause { IfErr result (λ end. end ≡ CommandEnd.ShelfFault → Rose (F.faults shelf.old) (F.faults shelf.new)) }
+{
+    match shelf.read_file(alloc, name) {
+        Ok(bytes) => Ok(bytes),
+        Err(ShelfError::Missing) => Err(CommandEnd::Missing(name)),
+        Err(ShelfError::Failed) => Err(CommandEnd::ShelfFault),
+        Err(ShelfError::Memory) => Err(CommandEnd::Memory),
+    }
+}
+
+/// The policy that the bytes are.
+fn policy_of<'w>(alloc: Global, bytes: &[u8]) -> Result<Policy, CommandEnd<'w>>
+    ensures read { IfOk result (λ policy. policy_in bytes.now ≡ Ok (policy_value_of policy)) }
+    ensures kept { IfOk result (λ policy. IsKeptPolicy (policy_value_of policy)) }
+    ensures refused { IfErr result (RefusesPolicy (policy_in bytes.now)) }
+{
+    match read_policy(alloc, bytes) {
+        Ok(policy) => Ok(policy),
+        Err(PolicyError::Memory) => Err(CommandEnd::Memory),
+        Err(why) => Err(CommandEnd::Policy(why)),
+    }
+}
+
+/// The database that the bytes are.
+fn world_of<'w>(alloc: Global, schema: &Schema, bytes: &[u8]) -> Result<World, CommandEnd<'w>>
+    ensures read { IfOk result (λ world. facts_of schema.now bytes.now ≡ Ok world) }
+    ensures refused { IfErr result (RefusesFacts (facts_of schema.now bytes.now)) }
+{
+    match read_facts(alloc, schema, bytes) {
+        Ok(world) => Ok(world),
+        Err(FactsError::Memory) => Err(CommandEnd::Memory),
+        Err(why) => Err(CommandEnd::Facts(why)),
+    }
+}
