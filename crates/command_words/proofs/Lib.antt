@@ -1,2 +1,3 @@
 pub mod Taking
-pub mod Collecting
+pub mod Giving
+pub mod Fitting

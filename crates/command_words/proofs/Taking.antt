@@ -1,12 +1,11 @@
 -- The first use that words make, and the uses behind it.
-use Rattle.std.proofs.Common.{◌≡◌, ℕ, suc, ◌<◌, Bool, true, false, List, [], ◌∷◌, length, map, get_or, ◌==◌, refl, sym, ap, ◌∙◌, arith}
+use Rattle.std.proofs.Common.{◌≡◌, ℕ, suc, ◌<◌, Bool, true, false, List, [], ◌∷◌, length, get_or, refl, sym, ap, ◌∙◌, arith}
 use Rattle.std.specs.Prelude.{Option, Some, None, option_map, option_and_then, if◌then◌else◌}
 use Rattle.std.specs.List.{position_or_len, list_any, before_first, after_first}
-use Rattle.std.proofs.lemmas.Bool.{eqb-true}
 use Rattle.std.proofs.lemmas.List.Folds.{list_any_at}
 use Rattle.std.proofs.lemmas.List.Sums.{fails_before_first, passes_at_first}
 use Rattle.command_words.specs.Uses.{Use, is_equals, with_value, attached, followed, in_front, uses_of}
-use Rattle.command_words.specs.Given.{GivenTexts, first_use, followed_by, given_with, given_after, given_by}
+use Rattle.command_words.specs.Given.{first_use, followed_by}
 
 -- a test that fails at each place passes nowhere
 none_passes : (p : ℕ → Bool) (xs : List ℕ) → ((k : ℕ) → k < length xs → p (get_or xs k 0) ≡ false) → list_any p xs ≡ false
@@ -25,18 +24,6 @@ attached_first words word text name value rest u is same inside front back made 
     let whole : Some u ≡ attached word =
     made ∙ ap (λ (n : List ℕ). with_value n value) front ∙ ap (λ (v : List ℕ). with_value (before_first is_equals text) v) back ∙ ap attached same in
     let here : Some (u, rest) ≡ first_use (word ∷ rest) = rw any (ap (λ (o : Option Use). option_map (λ (w : Use). (w, rest)) o) whole) in
-    here ∙ ap first_use (sym is)
-
--- a word with an equals sign and no value is no use
-pub attached_none : (words : List (List ℕ)) (word text name value : List ℕ) (rest : List (List ℕ)) → words ≡ word ∷ rest → text ≡ word
-    → position_or_len is_equals text < length text → name ≡ before_first is_equals text → value ≡ after_first is_equals text
-    → None ≡ with_value name value → None ≡ first_use words
-attached_none words word text name value rest is same inside front back made =
-    let found : list_any is_equals text ≡ true = list_any_at is_equals text (position_or_len is_equals text) 0 inside (passes_at_first is_equals text 0 inside) in
-    let any : list_any is_equals word ≡ true = ap (λ (t : List ℕ). list_any is_equals t) (sym same) ∙ found in
-    let whole : None ≡ attached word =
-    made ∙ ap (λ (n : List ℕ). with_value n value) front ∙ ap (λ (v : List ℕ). with_value (before_first is_equals text) v) back ∙ ap attached same in
-    let here : None ≡ first_use (word ∷ rest) = rw any (ap (λ (o : Option Use). option_map (λ (w : Use). (w, rest)) o) whole) in
     here ∙ ap first_use (sym is)
 
 -- a word without one takes the next word
@@ -69,49 +56,11 @@ uses_first word (next ∷ rest) =
       | false ↦ attached_continues (followed word next) rest
     ]
 
--- what is given, by the first use and the words behind it
-abbrev given_next : GivenTexts → Option (Use × List (List ℕ)) → Option GivenTexts
-given_next g found = option_and_then (λ (p : Use × List (List ℕ)). option_and_then (λ (more : GivenTexts). given_by more p.1) (given_with g p.0)) found
+-- the uses behind the first one
+pub uses_after : (words : List (List ℕ)) (u : Use) (rest : List (List ℕ)) → Some (u, rest) ≡ first_use words → uses_of words ≡ in_front (Some u) (uses_of rest)
+uses_after [] u rest taken = absurd (cc)
+uses_after (word ∷ words) u rest taken = uses_first word words ∙ ap continued (sym taken)
 
-after_front : (g : GivenTexts) (u : Use) (uses : Option (List Use)) (with : Option GivenTexts) → given_with g u ≡ with
-    → option_and_then (given_after g) (in_front (Some u) uses) ≡ option_and_then (λ (more : GivenTexts). option_and_then (given_after more) uses) with
-unfolding given_after
-after_front g u None None is = refl
-after_front g u None (Some more) is = refl
-after_front g u (Some rest) None is = ap (λ (o : Option GivenTexts). option_and_then (λ (more : GivenTexts). given_after more rest) o) is
-after_front g u (Some rest) (Some m) is = ap (λ (o : Option GivenTexts). option_and_then (λ (more : GivenTexts). given_after more rest) o) is
-
-after_first_use : (g : GivenTexts) (found : Option (Use × List (List ℕ))) → option_and_then (given_after g) (continued found) ≡ given_next g found
-after_first_use g None = refl
-after_first_use g (Some p) = after_front g p.0 (uses_of p.1) (given_with g p.0) refl
-
-given_by_first : (g : GivenTexts) (word : List ℕ) (rest : List (List ℕ)) → given_by g (word ∷ rest) ≡ given_next g (first_use (word ∷ rest))
-given_by_first g word rest =
-    ap (λ (o : Option (List Use)). option_and_then (given_after g) o) (uses_first word rest) ∙ after_first_use g (first_use (word ∷ rest))
-
--- one more use
-pub one_more : (g more : GivenTexts) (u : Use) (words rest : List (List ℕ)) → Some (u, rest) ≡ first_use words → Some more ≡ given_with g u → given_by more rest ≡ given_by g words
-one_more g more u [] rest taken with = absurd (cc)
-one_more g more u (word ∷ words) rest taken with =
-    ap (λ (o : Option GivenTexts). option_and_then (λ (m : GivenTexts). given_by m rest) o) with
-    ∙ ap (given_next g) taken
-    ∙ sym (given_by_first g word words)
-
--- a use that can't be given
-pub none_more : (g : GivenTexts) (u : Use) (words rest : List (List ℕ)) → Some (u, rest) ≡ first_use words → None ≡ given_with g u → None ≡ given_by g words
-none_more g u [] rest taken with = absurd (cc)
-none_more g u (word ∷ words) rest taken with =
-    ap (λ (o : Option GivenTexts). option_and_then (λ (m : GivenTexts). given_by m rest) o) with
-    ∙ ap (given_next g) taken
-    ∙ sym (given_by_first g word words)
-
--- words that make no use
-pub no_use : {W : Type 0} (text : W → List ℕ) (g : GivenTexts) (words : List W) → (length words == 0) ≡ false → None ≡ first_use (map text words) → None ≡ given_by g (map text words)
-no_use text g [] some taken = absurd (cc)
-no_use text g (word ∷ words) some taken = ap (given_next g) taken ∙ sym (given_by_first g (text word) (map text words))
-
--- no words are left
-pub nothing_more : {W : Type 0} (text : W → List ℕ) (g : GivenTexts) (words : List W) → (length words == 0) ≡ true → Some g ≡ given_by g (map text words)
-unfolding uses_of given_after
-nothing_more text g [] none = refl
-nothing_more text g (word ∷ words) none = let size : length (word ∷ words) ≡ 0 = eqb-true (length (word ∷ words)) 0 none in absurd (omega arith)
+-- words that make no first use
+pub no_uses : (word : List ℕ) (words : List (List ℕ)) → None ≡ first_use (word ∷ words) → ◌≡◌ {A = Option (List Use)} (uses_of (word ∷ words)) None
+no_uses word words taken = uses_first word words ∙ ap continued (sym taken)

@@ -1,9 +1,14 @@
--- How the code takes one use after the other, and keeps what they give.
-use Rattle.std.specs.Prelude.{ℕ, List, [], ◌∷◌, Option, Some, None, option_map, option_and_then, codes, bytes_eq, if◌then◌else◌}
-use Rattle.std.specs.List.{list_any}
+-- What words give to each option.
+use Rattle.std.specs.Prelude.{ℕ, Bool, false, List, [], ◌∷◌, Option, Some, None, option_map, is_some, slice_get, codes, bytes_eq, if◌then◌else◌}
+use Rattle.std.specs.List.{list_all, list_any}
+use Rattle.std.specs.Option.{option_map_or}
 use Rattle.command_words.specs.Uses.{Use, uses_of, is_equals, attached, followed}
-use Rattle.command_words.specs.Readings.{Reading}
-use Rattle.command_words.specs.declared.given.Given.{Given}
+use Rattle.command_words.specs.Readings.{OptionRow, values_of, is_well_given, Reading}
+use Rattle.command_words.specs.declared.table.OptionRow.{OptionRow as RowInMemory}
+
+-- an option of the table in memory
+abbrev pub row_in : RowInMemory → OptionRow
+row_in row = record { name = row.name.now; is_needed = row.is_needed }
 
 -- the use of a word with the first of these as its value, and those behind it
 abbrev pub followed_by : List ℕ → List (List ℕ) → Option (Use × List (List ℕ))
@@ -15,53 +20,38 @@ abbrev pub first_use : List (List ℕ) → Option (Use × List (List ℕ))
 first_use [] = None
 first_use (word ∷ rest) = if list_any is_equals word then option_map (λ u. (u, rest)) (attached word) else followed_by word rest
 
--- the value of each option, if it was given
-pub record GivenTexts : Type 0 where
-  pub policy : Option (List ℕ)
-  pub facts : Option (List ℕ)
+-- all words make uses
+unfoldable pub make_uses : List (List ℕ) → Bool
+make_uses words = is_some (uses_of words)
 
--- the same of options in memory
-abbrev pub given_in : Given → GivenTexts
-given_in g = record { policy = option_map (λ s. s.now) g.policy; facts = option_map (λ s. s.now) g.facts }
+-- an option has the name
+abbrev pub is_known : List OptionRow → List ℕ → Bool
+is_known rows name = list_any (λ row. bytes_eq name row.name) rows
 
--- a value that may be given once
-abbrev pub once : Option (List ℕ) → List ℕ → Option (List ℕ)
-once None value = Some value
-once (Some before) value = None
+-- all words make uses of these options
+unfoldable pub make_known : List OptionRow → List (List ℕ) → Bool
+make_known rows words = option_map_or (λ uses. list_all (λ u. is_known rows u.name) uses) (uses_of words) false
 
--- one more use
-abbrev pub given_with : GivenTexts → Use → Option GivenTexts
-given_with g u =
-    if bytes_eq u.name (codes "--policy") then option_map (λ policy. record g { policy = Some policy }) (once g.policy u.value)
-    else if bytes_eq u.name (codes "--facts") then option_map (λ facts. record g { facts = Some facts }) (once g.facts u.value)
-    else None
+-- the values that words give to an option
+unfoldable pub values_in : List ℕ → List (List ℕ) → List (List ℕ)
+values_in name words = option_map_or (values_of name) (uses_of words) []
 
--- more uses
-unfoldable pub given_after : GivenTexts → List Use → Option GivenTexts
-given_after g [] = Some g
-given_after g (u ∷ rest) = option_and_then (λ more. given_after more rest) (given_with g u)
+-- the words give each option as often as they must
+abbrev pub are_well_given : List OptionRow → List (List ℕ) → Bool
+are_well_given rows words = list_all (λ row. is_well_given row.is_needed (values_in row.name words)) rows
 
--- what is given by the words that follow
-abbrev pub given_by : GivenTexts → List (List ℕ) → Option GivenTexts
-given_by g words = option_and_then (given_after g) (uses_of words)
-
--- nothing was given
-abbrev pub nothing_given : GivenTexts
-nothing_given = record { policy = None; facts = None }
-
--- the command `case`, which has no options
-abbrev pub case_with : Option (List ℕ) → Option (List ℕ) → Option Reading
-case_with None None = Some (record { command = codes "case"; values = [] })
-case_with _ _ = None
+-- the value that words give to an option
+abbrev pub value_in : List ℕ → List (List ℕ) → Option (List ℕ)
+value_in name words = slice_get (values_in name words) 0
 
 -- the command `batch` with its two options
 abbrev pub batch_with : Option (List ℕ) → Option (List ℕ) → Option Reading
 batch_with (Some policy) (Some facts) = Some (record { command = codes "batch"; values = Some policy ∷ Some facts ∷ [] })
 batch_with _ _ = None
 
--- the reading of a command with what is given
-abbrev pub command_with : List ℕ → GivenTexts → Option Reading
-command_with command g =
-    if bytes_eq command (codes "case") then case_with g.policy g.facts
-    else if bytes_eq command (codes "batch") then batch_with g.policy g.facts
+-- the reading of a command with the values that words give
+abbrev pub command_with : List ℕ → List (List ℕ) → Option Reading
+command_with command words =
+    if bytes_eq command (codes "case") then Some (record { command = codes "case"; values = [] })
+    else if bytes_eq command (codes "batch") then batch_with (value_in (codes "--policy") words) (value_in (codes "--facts") words)
     else None

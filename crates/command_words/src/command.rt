@@ -1,9 +1,10 @@
 // The command that the words say.
-ghost use Rattle.std.specs.Prelude.{◌≡◌, map, option_map, string_bytes};
+ghost use Rattle.std.specs.Prelude.{◌≡◌, true, map, option_map, string_bytes};
 ghost use Rattle.command_words.specs.Readings.{reading_of, reading_in};
-ghost use Rattle.command_words.specs.Given.{given_in, case_with, batch_with, command_with};
+ghost use Rattle.command_words.specs.Given.{make_uses, batch_with, command_with};
 
-use crate::given::{Given, read_options};
+use crate::given::{do_fit, value_of};
+use crate::table::options_of;
 
 /// What the program is to do. The texts are those of the words.
 #[derive(Clone, Copy, Debug, PartialEq, Eq)]
@@ -23,34 +24,31 @@ pub fn read_words(words: &[String]) -> Option<Command<'_>>
     ensures { option_map reading_in result ≡ reading_of (map string_bytes words.now) }
 {
     let (command, options) = words.split_first()?;
-    let given = read_options(options)?;
-    command_with(command.as_str(), given)
+    let command = command.as_str();
+    let rows = options_of(command)?;
+    if do_fit(rows, options) {
+        command_with(command, options)
+    } else {
+        None
+    }
 }
 
-// The command of this name with its options.
-fn command_with<'a>(command: &str, given: Given<'a>) -> Option<Command<'a>>
-    ensures { option_map reading_in result ≡ command_with command.now (given_in given.entry) }
+// The command of this name with the values that words give to its options.
+fn command_with<'a>(command: &str, words: &'a [String]) -> Option<Command<'a>>
+    requires { make_uses (map string_bytes words.now) ≡ true }
+    ensures { option_map reading_in result ≡ command_with command.now (map string_bytes words.now) }
 {
     match command {
-        "case" => case_with(given),
-        "batch" => batch_with(given),
+        "case" => Some(Command::Case),
+        "batch" => batch_with(value_of("--policy", words), value_of("--facts", words)),
         _ => None,
     }
 }
 
-fn case_with<'a>(given: Given<'a>) -> Option<Command<'a>>
-    ensures { option_map reading_in result ≡ case_with (given_in given.entry).policy (given_in given.entry).facts }
+fn batch_with<'a>(policy: Option<&'a str>, facts: Option<&'a str>) -> Option<Command<'a>>
+    ensures { option_map reading_in result ≡ batch_with (option_map (λ s. s.now) policy.entry) (option_map (λ s. s.now) facts.entry) }
 {
-    match (given.policy, given.facts) {
-        (None, None) => Some(Command::Case),
-        _ => None,
-    }
-}
-
-fn batch_with<'a>(given: Given<'a>) -> Option<Command<'a>>
-    ensures { option_map reading_in result ≡ batch_with (given_in given.entry).policy (given_in given.entry).facts }
-{
-    match (given.policy, given.facts) {
+    match (policy, facts) {
         (Some(policy), Some(facts)) => Some(Command::Batch { policy, facts }),
         _ => None,
     }

@@ -1,65 +1,80 @@
-// What of all options has been given.
-ghost use Rattle.std.specs.Prelude.{◌≡◌, map, option_map, string_bytes};
-ghost use Rattle.command_words.specs.Uses.{use_in};
-ghost use Rattle.command_words.specs.Given.{given_in, given_with, given_by, nothing_given, once};
+// What words give to each option.
+ghost use Rattle.std.specs.Prelude.{◌≡◌, ◌&&◌, ◌∷◌, [], true, map, option_map, string_bytes};
+ghost use Rattle.std.specs.Option.{MatchOption};
+ghost use Rattle.command_words.specs.Readings.{is_well_given};
+ghost use Rattle.command_words.specs.Given.{row_in, make_uses, make_known, values_in, value_in, are_well_given};
 
-use crate::uses::{OptionUse, first_use};
+use crate::table::{OptionRow, is_known};
+use crate::uses::first_use;
 
-// The value of each option of any command, if it was given.
-#[derive(Clone, Copy, Debug, PartialEq, Eq)]
-pub(crate) struct Given<'a> {
-    pub policy: Option<&'a str>,
-    pub facts: Option<&'a str>,
-}
-
-impl<'a> Given<'a> {
-    fn nothing() -> Self
-        ensures { given_in result ≡ nothing_given }
-    {
-        Given {
-            policy: None,
-            facts: None,
-        }
-    }
-
-    // With one more use, whose option wasn't given yet.
-    fn with(self, used: OptionUse<'a>) -> Option<Given<'a>>
-        ensures { option_map given_in result ≡ given_with (given_in self.entry) (use_in used.entry) }
-    {
-        match used.name {
-            "--policy" => Some(Given {
-                policy: Some(once(self.policy, used.value)?),
-                ..self
-            }),
-            "--facts" => Some(Given {
-                facts: Some(once(self.facts, used.value)?),
-                ..self
-            }),
-            _ => None,
-        }
-    }
-}
-
-// A value, if none was given before.
-fn once<'a>(before: Option<&'a str>, value: &'a str) -> Option<&'a str>
-    ensures { option_map (λ s. s.now) result ≡ once (option_map (λ s. s.now) before.entry) value.now }
+// Whether all words make uses of these options, and give each as often as they must.
+pub(crate) fn do_fit(rows: &[OptionRow], words: &[String]) -> bool
+    ensures { result ≡ (make_known (map row_in rows.now) (map string_bytes words.now) && are_well_given (map row_in rows.now) (map string_bytes words.now)) }
 {
-    match before {
-        None => Some(value),
-        Some(_) => None,
-    }
+    make_known(rows, words) && are_well_given(rows, words)
 }
 
-// What the words give, if they make uses of options alone, each once.
-pub(crate) fn read_options<'a>(words: &'a [String]) -> Option<Given<'a>>
-    ensures { option_map given_in result ≡ given_by nothing_given (map string_bytes words.now) }
+// Whether all words make uses of these options.
+fn make_known(rows: &[OptionRow], words: &[String]) -> bool
+    ensures { result ≡ make_known (map row_in rows.now) (map string_bytes words.now) }
 {
-    let mut given = Given::nothing();
     let mut left = words;
     while !left.is_empty() {
-        let (used, rest) = first_use(left)?;
-        given = given.with(used)?;
+        let Some((used, rest)) = first_use(left) else {
+            return false;
+        };
+        if !is_known(rows, used.name) {
+            return false;
+        }
         left = rest;
     }
-    Some(given)
+    true
+}
+
+// Whether the words give each option as often as they must.
+fn are_well_given(rows: &[OptionRow], words: &[String]) -> bool
+    requires { make_uses (map string_bytes words.now) ≡ true }
+    ensures { result ≡ are_well_given (map row_in rows.now) (map string_bytes words.now) }
+{
+    match rows {
+        [] => true,
+        [row, rest @ ..] => is_well_given(row, words) && are_well_given(rest, words),
+    }
+}
+
+// Whether the words give an option as often as they must: at most once, and exactly once where it is needed.
+fn is_well_given(row: &OptionRow, words: &[String]) -> bool
+    requires { make_uses (map string_bytes words.now) ≡ true }
+    ensures { result ≡ is_well_given row.now.is_needed (values_in row.now.name.now (map string_bytes words.now)) }
+{
+    match next_value(row.name, words) {
+        None => !row.is_needed,
+        Some((_, rest)) => next_value(row.name, rest).is_none(),
+    }
+}
+
+// The value that the words give to an option.
+pub(crate) fn value_of<'a>(name: &str, words: &'a [String]) -> Option<&'a str>
+    requires { make_uses (map string_bytes words.now) ≡ true }
+    ensures { option_map (λ value. value.now) result ≡ value_in name.now (map string_bytes words.now) }
+{
+    match next_value(name, words) {
+        Some((value, _)) => Some(value),
+        None => None,
+    }
+}
+
+// The first value that the words give to an option, and the words behind it.
+fn next_value<'a>(name: &str, words: &'a [String]) -> Option<(&'a str, &'a [String])>
+    requires { make_uses (map string_bytes words.now) ≡ true }
+    ensures { MatchOption result (values_in name.now (map string_bytes words.now) ≡ []) (λ found. (values_in name.now (map string_bytes words.now) ≡ found.0.now ∷ values_in name.now (map string_bytes found.1.now)) × (make_uses (map string_bytes found.1.now) ≡ true)) }
+{
+    let mut left = words;
+    while let Some((used, rest)) = first_use(left) {
+        if used.name == name {
+            return Some((used.value, rest));
+        }
+        left = rest;
+    }
+    None
 }
