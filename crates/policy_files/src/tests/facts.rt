@@ -1,4 +1,5 @@
 //! Facts files.
+use crate::tests::POLICY;
 use crate::{FactsError, read_facts, read_policy};
 use cqe_base::schema::Schema;
 use cqe_base::world::World;
@@ -48,6 +49,17 @@ fn answer(alloc: Global, schema: &Schema, bytes: &[u8]) -> Result<String, AllocE
         Err(FactsError::NotUtf8) => String::from_str(alloc, "3"),
         Err(FactsError::Memory) => String::from_str(alloc, "4"),
     }
+}
+
+#[test]
+fn the_worked_facts_are_read(rt: HostRuntime) -> Result<(), Fail> {
+    let alloc = rt.alloc();
+    let Some(schema) = schema_of(alloc, POLICY) else {
+        panic!(rt; "no schema");
+    };
+    let found = answer(alloc, &schema, b"hiv(ann)\ndrug(ann)\n")?;
+    assert_eq!(rt; found.as_str(), "0 0 0;1 0 0;");
+    Ok(())
 }
 
 #[test]
