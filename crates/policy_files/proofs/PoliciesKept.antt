@@ -1,11 +1,16 @@
 -- A policy that a tree means is kept.
-use Rattle.std.proofs.Common.{◌≡◌, true, ℕ, ◌+◌, ◌≤◌, List, [], length, Ok, Err, Option, Some, None, refl, subst, ap, ◌∙◌, arith}
-use Rattle.std.specs.Prelude.{codes}
+use Rattle.std.proofs.Common.{◌≡◌, true, ℕ, ◌+◌, ◌≤◌, List, [], length, Ok, Err, Option, Some, None, refl, subst, ap, ◌∙◌, arith, All, map, ◌<◌}
+use Rattle.std.specs.Prelude.{codes, slice_index_or}
 use Rattle.toml.specs.Data.{Data, get, as_table}
+use Rattle.std.proofs.lemmas.List.{get_or-map, length-map}
 use Rattle.cqe_base.specs.declared.schema.SchemaError.{SchemaError}
+use Rattle.cqe_base.specs.declared.user.User.{User}
+use Rattle.cqe_base.specs.History.{profile_of}
+use Rattle.cqe_base.specs.Limits.{KeepsLimits}
 use Rattle.cqe_base.specs.Schema.{Declaration, DatabaseSchema, AcceptedIsValid, schema_refusal, schema_of, is_valid_schema}
 use Rattle.cqe_base.specs.Reading.{ReadingsAreSentences}
-use Rattle.policy_files.specs.Policies.{PolicyValue}
+use Rattle.policy_files.specs.Policies.{NamedUser, PolicyValue}
+use Rattle.policy_files.specs.Memory.{named_user_of}
 use Rattle.policy_files.specs.Tree.{tables_in}
 use Rattle.policy_files.specs.Keys.{key_place, only_keys, required, within}
 use Rattle.policy_files.specs.Users.{users_behind}
@@ -56,3 +61,9 @@ policies_kept accepted law root policy e =
 pub read_kept : PoliciesAreKept → (bytes : List ℕ) (policy : PolicyValue) → policy_in bytes ≡ Ok policy → IsKeptPolicy policy
 unfolding policy_in
 read_kept law bytes policy e = first_ok (tree_in bytes) policy_of policy e (λ root root_is e. law root policy e)
+
+-- its users in memory
+pub users_keep : (schema : DatabaseSchema) (users : List User) → All (λ named. KeepsLimits schema named.profile) (map named_user_of users) → All (λ user. KeepsLimits schema (profile_of user)) users
+users_keep schema users all = λ k d below.
+    let at = all k (named_user_of d) (rw (length-map users named_user_of) below) in
+    subst (λ (named : NamedUser). KeepsLimits schema named.profile) (get_or-map named_user_of users k d (named_user_of d) below) at

@@ -19,4 +19,3 @@ pub view_size-empty : (schema : DatabaseSchema) (user : UserProfile) → view_si
 unfolding view_size known
 view_size-empty schema user =
     ap (λ n. n + sum_by (λ s. 1 + nodes schema s) user.secrets) (ap (λ (signed : List Signed). sum_by (λ (s : Signed). signed_nodes schema s.0 s.1) signed) (log-empty user) ∙ size-known schema user.know)
-

@@ -26,13 +26,15 @@ key_place user key = record { user = user; key = key; index = None; text = None 
 abbrev pub text_place : ℕ → Text → ℕ → Option TextError → Place
 text_place user key index why = record { user = Some user; key = key; index = Some index; text = why }
 
--- the keys of a document, and of a user
+-- the keys of a document
 abbrev pub root_keys : List Text
 root_keys = codes "version" ∷ codes "domains" ∷ codes "relations" ∷ codes "users" ∷ []
 
+-- the keys of a user
 abbrev pub user_keys : List Text
 user_keys = codes "name" ∷ codes "method" ∷ codes "know" ∷ codes "secrets" ∷ codes "budget" ∷ codes "token" ∷ []
 
+-- the keys in the user of this number, or of the document itself
 abbrev pub keys_at : Option ℕ → List Text
 keys_at None = root_keys
 keys_at (Some user) = user_keys
@@ -42,6 +44,7 @@ abbrev pub without_unknown : Option ℕ → Option Text → Step (Unit {0})
 without_unknown user None = Ok tt
 without_unknown user (Some key) = Err (UnknownKey (key_place user key))
 
+-- a table has no other key than those that have a meaning there
 abbrev pub only_keys : Option ℕ → Data → Step (Unit {0})
 only_keys user value = without_unknown user (unknown_key (keys_at user) (members value))
 

@@ -17,6 +17,7 @@ abbrev pub is_version : Option ℕ → Step (Unit {0})
 is_version None = Err Version
 is_version (Some version) = if version == 1 then Ok tt else Err Version
 
+-- the version at the key
 abbrev pub version_of : Option Data → Step (Unit {0})
 version_of value = required as_integer (key_place None (codes "version")) value >>= λ number. is_version (natural number)
 
@@ -24,11 +25,12 @@ version_of value = required as_integer (key_place None (codes "version")) value 
 abbrev pub declared_at : Text → Members → Step (List Declaration)
 declared_at key values = if are_string_arrays values then Ok (declarations values) else Err (WrongKind (key_place None key))
 
--- the schema that declarations make
+-- the schema, unless its declarations are refused
 abbrev pub unless_refused : Option SchemaError → DatabaseSchema → Step DatabaseSchema
 unless_refused None schema = Ok schema
 unless_refused (Some why) schema = Err (Schema why)
 
+-- the schema that declarations make
 abbrev pub schema_in : List Declaration → List Declaration → Step DatabaseSchema
 schema_in domains relations = unless_refused (schema_refusal domains relations) (schema_of domains relations)
 

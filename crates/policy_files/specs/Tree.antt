@@ -13,17 +13,19 @@ listed (item value rest) = value ∷ listed rest
 abbrev pub elements : Data → List Data
 elements value = unwrap_or (option_map listed (as_array value)) []
 
--- whether a value is a string, and a table
+-- whether a value is a string
 abbrev pub is_string : Data → Bool
 is_string value = is_some (as_str value)
 
+-- whether a value is a table
 abbrev pub is_table : Data → Bool
 is_table value = is_some (as_table value)
 
--- whether a value is an array of strings, and of tables
+-- whether a value is an array of strings
 abbrev pub is_string_array : Data → Bool
 is_string_array value = is_some (as_array value) && list_all is_string (elements value)
 
+-- whether a value is an array of tables
 abbrev pub is_table_array : Data → Bool
 is_table_array value = is_some (as_array value) && list_all is_table (elements value)
 

@@ -22,19 +22,22 @@ use Rattle.policy_files.specs.Keys.{Step, ◌>>=◌, key_place, text_place, only
 abbrev pub user_place : ℕ → Text → Place
 user_place user key = key_place (Some user) key
 
--- ---- the name, which has the form of a constant's and is no earlier user's
+-- ---- the name
 
+-- a name of the form of a constant's that no earlier user has
 abbrev pub new_name : Place → List Text → Text → Step Text
 new_name place earlier name =
     if is_schema_name name then (if contains_text earlier name then Err (DuplicateUser place) else Ok name)
     else Err (WrongKind place)
 
+-- the name at the key
 abbrev pub name_of : List Text → ℕ → Option Data → Step Text
 name_of earlier user value =
     required as_str (user_place user (codes "name")) value >>= new_name (user_place user (codes "name")) earlier
 
--- ---- the method, by its word
+-- ---- the method
 
+-- the method that a word names
 abbrev pub method_named : Text → Option Method
 method_named text =
     if bytes_eq text (codes "lying") then Some Lying
@@ -42,6 +45,7 @@ method_named text =
     else if bytes_eq text (codes "combined") then Some Combined
     else None
 
+-- the method at the key
 abbrev pub method_of : ℕ → Option Data → Step Method
 method_of user value =
     required as_str (user_place user (codes "method")) value
@@ -92,19 +96,20 @@ abbrev pub fit_budget : ℕ → Option ℕ → Step ℕ
 fit_budget user None = Err (Limit (user_place user (codes "budget")))
 fit_budget user (Some budget) = within 1 4000000 (user_place user (codes "budget")) budget
 
--- without the key it is 1,000,000
+-- the budget at the key; without it 1,000,000
 abbrev pub budget_of : ℕ → Option Data → Step ℕ
 budget_of user None = Ok 1000000
 budget_of user (Some value) =
     of_kind (user_place user (codes "budget")) (as_integer value) >>= λ number. fit_budget user (natural number)
 
--- ---- the token: 64 hexadecimal digits of either case
+-- ---- the token
 
+-- the 32 bytes that 64 hexadecimal digits of either case write
 abbrev pub token_bytes : ℕ → Result (List ℕ) FromHexError → Step (Option (List ℕ))
 token_bytes user (Ok bytes) = Ok (Some bytes)
 token_bytes user (Err why) = Err (WrongKind (user_place user (codes "token")))
 
--- without the key nobody logs in as the user
+-- the token at the key; without it nobody logs in as the user
 abbrev pub token_of : ℕ → Option Data → Step (Option (List ℕ))
 token_of user None = Ok None
 token_of user (Some value) =

@@ -1,9 +1,11 @@
 //! The policy file.
 
-ghost use Rattle.std.specs.Prelude.{◌≡◌, ◌⊎◌, codes, map, Ok, Err, IfOk, IfErr};
+ghost use Rattle.std.specs.Prelude.{◌≡◌, ◌⊎◌, All, codes, map, Ok, Err, IfOk, IfErr};
 ghost use Rattle.toml.specs.Data.{get};
 ghost use Rattle.toml.specs.View.{view, table_view};
 ghost use Rattle.cqe_base.specs.Memory.{declaration_of};
+ghost use Rattle.cqe_base.specs.History.{profile_of};
+ghost use Rattle.cqe_base.specs.Limits.{KeepsLimits};
 ghost use Rattle.policy_files.specs.Policy.{version_of, declared_at, schema_in, tree_in, policy_of, policy_in};
 ghost use Rattle.policy_files.specs.Memory.{policy_value_of};
 ghost use Rattle.policy_files.specs.Laws.{IsKeptPolicy};
@@ -120,6 +122,8 @@ pub fn read_policy(alloc: Global, bytes: &[u8]) -> Result<Policy, PolicyError>
     ensures read { IfOk result (λ policy. policy_in bytes.now ≡ Ok (policy_value_of policy)) }
     // Its schema is valid, each user keeps the limits, and names differ.
     ensures kept { IfOk result (λ policy. IsKeptPolicy (policy_value_of policy)) }
+    // The same of each user in memory: he keeps the limits.
+    ensures limits { IfOk result (λ policy. All (λ user. KeepsLimits policy.schema (profile_of user)) policy.users.items) }
     // The bytes are refused so, unless memory is wanting.
     ensures refused { IfErr result (λ why. (why ≡ PolicyError.Memory) ⊎ (policy_in bytes.now ≡ Err why)) }
 {

@@ -1,6 +1,6 @@
 //! The worked policy and facts, one policy for each kind of refusal and place in the order of checks, and the limits.
-use crate::{FactsError, Place, Policy, PolicyError, read_facts, read_policy};
-use cqe_base::schema::{Schema, SchemaError};
+use crate::{Policy, read_policy};
+use cqe_base::schema::Schema;
 use cqe_base::sentence::Sentence;
 use cqe_base::user::{Method, User};
 use cqe_base::well_formed::is_sentence_of;

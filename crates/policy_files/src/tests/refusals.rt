@@ -41,8 +41,227 @@ const FEW_TEXTS: &str = "<17 texts>";
 
 const USERS: &str = "<257 users>";
 
+/// Documents by their pieces, and how each is refused.
+const DOCUMENTS: [(&[&str], &str); 32] = [
+    (&[V, D, R, U], "read"),
+    (&["x = "], "1"),
+    (&[V, V, D, R, U], "1"),
+    (&[V, "version = "], "1"),
+    (&[], "2 version"),
+    (&["x = 1\n", D, R, U], "2 version"),
+    (&["version = \"1\"\nx = 1\n", D, R, U], "3 version"),
+    (&["version = 1.0\nx = 1\n", D, R, U], "3 version"),
+    (&["version = 2\nx = 1\n", D, R, U], "9"),
+    (&["version = 0\nx = 1\n", D, R, U], "9"),
+    (&["version = -1\nx = 1\n", D, R, U], "9"),
+    (&[V, "b = 1\na = 1\n", R, U], "4 a"),
+    (&[V, "Users = 1\ndomains = 1\n", R, U], "4 Users"),
+    (&[V, "\"\" = 1\ndomains = 1\n", R, U], "4 "),
+    (&[V, U], "2 domains"),
+    (&[V, "domains = []\n", U], "3 domains"),
+    (&[V, "domains = {person = 1}\n", U], "2 relations"),
+    (
+        &[V, "domains = {person = 1}\nrelations = 1\n"],
+        "3 relations",
+    ),
+    (&[V, "domains = {person = 1}\n", R], "2 users"),
+    (
+        &[V, "domains = {person = 1}\n", R, "users = {}\n"],
+        "3 users",
+    ),
+    (
+        &[V, "domains = {person = 1}\n", R, "users = [{}, 1]\n"],
+        "3 users",
+    ),
+    (
+        &[
+            V,
+            "domains = {person = \"ann\"}\nrelations = {hiv = 1}\n",
+            U,
+        ],
+        "3 domains",
+    ),
+    (
+        &[
+            V,
+            "domains = {person = [\"ann\", 1]}\nrelations = {hiv = 1}\n",
+            U,
+        ],
+        "3 domains",
+    ),
+    (
+        &[
+            V,
+            "domains = {person = [\"ann\", \"ann\"]}\nrelations = {hiv = 1}\n",
+            U,
+        ],
+        "3 relations",
+    ),
+    (
+        &[
+            V,
+            "domains = {person = [\"ann\", \"ann\"]}\nrelations = {hiv = [[]]}\n",
+            U,
+        ],
+        "3 relations",
+    ),
+    (
+        &[
+            V,
+            "domains = {person = [\"ann\", \"ann\"]}\n",
+            R,
+            "users = []\n",
+        ],
+        "5 1",
+    ),
+    (
+        &[V, D, "relations = {hiv = [\"people\"]}\nusers = []\n"],
+        "5 2",
+    ),
+    (
+        &[
+            V,
+            D,
+            "relations = {r = [\"person\", \"person\", \"person\", \"person\", \"person\", \"person\", \"person\"]}\nusers = []\n",
+        ],
+        "5 3",
+    ),
+    (&[V, "domains = {person = []}\n", R, "users = []\n"], "5 4"),
+    (
+        &[
+            V,
+            "domains = {not = [\"ann\"]}\nrelations = {}\nusers = []\n",
+        ],
+        "5 5",
+    ),
+    (&[V, D, R, "users = []\n"], "7 users"),
+    (&[V, D, R, "users = [", USERS, "]\n"], "7 users"),
+];
+
+/// What stands behind the domains and relations, by its pieces, and how the document is refused.
+const LISTED: [(&[&str], &str); 40] = [
+    (&["users = [{zz = 1, role = 1}]"], "4 users[0].role"),
+    (&["users = [{Name = \"eve\"}]"], "4 users[0].Name"),
+    (&["users = [{}]"], "2 users[0].name"),
+    (&["users = [{name = 1}]"], "3 users[0].name"),
+    (&["users = [{name = \"not\"}]"], "3 users[0].name"),
+    (&["users = [{name = \"v8\"}]"], "3 users[0].name"),
+    (&["users = [{name = \"\"}]"], "3 users[0].name"),
+    (
+        &["users = [{name = \"e12345678901234567890123456789012\"}]"],
+        "3 users[0].name",
+    ),
+    (&[SAFE, "}, {name = \"eve\"}]"], "8 users[1].name"),
+    (
+        &["users = [{name = \"eve\", know = 1}]"],
+        "2 users[0].method",
+    ),
+    (
+        &["users = [{name = \"eve\", method = 1, know = 1}]"],
+        "3 users[0].method",
+    ),
+    (
+        &["users = [{name = \"eve\", method = \"lie\", know = 1}]"],
+        "3 users[0].method",
+    ),
+    (&[NAMED, "know = \"true\"}]"], "3 users[0].know"),
+    (&[KNOWN, "\"no\", 1]}]"], "3 users[0].know"),
+    (&[KNOWN, TEXTS, "1]}]"], "3 users[0].know"),
+    (&[KNOWN, TEXTS, "]}]"], "7 users[0].know"),
+    (&[KNOWN, "\"", LONG, "\", \"no\"]}]"], "7 users[0].know[0]"),
+    (
+        &[KNOWN, "\"true\", \"hiv(ann\", \"", LONG, "\"]}]"],
+        "6 users[0].know[1] 2 7",
+    ),
+    (&[KNOWN, "\"", LARGE, "\", \"no\"]}]"], "7 users[0].know[0]"),
+    (&[KNOWN, "\"hiv(zoe)\"]}]"], "6 users[0].know[0] 3 4"),
+    (&[NAMED, "budget = \"1\"}]"], "2 users[0].secrets"),
+    (
+        &[NAMED, "secrets = \"hiv(ann)\", budget = \"1\"}]"],
+        "3 users[0].secrets",
+    ),
+    (&[SECRETS, "1], budget = \"1\"}]"], "3 users[0].secrets"),
+    (&[SECRETS, "], budget = \"1\"}]"], "7 users[0].secrets"),
+    (
+        &[SECRETS, FEW_TEXTS, "], budget = 0}]"],
+        "7 users[0].secrets",
+    ),
+    (
+        &[SECRETS, "\"true\", \"", LONG, "\", \"no\"]}]"],
+        "7 users[0].secrets[1]",
+    ),
+    (
+        &[SECRETS, "\"true\", \"hiv()\"], budget = 0}]"],
+        "6 users[0].secrets[1] 6 4",
+    ),
+    (
+        &[SECRETS, "\"", LARGE, "\"], budget = 0}]"],
+        "7 users[0].secrets[0]",
+    ),
+    (&[SAFE, "budget = 1.0, token = 1}]"], "3 users[0].budget"),
+    (&[SAFE, "budget = 0, token = 1}]"], "7 users[0].budget"),
+    (&[SAFE, "budget = -1, token = 1}]"], "7 users[0].budget"),
+    (
+        &[SAFE, "budget = 4000001, token = 1}]"],
+        "7 users[0].budget",
+    ),
+    (
+        &[
+            SAFE,
+            "token = 1, know = [\"",
+            HALF,
+            "\", \"",
+            HALF,
+            "\", \"",
+            HALF,
+            "\"]}]",
+        ],
+        "3 users[0].token",
+    ),
+    (
+        &[SAFE, "token = \"", SHORT_TOKEN, "\"}, {}]"],
+        "3 users[0].token",
+    ),
+    (
+        &[SAFE, "token = \"", SHORT_TOKEN, "g\"}, {}]"],
+        "3 users[0].token",
+    ),
+    (
+        &[SAFE, "token = \"", TOKEN, "00\"}, {}]"],
+        "3 users[0].token",
+    ),
+    (
+        &[
+            SAFE,
+            "know = [\"",
+            HALF,
+            "\", \"",
+            HALF,
+            "\", \"",
+            HALF,
+            "\"]}, {}]",
+        ],
+        "7 users[0].secrets",
+    ),
+    (&[SAFE, "token = \"", TOKEN, "\"}, {}]"], "2 users[1].name"),
+    (
+        &[
+            SAFE,
+            "}, {name = \"kim\", method = \"combined\", secrets = [\"hiv(\"]}]",
+        ],
+        "6 users[1].secrets[0] 2 4",
+    ),
+    (
+        &[
+            SAFE,
+            "}, {name = \"Eve\", method = \"combined\", secrets = [\"true\"]}]",
+        ],
+        "read",
+    ),
+];
+
 /// Appends a piece so many times.
-fn push_repeated(text: &mut String, piece: &str, count: usize) -> Result<(), AllocError> {
+pub fn push_repeated(text: &mut String, piece: &str, count: usize) -> Result<(), AllocError> {
     for _ in 0..count {
         text.push_str(piece)?;
     }
@@ -52,7 +271,7 @@ fn push_repeated(text: &mut String, piece: &str, count: usize) -> Result<(), All
 /// Appends eight quantifiers over two constants around a conjunction of so many `true`: 256 * (2 * count - 1) + 255 nodes.
 fn push_nested(text: &mut String, count: usize) -> Result<(), AllocError> {
     push_repeated(text, "forall x: person . ", 8)?;
-    push_repeated(text, "true and ", count - 1)?;
+    push_repeated(text, "true and ", count.saturating_sub(1))?;
     text.push_str("true")
 }
 
@@ -130,7 +349,7 @@ fn shown(alloc: Global, why: &PolicyError) -> Result<String, AllocError> {
 }
 
 /// How a policy is refused, or `read`.
-fn answer(alloc: Global, bytes: &[u8]) -> Result<String, AllocError> {
+pub fn answer(alloc: Global, bytes: &[u8]) -> Result<String, AllocError> {
     match read_policy(alloc, bytes) {
         Ok(_) => String::from_str(alloc, "read"),
         Err(why) => shown(alloc, &why),
@@ -140,101 +359,7 @@ fn answer(alloc: Global, bytes: &[u8]) -> Result<String, AllocError> {
 #[test]
 fn the_first_check_of_a_document_that_fails_is_told(rt: HostRuntime) -> Result<(), Fail> {
     let alloc = rt.alloc();
-    for (pieces, wanted) in [
-        (&[V, D, R, U][..], "read"),
-        (&["x = "], "1"),
-        (&[V, V, D, R, U], "1"),
-        (&[V, "version = "], "1"),
-        (&[], "2 version"),
-        (&["x = 1\n", D, R, U], "2 version"),
-        (&["version = \"1\"\nx = 1\n", D, R, U], "3 version"),
-        (&["version = 1.0\nx = 1\n", D, R, U], "3 version"),
-        (&["version = 2\nx = 1\n", D, R, U], "9"),
-        (&["version = 0\nx = 1\n", D, R, U], "9"),
-        (&["version = -1\nx = 1\n", D, R, U], "9"),
-        (&[V, "b = 1\na = 1\n", R, U], "4 a"),
-        (&[V, "Users = 1\ndomains = 1\n", R, U], "4 Users"),
-        (&[V, "\"\" = 1\ndomains = 1\n", R, U], "4 "),
-        (&[V, U], "2 domains"),
-        (&[V, "domains = []\n", U], "3 domains"),
-        (&[V, "domains = {person = 1}\n", U], "2 relations"),
-        (
-            &[V, "domains = {person = 1}\nrelations = 1\n"],
-            "3 relations",
-        ),
-        (&[V, "domains = {person = 1}\n", R], "2 users"),
-        (
-            &[V, "domains = {person = 1}\n", R, "users = {}\n"],
-            "3 users",
-        ),
-        (
-            &[V, "domains = {person = 1}\n", R, "users = [{}, 1]\n"],
-            "3 users",
-        ),
-        (
-            &[
-                V,
-                "domains = {person = \"ann\"}\nrelations = {hiv = 1}\n",
-                U,
-            ],
-            "3 domains",
-        ),
-        (
-            &[
-                V,
-                "domains = {person = [\"ann\", 1]}\nrelations = {hiv = 1}\n",
-                U,
-            ],
-            "3 domains",
-        ),
-        (
-            &[
-                V,
-                "domains = {person = [\"ann\", \"ann\"]}\nrelations = {hiv = 1}\n",
-                U,
-            ],
-            "3 relations",
-        ),
-        (
-            &[
-                V,
-                "domains = {person = [\"ann\", \"ann\"]}\nrelations = {hiv = [[]]}\n",
-                U,
-            ],
-            "3 relations",
-        ),
-        (
-            &[
-                V,
-                "domains = {person = [\"ann\", \"ann\"]}\n",
-                R,
-                "users = []\n",
-            ],
-            "5 1",
-        ),
-        (
-            &[V, D, "relations = {hiv = [\"people\"]}\nusers = []\n"],
-            "5 2",
-        ),
-        (
-            &[
-                V,
-                D,
-                "relations = {r = [\"person\", \"person\", \"person\", \"person\", \"person\", \"person\", \"person\"]}\nusers = []\n",
-            ],
-            "5 3",
-        ),
-        (&[V, "domains = {person = []}\n", R, "users = []\n"], "5 4"),
-        (
-            &[
-                V,
-                "domains = {not = [\"ann\"]}\nrelations = {}\nusers = []\n",
-            ],
-            "5 5",
-        ),
-        (&[V, D, R, "users = []\n"], "7 users"),
-        (&[V, D, R, "users = [", USERS, "]\n"], "7 users"),
-    ] {
+    for (pieces, wanted) in DOCUMENTS {
         let text = document(alloc, pieces)?;
         let found = answer(alloc, text.as_bytes())?;
         assert_eq!(rt; found.as_str(), wanted, "at {}", text.as_str());
@@ -245,126 +370,7 @@ fn the_first_check_of_a_document_that_fails_is_told(rt: HostRuntime) -> Result<(
 #[test]
 fn the_first_check_of_a_user_that_fails_is_told(rt: HostRuntime) -> Result<(), Fail> {
     let alloc = rt.alloc();
-    for (pieces, wanted) in [
-        (&["users = [{zz = 1, role = 1}]"][..], "4 users[0].role"),
-        (&["users = [{Name = \"eve\"}]"], "4 users[0].Name"),
-        (&["users = [{}]"], "2 users[0].name"),
-        (&["users = [{name = 1}]"], "3 users[0].name"),
-        (&["users = [{name = \"not\"}]"], "3 users[0].name"),
-        (&["users = [{name = \"v8\"}]"], "3 users[0].name"),
-        (&["users = [{name = \"\"}]"], "3 users[0].name"),
-        (
-            &["users = [{name = \"e12345678901234567890123456789012\"}]"],
-            "3 users[0].name",
-        ),
-        (&[SAFE, "}, {name = \"eve\"}]"], "8 users[1].name"),
-        (
-            &["users = [{name = \"eve\", know = 1}]"],
-            "2 users[0].method",
-        ),
-        (
-            &["users = [{name = \"eve\", method = 1, know = 1}]"],
-            "3 users[0].method",
-        ),
-        (
-            &["users = [{name = \"eve\", method = \"lie\", know = 1}]"],
-            "3 users[0].method",
-        ),
-        (&[NAMED, "know = \"true\"}]"], "3 users[0].know"),
-        (&[KNOWN, "\"no\", 1]}]"], "3 users[0].know"),
-        (&[KNOWN, TEXTS, "1]}]"], "3 users[0].know"),
-        (&[KNOWN, TEXTS, "]}]"], "7 users[0].know"),
-        (&[KNOWN, "\"", LONG, "\", \"no\"]}]"], "7 users[0].know[0]"),
-        (
-            &[KNOWN, "\"true\", \"hiv(ann\", \"", LONG, "\"]}]"],
-            "6 users[0].know[1] 2 7",
-        ),
-        (&[KNOWN, "\"", LARGE, "\", \"no\"]}]"], "7 users[0].know[0]"),
-        (&[KNOWN, "\"hiv(zoe)\"]}]"], "6 users[0].know[0] 3 4"),
-        (&[NAMED, "budget = \"1\"}]"], "2 users[0].secrets"),
-        (
-            &[NAMED, "secrets = \"hiv(ann)\", budget = \"1\"}]"],
-            "3 users[0].secrets",
-        ),
-        (&[SECRETS, "1], budget = \"1\"}]"], "3 users[0].secrets"),
-        (&[SECRETS, "], budget = \"1\"}]"], "7 users[0].secrets"),
-        (
-            &[SECRETS, FEW_TEXTS, "], budget = 0}]"],
-            "7 users[0].secrets",
-        ),
-        (
-            &[SECRETS, "\"true\", \"", LONG, "\", \"no\"]}]"],
-            "7 users[0].secrets[1]",
-        ),
-        (
-            &[SECRETS, "\"true\", \"hiv()\"], budget = 0}]"],
-            "6 users[0].secrets[1] 6 4",
-        ),
-        (
-            &[SECRETS, "\"", LARGE, "\"], budget = 0}]"],
-            "7 users[0].secrets[0]",
-        ),
-        (&[SAFE, "budget = 1.0, token = 1}]"], "3 users[0].budget"),
-        (&[SAFE, "budget = 0, token = 1}]"], "7 users[0].budget"),
-        (&[SAFE, "budget = -1, token = 1}]"], "7 users[0].budget"),
-        (
-            &[SAFE, "budget = 4000001, token = 1}]"],
-            "7 users[0].budget",
-        ),
-        (
-            &[
-                SAFE,
-                "token = 1, know = [\"",
-                HALF,
-                "\", \"",
-                HALF,
-                "\", \"",
-                HALF,
-                "\"]}]",
-            ],
-            "3 users[0].token",
-        ),
-        (
-            &[SAFE, "token = \"", SHORT_TOKEN, "\"}, {}]"],
-            "3 users[0].token",
-        ),
-        (
-            &[SAFE, "token = \"", SHORT_TOKEN, "g\"}, {}]"],
-            "3 users[0].token",
-        ),
-        (
-            &[SAFE, "token = \"", TOKEN, "00\"}, {}]"],
-            "3 users[0].token",
-        ),
-        (
-            &[
-                SAFE,
-                "know = [\"",
-                HALF,
-                "\", \"",
-                HALF,
-                "\", \"",
-                HALF,
-                "\"]}, {}]",
-            ],
-            "7 users[0].secrets",
-        ),
-        (&[SAFE, "token = \"", TOKEN, "\"}, {}]"], "2 users[1].name"),
-        (
-            &[
-                SAFE,
-                "}, {name = \"kim\", method = \"combined\", secrets = [\"hiv(\"]}]",
-            ],
-            "6 users[1].secrets[0] 2 4",
-        ),
-        (
-            &[
-                SAFE,
-                "}, {name = \"Eve\", method = \"combined\", secrets = [\"true\"]}]",
-            ],
-            "read",
-        ),
-    ] {
+    for (pieces, wanted) in LISTED {
         let head = document(alloc, &[V, D, R])?;
         let user = document(alloc, pieces)?;
         let text = format!(in alloc; "{}{}", head.as_str(), user.as_str())?;
