@@ -1,15 +1,16 @@
-// The search machine by plain scanning.
+// The search machine.
 //
 // `search` answers the machine's end, a model or a refutation, or Spent exactly where the machine's whole cost is above the budget.
 // Its contract is the machine itself, step for step, so a faster body changes no word above it.
+// `laws::search_plain` is the plain program of the same contract: it scans the clauses and the trail at each step.
 //
-// Read `trail`, `scan`, `conflict`, `state`, and then `run`.
+// Read `entry` and `ends`, then `plain` with `trail`, `scan`, `conflict`, `state` and `run`.
 #![tactic(auto)]
 
-mod conflict;
-mod run;
-mod scan;
-mod state;
-mod trail;
+mod ends;
+mod entry;
+pub mod laws;
+mod plain;
 
-pub use run::{Found, search};
+pub use ends::Found;
+pub use plain::run::search_plain as search;
