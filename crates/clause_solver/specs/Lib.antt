@@ -1,2 +1,5 @@
 pub mod Entries
 pub mod PlainStates
+pub mod Flags
+pub mod Assigning
+pub mod AssignmentFields

@@ -7,9 +7,12 @@
 // Read `entry` and `ends`, then `plain` with `trail`, `scan`, `conflict`, `state` and `run`.
 #![tactic(auto)]
 
+mod assignment;
+mod codes;
 mod ends;
 mod entry;
 pub mod laws;
+mod number_set;
 mod plain;
 
 pub use ends::Found;
