@@ -3,3 +3,5 @@ pub mod PlainStates
 pub mod Flags
 pub mod Assigning
 pub mod AssignmentFields
+pub mod Tallying
+pub mod TallySets

@@ -14,6 +14,7 @@ mod entry;
 pub mod laws;
 mod number_set;
 mod plain;
+mod tallies;
 
 pub use ends::Found;
 pub use plain::run::search_plain as search;
