@@ -13,6 +13,7 @@ mod ends;
 mod entry;
 pub mod laws;
 mod number_set;
+mod occurrences;
 mod plain;
 mod tallies;
 
