@@ -5,3 +5,5 @@ pub mod Assigning
 pub mod AssignmentFields
 pub mod Tallying
 pub mod TallySets
+pub mod Indexing
+pub mod IndexedStates

@@ -12,6 +12,7 @@ mod codes;
 mod ends;
 mod entry;
 pub mod laws;
+mod indexed;
 mod number_set;
 mod occurrences;
 mod plain;
