@@ -157,9 +157,13 @@ impl Indexed {
         ensures free { IfSome result (λ u. is_assigned self.old.assignment.trail (variable_of u.1) ≡ false) }
         ensures same { self.new ≡ self.old }
     {
-        let number = self.tallies.first_unit()?;
-        let literal = open_literal(&self.assignment, self.clauses.clause(number))?;
-        Some((number, literal))
+        match self.tallies.first_unit() {
+            None => None,
+            Some(number) => match open_literal(&self.assignment, self.clauses.clause(number)) {
+                None => None,
+                Some(literal) => Some((number, literal)),
+            },
+        }
     }
 }
 
