@@ -1,6 +1,6 @@
 -- What is kept of a trail stays that of the trail.
 use Rattle.std.proofs.Common.{◌≡◌, ℕ, zero, suc, ◌+◌, ◌-◌, ◌*◌, ◌<◌, ◌≤◌, min, Bool, true, false, cond, not, ◌&&◌, ◌||◌, eqb, List, [], ◌∷◌, ◌++◌, length, reverse, get_or, set, replicate, Option, Some, None, refl, sym, ap, ◌∙◌, subst, inl, inr, ⊎_elim, ◌⊎◌, arith}
-use Rattle.std.specs.Prelude.{unwrap_or}
+use Rattle.std.specs.Prelude.{unwrap_or, IfSome}
 use Rattle.std.specs.List.{find, range_with_len}
 use Rattle.std.proofs.lemmas.Bool.{both_ways, cases_eq, cases_lt, cases_Bool, false_from_ne_true, true_from_ne_false, or_cases, or_left, or_right, or_parts, or_from, eqb-true, eq-eqb, ne_eqb, cond-true, cond-false, and_from, and_left, and_right}
 use Rattle.std.proofs.lemmas.List.{get_or-set_same, get_or-set_other, length-set, get_or_past, get_or-replicate, length-replicate, reverse-append}
@@ -121,6 +121,14 @@ module _ (n : ℕ) (t : List Assigned) (truths : List Bool) (levels places : Lis
     | inl low ↦ kept.assigned_below k low
     | inr high ↦ placed k (h.3 k high hi)
   ])))
+
+  pub first_below : (r : Option ℕ) → IsFirstZero places next n r → IfSome r (λ v. v < n)
+  first_below None h = tt
+  first_below (Some i) h = h.1
+
+  pub first_free : (r : Option ℕ) → IsFirstZero places next n r → IfSome r (λ v. is_assigned t v ≡ false)
+  first_free None h = tt
+  first_free (Some i) h = unplaced i h.2
 
   pub first_kept : (r : Option ℕ) → IsFirstZero places next n r → IsKept n t truths levels places decisions (unwrap_or r n)
   first_kept None h = record { once = kept.once; truths_room = kept.truths_room; levels_room = kept.levels_room; places_room = kept.places_room; true_at = kept.true_at; level_at = kept.level_at; place_at = kept.place_at; level_is = kept.level_is; next_room = omega arith; assigned_below = λ v low. elim (cases_lt v next) [

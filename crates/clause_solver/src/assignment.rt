@@ -143,6 +143,8 @@ impl Assignment {
     /// The lowest variable that isn't assigned.
     pub fn first_unassigned(&mut self) -> Option<u32>
         ensures first { result ≡ first_unassigned self.old.trail self.old.variables }
+        ensures below { IfSome result (λ v. v < self.old.variables) }
+        ensures free { IfSome result (λ v. is_assigned self.old.trail v ≡ false) }
         ensures same { self.new ≡ self.old }
     {
         let found = first_zero(&self.places, self.next, self.variables);

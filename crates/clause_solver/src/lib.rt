@@ -7,6 +7,7 @@
 // Read `entry` and `ends`, then `plain` with `trail`, `scan`, `conflict`, `state` and `run`.
 #![tactic(auto)]
 
+mod analysis;
 mod assignment;
 mod codes;
 mod ends;
@@ -16,7 +17,9 @@ mod indexed;
 mod number_set;
 mod occurrences;
 mod plain;
+mod rules;
+mod run;
 mod tallies;
 
 pub use ends::Found;
-pub use plain::run::search_plain as search;
+pub use run::search;

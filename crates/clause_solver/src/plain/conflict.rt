@@ -54,7 +54,7 @@ fn resolve(
 }
 
 /// The latest literal of the trail whose opposite the clause has.
-fn latest_against(trail: &[Entry], clause: &[Lit]) -> Option<Entry>
+pub fn latest_against(trail: &[Entry], clause: &[Lit]) -> Option<Entry>
     ensures { result ≡ latest_against (reverse trail.now) clause.now }
 {
     trail
@@ -65,7 +65,7 @@ fn latest_against(trail: &[Entry], clause: &[Lit]) -> Option<Entry>
 }
 
 /// Resolves a line's clause with the cause of a literal; a decision has none.
-fn resolve_with(
+pub fn resolve_with(
     alloc: Global,
     clauses: &Clauses,
     latest: Option<Entry>,
