@@ -10,6 +10,7 @@
 mod analysis;
 mod assignment;
 mod codes;
+mod conditions;
 mod ends;
 mod entry;
 pub mod laws;
@@ -21,5 +22,6 @@ mod rules;
 mod run;
 mod tallies;
 
+pub use conditions::is_searchable;
 pub use ends::Found;
 pub use run::search;
