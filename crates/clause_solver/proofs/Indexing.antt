@@ -41,7 +41,7 @@ same_literal-sym (Positive v) (Negative w) = refl
 same_literal-sym (Negative v) (Positive w) = refl
 same_literal-sym (Negative v) (Negative w) = eqb-sym v w
 
-same_literal-opposite : (l m : Literal) → same_literal (opposite l) m ≡ same_literal (opposite m) l
+pub same_literal-opposite : (l m : Literal) → same_literal (opposite l) m ≡ same_literal (opposite m) l
 same_literal-opposite (Positive v) (Positive w) = refl
 same_literal-opposite (Positive v) (Negative w) = eqb-sym v w
 same_literal-opposite (Negative v) (Positive w) = eqb-sym v w

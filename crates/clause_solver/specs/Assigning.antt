@@ -1,7 +1,7 @@
 -- A trail over numbered variables, and what is kept of it at hand.
-use Rattle.std.specs.Prelude.{◌≡◌, ℕ, suc, ◌<◌, ◌≤◌, ◌+◌, ◌*◌, Bool, true, false, ◌==◌, if◌then◌else◌, List, [], ◌∷◌, length, Option, Some, None, slice_index_or}
+use Rattle.std.specs.Prelude.{◌≡◌, ℕ, suc, ◌<◌, ◌≤◌, ◌+◌, ◌*◌, Bool, true, false, ◌==◌, if◌then◌else◌, List, [], ◌∷◌, length, max, Option, Some, None, slice_index_or}
 use Rattle.std.specs.List.{list_any}
-use Rattle.cqe_base.specs.Literal.{Literal, Positive, Negative, variable_of}
+use Rattle.cqe_base.specs.Literal.{Literal, Positive, Negative, variable_of, opposite, same_literal}
 use Rattle.cqe_base.specs.Machine.{Assigned, assigned_literal, is_true, level, level_of}
 
 -- a trail, and how many variables there are
@@ -24,6 +24,16 @@ AssignsOnce n (a ∷ trail) =
 abbrev pub place_of : List Assigned → ℕ → ℕ
 place_of [] v = 0
 place_of (a ∷ trail) v = if v == variable_of (assigned_literal a) then suc (length trail) else place_of trail v
+
+-- how long the trail is up to and with the opposite of a literal, and 0 where that isn't on it
+abbrev pub place_against : List Assigned → Literal → ℕ
+place_against [] l = 0
+place_against (a ∷ trail) l = if same_literal (opposite l) (assigned_literal a) then suc (length trail) else place_against trail l
+
+-- and the longest such part for a clause
+abbrev pub latest_place : List Assigned → List Literal → ℕ
+latest_place trail [] = 0
+latest_place trail (l ∷ clause) = max (place_against trail l) (latest_place trail clause)
 
 -- a number for each literal: twice its variable, and one more where it is negated
 abbrev pub code_of : Literal → ℕ

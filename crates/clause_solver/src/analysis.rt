@@ -2,12 +2,11 @@
 
 ghost use Rattle.std.specs.Prelude.{◌≡◌, ◌<◌, ◌^◌, [], length, not, max, if◌then◌else◌, IfOk};
 ghost use Rattle.std.specs.List.{filter, find};
-ghost use Rattle.cqe_base.specs.Machine.{is_current, level_of, current_count, highest_level, kept_count, latest_against, analysis, conflict_line, State};
+ghost use Rattle.cqe_base.specs.Machine.{is_current, level_of, current_count, highest_level, kept_count, analysis, conflict_line, State};
 ghost use Rattle.clause_store.specs.PlainLines.{line_of};
 
 use crate::assignment::Assignment;
-use crate::entry::Entry;
-use crate::plain::conflict::{latest_against as plain_latest, resolve_with};
+use crate::plain::conflict::resolve_with;
 use clause_store::clauses::Clauses;
 use clause_store::literal::Lit;
 use clause_store::refutation::Line;
@@ -21,13 +20,6 @@ fn current_count(assignment: &Assignment, clause: &[Lit]) -> usize
         .iter()
         .filter(|l| assignment.is_current(**l))
         .count()
-}
-
-/// The latest literal of the trail whose opposite the clause has.
-fn latest_against(assignment: &Assignment, clause: &[Lit]) -> Option<Entry>
-    ensures { result ≡ latest_against assignment.now.trail clause.now }
-{
-    plain_latest(assignment.entries(), clause)
 }
 
 /// Resolves until few enough literals of the current level are left. Each resolution goes back along the trail, so its length bounds their number.
@@ -44,7 +36,7 @@ fn analyse(
         if current_count(assignment, &line.clause) <= keep {
             return Ok(());
         }
-        let latest = latest_against(assignment, &line.clause);
+        let latest = assignment.latest_against(&line.clause);
         resolve_with(alloc, clauses, latest, line)?;
     }
     Ok(())

@@ -20,6 +20,8 @@ mod occurrences;
 mod plain;
 mod rules;
 mod run;
+#[cfg(test)]
+mod same_tests;
 mod tallies;
 
 pub use conditions::is_searchable;

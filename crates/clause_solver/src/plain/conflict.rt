@@ -54,7 +54,7 @@ fn resolve(
 }
 
 /// The latest literal of the trail whose opposite the clause has.
-pub fn latest_against(trail: &[Entry], clause: &[Lit]) -> Option<Entry>
+fn latest_against(trail: &[Entry], clause: &[Lit]) -> Option<Entry>
     ensures { result ≡ latest_against (reverse trail.now) clause.now }
 {
     trail
