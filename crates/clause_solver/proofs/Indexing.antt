@@ -91,8 +91,8 @@ tallies_same : (t : List Assigned) (cs : List (List Literal)) (ts : List Tally) 
 tallies_same t cs ts size h = ext_get_or no_tally ts (map (tally_of t) cs) (size ∙ sym (length-map cs (tally_of t))) (λ k low. h k (omega arith) ∙ sym (get_or-map (tally_of t) cs k [] no_tally (omega arith)))
 
 module _ (n : ℕ) (t : List Assigned) (a : Assigned) (cs : List (List Literal)) (occ : List (List ℕ)) (xs ys : List ℕ)
-  (low : variable_of (assigned_literal a) < n) (free : is_assigned t (variable_of (assigned_literal a)) ≡ false)
-  (xs_are : xs ≡ get_or occ (code_of (assigned_literal a)) []) (ys_are : ys ≡ get_or occ (code_of (opposite (assigned_literal a))) []) where
+    (low : variable_of (assigned_literal a) < n) (free : is_assigned t (variable_of (assigned_literal a)) ≡ false)
+    (xs_are : xs ≡ get_or occ (code_of (assigned_literal a)) []) (ys_are : ys ≡ get_or occ (code_of (opposite (assigned_literal a))) []) where
   low_opposite : variable_of (opposite (assigned_literal a)) < n
   low_opposite = subst (λ v. v < n) (sym (variable_of-opposite (assigned_literal a))) low
 
@@ -210,16 +210,16 @@ occur_push cs c l xs m is h = record {
   below = All-append (λ k. k < length (cs ++ c ∷ [])) xs (replicate (count_by (same_literal l) c) m) (All-weaker (λ k. k < length cs) (λ k. k < length (cs ++ c ∷ [])) (λ k lt. let e = length_push cs c in omega arith) xs h.below) (All-replicate (λ k. k < length (cs ++ c ∷ [])) (count_by (same_literal l) c) m (let e = length_push cs c in omega arith));
   each = λ k lt. sum_by-append (λ i. cond (eqb i k) 1 0) xs (replicate (count_by (same_literal l) c) m) ∙ elim (cases_eq k (length cs)) [
     | inl last ↦
-      (let none : count_by (λ i. eqb i k) xs ≡ 0 = ap (λ j. count_by (λ i. eqb i j) xs) last ∙ count_below (length cs) xs (recursion_from_All (λ k. k < length cs) xs h.below) in
-      let all : count_by (λ i. eqb i k) (replicate (count_by (same_literal l) c) m) ≡ count_by (same_literal l) c = ap (λ j. count_by (λ i. eqb i k) (replicate (count_by (same_literal l) c) j)) (is ∙ sym last) ∙ count_replicate-same (count_by (same_literal l) c) k in
-      let here : count_by (same_literal l) (get_or (cs ++ c ∷ []) k []) ≡ count_by (same_literal l) c = ap (count_by (same_literal l)) (get_or_push cs c [] k (sym last)) in
-      omega arith)
+        (let none : count_by (λ i. eqb i k) xs ≡ 0 = ap (λ j. count_by (λ i. eqb i j) xs) last ∙ count_below (length cs) xs (recursion_from_All (λ k. k < length cs) xs h.below) in
+        let all : count_by (λ i. eqb i k) (replicate (count_by (same_literal l) c) m) ≡ count_by (same_literal l) c = ap (λ j. count_by (λ i. eqb i k) (replicate (count_by (same_literal l) c) j)) (is ∙ sym last) ∙ count_replicate-same (count_by (same_literal l) c) k in
+        let here : count_by (same_literal l) (get_or (cs ++ c ∷ []) k []) ≡ count_by (same_literal l) c = ap (count_by (same_literal l)) (get_or_push cs c [] k (sym last)) in
+        omega arith)
     | inr other ↦
-      (let before : k < length cs = (let e = length_push cs c in omega arith) in
-      let none : count_by (λ i. eqb i k) (replicate (count_by (same_literal l) c) m) ≡ 0 = count_replicate-other (count_by (same_literal l) c) m k (λ e. other (sym e ∙ is)) in
-      let here : count_by (same_literal l) (get_or (cs ++ c ∷ []) k []) ≡ count_by (same_literal l) (get_or cs k []) = ap (count_by (same_literal l)) (get_or_append_left cs (c ∷ []) [] k before) in
-      let each = h.each k before in
-      omega arith)
+        (let before : k < length cs = (let e = length_push cs c in omega arith) in
+        let none : count_by (λ i. eqb i k) (replicate (count_by (same_literal l) c) m) ≡ 0 = count_replicate-other (count_by (same_literal l) c) m k (λ e. other (sym e ∙ is)) in
+        let here : count_by (same_literal l) (get_or (cs ++ c ∷ []) k []) ≡ count_by (same_literal l) (get_or cs k []) = ap (count_by (same_literal l)) (get_or_append_left cs (c ∷ []) [] k before) in
+        let each = h.each k before in
+        omega arith)
   ];
 }
 

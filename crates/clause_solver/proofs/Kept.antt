@@ -131,14 +131,36 @@ module _ (n : ℕ) (t : List Assigned) (truths : List Bool) (levels places : Lis
   first_free (Some i) h = unplaced i h.2
 
   pub first_kept : (r : Option ℕ) → IsFirstZero places next n r → IsKept n t truths levels places decisions (unwrap_or r n)
-  first_kept None h = record { once = kept.once; truths_room = kept.truths_room; levels_room = kept.levels_room; places_room = kept.places_room; true_at = kept.true_at; level_at = kept.level_at; place_at = kept.place_at; level_is = kept.level_is; next_room = omega arith; assigned_below = λ v low. elim (cases_lt v next) [
-    | inl lo ↦ kept.assigned_below v lo
-    | inr hi ↦ placed v (h v hi low)
-  ] }
-  first_kept (Some i) h = record { once = kept.once; truths_room = kept.truths_room; levels_room = kept.levels_room; places_room = kept.places_room; true_at = kept.true_at; level_at = kept.level_at; place_at = kept.place_at; level_is = kept.level_is; next_room = (let x = h.1 in omega arith); assigned_below = λ v low. elim (cases_lt v next) [
-    | inl lo ↦ kept.assigned_below v lo
-    | inr hi ↦ placed v (h.3 v hi low)
-  ] }
+  first_kept None h = record {
+    once = kept.once;
+    truths_room = kept.truths_room;
+    levels_room = kept.levels_room;
+    places_room = kept.places_room;
+    true_at = kept.true_at;
+    level_at = kept.level_at;
+    place_at = kept.place_at;
+    level_is = kept.level_is;
+    next_room = omega arith;
+    assigned_below = λ v low. elim (cases_lt v next) [
+      | inl lo ↦ kept.assigned_below v lo
+      | inr hi ↦ placed v (h v hi low)
+    ];
+  }
+  first_kept (Some i) h = record {
+    once = kept.once;
+    truths_room = kept.truths_room;
+    levels_room = kept.levels_room;
+    places_room = kept.places_room;
+    true_at = kept.true_at;
+    level_at = kept.level_at;
+    place_at = kept.place_at;
+    level_is = kept.level_is;
+    next_room = (let x = h.1 in omega arith);
+    assigned_below = λ v low. elim (cases_lt v next) [
+      | inl lo ↦ kept.assigned_below v lo
+      | inr hi ↦ placed v (h.3 v hi low)
+    ];
+  }
 
   -- one more entry
   pub kept_push : (a : Assigned) (c v size more : ℕ) → c ≡ code_of (assigned_literal a) → v ≡ variable_of (assigned_literal a) → size ≡ length t + 1 → more ≡ level (a ∷ t) → v < n → is_assigned t v ≡ false

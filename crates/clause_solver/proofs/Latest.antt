@@ -83,9 +83,9 @@ at_some : (t : List Assigned) (p : ℕ) (d : Assigned) → p < length t → at_p
 at_some [] p d low = absurd (omega arith)
 at_some (a ∷ t) p d low = elim (cases_eq p (length t)) [
   | inl same ↦
-    ap (λ x. cond x (Some a) (at_place t (suc p))) (eq-eqb (suc p) (suc (length t)) (omega arith)) ∙ ap (λ k. Some (get_or (a ∷ t) k d)) (let x : 0 ≡ suc (length t) - 1 - p = omega arith in x)
+      ap (λ x. cond x (Some a) (at_place t (suc p))) (eq-eqb (suc p) (suc (length t)) (omega arith)) ∙ ap (λ k. Some (get_or (a ∷ t) k d)) (let x : 0 ≡ suc (length t) - 1 - p = omega arith in x)
   | inr other ↦
-    ap (λ x. cond x (Some a) (at_place t (suc p))) (ne_eqb (suc p) (suc (length t)) (λ s. other (let x : p ≡ length t = omega arith in x))) ∙ at_some t p d (omega arith) ∙ ap (λ k. Some (get_or (a ∷ t) k d)) (let x : suc (length t - 1 - p) ≡ suc (length t) - 1 - p = omega arith in x)
+      ap (λ x. cond x (Some a) (at_place t (suc p))) (ne_eqb (suc p) (suc (length t)) (λ s. other (let x : p ≡ length t = omega arith in x))) ∙ at_some t p d (omega arith) ∙ ap (λ k. Some (get_or (a ∷ t) k d)) (let x : suc (length t - 1 - p) ≡ suc (length t) - 1 - p = omega arith in x)
 ]
 
 -- the look-up by the place of a trail whose latest entry is last

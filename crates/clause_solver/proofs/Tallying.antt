@@ -34,7 +34,7 @@ raised-length Trues n t = refl
 raised-length Falses n t = refl
 
 module _ (c : Count) (numbers : List ℕ) (xs ys : List Tally) (j i : ℕ) (low : j < length numbers) (is : i ≡ get_or numbers j 0) (same : length ys ≡ length xs) (within : i < length xs)
-  (here : (k : ℕ) → k < length xs → get_or ys k no_tally ≡ raised c (count_by (λ m. eqb m k) (take j numbers)) (get_or xs k no_tally)) where
+    (here : (k : ℕ) → k < length xs → get_or ys k no_tally ≡ raised c (count_by (λ m. eqb m k) (take j numbers)) (get_or xs k no_tally)) where
   at_j : get_or numbers j 0 ≡ i
   at_j = sym is
 
@@ -58,8 +58,8 @@ module _ (c : Count) (numbers : List ℕ) (xs ys : List Tally) (j i : ℕ) (low 
   pub raise_step : (t : Tally) → t ≡ raised c 1 (get_or ys i no_tally) → (k : ℕ) → k < length xs → get_or (set ys i t) k no_tally ≡ raised c (count_by (λ m. eqb m k) (take (j + 1) numbers)) (get_or xs k no_tally)
   raise_step t e k lt = elim (cases_eq k i) [
     | inl eq ↦
-      ap (λ m. get_or (set ys i t) m no_tally) eq ∙ get_or-set_same ys i t no_tally (omega arith) ∙ e ∙ ap (raised c 1) (here i within) ∙ raised-once c (count_by (λ m. eqb m i) (take j numbers)) (get_or xs i no_tally)
-      ∙ ap (λ n. raised c n (get_or xs i no_tally)) (sym counted_more) ∙ ap (λ m. raised c (count_by (λ x. eqb x m) (take (j + 1) numbers)) (get_or xs m no_tally)) (sym eq)
+        ap (λ m. get_or (set ys i t) m no_tally) eq ∙ get_or-set_same ys i t no_tally (omega arith) ∙ e ∙ ap (raised c 1) (here i within) ∙ raised-once c (count_by (λ m. eqb m i) (take j numbers)) (get_or xs i no_tally)
+        ∙ ap (λ n. raised c n (get_or xs i no_tally)) (sym counted_more) ∙ ap (λ m. raised c (count_by (λ x. eqb x m) (take (j + 1) numbers)) (get_or xs m no_tally)) (sym eq)
     | inr ne ↦
-      get_or-set_other ys i k t no_tally ne ∙ here k lt ∙ ap (λ n. raised c n (get_or xs k no_tally)) (sym (counted_less k ne))
+        get_or-set_other ys i k t no_tally ne ∙ here k lt ∙ ap (λ n. raised c n (get_or xs k no_tally)) (sym (counted_less k ne))
   ]

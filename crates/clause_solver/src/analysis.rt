@@ -16,10 +16,7 @@ use std::alloc::{AllocError, Global};
 fn current_count(assignment: &Assignment, clause: &[Lit]) -> usize
     ensures { result ≡ current_count assignment.now.trail clause.now }
 {
-    clause
-        .iter()
-        .filter(|l| assignment.is_current(**l))
-        .count()
+    clause.iter().filter(|l| assignment.is_current(**l)).count()
 }
 
 /// Resolves until few enough literals of the current level are left. Each resolution goes back along the trail, so its length bounds their number.
@@ -78,10 +75,7 @@ pub fn conflict_line(
 pub fn first_current(assignment: &Assignment, clause: &[Lit]) -> Option<Lit>
     ensures { result ≡ find (is_current assignment.now.trail) clause.now }
 {
-    clause
-        .iter()
-        .copied()
-        .find(|l| assignment.is_current(*l))
+    clause.iter().copied().find(|l| assignment.is_current(*l))
 }
 
 /// The highest level of a clause's literals that aren't of the current level, or 0.

@@ -11,5 +11,9 @@ pub fn code(literal: Lit) -> usize
     ensures { result ≡ code_of literal }
 {
     let even = 2 * literal.variable() as usize;
-    if literal.is_positive() { even } else { even + 1 }
+    if literal.is_positive() {
+        even
+    } else {
+        even + 1
+    }
 }

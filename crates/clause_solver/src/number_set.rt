@@ -94,8 +94,8 @@ fn first_marked(flags: &[bool], marks: &mut [bool]) -> Option<usize>
 {
     for block in 0..marks.len() {
         if marks[block] && block <= flags.len() / BLOCK {
-            if let Some(i) = first_in(flags, block * BLOCK) {
-                return Some(i);
+            if let Some(number) = first_in(flags, block * BLOCK) {
+                return Some(number);
             }
             marks[block] = false;
         }

@@ -18,11 +18,7 @@ use clause_store::refutation::{Line, Signs};
 use std::alloc::{AllocError, Global};
 
 /// A literal joins the trail because of a clause.
-fn assert_literal(
-    state: &mut Indexed,
-    number: u32,
-    literal: Option<Lit>,
-) -> Result<(), AllocError>
+fn assert_literal(state: &mut Indexed, number: u32, literal: Option<Lit>) -> Result<(), AllocError>
     requires below { IfSome literal (λ l. variable_of l < state.old.assignment.variables) }
     requires free { IfSome literal (λ l. is_assigned state.old.assignment.trail (variable_of l) ≡ false) }
     requires indexed { IsIndexed state.old }

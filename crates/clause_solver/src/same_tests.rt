@@ -75,66 +75,16 @@ fn found(
 
 /// Each has a number of variables, the whole cost, the end and the clauses.
 const LISTS: [(u32, u64, &str, &str); 40] = [
-    (
-        0,
-        1,
-        "model",
-        "",
-    ),
-    (
-        3,
-        4,
-        "model",
-        "",
-    ),
-    (
-        1,
-        1,
-        "refuted",
-        " ",
-    ),
-    (
-        1,
-        3,
-        "refuted",
-        "1, -1",
-    ),
-    (
-        1,
-        2,
-        "model",
-        "1 -1",
-    ),
-    (
-        2,
-        9,
-        "refuted",
-        "1 2, 1 -2, -1 2, -1 -2",
-    ),
-    (
-        3,
-        4,
-        "model",
-        "1, -1 2, -2 3",
-    ),
-    (
-        3,
-        7,
-        "refuted",
-        "1, -1 2, -2 3, -3",
-    ),
-    (
-        4,
-        5,
-        "model",
-        "1 2 3 4, -1, -2, -3",
-    ),
-    (
-        4,
-        5,
-        "model",
-        "2 3, -3 4, -4 -2, 1 -1",
-    ),
+    (0, 1, "model", ""),
+    (3, 4, "model", ""),
+    (1, 1, "refuted", " "),
+    (1, 3, "refuted", "1, -1"),
+    (1, 2, "model", "1 -1"),
+    (2, 9, "refuted", "1 2, 1 -2, -1 2, -1 -2"),
+    (3, 4, "model", "1, -1 2, -2 3"),
+    (3, 7, "refuted", "1, -1 2, -2 3, -3"),
+    (4, 5, "model", "1 2 3 4, -1, -2, -3"),
+    (4, 5, "model", "2 3, -3 4, -4 -2, 1 -1"),
     (
         8,
         11,
@@ -324,7 +274,7 @@ fn both_bodies_find_the_same(rt: HostRuntime) -> Result<(), Fail> {
         let clauses = clauses(alloc, text)?;
         let at_cost = found(&rt, alloc, &clauses, variables, cost)?;
         assert_eq!(rt; at_cost, end, "at {text}");
-        let below = found(&rt, alloc, &clauses, variables, cost - 1)?;
+        let below = found(&rt, alloc, &clauses, variables, cost.saturating_sub(1))?;
         assert_eq!(rt; below, "spent", "below {text}");
     }
     Ok(())

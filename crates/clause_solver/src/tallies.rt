@@ -125,7 +125,12 @@ impl Tallies {
     {
         let old = self.tallies[number];
         self.tallies[number] = tally;
-        update(&mut self.falsified, number, old.is_falsified(), tally.is_falsified());
+        update(
+            &mut self.falsified,
+            number,
+            old.is_falsified(),
+            tally.is_falsified(),
+        );
         update(&mut self.units, number, old.is_unit(), tally.is_unit());
     }
 

@@ -6,7 +6,7 @@ use Rattle.clause_solver.proofs.number_set.first_marked.Goals as goal
 
 pub returns-in-Some-clause-first : goal.returns-in-Some-clause-first
 returns-in-Some-clause-first c =
-    first_found c.args.flags.now (c.loop-block.block * 64) (c.loop-block.block * 64 + 64) c.in-Some.i c.loop-block.invariant.none c.in-Some.ensures
+    first_found c.args.flags.now (c.loop-block.block * 64) (c.loop-block.block * 64 + 64) c.in-Some.number c.loop-block.invariant.none c.in-Some.ensures
 
 pub returns-clause-first : goal.returns-clause-first
 returns-clause-first c =

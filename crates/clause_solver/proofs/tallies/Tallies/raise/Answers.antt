@@ -30,6 +30,6 @@ loop-number-preserved c =
       sets = c.put.ensures.sets;
       size = ap length c.put.ensures.put ∙ length-set ys (number d) c.raised-tally.result ∙ c.loop-number.invariant.size;
       raised = λ k lt.
-      ap (λ zs. get_or zs k no_tally) c.put.ensures.put
-      ∙ raise_step c.args.count c.args.numbers.now xs ys c.loop-number.number-index (number d) c.loop-number-test.true refl c.loop-number.invariant.size (within d) c.loop-number.invariant.raised c.raised-tally.result (c.raised-tally.ensures ∙ ap (raised c.args.count 1) (read d)) k lt;
+          ap (λ zs. get_or zs k no_tally) c.put.ensures.put
+          ∙ raise_step c.args.count c.args.numbers.now xs ys c.loop-number.number-index (number d) c.loop-number-test.true refl c.loop-number.invariant.size (within d) c.loop-number.invariant.raised c.raised-tally.result (c.raised-tally.ensures ∙ ap (raised c.args.count 1) (read d)) k lt;
     }
