@@ -1,17 +1,17 @@
 -- What is kept of the clauses stays that of the trail.
-use Rattle.std.proofs.Common.{◌≡◌, ℕ, zero, suc, ◌+◌, ◌-◌, ◌*◌, ◌<◌, ◌≤◌, Bool, true, false, cond, not, ◌&&◌, ◌||◌, eqb, List, [], ◌∷◌, ◌++◌, length, get_or, set, map, replicate, Option, Some, None, refl, sym, ap, ◌∙◌, subst, inl, inr, ⊎_elim, ◌⊎◌, arith, count_by}
+use Rattle.std.proofs.Common.{◌≡◌, ℕ, zero, suc, ◌+◌, ◌-◌, ◌<◌, ◌≤◌, Bool, true, false, cond, ◌||◌, eqb, List, [], ◌∷◌, ◌++◌, length, get_or, map, replicate, refl, sym, ap, ◌∙◌, subst, inl, inr, arith, count_by}
 use Rattle.std.specs.List.{All, AllByRecursion}
-use Rattle.std.proofs.lemmas.Bool.{both_ways, cases_eq, cases_lt, false_from_ne_true, eq-eqb, ne_eqb}
+use Rattle.std.proofs.lemmas.Bool.{cases_eq, eq-eqb, ne_eqb}
 use Rattle.std.proofs.lemmas.Bool.Decides.{nat_tests}
-use Rattle.std.proofs.lemmas.List.{ext_get_or, get_or-map, length-map, length-append, length_push, get_or_append_left, get_or_push, map_push}
+use Rattle.std.proofs.lemmas.List.{ext_get_or, get_or-map, length-map, length_push, get_or_append_left, get_or_push, map_push}
 use Rattle.std.proofs.lemmas.List.Elements.{All-append, All-weaker, All-replicate, recursion_from_All}
 use Rattle.std.proofs.lemmas.List.Sums.{sum_by-cons, sum_by-append, count_by-le-length}
 use Rattle.cqe_base.specs.Literal.{Literal, Positive, Negative, variable_of, opposite, same_literal, ClauseBelow, ClausesBelow}
 use Rattle.cqe_base.specs.Machine.{Assigned, assigned_literal, is_true, is_false}
-use Rattle.cqe_base.proofs.ClauseTruth.{same_literal-true, same_literal-same, variable_of-opposite}
+use Rattle.cqe_base.proofs.ClauseTruth.{same_literal-true, variable_of-opposite}
 use Rattle.clause_solver.specs.declared.tallies.Tally.{Tally}
 use Rattle.clause_solver.specs.declared.tallies.Count.TheVariants.{Trues, Falses}
-use Rattle.clause_solver.specs.Assigning.{is_assigned, AssignsOnce, code_of}
+use Rattle.clause_solver.specs.Assigning.{is_assigned, code_of}
 use Rattle.clause_solver.specs.Tallying.{tally_of, no_tally, counted, raised, lowered}
 use Rattle.clause_solver.specs.Indexing.{AreOccurrences, IsIndexOf}
 use Rattle.clause_solver.proofs.Kept.{unassigned-true, code_of-below}

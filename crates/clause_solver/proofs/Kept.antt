@@ -2,13 +2,13 @@
 use Rattle.std.proofs.Common.{◌≡◌, ℕ, zero, suc, ◌+◌, ◌-◌, ◌*◌, ◌<◌, ◌≤◌, min, Bool, true, false, cond, not, ◌&&◌, ◌||◌, eqb, List, [], ◌∷◌, ◌++◌, length, reverse, get_or, set, replicate, Option, Some, None, refl, sym, ap, ◌∙◌, subst, inl, inr, ⊎_elim, ◌⊎◌, arith}
 use Rattle.std.specs.Prelude.{unwrap_or, IfSome}
 use Rattle.std.specs.List.{find, range_with_len}
-use Rattle.std.proofs.lemmas.Bool.{both_ways, cases_eq, cases_lt, cases_Bool, false_from_ne_true, true_from_ne_false, or_cases, or_left, or_right, or_parts, or_from, eqb-true, eq-eqb, ne_eqb, cond-true, cond-false, and_from, and_left, and_right}
+use Rattle.std.proofs.lemmas.Bool.{both_ways, cases_eq, cases_lt, false_from_ne_true, true_from_ne_false, or_cases, or_left, or_right, eq-eqb, ne_eqb, and_from, and_left, and_right}
 use Rattle.std.proofs.lemmas.List.{get_or-set_same, get_or-set_other, length-set, get_or_past, get_or-replicate, length-replicate, reverse-append}
-use Rattle.cqe_base.specs.Literal.{Literal, Positive, Negative, variable_of, opposite, same_literal}
-use Rattle.cqe_base.specs.Machine.{Assigned, Decided, Because, assigned_literal, is_true, is_false, level, level_of, first_unassigned}
+use Rattle.cqe_base.specs.Literal.{Literal, Positive, Negative, variable_of, same_literal}
+use Rattle.cqe_base.specs.Machine.{Assigned, Decided, Because, assigned_literal, is_true, level, level_of, first_unassigned}
 use Rattle.cqe_base.proofs.ClauseTruth.{same_literal-true, same_literal-same}
 use Rattle.clause_solver.specs.Entries.{is_decided}
-use Rattle.clause_solver.specs.Assigning.{is_assigned, AssignsOnce, place_of, code_of, IsKept, IsFirstZero}
+use Rattle.clause_solver.specs.Assigning.{is_assigned, place_of, code_of, IsKept, IsFirstZero}
 use Rattle.clause_solver.proofs.Trails.{level-cons}
 
 -- each literal has its own code

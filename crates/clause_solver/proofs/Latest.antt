@@ -1,13 +1,13 @@
 -- The latest literal of the trail whose opposite a clause has, by its place.
-use Rattle.std.proofs.Common.{◌≡◌, ℕ, zero, suc, ◌+◌, ◌-◌, ◌<◌, ◌≤◌, max, ltb, Bool, true, false, cond, not, ◌||◌, eqb, List, [], ◌∷◌, length, get_or, reverse, Option, Some, None, refl, sym, ap, ◌∙◌, subst, inl, inr, ⊎_elim, ◌⊎◌, arith}
+use Rattle.std.proofs.Common.{◌≡◌, ℕ, zero, suc, ◌-◌, ◌<◌, ◌≤◌, max, ltb, Bool, true, false, cond, ◌||◌, eqb, List, [], ◌∷◌, length, get_or, reverse, Option, Some, None, refl, sym, ap, ◌∙◌, inl, inr, ⊎_elim, arith}
 use Rattle.std.specs.Prelude.{slice_get, IfSome}
 use Rattle.std.specs.Borrow.{Bor}
 use Rattle.std.specs.Option.{option_copied, is_some}
 use Rattle.std.proofs.lemmas.Option.{slice_get_past}
-use Rattle.std.proofs.lemmas.Bool.{both_ways, cases_eq, false_from_ne_true, or_cases, or_parts, or_left, eqb-true, eq-eqb, ne_eqb, ltb-true, ltb-false}
+use Rattle.std.proofs.lemmas.Bool.{both_ways, cases_eq, or_cases, or_parts, eq-eqb, ne_eqb, ltb-true, ltb-false}
 use Rattle.std.proofs.lemmas.List.{get_or-reverse, length-reverse}
 use Rattle.cqe_base.specs.Literal.{Literal, variable_of, opposite, same_literal, has_literal}
-use Rattle.cqe_base.specs.Machine.{Assigned, assigned_literal, is_true, is_false, latest_against}
+use Rattle.cqe_base.specs.Machine.{Assigned, assigned_literal, is_false, latest_against}
 use Rattle.cqe_base.proofs.ClauseTruth.{same_literal-true, variable_of-opposite}
 use Rattle.clause_solver.specs.Assigning.{is_assigned, AssignsOnce, place_of, place_against, latest_place}
 use Rattle.clause_solver.proofs.Kept.{true-assigned}

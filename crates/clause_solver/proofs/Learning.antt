@@ -1,9 +1,9 @@
 -- A learnt clause: its variables, and the literal that joins the trail after the cut.
-use Rattle.std.proofs.Common.{◌≡◌, ℕ, zero, suc, ◌+◌, ◌<◌, ◌≤◌, Bool, true, false, cond, not, eqb, List, [], ◌∷◌, length, get_or, Option, Some, None, refl, sym, ap, ◌∙◌, subst, ⊎_elim, arith}
+use Rattle.std.proofs.Common.{◌≡◌, ℕ, zero, suc, ◌<◌, ◌≤◌, Bool, true, false, cond, not, eqb, List, [], ◌∷◌, length, Option, Some, None, refl, sym, ap, ◌∙◌, subst, arith}
 use Rattle.std.specs.Prelude.{IfSome, nat_le, nat_lt, slice_index_or}
 use Rattle.std.specs.List.{find, filter, AllByRecursion}
-use Rattle.std.proofs.lemmas.Bool.{both_ways, false_from_ne_true, eqb-true, eqb-false, eq-eqb, cond_both, not-true, leb-true, leb-false}
-use Rattle.cqe_base.specs.Literal.{Literal, variable_of, union, ClauseBelow, ClausesBelow}
+use Rattle.std.proofs.lemmas.Bool.{both_ways, false_from_ne_true, eqb-true, eqb-false, cond_both, not-true, leb-true}
+use Rattle.cqe_base.specs.Literal.{Literal, variable_of, ClauseBelow, ClausesBelow}
 use Rattle.cqe_base.specs.Refutation.{RefutationLine, without_variable, resolvent}
 use Rattle.cqe_base.specs.Machine.{Assigned, Decided, Because, assigned_literal, State, level, level_of, is_current, current_count, latest_against, resolved_with, analysis, kept_count, conflict_line, highest_level, cut}
 use Rattle.cqe_base.proofs.Trails.{level_of-le}

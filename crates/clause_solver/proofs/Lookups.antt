@@ -1,15 +1,15 @@
 -- The first falsified and the first unit clause by their tallies.
-use Rattle.std.proofs.Common.{◌≡◌, ℕ, zero, suc, ◌+◌, ◌-◌, ◌<◌, ◌≤◌, Bool, true, false, cond, not, ◌&&◌, ◌||◌, eqb, List, [], ◌∷◌, length, get_or, map, Option, Some, None, refl, sym, ap, ◌∙◌, subst, inl, inr, ⊎_elim, ◌⊎◌, arith, count_by}
+use Rattle.std.proofs.Common.{◌≡◌, ℕ, suc, ◌+◌, ◌<◌, ◌≤◌, Bool, true, false, cond, not, ◌&&◌, eqb, List, [], ◌∷◌, length, get_or, map, Option, Some, None, refl, sym, ap, ◌∙◌, subst, ⊎_elim, arith, count_by}
 use Rattle.std.specs.Prelude.{IfSome}
 use Rattle.std.specs.List.{position_from, list_all, find, filter, AllByRecursion}
 use Rattle.std.proofs.lemmas.List.{length-map, get_or_read}
 use Rattle.clause_solver.specs.declared.tallies.Tally.{Tally}
-use Rattle.std.proofs.lemmas.Bool.{both_ways, cases_lt, false_from_ne_true, or_cases, eq-eqb, ne_eqb, eqb-true, and_parts, and_from, cond_both, not-true, true_from_ne_false}
+use Rattle.std.proofs.lemmas.Bool.{both_ways, false_from_ne_true, or_cases, eq-eqb, ne_eqb, eqb-true, and_parts, and_from, not-true, true_from_ne_false}
 use Rattle.std.proofs.lemmas.Bool.Decides.{nat_tests}
 use Rattle.std.proofs.lemmas.List.Sums.{sum_by-cons, count_by-le-length, length-filter}
-use Rattle.cqe_base.specs.Literal.{Literal, Positive, Negative, variable_of, opposite, same_literal, ClauseBelow, ClausesBelow}
+use Rattle.cqe_base.specs.Literal.{Literal, Positive, Negative, variable_of, opposite, ClausesBelow}
 use Rattle.cqe_base.specs.Machine.{Assigned, assigned_literal, is_true, is_false, unit_literal, only_literal, first_unit, unit_or}
-use Rattle.cqe_base.proofs.ClauseTruth.{same_literal-true, variable_of-opposite, opposite-opposite}
+use Rattle.cqe_base.proofs.ClauseTruth.{same_literal-true, variable_of-opposite}
 use Rattle.clause_solver.specs.Assigning.{is_assigned, AssignsOnce}
 use Rattle.clause_solver.specs.Tallying.{tally_of, is_falsified, is_unit}
 use Rattle.cqe_base.proofs.Analysis.{each_filter, each_passes}

@@ -1,13 +1,13 @@
 -- Tallies: their sets, one more literal in each of some clauses, and what a tally says of its clause.
-use Rattle.std.proofs.Common.{◌≡◌, ℕ, zero, suc, ◌+◌, ◌-◌, ◌<◌, ◌≤◌, Bool, true, false, cond, not, ◌&&◌, ◌||◌, eqb, List, [], ◌∷◌, ◌++◌, length, get_or, set, take, map, Option, Some, None, refl, sym, ap, ◌∙◌, subst, inl, inr, ◌⊎◌, arith, count_by}
-use Rattle.std.specs.List.{position_from, list_all, All}
-use Rattle.std.proofs.lemmas.Bool.{both_ways, cases_eq, cases_lt, cond_both, eqb-true, eq-eqb, ne_eqb, false_from_ne_true}
-use Rattle.std.proofs.lemmas.List.{map-set, get_or-set_same, get_or-set_other, length-set, get_or_default, same_lists, get_or-map, length-map}
-use Rattle.std.proofs.lemmas.List.Sums.{count_by_more_yes, count_by_more_no, sum_by-take-le, sum_by-cons, count_by-le-length}
+use Rattle.std.proofs.Common.{◌≡◌, ℕ, ◌+◌, ◌<◌, ◌≤◌, Bool, cond, eqb, List, [], ◌∷◌, length, get_or, set, take, map, Some, refl, sym, ap, ◌∙◌, inl, inr, arith, count_by}
+use Rattle.std.specs.List.{position_from}
+use Rattle.std.proofs.lemmas.Bool.{cases_eq, eq-eqb, ne_eqb}
+use Rattle.std.proofs.lemmas.List.{map-set, get_or-set_same, get_or-set_other}
+use Rattle.std.proofs.lemmas.List.Sums.{count_by_more_yes, count_by_more_no, sum_by-take-le}
 use Rattle.clause_solver.specs.declared.tallies.Tally.{Tally}
 use Rattle.clause_solver.specs.declared.tallies.Count.{Count}
 use Rattle.clause_solver.specs.declared.tallies.Count.TheVariants.{Trues, Falses}
-use Rattle.clause_solver.specs.Tallying.{tally_of, no_tally, is_falsified, is_unit, counted, raised, lowered}
+use Rattle.clause_solver.specs.Tallying.{no_tally, counted, raised}
 
 -- the first element that passes is the first that is flagged
 pub position-map : {X : Type 0} (p : X → Bool) (xs : List X) (s : ℕ) → position_from (λ b. b) s (map p xs) ≡ position_from p s xs

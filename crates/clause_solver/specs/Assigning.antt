@@ -1,6 +1,5 @@
 -- A trail over numbered variables, and what is kept of it at hand.
 use Rattle.std.specs.Prelude.{◌≡◌, ℕ, suc, ◌<◌, ◌≤◌, ◌+◌, ◌*◌, Bool, true, false, ◌==◌, if◌then◌else◌, List, [], ◌∷◌, length, max, Option, Some, None, slice_index_or}
-use Rattle.std.specs.List.{list_any}
 use Rattle.cqe_base.specs.Literal.{Literal, Positive, Negative, variable_of, opposite, same_literal}
 use Rattle.cqe_base.specs.Machine.{Assigned, assigned_literal, is_true, level, level_of}
 

@@ -7,3 +7,4 @@ pub mod Tallying
 pub mod TallySets
 pub mod Indexing
 pub mod IndexedStates
+pub mod NumberSets

@@ -1,4 +1,3 @@
-use Rattle.std.proofs.Common.{length}
 use Rattle.clause_solver.specs.Assigning.{code_of}
 use Rattle.clause_solver.proofs.Occurring.{note_map}
 use Rattle.clause_solver.proofs.occurrences.note.Goals as goal

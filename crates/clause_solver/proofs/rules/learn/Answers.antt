@@ -1,4 +1,4 @@
-use Rattle.std.proofs.Common.{◌≡◌, ◌<◌, ap, ◌∙◌, sym, subst}
+use Rattle.std.proofs.Common.{◌<◌, ap, ◌∙◌, sym, subst}
 use Rattle.std.specs.Prelude.{IfSome, not}
 use Rattle.std.specs.List.{find, filter}
 use Rattle.cqe_base.specs.Literal.{variable_of}

@@ -1,4 +1,4 @@
-use Rattle.std.proofs.Common.{◌≡◌, Option, Some, None, ℕ, reverse, refl, sym, ap, ◌∙◌, subst, arith}
+use Rattle.std.proofs.Common.{◌≡◌, reverse, sym, ap, ◌∙◌, subst}
 use Rattle.std.specs.Prelude.{IfSome, ◌<◌, false}
 use Rattle.cqe_base.specs.Machine.{first_unassigned}
 use Rattle.clause_solver.specs.Assigning.{Assigning, IsFirstZero, IsKept, is_assigned}

@@ -1,4 +1,4 @@
-use Rattle.std.proofs.Common.{◌≡◌, ◌<◌, ◌-◌, ◌∙◌, arith, ap, sym}
+use Rattle.std.proofs.Common.{◌-◌, ◌∙◌, arith}
 use Rattle.clause_solver.proofs.Latest.{latest_none, latest_some, get_is}
 use Rattle.clause_solver.proofs.assignment.Assignment.latest_against.Goals as goal
 

@@ -1,6 +1,6 @@
-use Rattle.std.proofs.Common.{◌≡◌, ◌<◌, get_or, sym, ap, ◌∙◌, arith}
+use Rattle.std.proofs.Common.{◌≡◌, get_or, sym, ap, ◌∙◌, arith}
 use Rattle.std.proofs.lemmas.List.{get_or_past, get_or_read}
-use Rattle.cqe_base.specs.Literal.{Positive, variable_of}
+use Rattle.cqe_base.specs.Literal.{Positive}
 use Rattle.cqe_base.specs.Machine.{level_of}
 use Rattle.clause_solver.specs.Assigning.{Assigning}
 use Rattle.clause_solver.proofs.Kept.{level_of-variable}

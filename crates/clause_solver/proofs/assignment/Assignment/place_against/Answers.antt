@@ -1,4 +1,4 @@
-use Rattle.std.proofs.Common.{◌≡◌, cond, true, false, Bool, ap, ◌∙◌, sym, subst}
+use Rattle.std.proofs.Common.{◌≡◌, cond, ap, ◌∙◌, sym, subst}
 use Rattle.cqe_base.specs.Literal.{variable_of}
 use Rattle.cqe_base.specs.Machine.{is_false}
 use Rattle.clause_solver.specs.Assigning.{Assigning, AssignsOnce, place_of, place_against}

@@ -1,5 +1,4 @@
-use Rattle.std.proofs.Common.{◌≡◌, ◌++◌, ◌∷◌, [], length, reverse, cond, sym, ap, ◌∙◌, subst, arith}
-use Rattle.std.specs.Option.{option_to_list}
+use Rattle.std.proofs.Common.{◌≡◌, ◌++◌, ◌∷◌, [], reverse, ap, ◌∙◌}
 use Rattle.cqe_base.specs.Literal.{variable_of}
 use Rattle.clause_solver.specs.Assigning.{code_of}
 use Rattle.clause_solver.proofs.Kept.{pop_kept, reverse_push}

@@ -3,8 +3,7 @@ use Rattle.cqe_base.specs.Literal.{opposite}
 use Rattle.cqe_base.specs.Machine.{assigned_literal}
 use Rattle.clause_solver.specs.Assigning.{code_of, Assigning}
 use Rattle.clause_solver.specs.Indexing.{IsIndexOf}
-use Rattle.clause_solver.specs.IndexedStates.{IsIndexed}
-use Rattle.clause_solver.proofs.Indexing.{true_room, false_room, falses_below, index_push, tallies-size}
+use Rattle.clause_solver.proofs.Indexing.{true_room, false_room, falses_below, index_push}
 use Rattle.clause_solver.proofs.indexed.Indexed.assign.Goals as goal
 use Rattle.clause_solver.proofs.indexed.Indexed.assign.Goals.{After-occurrences_of, After-occurrences_of-2}
 

@@ -1,6 +1,5 @@
-use Rattle.std.proofs.Common.{◌≡◌, ◌≤◌, sym, ap, ◌∙◌, arith}
-use Rattle.cqe_base.specs.Machine.{State, level, cut}
-use Rattle.clause_solver.specs.IndexedStates.{plain_of}
+use Rattle.std.proofs.Common.{◌≡◌, ◌≤◌, sym, ◌∙◌, arith}
+use Rattle.cqe_base.specs.Machine.{level, cut}
 use Rattle.clause_solver.proofs.Trails.{cut-low}
 use Rattle.clause_solver.proofs.indexed.Indexed.cut.Goals as goal
 

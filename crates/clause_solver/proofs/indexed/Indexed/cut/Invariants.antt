@@ -1,5 +1,5 @@
 use Rattle.std.proofs.Common.{◌≡◌, length}
-use Rattle.cqe_base.specs.Machine.{State, cut}
+use Rattle.cqe_base.specs.Machine.{cut}
 use Rattle.clause_solver.specs.IndexedStates.{plain_of, IsIndexed}
 use Rattle.clause_solver.proofs.indexed.Indexed.cut.Given as goal
 

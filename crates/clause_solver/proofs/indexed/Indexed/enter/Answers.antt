@@ -1,9 +1,8 @@
-use Rattle.std.proofs.Common.{◌≡◌, ◌<◌, ◌++◌, ◌∷◌, [], List, ℕ, length, map, ap, ◌∙◌, sym, subst, arith, get_or, replicate, count_by}
+use Rattle.std.proofs.Common.{◌≡◌, ◌++◌, ◌∷◌, [], length, map, ap, ◌∙◌, sym, arith, get_or, replicate, count_by}
 use Rattle.std.specs.Vec.{with_items}
 use Rattle.std.proofs.lemmas.List.{length-map, with_items_is}
 use Rattle.cqe_base.specs.Literal.{same_literal}
 use Rattle.clause_solver.specs.Assigning.{code_of}
-use Rattle.clause_solver.specs.IndexedStates.{IsIndexed}
 use Rattle.clause_solver.proofs.Indexing.{index_enter}
 use Rattle.clause_solver.proofs.indexed.Indexed.enter.Goals as goal
 

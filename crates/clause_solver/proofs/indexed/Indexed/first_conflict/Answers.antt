@@ -1,5 +1,3 @@
-use Rattle.std.proofs.Common.{◌≡◌, ap, ◌∙◌, sym}
-use Rattle.std.specs.List.{position_from}
 use Rattle.clause_solver.specs.Tallying.{is_falsified}
 use Rattle.clause_solver.proofs.Lookups.{first_falsified, number-within}
 use Rattle.clause_solver.proofs.indexed.Indexed.first_conflict.Goals as goal

@@ -1,8 +1,5 @@
-use Rattle.std.proofs.Common.{◌≡◌, ◌<◌, ◌+◌, ℕ, [], Some, None, not, length, get_or, refl, ap, ◌∙◌, sym, subst, arith}
-use Rattle.std.specs.List.{find}
-use Rattle.std.proofs.lemmas.List.{get_or_read}
-use Rattle.cqe_base.specs.Literal.{Literal, variable_of}
-use Rattle.cqe_base.specs.Machine.{is_false, first_unit}
+use Rattle.std.proofs.Common.{◌≡◌, ◌<◌, Some, None, length, refl, ap, ◌∙◌, sym, subst, arith}
+use Rattle.cqe_base.specs.Literal.{variable_of}
 use Rattle.clause_solver.specs.Assigning.{is_assigned}
 use Rattle.clause_solver.proofs.Lookups.{UnitPlace, first_unit_some, first_unit_none, unit_found}
 use Rattle.clause_solver.proofs.indexed.Indexed.first_unit.Goals as goal

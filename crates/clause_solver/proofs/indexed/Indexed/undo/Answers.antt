@@ -1,9 +1,7 @@
-use Rattle.std.proofs.Common.{◌≡◌, [], ◌∷◌, ℕ, List, length, map, get_or, ap, ◌∙◌, sym, subst}
+use Rattle.std.proofs.Common.{[], ◌∷◌, ℕ, List, map, get_or, ap, ◌∙◌, subst}
 use Rattle.cqe_base.specs.Literal.{opposite}
-use Rattle.cqe_base.specs.Machine.{assigned_literal}
 use Rattle.clause_solver.specs.Assigning.{code_of, Assigning}
 use Rattle.clause_solver.specs.Indexing.{IsIndexOf}
-use Rattle.clause_solver.specs.IndexedStates.{IsIndexed}
 use Rattle.clause_solver.proofs.Indexing.{index_pop}
 use Rattle.clause_solver.proofs.indexed.Indexed.undo.Goals as goal
 

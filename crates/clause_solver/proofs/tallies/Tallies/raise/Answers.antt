@@ -1,4 +1,4 @@
-use Rattle.std.proofs.Common.{◌≡◌, ℕ, ◌<◌, ◌+◌, eqb, length, get_or, take, count_by, refl, sym, ap, ◌∙◌, subst, arith}
+use Rattle.std.proofs.Common.{◌≡◌, ℕ, ◌<◌, length, get_or, refl, sym, ap, ◌∙◌, subst, arith}
 use Rattle.std.proofs.lemmas.List.{get_or_read, length-set}
 use Rattle.clause_solver.specs.declared.tallies.Tally.{Tally}
 use Rattle.clause_solver.specs.Tallying.{counted, raised, no_tally}
