@@ -1,10 +1,12 @@
 // The search machine.
 //
 // `search` answers the machine's end, a model or a refutation, or Spent exactly where the machine's whole cost is above the budget.
-// Its contract is the machine itself, step for step, so a faster body changes no word above it.
+// It keeps for each literal the clauses in which it stands, for each clause the counts of its true and false literals, and the sets
+// of the falsified and of the unit clauses. That these are those of the trail is `IsIndexed` (specs/IndexedStates.antt).
 // `laws::search_plain` is the plain program of the same contract: it scans the clauses and the trail at each step.
 //
-// Read `entry` and `ends`, then `plain` with `trail`, `scan`, `conflict`, `state` and `run`.
+// Read `entry` and `ends`, then `assignment`, `number_set`, `tallies` and `occurrences`, then `indexed`, `analysis`, `rules` and
+// `run`. `plain` stands alone.
 #![tactic(auto)]
 
 mod analysis;
