@@ -1,7 +1,7 @@
 -- One more entry of a trail whose latest entry is last.
 use Rattle.std.proofs.Common.{◌≡◌, ℕ, suc, Option, subst, arith, map, append_assoc, ◌+◌, ◌-◌, ◌<◌, ◌≤◌, Bool, true, false, cond, eqb, List, [], ◌∷◌, ◌++◌, length, reverse, get_or, take, refl, sym, ap, ◌∙◌}
 use Rattle.std.specs.List.{range_with_len, position_from, list_all}
-use Rattle.clause_solver.specs.declared.state.Advance.{Advance}
+use Rattle.clause_solver.specs.declared.ends.Advance.{Advance}
 use Rattle.clause_solver.specs.PlainStates.{StepIs}
 use Rattle.std.proofs.lemmas.List.{take_more, reverse-append}
 use Rattle.std.proofs.lemmas.Bool.{both_ways, le-leb, lt-ltb}

@@ -2,11 +2,11 @@
 use Rattle.std.specs.Prelude.{◌≡◌, reverse, map, Option, Some, None}
 use Rattle.cqe_base.specs.Machine.{State as PlainState, Step, Continues, Ends, End, Model, Refuted as MachineRefuted}
 use Rattle.clause_store.specs.PlainLines.{line_of, lines_of}
-use Rattle.clause_solver.specs.declared.state.State.{State}
-use Rattle.clause_solver.specs.declared.run.Found.{Found}
-use Rattle.clause_solver.specs.declared.run.Found.TheVariants.{Model as ModelFound, Refuted as RefutationFound, Spent}
-use Rattle.clause_solver.specs.declared.state.Advance.{Advance}
-use Rattle.clause_solver.specs.declared.state.Advance.TheVariants.{Went, Refuted, Satisfied}
+use Rattle.clause_solver.specs.declared.plain.state.State.{State}
+use Rattle.clause_solver.specs.declared.ends.Found.{Found}
+use Rattle.clause_solver.specs.declared.ends.Found.TheVariants.{Model as ModelFound, Refuted as RefutationFound, Spent}
+use Rattle.clause_solver.specs.declared.ends.Advance.{Advance}
+use Rattle.clause_solver.specs.declared.ends.Advance.TheVariants.{Went, Refuted, Satisfied}
 
 -- a state as plain data
 abbrev pub state_of : State → PlainState

@@ -1,15 +1,31 @@
-// The search machine by plain scanning.
+// The search machine.
 //
 // `search` answers the machine's end, a model or a refutation, or Spent exactly where the machine's whole cost is above the budget.
-// Its contract is the machine itself, step for step, so a faster body changes no word above it.
+// It keeps for each literal the clauses in which it stands, for each clause the counts of its true and false literals, and the sets
+// of the falsified and of the unit clauses. That these are those of the trail is `IsIndexed` (specs/IndexedStates.antt).
+// `laws::search_plain` is the plain program of the same contract: it scans the clauses and the trail at each step.
 //
-// Read `trail`, `scan`, `conflict`, `state`, and then `run`.
+// Read `entry` and `ends`, then `assignment`, `number_set`, `tallies` and `occurrences`, then `indexed`, `analysis`, `rules` and
+// `run`. `plain` stands alone.
 #![tactic(auto)]
 
-mod conflict;
+mod analysis;
+mod assignment;
+mod codes;
+mod conditions;
+mod ends;
+mod entry;
+mod indexed;
+pub mod laws;
+mod number_set;
+mod occurrences;
+mod plain;
+mod rules;
 mod run;
-mod scan;
-mod state;
-mod trail;
+#[cfg(test)]
+mod same_tests;
+mod tallies;
 
-pub use run::{Found, search};
+pub use conditions::is_searchable;
+pub use ends::Found;
+pub use run::search;

@@ -1,20 +1,31 @@
 // The run of the machine within a budget.
 ghost use Rattle.std.specs.Prelude.{◌≡◌, ◌<◌, ◌^◌, ◌+◌, length, IfOk};
 ghost use Rattle.cqe_base.specs.Literal.{ClausesBelow, HaveNoRepeat};
-ghost use Rattle.cqe_base.specs.Machine.{end_within_budget};
+ghost use Rattle.cqe_base.specs.Machine.{end_within_budget, start};
 ghost use Rattle.clause_solver.specs.PlainStates.{found_of};
+ghost use Rattle.clause_solver.specs.IndexedStates.{plain_of, IsIndexed};
 
-use crate::state::{Advance, State, step};
+use crate::ends::{Advance, Found};
+use crate::indexed::Indexed;
+use crate::rules::step;
 use clause_store::clauses::Clauses;
-use clause_store::refutation::{Refutation, Signs};
+use clause_store::refutation::Refutation;
 use std::alloc::{AllocError, Global};
 
-/// What a search found within its budget.
-#[derive(Drop)]
-pub enum Found {
-    Model(Signs),
-    Refuted(Refutation),
-    Spent,
+/// The state with these clauses, before the first step.
+fn begin(alloc: Global, clauses: &Clauses, variables: u32) -> Result<Indexed, AllocError>
+    requires variables { variables < 2 ^ 31 }
+    requires below { ClausesBelow variables clauses.now }
+    requires room { length clauses.now < 2 ^ 32 }
+    ensures plain { IfOk result (λ s. plain_of s ≡ start clauses.now) }
+    ensures variables { IfOk result (λ s. s.assignment.variables ≡ variables) }
+    ensures indexed { IfOk result (λ s. IsIndexed s) }
+{
+    let mut state = Indexed::new(alloc, variables)?;
+    for number in 0..clauses.len() {
+        state.enter(clauses.clause(number))?;
+    }
+    Ok(state)
 }
 
 /// The machine's end, or Spent exactly where its whole cost is above the budget.
@@ -30,11 +41,7 @@ pub fn search(
     requires room { length clauses.now + budget < 2 ^ 32 }
     ensures { IfOk result (λ found. found_of found ≡ end_within_budget clauses.now variables budget) }
 {
-    let mut state = State {
-        clauses: clauses.copy(alloc)?,
-        trail: Vec::new(alloc),
-        lines: Vec::new(alloc),
-    };
+    let mut state = begin(alloc, clauses, variables)?;
     let mut left = budget;
     for steps in 0..budget {
         match step(alloc, &mut state, variables)? {

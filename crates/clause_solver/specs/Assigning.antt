@@ -1,0 +1,59 @@
+-- A trail over numbered variables, and what is kept of it at hand.
+use Rattle.std.specs.Prelude.{◌≡◌, ℕ, suc, ◌<◌, ◌≤◌, ◌+◌, ◌*◌, Bool, true, false, ◌==◌, if◌then◌else◌, List, [], ◌∷◌, length, max, Option, Some, None, slice_index_or}
+use Rattle.cqe_base.specs.Literal.{Literal, Positive, Negative, variable_of, opposite, same_literal}
+use Rattle.cqe_base.specs.Machine.{Assigned, assigned_literal, is_true, level, level_of}
+
+-- a trail, and how many variables there are
+pub record Assigning : Type 0 where
+  pub variables : ℕ
+  pub trail : List Assigned
+
+-- whether a variable is on the trail
+abbrev pub is_assigned : List Assigned → ℕ → Bool
+is_assigned [] v = false
+is_assigned (a ∷ trail) v = if v == variable_of (assigned_literal a) then true else is_assigned trail v
+
+-- the trail's variables are below n, and each is there once
+abbrev pub AssignsOnce : ℕ → List Assigned → Type 0
+AssignsOnce n [] = Unit {0}
+AssignsOnce n (a ∷ trail) =
+    (variable_of (assigned_literal a) < n) × (is_assigned trail (variable_of (assigned_literal a)) ≡ false) × AssignsOnce n trail
+
+-- how long the trail is up to and with a variable, and 0 where that isn't assigned
+abbrev pub place_of : List Assigned → ℕ → ℕ
+place_of [] v = 0
+place_of (a ∷ trail) v = if v == variable_of (assigned_literal a) then suc (length trail) else place_of trail v
+
+-- how long the trail is up to and with the opposite of a literal, and 0 where that isn't on it
+abbrev pub place_against : List Assigned → Literal → ℕ
+place_against [] l = 0
+place_against (a ∷ trail) l = if same_literal (opposite l) (assigned_literal a) then suc (length trail) else place_against trail l
+
+-- and the longest such part for a clause
+abbrev pub latest_place : List Assigned → List Literal → ℕ
+latest_place trail [] = 0
+latest_place trail (l ∷ clause) = max (place_against trail l) (latest_place trail clause)
+
+-- a number for each literal: twice its variable, and one more where it is negated
+abbrev pub code_of : Literal → ℕ
+code_of (Positive v) = 2 * v
+code_of (Negative v) = 2 * v + 1
+
+-- the truth of each literal, the level and the place of each variable, the level, and a number below which each variable is assigned are those of the trail
+pub record IsKept (n : ℕ) (trail : List Assigned) (truths : List Bool) (levels places : List ℕ) (decisions next : ℕ) : Type 0 where
+  pub once : AssignsOnce n trail
+  pub truths_room : length truths ≡ 2 * n
+  pub levels_room : length levels ≡ n
+  pub places_room : length places ≡ n
+  pub true_at : (l : Literal) → slice_index_or truths (code_of l) false ≡ is_true trail l
+  pub level_at : (v : ℕ) → slice_index_or levels v 0 ≡ level_of trail (Positive v)
+  pub place_at : (v : ℕ) → slice_index_or places v 0 ≡ place_of trail v
+  pub level_is : decisions ≡ level trail
+  pub assigned_below : (v : ℕ) → v < next → is_assigned trail v ≡ true
+  pub next_room : next ≤ n
+
+-- the first number from one up to another at which a list has 0
+abbrev pub IsFirstZero : List ℕ → ℕ → ℕ → Option ℕ → Type 0
+IsFirstZero xs start end None = (k : ℕ) → start ≤ k → k < end → slice_index_or xs k 0 ≡ 0 → ⊥
+IsFirstZero xs start end (Some i) =
+    (start ≤ i) × (i < end) × (slice_index_or xs i 0 ≡ 0) × ((k : ℕ) → start ≤ k → k < i → slice_index_or xs k 0 ≡ 0 → ⊥)

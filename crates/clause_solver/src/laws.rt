@@ -1,0 +1,3 @@
+// The plain program of the machine.
+
+pub use crate::plain::run::search_plain;

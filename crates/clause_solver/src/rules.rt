@@ -1,0 +1,144 @@
+// The rules of the machine on the state with its counts.
+
+ghost use Rattle.std.specs.Prelude.{◌≡◌, ◌<◌, ◌≤◌, ◌^◌, ◌+◌, ℕ, false, [], ◌∷◌, ◌++◌, length, map, IfOk, IfSome};
+ghost use Rattle.cqe_base.specs.Literal.{Literal, Negative, variable_of, ClauseBelow};
+ghost use Rattle.cqe_base.specs.Machine.{State as PlainState, state_after_conflict, step, with_asserted, level, signs_of, conflict_step, decide_step, first_unassigned, unit_step, first_unit};
+ghost use Rattle.clause_store.specs.PlainLines.{line_of};
+ghost use Rattle.clause_solver.specs.Assigning.{is_assigned};
+ghost use Rattle.clause_solver.specs.PlainStates.{StepIs};
+ghost use Rattle.clause_solver.specs.IndexedStates.{plain_of, IsIndexed};
+
+use crate::analysis::{back_level, conflict_line, first_current};
+use crate::assignment::Assignment;
+use crate::ends::Advance;
+use crate::entry::Entry;
+use crate::indexed::Indexed;
+use clause_store::literal::Lit;
+use clause_store::refutation::{Line, Signs};
+use std::alloc::{AllocError, Global};
+
+/// A literal joins the trail because of a clause.
+fn assert_literal(state: &mut Indexed, number: u32, literal: Option<Lit>) -> Result<(), AllocError>
+    requires below { IfSome literal (λ l. variable_of l < state.old.assignment.variables) }
+    requires free { IfSome literal (λ l. is_assigned state.old.assignment.trail (variable_of l) ≡ false) }
+    requires indexed { IsIndexed state.old }
+    ensures plain { IfOk result (λ _. plain_of state.new ≡ record (plain_of state.old) { trail = with_asserted number literal state.old.assignment.trail }) }
+    ensures variables { IfOk result (λ _. state.new.assignment.variables ≡ state.old.assignment.variables) }
+    ensures indexed { IfOk result (λ _. IsIndexed state.new) }
+{
+    match literal {
+        Some(l) => state.assign(Entry::because(number, l)),
+        None => Ok(()),
+    }
+}
+
+/// A line's clause is learnt.
+fn learn(state: &mut Indexed, line: Line) -> Result<(), AllocError>
+    requires room { length state.old.clauses < 2 ^ 32 }
+    requires level { 0 < level state.old.assignment.trail }
+    requires below { ClauseBelow state.old.assignment.variables line.clause.items }
+    requires indexed { IsIndexed state.old }
+    ensures plain { IfOk result (λ _. plain_of state.new ≡ state_after_conflict (plain_of state.old) (line_of line)) }
+    ensures variables { IfOk result (λ _. state.new.assignment.variables ≡ state.old.assignment.variables) }
+    ensures indexed { IfOk result (λ _. IsIndexed state.new) }
+{
+    let number = state.clauses.len() as u32;
+    let asserting = first_current(&state.assignment, &line.clause);
+    let back = back_level(&state.assignment, &line.clause);
+    state.cut(back);
+    assert_literal(state, number, asserting)?;
+    state.enter(&line.clause)?;
+    state.lines.push(line)?;
+    Ok(())
+}
+
+/// The first rule, at the clause of this number.
+fn conflict_step(alloc: Global, state: &mut Indexed, number: usize) -> Result<Advance, AllocError>
+    requires number { number < length state.old.clauses }
+    requires room { length state.old.clauses < 2 ^ 32 }
+    requires indexed { IsIndexed state.old }
+    ensures step { IfOk result (λ a. StepIs (conflict_step (plain_of state.old) number) a (plain_of state.new)) }
+    ensures grows { IfOk result (λ _. length state.new.clauses ≤ length state.old.clauses + 1) }
+    ensures variables { IfOk result (λ _. state.new.assignment.variables ≡ state.old.assignment.variables) }
+    ensures indexed { IfOk result (λ _. IsIndexed state.new) }
+{
+    let line = conflict_line(alloc, &state.clauses, &state.assignment, number)?;
+    let cost = line.chain.len() as u64 + line.clause.len() as u64;
+    if state.assignment.level() == 0 {
+        state.lines.push(line)?;
+        return Ok(Advance::Refuted(cost));
+    }
+    learn(state, line)?;
+    Ok(Advance::Went(cost))
+}
+
+/// The signs of the variables.
+fn signs_of(alloc: Global, assignment: &Assignment, variables: u32) -> Result<Vec<bool>, AllocError>
+    requires { variables < 2 ^ 31 }
+    ensures { IfOk result (λ signs. signs.items ≡ signs_of assignment.now.trail variables) }
+{
+    let mut signs = Vec::with_capacity(alloc, variables as usize)?;
+    for v in 0..variables {
+        signs.push(assignment.is_true(Lit::positive(v)))?;
+    }
+    Ok(signs)
+}
+
+/// The third rule, or else the fourth.
+fn decide_step(alloc: Global, state: &mut Indexed, variables: u32) -> Result<Advance, AllocError>
+    requires variables { variables < 2 ^ 31 }
+    requires same { state.old.assignment.variables ≡ variables }
+    requires indexed { IsIndexed state.old }
+    ensures step { IfOk result (λ a. StepIs (decide_step variables (plain_of state.old) (first_unassigned state.old.assignment.trail variables)) a (plain_of state.new)) }
+    ensures grows { IfOk result (λ _. length state.new.clauses ≤ length state.old.clauses + 1) }
+    ensures variables { IfOk result (λ _. state.new.assignment.variables ≡ state.old.assignment.variables) }
+    ensures indexed { IfOk result (λ _. IsIndexed state.new) }
+{
+    match state.assignment.first_unassigned() {
+        Some(v) => {
+            state.assign(Entry::decided(Lit::negative(v)))?;
+            Ok(Advance::Went(1))
+        }
+        None => {
+            let values = signs_of(alloc, &state.assignment, variables)?;
+            Ok(Advance::Satisfied(1, Signs { values }))
+        }
+    }
+}
+
+/// The second rule, or else the others.
+fn unit_step(alloc: Global, state: &mut Indexed, variables: u32) -> Result<Advance, AllocError>
+    requires variables { variables < 2 ^ 31 }
+    requires same { state.old.assignment.variables ≡ variables }
+    requires room { length state.old.clauses < 2 ^ 32 }
+    requires indexed { IsIndexed state.old }
+    ensures step { IfOk result (λ a. StepIs (unit_step variables (plain_of state.old) (first_unit state.old.assignment.trail 0 state.old.clauses)) a (plain_of state.new)) }
+    ensures grows { IfOk result (λ _. length state.new.clauses ≤ length state.old.clauses + 1) }
+    ensures variables { IfOk result (λ _. state.new.assignment.variables ≡ state.old.assignment.variables) }
+    ensures indexed { IfOk result (λ _. IsIndexed state.new) }
+{
+    match state.first_unit() {
+        Some((number, literal)) => {
+            state.assign(Entry::because(number as u32, literal))?;
+            Ok(Advance::Went(1))
+        }
+        None => decide_step(alloc, state, variables),
+    }
+}
+
+/// One step of the machine.
+pub fn step(alloc: Global, state: &mut Indexed, variables: u32) -> Result<Advance, AllocError>
+    requires variables { variables < 2 ^ 31 }
+    requires same { state.old.assignment.variables ≡ variables }
+    requires room { length state.old.clauses < 2 ^ 32 }
+    requires indexed { IsIndexed state.old }
+    ensures step { IfOk result (λ a. StepIs (step variables (plain_of state.old)) a (plain_of state.new)) }
+    ensures grows { IfOk result (λ _. length state.new.clauses ≤ length state.old.clauses + 1) }
+    ensures variables { IfOk result (λ _. state.new.assignment.variables ≡ state.old.assignment.variables) }
+    ensures indexed { IfOk result (λ _. IsIndexed state.new) }
+{
+    match state.first_conflict() {
+        Some(number) => Ok(conflict_step(alloc, state, number)?),
+        None => Ok(unit_step(alloc, state, variables)?),
+    }
+}
