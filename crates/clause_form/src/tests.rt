@@ -1,8 +1,11 @@
 // Clause forms as an independent program gave them, the shorter ones worked out by hand too.
-ghost use Rattle.std.specs.Prelude.{◌≡◌, ◌<◌, ◌+◌, ◌^◌, map, IfSome, IsTrue};
+ghost use Rattle.std.specs.Prelude.{◌≡◌, ◌<◌, ◌+◌, ◌^◌, true, [], ◌∷◌, map, IfOk, IfSome, IsTrue};
 ghost use Rattle.cqe_base.specs.Ground.{parts_of, ground_of, ground_nodes, part_nodes};
+ghost use Rattle.clause_form.specs.Forms.{form_of};
 
 use crate::former::Former;
+use crate::former::tested::are_facts_of;
+use crate::laws::law_added_forms_grow;
 use clause_store::clauses::Clauses;
 use clause_store::refutation::Signs;
 use cqe_base::prop::Prop;
@@ -219,6 +222,127 @@ fn forms_are_those_of_the_table(rt: HostRuntime) -> Result<(), Fail> {
         assert_eq!(rt; former.variables(), variables, "{formulas}");
         let clauses = clauses_text(alloc, former.clauses())?;
         assert_eq!(rt; clauses.as_str(), wanted, "{formulas}");
+    }
+    Ok(())
+}
+
+/// Adds a formula to an empty former and then the negation of another, and goes back behind the first.
+fn there_and_back(
+    rt: &impl Abort,
+    alloc: Global,
+    first: &Prop,
+    second: &Prop,
+) -> Result<Former, Fail>
+    ensures { IfOk result (λ former. former ≡ form_of ((ground_of first.now, true) ∷ [])) }
+{
+    law_added_forms_grow();
+    let mut former = Former::new(alloc)?;
+    assert!(rt; has_room(former.variables(), first));
+    former.add(alloc, first, true)?;
+    let mark = former.mark();
+    assert!(rt; has_room(former.variables(), second));
+    former.add(alloc, second, false)?;
+    former.cut(mark);
+    Ok(former)
+}
+
+/// A former that was cut has no trace of what was added behind the mark, and numbers what is added next as if that had never been.
+#[test]
+fn cuts_go_back(rt: HostRuntime) -> Result<(), Fail> {
+    let alloc = rt.alloc();
+    let first = formula(alloc, "10 11 and:2")?;
+    let second = formula(alloc, "12 11 -> 13 <->")?;
+    let mut former = there_and_back(&rt, alloc, &first, &second)?;
+    let clauses = clauses_text(alloc, former.clauses())?;
+    assert_eq!(rt; clauses.as_str(), "1, -4 2, -4 3, 4 -2 -3, 4");
+    assert_eq!(rt; former.variables(), 4);
+    add(&rt, alloc, &mut former, "- 13 11 or:2")?;
+    let clauses = clauses_text(alloc, former.clauses())?;
+    assert_eq!(rt;
+        clauses.as_str(),
+        "1, -4 2, -4 3, 4 -2 -3, 4, 6 -5, 6 -3, -6 5 3, -6"
+    );
+    assert_eq!(rt; former.variables(), 6);
+    Ok(())
+}
+
+/// A copy that goes on leaves the former as it was.
+#[test]
+fn copies_go_on_alone(rt: HostRuntime) -> Result<(), Fail> {
+    let alloc = rt.alloc();
+    let mut former = Former::new(alloc)?;
+    add(&rt, alloc, &mut former, "+ 10 11 ->")?;
+    let mut copy = former.copy(alloc)?;
+    add(&rt, alloc, &mut copy, "+ 11")?;
+    add(&rt, alloc, &mut former, "- 12 10 or:2")?;
+    assert_eq!(rt;
+        clauses_text(alloc, copy.clauses())?.as_str(),
+        "1, 4 2, 4 -3, -4 -2 3, 4, 3"
+    );
+    assert_eq!(rt;
+        clauses_text(alloc, former.clauses())?.as_str(),
+        "1, 4 2, 4 -3, -4 -2 3, 4, 6 -5, 6 -2, -6 5 2, -6"
+    );
+    assert_eq!(rt; (copy.variables(), former.variables()), (4, 6));
+    Ok(())
+}
+
+/// Two persons, `drug(person)` and `hiv(person)`.
+fn hospital(alloc: Global) -> Result<Schema, Fail> {
+    let mut persons = Vec::new(alloc);
+    persons.push(String::from_str(alloc, "ann")?)?;
+    persons.push(String::from_str(alloc, "bob")?)?;
+    let mut domains = Vec::new(alloc);
+    domains.push((String::from_str(alloc, "person")?, persons))?;
+    let mut relations = Vec::new(alloc);
+    for name in ["drug", "hiv"] {
+        let mut columns = Vec::new(alloc);
+        columns.push(String::from_str(alloc, "person")?)?;
+        relations.push((String::from_str(alloc, name)?, columns))?;
+    }
+    Ok(Schema::new(alloc, domains, relations)?)
+}
+
+/// The facts of the world of these signs, each by its relation and person, with a blank in front.
+fn world_text(
+    rt: &impl Abort,
+    alloc: Global,
+    former: &Former,
+    schema: &Schema,
+    digits: &str,
+) -> Result<String, Fail> {
+    let mut values = Vec::new(alloc);
+    for digit in digits.bytes() {
+        values.push(digit == b'1')?;
+    }
+    assert!(rt; are_facts_of(former, schema));
+    let world = former.world_of(alloc, schema, &Signs { values })?;
+    let mut text = String::new(alloc);
+    for fact in world.facts() {
+        let [person, ..] = fact.columns;
+        write!(text, " {}{person}", fact.relation)?;
+    }
+    Ok(text)
+}
+
+/// The numbers are 1 of 10, 2 of 01, 3 of the conjunction and 4 of 00; a variable without a sign is false.
+#[test]
+fn worlds_have_the_true_facts(rt: HostRuntime) -> Result<(), Fail> {
+    let alloc = rt.alloc();
+    let schema = hospital(alloc)?;
+    let mut former = Former::new(alloc)?;
+    add(&rt, alloc, &mut former, "+ 10 01 and:2, - 00 10 not or:2")?;
+    for (signs, wanted) in [
+        ("111111", " 00 01 10"),
+        ("110101", " 10"),
+        ("101100", " 01"),
+        ("000010", " 00"),
+        ("111", " 01 10"),
+        ("1", ""),
+        ("", ""),
+    ] {
+        let text = world_text(&rt, alloc, &former, &schema, signs)?;
+        assert_eq!(rt; text.as_str(), wanted, "{signs}");
     }
     Ok(())
 }

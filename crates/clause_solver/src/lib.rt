@@ -10,6 +10,8 @@ mod conflict;
 mod run;
 mod scan;
 mod state;
+#[cfg(test)]
+mod tests;
 mod trail;
 
 pub use run::{Found, search};
