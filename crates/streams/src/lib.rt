@@ -1,0 +1,77 @@
+//! The standard streams as a source and as sinks, for programs.
+//!
+//! They aren't told to clauses, since nobody knows what they will give and what becomes of what they take. A call that
+//! fails is counted and isn't tried again, so a program may answer a fault only where there was one.
+#![tactic(auto)]
+
+ghost use Rattle.std.specs.Prelude.{[]};
+
+use outside::{Failed, Sink, Source};
+use std::io::{Read, Write};
+
+/// A reader as a source. A call that fails is counted and isn't tried again.
+#[derive(Drop)]
+pub struct StreamSource<R> {
+    input: R,
+    faults: u64,
+}
+
+impl<R> StreamSource<R> {
+    pub fn new(input: R) -> Self {
+        StreamSource { input, faults: 0 }
+    }
+}
+
+impl<R: Read> Source for StreamSource<R> {
+    ghost told = { ⊥ };
+
+    ghost held = { λ source. [] };
+
+    ghost left = { λ source. [] };
+
+    ghost faults = { λ source. source.faults };
+
+    ghost left_of_held = { λ source told. absurd told };
+
+    fn take(&mut self, into: &mut [u8]) -> Result<usize, Failed> {
+        match self.input.read(into) {
+            Ok(count) => Ok(count),
+            Err(_) => {
+                self.faults = self.faults.saturating_add(1);
+                Err(Failed)
+            }
+        }
+    }
+}
+
+/// A writer as a sink. A call that fails is counted and isn't tried again. Nothing is kept back between two calls, so
+/// nothing has to be flushed at the end.
+#[derive(Drop)]
+pub struct StreamSink<W> {
+    output: W,
+    faults: u64,
+}
+
+impl<W> StreamSink<W> {
+    pub fn new(output: W) -> Self {
+        StreamSink { output, faults: 0 }
+    }
+}
+
+impl<W: Write> Sink for StreamSink<W> {
+    ghost told = { ⊥ };
+
+    ghost written = { λ sink. [] };
+
+    ghost faults = { λ sink. sink.faults };
+
+    fn give(&mut self, bytes: &[u8]) -> Result<usize, Failed> {
+        match self.output.write(bytes) {
+            Ok(count) if count > 0 || bytes.is_empty() => Ok(count),
+            _ => {
+                self.faults = self.faults.saturating_add(1);
+                Err(Failed)
+            }
+        }
+    }
+}
