@@ -1,6 +1,5 @@
 -- The numbers of a line, one after the other.
 use Rattle.std.proofs.Common.{◌≡◌, List, ◌∷◌, sym, ap, ◌∙◌}
-use Rattle.std.specs.Prelude.{Ok, Err}
 use Rattle.cqe_base.specs.Schema.{Text}
 use Rattle.dimacs_text.specs.Words.{entry_in}
 use Rattle.dimacs_text.specs.Dimacs.{Problem, Step, with_entry, with_entries, then_step}

@@ -1,5 +1,5 @@
 -- Clauses in memory that can be searched.
-use Rattle.std.specs.Prelude.{ℕ, ◌≤◌, length}
+use Rattle.std.specs.Prelude.{◌≤◌, length}
 use Rattle.cqe_base.specs.Literal.{ClausesBelow, HaveNoRepeat}
 use Rattle.dimacs_text.specs.Dimacs.{Cnf}
 use Rattle.dimacs_text.specs.declared.cnf.Cnf.TheInside.{Inside}

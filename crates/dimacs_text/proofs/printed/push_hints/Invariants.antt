@@ -1,4 +1,4 @@
-use Rattle.std.proofs.Common.{◌≡◌, ◌++◌, reverse, map}
+use Rattle.std.proofs.Common.{◌≡◌, ◌++◌, reverse}
 use Rattle.std.specs.Prelude.{string_bytes}
 use Rattle.dimacs_text.specs.Printed.{hints_text}
 use Rattle.dimacs_text.proofs.printed.push_hints.Given as goal

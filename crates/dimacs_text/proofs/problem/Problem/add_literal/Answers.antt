@@ -1,4 +1,4 @@
-use Rattle.std.proofs.Common.{rules, ◌≡◌, ◌<◌, ◌++◌, ◌∷◌, [], false, sym, ap, subst, ◌∙◌}
+use Rattle.std.proofs.Common.{rules, ◌≡◌, ◌<◌, false, sym, subst}
 use Rattle.cqe_base.specs.Literal.{variable_of, has_literal}
 use Rattle.dimacs_text.specs.Dimacs.{Problem}
 use Rattle.dimacs_text.specs.Sound.{variables_in}

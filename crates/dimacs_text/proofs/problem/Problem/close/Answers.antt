@@ -1,5 +1,4 @@
-use Rattle.std.proofs.Common.{rules, ◌≡◌, ◌<◌, ◌++◌, ◌∷◌, [], length, ap, ◌∙◌, arith}
-use Rattle.cqe_base.specs.Literal.{Literal}
+use Rattle.std.proofs.Common.{rules, ◌≡◌, ◌<◌, ◌++◌, ◌∷◌, [], length, arith}
 use Rattle.dimacs_text.specs.Inside.{problem_inside}
 use Rattle.dimacs_text.proofs.Additions.{clause_closed}
 use Rattle.dimacs_text.proofs.problem.Problem.close.Goals as goal
