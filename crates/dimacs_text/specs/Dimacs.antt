@@ -52,6 +52,7 @@ with_comment p _ = Ok p
 
 -- ---- the problem line
 
+-- a problem line with these two numbers, where both are numbers
 abbrev pub header_of : Option ℕ → Option ℕ → Option Header
 header_of (Some variables) (Some clauses) = Some (record { variables = variables; clauses = clauses })
 header_of _ _ = None
@@ -71,6 +72,7 @@ with_header p (Some header) =
 
 -- ---- clauses
 
+-- the literal of a variable, or its negation
 abbrev pub literal_of : Bool → ℕ → Literal
 literal_of true variable = Negative variable
 literal_of false variable = Positive variable
@@ -94,6 +96,7 @@ abbrev pub with_entry_of : Option Header → Problem → Entry → Step
 with_entry_of None p entry = Err Order
 with_entry_of (Some header) p entry = with_number header p entry.is_negative entry.number
 
+-- a word of a line of numbers
 abbrev pub with_entry : Problem → Option Entry → Step
 with_entry p None = Err NotALine
 with_entry p (Some entry) = with_entry_of p.header p entry
@@ -134,6 +137,7 @@ pub record Cnf : Type 0 where
   pub budget : ℕ
   pub lrat : Bool
 
+-- the clauses and options of a problem; where no budget is said it is 1,000,000
 abbrev pub cnf_of : Problem → Header → Cnf
 cnf_of p header = record { variables = header.variables; clauses = p.clauses; budget = unwrap_or p.budget 1000000; lrat = p.lrat }
 

@@ -16,6 +16,7 @@ use Rattle.dimacs_text.specs.declared.ending.Ending.TheVariants.{Answered, Refus
 abbrev pub end_of : Cnf → Option MachineEnd
 end_of cnf = end_within_budget cnf.clauses cnf.variables cnf.budget
 
+-- what the end of the machine, or a spent budget, says of the clauses
 abbrev pub verdict_of : Option MachineEnd → Verdict
 verdict_of None = Unknown
 verdict_of (Some (Model signs)) = Satisfiable

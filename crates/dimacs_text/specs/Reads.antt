@@ -38,10 +38,12 @@ IsFinished finished (reading.Refused refusal) = finished ≡ Err refusal
 IsFinished finished reading.Fault = ⊥
 IsFinished finished reading.Memory = ⊥
 
+-- whether reading a file ended with a fault of the source
 abbrev pub is_read_fault : Reading → Bool
 is_read_fault reading.Fault = true
 is_read_fault _ = false
 
+-- and whether reading a line did
 abbrev pub is_next_fault : NextLine → Bool
 is_next_fault next.Fault = true
 is_next_fault _ = false

@@ -4,7 +4,7 @@
 //! fails is counted and isn't tried again, so a program may answer a fault only where there was one.
 #![tactic(auto)]
 
-ghost use Rattle.std.specs.Prelude.{[]};
+ghost use Rattle.std.specs.Prelude.{◌≡◌, []};
 
 use outside::{Failed, Sink, Source};
 use std::io::{Read, Write};
@@ -17,7 +17,10 @@ pub struct StreamSource<R> {
 }
 
 impl<R> StreamSource<R> {
-    pub fn new(input: R) -> Self {
+    /// A source of this reader, before any fault.
+    pub fn new(input: R) -> Self
+        ensures { result ≡ record { input = input; faults = 0 } }
+    {
         StreamSource { input, faults: 0 }
     }
 }
@@ -53,7 +56,10 @@ pub struct StreamSink<W> {
 }
 
 impl<W> StreamSink<W> {
-    pub fn new(output: W) -> Self {
+    /// A sink of this writer, before any fault.
+    pub fn new(output: W) -> Self
+        ensures { result ≡ record { output = output; faults = 0 } }
+    {
         StreamSink { output, faults: 0 }
     }
 }
