@@ -60,9 +60,11 @@ module _ (schema : DatabaseSchema) (world : FactSet) (users : List User) where
       → has_duplicate (map (λ u. u.name) (map named_user users)) ≡ false → Told asks old before seats → Tells schema world new_ask.name new_ask.text seats new told
       → line ≡ line_text (reply_line new_ask.name new_ask.session told) ++ 10 ∷ [] → after ≡ before ++ line
       → Told (asks ++ new_ask ∷ []) old after new
-  told_more asks old before after line seats new new_ask told distinct (output, written, so_far) tells is appended =
-      (output ++ line, appended ∙ ap (λ w. w ++ line) written ∙ append_assoc old output line,
-      subst (λ l. SoFar schema world (map named_user users) (asks ++ new_ask ∷ []) (output ++ l) new) (sym is) (so_far_more schema world (map named_user users) asks output seats new new_ask told distinct so_far tells))
+  told_more asks old before after line seats new new_ask told distinct (output, written, so_far) tells is appended = (
+    output ++ line,
+    appended ∙ ap (λ w. w ++ line) written ∙ append_assoc old output line,
+    subst (λ l. SoFar schema world (map named_user users) (asks ++ new_ask ∷ []) (output ++ l) new) (sym is) (so_far_more schema world (map named_user users) asks output seats new new_ask told distinct so_far tells),
+  )
 
   module _ (empty : EmptyHistoryIsLegal) (runs : RunsStayLegal) (hide : LegalHistoriesHide) (alone : TranscriptIsPrivate) (valid : is_valid_schema schema ≡ true) (limits : All (λ u. KeepsLimits schema (profile_of u)) users) where
     serves : (events : List ScriptEvent) (user : NamedUser) → find (λ u. bytes_eq u.name user.name) (map named_user users) ≡ Some user → Serves schema world (map named_user users) events user
@@ -96,7 +98,7 @@ module _ (schema : DatabaseSchema) (world : FactSet) (users : List User) where
         → AppendsSome schema world (map named_user users) all old after
     answered_some asks back all n old before after line seats new new_ask told distinct sofar tells is appended split =
         let whole : SoFar schema world (map named_user users) (asks ++ new_ask ∷ []) (sofar.0 ++ line) new =
-            subst (λ l. SoFar schema world (map named_user users) (asks ++ new_ask ∷ []) (sofar.0 ++ l) new) (sym is) (so_far_more schema world (map named_user users) asks sofar.0 seats new new_ask told distinct sofar.2 tells) in
+        subst (λ l. SoFar schema world (map named_user users) (asks ++ new_ask ∷ []) (sofar.0 ++ l) new) (sym is) (so_far_more schema world (map named_user users) asks sofar.0 seats new new_ask told distinct sofar.2 tells) in
         record {
           front = asks ++ new_ask ∷ [];
           back = back;

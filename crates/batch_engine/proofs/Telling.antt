@@ -109,9 +109,9 @@ module _ (schema : DatabaseSchema) (world : FactSet) where
             ∙ ap Some one.replied;
         seated = (
           state-push (user_at seat) events (script_ask name session text one.ending)
-          ∙ ap (λ b. after_events schema world seat.profile (state_after schema world (user_at seat) events) (if b then ask text one.ending ∷ [] else [])) (ap (λ n. bytes_eq n seat.name) (sym same) ∙ ap (bytes_eq seat.name) same ∙ is)
-          ∙ ap (λ state. after_event schema world seat.profile state (ask text one.ending)) seated.0
-          ∙ one.next,
+              ∙ ap (λ b. after_events schema world seat.profile (state_after schema world (user_at seat) events) (if b then ask text one.ending ∷ [] else [])) (ap (λ n. bytes_eq n seat.name) (sym same) ∙ ap (bytes_eq seat.name) same ∙ is)
+              ∙ ap (λ state. after_event schema world seat.profile state (ask text one.ending)) seated.0
+              ∙ one.next,
           all_unnamed events name session text one.ending others (ap (λ n. list_any (bytes_eq n) (names others)) (sym same) ∙ distinct) seated.1,
         );
         users = refl;
@@ -162,7 +162,7 @@ module _ (schema : DatabaseSchema) (world : FactSet) where
     so_far_more asks output old new new_ask told distinct so_far tells =
         let events = script_events asks so_far.endings in
         let next : Next events new_ask.name new_ask.session new_ask.text old new told =
-            told_next events new_ask.name new_ask.session new_ask.text old new told (ap (λ us. has_duplicate (map (λ u. u.name) us)) so_far.same_users ∙ distinct) so_far.seated tells in
+        told_next events new_ask.name new_ask.session new_ask.text old new told (ap (λ us. has_duplicate (map (λ u. u.name) us)) so_far.same_users ∙ distinct) so_far.seated tells in
         let pushed = script_events-push asks so_far.endings new_ask next.ending so_far.one_each in
         let line = line_text (reply_line new_ask.name new_ask.session told) ++ 10 ∷ [] in
         record {
@@ -174,7 +174,7 @@ module _ (schema : DatabaseSchema) (world : FactSet) where
               ∙ ap (λ l. line_bytes (transcript schema world users events) ++ l) (sym (append-nil line))
               ∙ sym (flat_map-append (λ l. line_text l ++ 10 ∷ []) (transcript schema world users events) (reply_line new_ask.name new_ask.session told ∷ []))
               ∙ ap (λ r. line_bytes (transcript schema world users events ++ reply_line new_ask.name new_ask.session r ∷ []))
-                  (sym (ap (λ us. told_after schema world events new_ask.text next.ending (find (λ u. bytes_eq u.name new_ask.name) us)) (sym so_far.same_users) ∙ next.replied))
+              (sym (ap (λ us. told_after schema world events new_ask.text next.ending (find (λ u. bytes_eq u.name new_ask.name) us)) (sym so_far.same_users) ∙ next.replied))
               ∙ ap line_bytes (sym (transcript-push users events (script_ask new_ask.name new_ask.session new_ask.text next.ending)))
               ∙ ap (λ es. line_bytes (transcript schema world users es)) (sym pushed);
           seated = subst (λ es. AllByRecursion (IsSeated es) new) (sym pushed) next.seated;

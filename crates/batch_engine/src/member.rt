@@ -65,16 +65,13 @@ fn place_of(members: &[Member<'_>], name: &str) -> Option<usize>
     ensures place { result ≡ position (is_named name.now) members.now }
     ensures within { IfSome result (λ place. place < length members.now) }
 {
-    members.iter().position(|member| member.user.name.as_str() == name)
+    members
+        .iter()
+        .position(|member| member.user.name.as_str() == name)
 }
 
 /// The reply to a text of the user who has this name, if one has.
-pub fn answer(
-    alloc: Global,
-    members: &mut Vec<Member<'_>>,
-    name: &str,
-    text: &str,
-) -> Option<Reply>
+pub fn answer(alloc: Global, members: &mut Vec<Member<'_>>, name: &str, text: &str) -> Option<Reply>
     requires { length text.now ≤ 4096 }
     ensures served { (schema : DatabaseSchema) (world : FactSet) → AllByRecursion (IsServed schema world) members.old.items → AllByRecursion (IsServed schema world) members.new.items }
     ensures told { (schema : DatabaseSchema) (world : FactSet) → AllByRecursion (IsServed schema world) members.old.items → Tells schema world name.now text.now (map seat_of members.old.items) (map seat_of members.new.items) (option_map reply_of result) }

@@ -9,4 +9,6 @@
 pub mod former;
 pub mod laws;
 mod nodes;
+#[cfg(test)]
+mod tests;
 mod worlds;

@@ -25,6 +25,8 @@ mod run;
 #[cfg(test)]
 mod same_tests;
 mod tallies;
+#[cfg(test)]
+mod tests;
 
 pub use conditions::is_searchable;
 pub use ends::Found;

@@ -36,7 +36,7 @@ pub fn top<F: Shelf, S: Source, K: Sink, E: Sink>(
     ensures ends { Ends result
         (λ end. S.told → K.told → IsCase words.now → CaseReaches end (S.left source.old) (S.left source.new) (K.written sink.old) (K.written sink.new))
         (λ end. F.told → S.told → K.told → (policy facts : List ℕ) → IsBatch words.now policy facts
-            → BatchReaches policy facts (files_say (F.file shelf.old policy) (F.file shelf.old facts)) end (S.left source.old) (S.left source.new) (K.written sink.old) (K.written sink.new))
+        → BatchReaches policy facts (files_say (F.file shelf.old policy) (F.file shelf.old facts)) end (S.left source.old) (S.left source.new) (K.written sink.old) (K.written sink.new))
         (λ end. E.told → Gives (complaint_of end) (E.written complaints.old) (E.written complaints.new) (Rose (E.faults complaints.old) (E.faults complaints.new))) }
 
     // Words without a reading, and nothing else, have the status of usage, and then nothing is read or written.
@@ -124,5 +124,12 @@ fn batch<'w, F: Shelf, S: Source, K: Sink>(
         Err(end) => return end,
     };
     let users = files.policy.users.as_slice();
-    end_of_batch(run_batch(alloc, &files.policy.schema, &files.world, users, source, sink))
+    end_of_batch(run_batch(
+        alloc,
+        &files.policy.schema,
+        &files.world,
+        users,
+        source,
+        sink,
+    ))
 }

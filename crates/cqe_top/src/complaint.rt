@@ -73,7 +73,14 @@ fn give_policy<E: Sink>(complaints: &mut E, why: &PolicyError) -> Result<(), Fai
             let cause = cause_text(place.text);
             write_parts(
                 complaints,
-                &[number.bytes(), user.bytes(), key, index.bytes(), cause.bytes(), b"\n"],
+                &[
+                    number.bytes(),
+                    user.bytes(),
+                    key,
+                    index.bytes(),
+                    cause.bytes(),
+                    b"\n",
+                ],
             )
         }
         PolicyError::Schema(why) => {
@@ -162,7 +169,12 @@ fn facts_complaint(why: FactsError) -> LineText
 fn script_complaint(refusal: ScriptError) -> LineText
     ensures { result ≡ script_complaint refusal }
 {
-    numbers_behind("cqe: script ", kind_number(refusal.kind), refusal.line, "\n")
+    numbers_behind(
+        "cqe: script ",
+        kind_number(refusal.kind),
+        refusal.line,
+        "\n",
+    )
 }
 
 fn kind_number(kind: ScriptKind) -> u32

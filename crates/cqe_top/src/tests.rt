@@ -74,10 +74,24 @@ impl Run {
         let source = MemorySource::with_plan(joined(alloc, script)?, taken, Plan::Never);
         let sink = MemorySink::with_plan(alloc, given, Plan::Never);
         let complaints = MemorySink::new(alloc);
-        Run::new(alloc, &["case"], MemoryShelf::new(alloc), source, sink, complaints)
+        Run::new(
+            alloc,
+            &["case"],
+            MemoryShelf::new(alloc),
+            source,
+            sink,
+            complaints,
+        )
     }
 
-    pub(super) fn check(&self, rt: &impl Abort, status: u8, output: &str, complaint: &str, what: &str) {
+    pub(super) fn check(
+        &self,
+        rt: &impl Abort,
+        status: u8,
+        output: &str,
+        complaint: &str,
+        what: &str,
+    ) {
         assert_eq!(rt; self.complaints.bytes(), complaint.as_bytes(), "{what}");
         assert_eq!(rt; self.sink.bytes(), output.as_bytes(), "{what}");
         assert_eq!(rt; self.status, status, "{what}");

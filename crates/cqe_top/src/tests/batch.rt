@@ -59,21 +59,37 @@ fn shelf_of(alloc: Global, policy: &str, facts: &str) -> Result<MemoryShelf, All
 // A batch on this shelf.
 fn batch(alloc: Global, shelf: MemoryShelf, script: &str) -> Result<Run, AllocError> {
     let source = MemorySource::new(joined(alloc, &[script])?);
-    Run::new(alloc, &WORDS, shelf, source, MemorySink::new(alloc), MemorySink::new(alloc))
+    Run::new(
+        alloc,
+        &WORDS,
+        shelf,
+        source,
+        MemorySink::new(alloc),
+        MemorySink::new(alloc),
+    )
 }
 
 #[test]
 fn each_user_is_answered_by_his_own_log(rt: HostRuntime) -> Result<(), Fail> {
     let alloc = rt.alloc();
     let rows = [
-        ("lou 1 ask hiv(ann)\nmax 1 ask hiv(ann)\n", "lou 1 error 24\nmax 1 refused\n"),
-        ("tom 1 ask drug(ann)\nron 1 ask drug(ann)", "tom 1 error 24\nron 1 refused\n"),
+        (
+            "lou 1 ask hiv(ann)\nmax 1 ask hiv(ann)\n",
+            "lou 1 error 24\nmax 1 refused\n",
+        ),
+        (
+            "tom 1 ask drug(ann)\nron 1 ask drug(ann)",
+            "tom 1 error 24\nron 1 refused\n",
+        ),
         (
             "eve 1 ask drug(ann)\nron 1 ask drug(ann)\nkim 1 ask hiv(ann) or hiv(bob)\neve 2 ask hiv(bob)\nkim 1 ask hiv(ann)\nron 1 ask hiv(bob)\nzoe 1 ask true\n",
             "eve 1 no\nron 1 refused\nkim 1 yes\neve 2 no\nkim 1 refused\nron 1 no\nzoe 1 error 23\n",
         ),
         // the same user's asks alone: his lines are the same
-        ("kim 64 ask hiv(ann) or hiv(bob)\r\n\n# kim again\nkim 1\task hiv(ann)", "kim 64 yes\nkim 1 refused\n"),
+        (
+            "kim 64 ask hiv(ann) or hiv(bob)\r\n\n# kim again\nkim 1\task hiv(ann)",
+            "kim 64 yes\nkim 1 refused\n",
+        ),
         // texts that are no sentences; an unknown name doesn't stop the batch, and its text isn't read
         (
             "eve 1 ask\neve 1 ask hiv(ann\nzoe 9 ask hiv(\neve 1 ask  true\n",
@@ -129,16 +145,64 @@ fn each_refused_file_has_its_place(rt: HostRuntime) -> Result<(), Fail> {
     let rows = [
         (joined(alloc, &["x = "])?, "", 3, "cqe: policy 1\n"),
         (joined(alloc, &["version = 2"])?, "", 3, "cqe: policy 9\n"),
-        (joined(alloc, &["version = 1"])?, "", 3, "cqe: policy 2 domains\n"),
-        (joined(alloc, &[start, "colour = 1\n", user])?, "", 3, "cqe: policy 4 colour\n"),
-        (joined(alloc, &[start, user, "know = [\"true\", \"r(a\"]\n"])?, "", 3, "cqe: policy 6 users[0].know[1] 2 3\n"),
-        (joined(alloc, &[start, user, "budget = 0\n"])?, "", 3, "cqe: policy 7 users[0].budget\n"),
-        (joined(alloc, &[start, user, user])?, "", 3, "cqe: policy 8 users[1].name\n"),
-        (joined(alloc, &["version = 1\ndomains = { d = [] }\nrelations = {}\n", user])?, "", 3, "cqe: policy 5 4\n"),
-        (joined(alloc, &[start, user])?, "r(a)\nr(b)\n", 4, "cqe: facts 1 2\n"),
-        (joined(alloc, &[start, user])?, "\u{1}", 4, "cqe: facts 1 1\n"),
+        (
+            joined(alloc, &["version = 1"])?,
+            "",
+            3,
+            "cqe: policy 2 domains\n",
+        ),
+        (
+            joined(alloc, &[start, "colour = 1\n", user])?,
+            "",
+            3,
+            "cqe: policy 4 colour\n",
+        ),
+        (
+            joined(alloc, &[start, user, "know = [\"true\", \"r(a\"]\n"])?,
+            "",
+            3,
+            "cqe: policy 6 users[0].know[1] 2 3\n",
+        ),
+        (
+            joined(alloc, &[start, user, "budget = 0\n"])?,
+            "",
+            3,
+            "cqe: policy 7 users[0].budget\n",
+        ),
+        (
+            joined(alloc, &[start, user, user])?,
+            "",
+            3,
+            "cqe: policy 8 users[1].name\n",
+        ),
+        (
+            joined(
+                alloc,
+                &["version = 1\ndomains = { d = [] }\nrelations = {}\n", user],
+            )?,
+            "",
+            3,
+            "cqe: policy 5 4\n",
+        ),
+        (
+            joined(alloc, &[start, user])?,
+            "r(a)\nr(b)\n",
+            4,
+            "cqe: facts 1 2\n",
+        ),
+        (
+            joined(alloc, &[start, user])?,
+            "\u{1}",
+            4,
+            "cqe: facts 1 1\n",
+        ),
         // both are wrong: the policy is tested first
-        (joined(alloc, &["version = 2"])?, "r(b)\n", 3, "cqe: policy 9\n"),
+        (
+            joined(alloc, &["version = 2"])?,
+            "r(b)\n",
+            3,
+            "cqe: policy 9\n",
+        ),
     ];
     for (policy, facts, status, complaint) in rows {
         let mut shelf = MemoryShelf::new(alloc);
@@ -186,6 +250,12 @@ fn what_a_failing_sink_took_begins_the_lines(rt: HostRuntime) -> Result<(), Fail
     let sink = MemorySink::with_plan(alloc, outside::Pieces::Whole, Plan::From(1));
     let shelf = shelf_of(alloc, POLICY, FACTS)?;
     let run = Run::new(alloc, &WORDS, shelf, source, sink, MemorySink::new(alloc))?;
-    run.check(&rt, 7, "eve 1 no\n", "cqe: write fault\n", "a sink that fails at its second call");
+    run.check(
+        &rt,
+        7,
+        "eve 1 no\n",
+        "cqe: write fault\n",
+        "a sink that fails at its second call",
+    );
     Ok(())
 }

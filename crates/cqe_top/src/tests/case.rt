@@ -450,7 +450,14 @@ fn a_stream_may_fail_at_any_call(rt: HostRuntime) -> Result<(), Fail> {
         let source = MemorySource::new(joined(alloc, &[CLINIC, LIAR])?);
         let plan = Plan::At(vec![in alloc; k]?);
         let sink = MemorySink::with_plan(alloc, Pieces::UpTo(1), plan);
-        let run = Run::new(alloc, &["case"], MemoryShelf::new(alloc), source, sink, MemorySink::new(alloc))?;
+        let run = Run::new(
+            alloc,
+            &["case"],
+            MemoryShelf::new(alloc),
+            source,
+            sink,
+            MemorySink::new(alloc),
+        )?;
         match whole.get(..k as usize) {
             Some(part) if k < 9 => run.check(&rt, 7, part, "cqe: write fault\n", "a write failed"),
             _ => run.check(&rt, 0, whole, "", "no write failed"),
@@ -458,7 +465,14 @@ fn a_stream_may_fail_at_any_call(rt: HostRuntime) -> Result<(), Fail> {
     }
     let source = MemorySource::new(joined(alloc, &[CLINIC, LIAR])?);
     let sink = MemorySink::with_plan(alloc, Pieces::Whole, Plan::At(vec![in alloc; 1]?));
-    let run = Run::new(alloc, &["case"], MemoryShelf::new(alloc), source, sink, MemorySink::new(alloc))?;
+    let run = Run::new(
+        alloc,
+        &["case"],
+        MemoryShelf::new(alloc),
+        source,
+        sink,
+        MemorySink::new(alloc),
+    )?;
     run.check(
         &rt,
         7,
@@ -481,7 +495,14 @@ fn failing_complaints_change_nothing_else(rt: HostRuntime) -> Result<(), Fail> {
     for (words, script, status, complaint, first) in trials {
         let source = MemorySource::new(joined(alloc, &[script])?);
         let complaints = MemorySink::with_plan(alloc, Pieces::UpTo(8), Plan::From(first));
-        let run = Run::new(alloc, words, MemoryShelf::new(alloc), source, MemorySink::new(alloc), complaints)?;
+        let run = Run::new(
+            alloc,
+            words,
+            MemoryShelf::new(alloc),
+            source,
+            MemorySink::new(alloc),
+            complaints,
+        )?;
         run.check(&rt, status, "", complaint, "complaints fail");
     }
     Ok(())

@@ -14,21 +14,56 @@ pub push-requires-2 : goal.push-requires-2
 push-requires-2 c =
     let short = short_ask (named_ask c.args.ask.now) c.requires in
     let digits : length (decimal c.from.result) ≤ 2 = session_digits c.from.result (omega (arith, c.from.ensures, short.1)) in
-    omega (arith, digits, short.0, ap length c.as_str.ensures.value, ap length c.new-line.ensures, ap length c.push.ensures, length-append c.new-line.result (32 ∷ []),
-    ap length c.push_decimal.ensures, length-append c.push.new.self (decimal c.from.result))
+    omega (
+      arith,
+      digits,
+      short.0,
+      ap length c.as_str.ensures.value,
+      ap length c.new-line.ensures,
+      ap length c.push.ensures,
+      length-append c.new-line.result (32 ∷ []),
+      ap length c.push_decimal.ensures,
+      length-append c.push.new.self (decimal c.from.result),
+    )
 
 pub push_bytes-requires : goal.push_bytes-requires
 push_bytes-requires c =
     let short = short_ask (named_ask c.args.ask.now) c.requires in
     let digits : length (decimal c.from.result) ≤ 2 = session_digits c.from.result (omega (arith, c.from.ensures, short.1)) in
-    omega (arith, digits, short.0, ap length c.as_str.ensures.value, ap length c.new-line.ensures, ap length c.push.ensures, length-append c.new-line.result (32 ∷ []),
-    ap length c.push_decimal.ensures, length-append c.push.new.self (decimal c.from.result), ap length c.push-2.ensures, length-append c.push_decimal.new.self (32 ∷ []),
-    c.told_text-text.ensures.short, ap length c.bytes.ensures)
+    omega (
+      arith,
+      digits,
+      short.0,
+      ap length c.as_str.ensures.value,
+      ap length c.new-line.ensures,
+      ap length c.push.ensures,
+      length-append c.new-line.result (32 ∷ []),
+      ap length c.push_decimal.ensures,
+      length-append c.push.new.self (decimal c.from.result),
+      ap length c.push-2.ensures,
+      length-append c.push_decimal.new.self (32 ∷ []),
+      c.told_text-text.ensures.short,
+      ap length c.bytes.ensures,
+    )
 
 pub push-requires-3 : goal.push-requires-3
 push-requires-3 c =
     let short = short_ask (named_ask c.args.ask.now) c.requires in
     let digits : length (decimal c.from.result) ≤ 2 = session_digits c.from.result (omega (arith, c.from.ensures, short.1)) in
-    omega (arith, digits, short.0, ap length c.as_str.ensures.value, ap length c.new-line.ensures, ap length c.push.ensures, length-append c.new-line.result (32 ∷ []),
-    ap length c.push_decimal.ensures, length-append c.push.new.self (decimal c.from.result), ap length c.push-2.ensures, length-append c.push_decimal.new.self (32 ∷ []),
-    c.told_text-text.ensures.short, ap length c.bytes.ensures, ap length c.push_bytes.ensures, length-append c.push-2.new.self c.bytes.result.now)
+    omega (
+      arith,
+      digits,
+      short.0,
+      ap length c.as_str.ensures.value,
+      ap length c.new-line.ensures,
+      ap length c.push.ensures,
+      length-append c.new-line.result (32 ∷ []),
+      ap length c.push_decimal.ensures,
+      length-append c.push.new.self (decimal c.from.result),
+      ap length c.push-2.ensures,
+      length-append c.push_decimal.new.self (32 ∷ []),
+      c.told_text-text.ensures.short,
+      ap length c.bytes.ensures,
+      ap length c.push_bytes.ensures,
+      length-append c.push-2.new.self c.bytes.result.now,
+    )

@@ -1,0 +1,81 @@
+-- How the program ends, and what it has written then.
+use Rattle.std.specs.Prelude.{◌≡◌, ◌⊎◌, ℕ, List, [], ◌++◌, Option, Some, None, Ok, Err, codes, decimal}
+use Rattle.cqe_base.specs.Machine.{End as MachineEnd, Model, Refuted as MachineRefuted, end_within_budget}
+use Rattle.outside.specs.Streams.{AppendsPart}
+use Rattle.dimacs_text.specs.Dimacs.{Cnf, cnf_in}
+use Rattle.dimacs_text.specs.Printed.{end_text}
+use Rattle.dimacs_text.specs.declared.refusal.Kind.{Kind}
+use Rattle.dimacs_text.specs.declared.refusal.Kind.TheVariants.{NotALine, TooLong, TooMany, Order, Limit, Variable, Surplus, Missing}
+use Rattle.dimacs_text.specs.declared.refusal.Refusal.{Refusal}
+use Rattle.dimacs_text.specs.declared.ending.Verdict.{Verdict}
+use Rattle.dimacs_text.specs.declared.ending.Verdict.TheVariants.{Satisfiable, Unsatisfiable, Unknown}
+use Rattle.dimacs_text.specs.declared.ending.Ending.{Ending}
+use Rattle.dimacs_text.specs.declared.ending.Ending.TheVariants.{Answered, Refused, ReadFault, WriteFault, Memory}
+
+-- the machine's end on the clauses within their budget
+abbrev pub end_of : Cnf → Option MachineEnd
+end_of cnf = end_within_budget cnf.clauses cnf.variables cnf.budget
+
+-- what the end of the machine, or a spent budget, says of the clauses
+abbrev pub verdict_of : Option MachineEnd → Verdict
+verdict_of None = Unknown
+verdict_of (Some (Model signs)) = Satisfiable
+verdict_of (Some (MachineRefuted lines)) = Unsatisfiable
+
+-- the bytes are clauses, the verdict is that of the machine's end on them, and its text was appended
+pub record Answers (bytes : List ℕ) (verdict : Verdict) (old new : List ℕ) : Type 0 where
+  pub cnf : Cnf
+  pub read : cnf_in bytes ≡ Ok cnf
+  pub verdict_is : verdict ≡ verdict_of (end_of cnf)
+  pub appended : new ≡ old ++ end_text cnf (end_of cnf)
+
+-- the bytes are clauses, and a part of the text of the machine's end on them was appended
+pub record Breaks (bytes old new : List ℕ) : Type 0 where
+  pub cnf : Cnf
+  pub read : cnf_in bytes ≡ Ok cnf
+  pub appended : AppendsPart old new (end_text cnf (end_of cnf))
+
+-- what an ending says of the bytes that were left before and after, and of the output before and after
+abbrev pub Ends : Ending → List ℕ → List ℕ → List ℕ → List ℕ → Type 0
+Ends (Answered verdict) before after old new = (after ≡ []) × Answers before verdict old new
+Ends (Refused refusal) before after old new = (cnf_in before ≡ Err refusal) × (new ≡ old)
+Ends ReadFault before after old new = new ≡ old
+Ends WriteFault before after old new = Breaks before old new
+Ends Memory before after old new = new ≡ old
+
+-- the status with which the program ends
+abbrev pub status_of : Ending → ℕ
+status_of (Answered Satisfiable) = 10
+status_of (Answered Unsatisfiable) = 20
+status_of (Answered Unknown) = 0
+status_of (Refused refusal) = 5
+status_of ReadFault = 6
+status_of WriteFault = 7
+status_of Memory = 13
+
+-- the number of a refusal
+abbrev pub kind_number : Kind → ℕ
+kind_number NotALine = 1
+kind_number TooLong = 2
+kind_number TooMany = 3
+kind_number Order = 4
+kind_number Limit = 5
+kind_number Variable = 6
+kind_number Surplus = 7
+kind_number Missing = 8
+
+-- the kind and the line of a refusal
+abbrev pub refusal_text : Refusal → List ℕ
+refusal_text refusal = codes "dimacs: refused " ++ decimal (kind_number refusal.kind) ++ codes " " ++ decimal refusal.line ++ codes "\n"
+
+-- what is said of an ending without an answer
+abbrev pub complaint_of : Ending → List ℕ
+complaint_of (Answered verdict) = []
+complaint_of (Refused refusal) = refusal_text refusal
+complaint_of ReadFault = codes "dimacs: read fault\n"
+complaint_of WriteFault = codes "dimacs: write fault\n"
+complaint_of Memory = codes "dimacs: out of memory\n"
+
+-- a text was appended, or a part of it where the sink failed
+abbrev pub Gives : List ℕ → List ℕ → List ℕ → Type 0 → Type 0
+Gives text old new failed = (new ≡ old ++ text) ⊎ (failed × AppendsPart old new text)
