@@ -161,10 +161,13 @@ impl<'w> UserLog<'w> {
         ensures same { IsOfSame self.old self.new }
         ensures unchanged { kept_history self.new ≡ kept_history self.old }
         ensures prepared { IfOk result (IsPrepared self.new) }
+        ensures legal { IfOk result (λ prepared. IsLegal (kept_schema self.new) (kept_world self.new) (kept_user self.new) (kept_history self.new ++ prepared_entry prepared ∷ [])) }
+        ensures sizes { IfOk result (λ prepared. KeepsSizes (kept_schema self.new) (kept_user self.new) (kept_history self.new ++ prepared_entry prepared ∷ [])) }
         ensures entry { IfOk result (λ prepared. prepared_entry prepared ≡ record { query = formula_of query; mark = mark; length = length text.now }) }
     {
         law_reading();
         law_limits();
+        law_legal_grows();
         self.entries.reserve(1)?;
         let nodes = told_nodes(self.schema, &query, mark);
         let mut view = self.view.copy(alloc)?;

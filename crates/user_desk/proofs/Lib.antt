@@ -1,0 +1,5 @@
+pub mod Bytes
+pub mod Refusing
+pub mod Asking
+pub mod Restarting
+pub mod Keeping
