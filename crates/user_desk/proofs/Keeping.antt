@@ -40,7 +40,7 @@ module _ (schema : DatabaseSchema) (world : FactSet) (user : UserProfile) where
     legal = subst (λ h. IsLegal schema world user h) (sym (append-nil entries)) legal;
     sizes = subst (λ h. KeepsSizes schema user h) (sym (append-nil entries)) sizes;
     admits = admits_open told header bytes entries before now standing is;
-    idle = λ no. (idle_closed told header bytes entries before now standing is no, refl);
+    idle = λ isnt. (idle_closed told header bytes entries before now standing is isnt, refl);
     journal = journal;
     broken = whole;
   }
@@ -75,7 +75,7 @@ kept_open told image schema world user header standing entries in_flight has_jou
   legal = legal;
   sizes = sizes;
   admits = λ e. admits;
-  idle = λ no. let e : true ≡ false = sym (ap is_open opened) ∙ no in absurd cc;
+  idle = λ isnt. let e : true ≡ false = sym (ap is_open opened) ∙ isnt in absurd cc;
   journal = λ e. journal;
   broken = broken;
 }

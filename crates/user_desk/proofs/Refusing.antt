@@ -40,7 +40,7 @@ pub entry_shows : (text : Text) (mark : Option Mark) (read : Result Formula Refu
 entry_shows text (Some mark) (Ok query) entry e =
     let made : AnsweredQuery = record { query = query; mark = mark; length = length text } in
     let same : made ≡ entry = cc in
-    record { marks = ap (λ (x : AnsweredQuery). Some x.mark) same; reads = ap (λ (x : AnsweredQuery). Ok {E = Refusal} x.query) same; size = sym (ap (λ (x : AnsweredQuery). x.length) same) }
+    record { marks = ap (λ (x : AnsweredQuery). Some x.mark) same; reads = ap (λ (x : AnsweredQuery). let read : Result Formula Refusal = Ok x.query in read) same; size = sym (ap (λ (x : AnsweredQuery). x.length) same) }
 entry_shows text (Some mark) (Err why) entry e = absurd cc
 entry_shows text None (Ok query) entry e = absurd cc
 entry_shows text None (Err why) entry e = absurd cc
@@ -49,7 +49,10 @@ pub entry_is : (text : Text) (marks : Option Mark) (read : Result Formula Refusa
 entry_is text marks read mark query is reads = ap (λ m. entry_by text m read) is ∙ ap (λ r. entry_by text (Some mark) r) reads
 
 same_ok : (read : Result Formula Refusal) (a b : Formula) → read ≡ Ok a → read ≡ Ok b → a ≡ b
-same_ok read a b is other = let e : Ok {E = Refusal} a ≡ Ok b = sym is ∙ other in cc
+same_ok read a b is other = same_in_ok (sym is ∙ other)
+  where
+    same_in_ok : (let left : Result Formula Refusal = Ok a in left) ≡ Ok b → a ≡ b
+    same_in_ok e = cc
 
 same_some : (marks : Option Mark) (a b : Mark) → marks ≡ Some a → marks ≡ Some b → a ≡ b
 same_some marks a b is other = let e : Some a ≡ Some b = sym is ∙ other in cc
@@ -58,7 +61,7 @@ no_err : (read : Result Formula Refusal) (query : Formula) (why : Refusal) → r
 no_err read query why is other = let e : Ok query ≡ Err why = sym is ∙ other in cc
 
 no_true : (b : Bool) → b ≡ false → b ≡ true → ⊥
-no_true b no yes = let e : false ≡ true = sym no ∙ yes in cc
+no_true b isnt is = let e : false ≡ true = sym isnt ∙ is in cc
 
 module _ (schema : DatabaseSchema) (world : FactSet) (user : UserProfile) where
   -- the limits let an entry through
@@ -149,7 +152,7 @@ module _ (schema : DatabaseSchema) (world : FactSet) (user : UserProfile) where
   -- ---- from the records to the standing
 
   true_no : (b : Bool) → b ≡ true → b ≡ false → {A : Type 0} → A
-  true_no b yes no = absurd (no_true b no yes)
+  true_no b is isnt = absurd (no_true b isnt is)
 
   journal_of : (header : List ℕ) (bytes : List ℕ) (all : List Recorded) → IsJournal header all bytes → IsJournal header (records bytes) bytes
   journal_of header bytes all is = subst (λ l. IsJournal header l bytes) (sym is.are) is
@@ -167,9 +170,9 @@ module _ (schema : DatabaseSchema) (world : FactSet) (user : UserProfile) where
   pub standing_from : (told : Type 0) (header : List ℕ) (bytes : List ℕ) (all : List Recorded) (entries : History) (before now : ℕ) (standing : Standing) → (told → IsJournal header all bytes)
       → IsLegal schema world user entries → KeepsSizes schema user entries → IsReplay schema world user all entries standing → IsStanding schema world user told header bytes entries before now standing
   standing_from told header bytes all entries before now Open journal legal sizes replay =
-      (replay.0, λ is. opens_of header bytes all entries (journal is) replay.1 legal sizes (λ no. true_no (admitted schema world user) replay.0 no))
+      (replay.0, λ is. opens_of header bytes all entries (journal is) replay.1 legal sizes (λ isnt. true_no (admitted schema world user) replay.0 isnt))
   standing_from told header bytes all entries before now (Closed admission) journal legal sizes replay =
-      (replay.0, replay.1, replay.2, λ is. opens_of header bytes all entries (journal is) (ap (λ l. map (entry_of schema) l) replay.3 ∙ ap (λ l. map Some l) (sym replay.2)) legal sizes (λ no. replay.2))
+      (replay.0, replay.1, replay.2, λ is. opens_of header bytes all entries (journal is) (ap (λ l. map (entry_of schema) l) replay.3 ∙ ap (λ l. map Some l) (sym replay.2)) legal sizes (λ isnt. replay.2))
   standing_from told header bytes all entries before now (Sealed (Journal why)) journal legal sizes replay = absurd replay.2.refused
   standing_from told header bytes all entries before now (Sealed (NotAdmitted admission)) journal legal sizes replay =
       (replay.0, λ is. (journal_of header bytes all (journal is), replay.1, replay.2, λ none. replay.3 (sym (journal is).are ∙ none)))

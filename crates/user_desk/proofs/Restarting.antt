@@ -68,16 +68,16 @@ module _ (schema : DatabaseSchema) (world : FactSet) (user : UserProfile) where
 
   only_open : (standing : Standing) (entries : History) (in_flight : Option AnsweredQuery) → (is_open standing ≡ true → admitted schema world user ≡ true) → (is_open standing ≡ false → (entries ≡ []) × (in_flight ≡ None))
       → admitted schema world user ≡ false → entries ++ option_to_list in_flight ≡ []
-  only_open standing entries in_flight admits idle no = by_standing (is_open standing) admits idle
+  only_open standing entries in_flight admits idle isnt = by_standing (is_open standing) admits idle
     where
       by_standing : (b : Bool) → (b ≡ true → admitted schema world user ≡ true) → (b ≡ false → (entries ≡ []) × (in_flight ≡ None)) → entries ++ option_to_list in_flight ≡ []
-      by_standing true admits idle = let e : true ≡ false = sym (admits refl) ∙ no in absurd cc
+      by_standing true admits idle = let e : true ≡ false = sym (admits refl) ∙ isnt in absurd cc
       by_standing false admits idle = ap (λ h. h ++ option_to_list in_flight) (idle refl).0 ∙ ap (λ o. [] ++ option_to_list o) (idle refl).1
 
   module _ {told : Type 0} {image : List ℕ → Type 0} {header : List ℕ} {standing : Standing} {entries : History} {in_flight : Option AnsweredQuery} {has_journal is_broken : Bool}
       (kept : IsKept told image schema world user header standing entries in_flight has_journal is_broken) (legal : IsLegal schema world user entries) (sizes : KeepsSizes schema user entries) where
     no_entry : admitted schema world user ≡ false → entries ≡ []
-    no_entry no = first_none entries (option_to_list in_flight) (only_open standing entries in_flight kept.admits kept.idle no)
+    no_entry isnt = first_none entries (option_to_list in_flight) (only_open standing entries in_flight kept.admits kept.idle isnt)
       where
         first_none : (xs ys : History) → xs ++ ys ≡ [] → xs ≡ []
         first_none [] ys e = refl
@@ -98,7 +98,7 @@ module _ (schema : DatabaseSchema) (world : FactSet) (user : UserProfile) where
       (λ stands. record {
         found = true;
         sought = λ e. refl;
-        opens = record { stands = stands; legal = kept.legal; sizes = kept.sizes; none = λ no. only_open standing entries (Some entry) kept.admits kept.idle no };
+        opens = record { stands = stands; legal = kept.legal; sizes = kept.sizes; none = λ isnt. only_open standing entries (Some entry) kept.admits kept.idle isnt };
       })
       (within_either schema header entries entry c (kept.images is served c here))
 
