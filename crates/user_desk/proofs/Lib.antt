@@ -3,3 +3,4 @@ pub mod Refusing
 pub mod Asking
 pub mod Restarting
 pub mod Keeping
+pub mod Taking

@@ -1,18 +1,18 @@
 // The records of a journal, gone through as the entries of a user.
-ghost use Rattle.std.specs.Prelude.{◌≡◌, ◌≤◌, true, IfOk, Some, All, map};
+ghost use Rattle.std.specs.Prelude.{◌≡◌, ◌≤◌, true, IfOk, Some, All, map, ◌↔◌, IsTrue};
 ghost use Rattle.cqe_base.specs.History.{profile_of};
 ghost use Rattle.cqe_base.specs.Limits.{KeepsLimits};
 ghost use Rattle.cqe_base.specs.Censor.{admitted};
 ghost use Rattle.log_journal.specs.Opening.{recorded, IsRecord};
 ghost use Rattle.user_log.specs.UserLogs.{kept_schema, kept_world, kept_user, kept_history, IsOfSame};
 ghost use Rattle.user_desk.specs.Causes.{IsReplay};
-ghost use Rattle.user_desk.specs.Replays.{IsLogOf, IsTaken};
+ghost use Rattle.user_desk.specs.Replays.{IsLogOf, IsTaken, refused_by};
 
-use crate::kinds::{kind_of, mark_of};
+use crate::kinds::mark_of;
 use crate::standing::{DeskError, Standing};
 use censors::{Admission, admit};
 use cqe_base::schema::Schema;
-use cqe_base::user::User;
+use cqe_base::user::{Mark, User};
 use cqe_base::world::World;
 use log_journal::Record;
 use sentence_text::laws::law_sentences_are_ascii;
@@ -59,6 +59,7 @@ fn replay_records<'w>(
 {
     let mut log = UserLog::new(alloc, schema, world, user)?;
     for next in records {
+        log.known();
         if let Some(why) = take_record(alloc, &mut log, next)? {
             let none = UserLog::new(alloc, schema, world, user)?;
             return Ok((none, Standing::Sealed(why)));
@@ -84,11 +85,10 @@ fn take_record(
         return Ok(Some(DeskError::Stale(number)));
     };
     match log.weigh(alloc, text)? {
-        Weighed::Code(Reply::Syntax(_)) => Ok(Some(DeskError::Stale(number))),
-        Weighed::Code(_) => Ok(Some(DeskError::Size(number))),
+        Weighed::Code(code) => Ok(Some(refused_by(code, number))),
         Weighed::Answer(query, computed) => {
             let stored = mark_of(next.kind);
-            if stored != computed {
+            if !is_same(stored, computed) {
                 return Ok(Some(DeskError::Unlawful {
                     number,
                     stored,
@@ -99,4 +99,20 @@ fn take_record(
             Ok(None)
         }
     }
+}
+
+// Why the record of this number is refused, whose text is answered by a code.
+fn refused_by(code: Reply, number: u32) -> DeskError
+    ensures { result ≡ refused_by code number }
+{
+    match code {
+        Reply::Syntax(_) => DeskError::Stale(number),
+        _ => DeskError::Size(number),
+    }
+}
+
+fn is_same(first: Mark, second: Mark) -> bool
+    ensures { IsTrue result ↔ (first ≡ second) }
+{
+    first == second
 }
