@@ -4,3 +4,4 @@ pub mod Asking
 pub mod Restarting
 pub mod Keeping
 pub mod Taking
+pub mod Recording

@@ -99,6 +99,7 @@ impl<'w, D: Disk> Desk<'w, D> {
             → Holds (desk_schema self.old) (desk_world self.old) (desk_user self.old) (desk_header self.old) (after_event (desk_schema self.old) (desk_world self.old) (desk_user self.old) (state_of self.old) (stop text.now)) c }
         ensures time { Elapses (D.moment (desk_disk self.old)) (D.moment (desk_disk self.new)) (D.image_since (desk_disk self.old)) (D.image_since (desk_disk self.new)) }
     {
+        self.log.known();
         if let Some(code) = self.refusal() {
             return code;
         }
@@ -166,6 +167,7 @@ impl<'w, D: Disk> Desk<'w, D> {
             → Holds (desk_schema self.old) (desk_world self.old) (desk_user self.old) (desk_header self.old) (after_event (desk_schema self.old) (desk_world self.old) (desk_user self.old) (state_of self.old) (stop text.now)) c }
         ensures time { Elapses (D.moment (desk_disk self.old)) (D.moment (desk_disk self.new)) (D.image_since (desk_disk self.old)) (D.image_since (desk_disk self.new)) }
     {
+        self.log.known();
         let Ok(prepared) = self.log.prepare(alloc, text, query, mark) else {
             return Reply::Memory;
         };
