@@ -16,7 +16,7 @@ use Rattle.outside.specs.Faults.{Rose}
 use Rattle.user_log.specs.Asked.{IsAnswer, open_reply}
 use Rattle.user_desk.specs.Entries.{StandsFor}
 use Rattle.user_desk.specs.Causes.{Opens}
-use Rattle.user_desk.specs.Lives.{Holds, Settles}
+use Rattle.user_desk.specs.Lives.{Holds, Settles, AddsNone}
 
 -- only a mark adds an entry
 adds_none : (text : Text) (read : Result Formula Refusal) → (entry_added text read user_closed ≡ None) × (entry_added text read desk_sealed ≡ None) × (entry_added text read desk_broken ≡ None)
@@ -131,3 +131,16 @@ module _ (schema : DatabaseSchema) (world : FactSet) (user : UserProfile) where
       by_entry : (o : Option AnsweredQuery) → Holds schema world user header (after_failure schema world user state o) c
       by_entry None = holds
       by_entry (Some entry) = record { found = false; sought = λ e. absurd cc; opens = opens }
+
+  -- ---- where no text adds an entry
+
+  pub sealed_adds : (state : UserState) → state.standing ≡ standing_sealed → AddsNone schema world user state
+  sealed_adds state is text =
+      entry_of_code state text desk_sealed (ap (λ s. reply_by schema world user state.entries s state.broken text (reading schema text)) is) (adds_none text (reading schema text)).1
+
+  pub closed_adds : (state : UserState) → state.standing ≡ standing_closed → AddsNone schema world user state
+  closed_adds state is text =
+      entry_of_code state text user_closed (ap (λ s. reply_by schema world user state.entries s state.broken text (reading schema text)) is) (adds_none text (reading schema text)).0
+
+  pub broken_adds : (state : UserState) → state.standing ≡ standing_open → state.broken ≡ true → AddsNone schema world user state
+  broken_adds state is_open broken text = entry_of_code state text desk_broken (broken_reply state text is_open broken) (adds_none text (reading schema text)).2

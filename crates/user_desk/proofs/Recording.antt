@@ -17,12 +17,12 @@ use Rattle.user_desk.specs.Entries.{mark_of, entry_of, StandsFor, StandsWithin}
 use Rattle.user_desk.specs.Causes.{Opens}
 use Rattle.user_desk.specs.Standings.{standing_of, is_open, is_sealed}
 use Rattle.user_desk.specs.Kept.{IsKept}
-use Rattle.user_desk.specs.Lives.{shown, Holds}
+use Rattle.user_desk.specs.Lives.{shown, Holds, AddsNone}
 use Rattle.user_desk.specs.declared.standing.Standing.{Standing}
 use Rattle.user_desk.specs.declared.standing.Standing.TheVariants.{Open}
 use Rattle.user_desk.proofs.Bytes.{stands_more, stands_either, within_more, within_all}
 use Rattle.user_desk.proofs.Refusing.{entry_is}
-use Rattle.user_desk.proofs.Asking.{stop_keeps, stop_holds, entry_of_answer}
+use Rattle.user_desk.proofs.Asking.{stop_keeps, stop_leaves, stop_holds, entry_of_answer}
 use Rattle.user_desk.proofs.Restarting.{holds_image, stands_image}
 use Rattle.user_desk.proofs.Keeping.{kept_open}
 
@@ -54,6 +54,15 @@ pub still_holds : (told : Type 0) (image : List ℕ → Type 0) (schema : Databa
     → told → (c : List ℕ) → image c → Holds schema world user header (after_event schema world user (shown entries (standing_of standing) in_flight) (stop text)) c
 still_holds told image schema world user header standing entries in_flight has_journal has_failed kept legal sizes text served idle is c here =
     stop_keeps schema world user header (shown entries (standing_of standing) in_flight) text c idle
+    (holds_image schema world user told image header standing entries in_flight has_journal has_failed kept legal sizes is served c here)
+
+-- the same where the text adds no entry
+pub code_holds : (told : Type 0) (image : List ℕ → Type 0) (schema : DatabaseSchema) (world : FactSet) (user : UserProfile) (header : List ℕ) (standing : Standing) (entries : History) (in_flight : Option AnsweredQuery) (has_journal has_failed : Bool)
+    → IsKept told image schema world user header standing entries in_flight has_journal has_failed → IsLegal schema world user entries → KeepsSizes schema user entries → (text : Text) → is_sealed standing ≡ false
+    → AddsNone schema world user (shown entries (standing_of standing) in_flight)
+    → told → (c : List ℕ) → image c → Holds schema world user header (after_event schema world user (shown entries (standing_of standing) in_flight) (stop text)) c
+code_holds told image schema world user header standing entries in_flight has_journal has_failed kept legal sizes text served none is c here =
+    stop_leaves schema world user header (shown entries (standing_of standing) in_flight) text c (none text)
     (holds_image schema world user told image header standing entries in_flight has_journal has_failed kept legal sizes is served c here)
 
 -- an open desk, an entry that is lawful behind its own, and the record of that entry

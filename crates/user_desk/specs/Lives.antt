@@ -1,10 +1,10 @@
 -- A user's state over asks, crashes and restarts, and the bytes that stand for it.
-use Rattle.std.specs.Prelude.{◌≡◌, ℕ, Bool, true, false, List, length, Option, is_some}
+use Rattle.std.specs.Prelude.{◌≡◌, ℕ, Bool, true, false, List, Option, None, is_some}
 use Rattle.cqe_base.specs.Schema.{DatabaseSchema, Text}
 use Rattle.cqe_base.specs.Facts.{FactSet}
 use Rattle.cqe_base.specs.History.{UserProfile, AnsweredQuery, History}
 use Rattle.cqe_base.specs.Run
-use Rattle.cqe_base.specs.Run.{Reply, UserState, Ending, failed, ask, restart, after_event, reply_to_ask, entries_found, standing_sealed}
+use Rattle.cqe_base.specs.Run.{Reply, UserState, Ending, failed, ask, restart, after_event, reply_to_ask, entries_found, entry_at, standing_sealed}
 use Rattle.outside.specs.Faults.{Rose}
 use Rattle.user_desk.specs.Causes.{Opens}
 use Rattle.user_desk.specs.declared.standing.Standing.{Standing}
@@ -45,3 +45,7 @@ module _ (schema : DatabaseSchema) (world : FactSet) (user : UserProfile) where
   abbrev pub AnswersAll : Standing → UserState → Reply → Type 0
   AnswersAll standing desk_state told =
       (state : UserState) → IsState standing desk_state state → (text : Text) (count : ℕ) → Settles (IsState standing desk_state) state text told count count
+
+  -- in this state no text adds an entry
+  abbrev pub AddsNone : UserState → Type 0
+  AddsNone state = (text : Text) → entry_at schema world user state text ≡ None

@@ -39,7 +39,7 @@ impl<'w, D: Disk> Desk<'w, D> {
     ghost use Rattle.user_log.specs.Asked.{IsAnswer};
     ghost use Rattle.user_log.specs.Replies.{reply_of};
     ghost use Rattle.user_desk.specs.Entries.{StandsFor};
-    ghost use Rattle.user_desk.specs.Lives.{Holds, Settles, AnswersAll};
+    ghost use Rattle.user_desk.specs.Lives.{Holds, Settles, AnswersAll, AddsNone};
     ghost use Rattle.user_desk.specs.Desks.{desk_schema, desk_world, desk_user, desk_header, desk_standing, desk_history, desk_disk, entry_in_flight, is_broken_desk, state_of, IsIn, IsOfSame};
     ghost use Rattle.user_desk.specs.Replying.{IsCode};
 
@@ -139,6 +139,7 @@ impl<'w, D: Disk> Desk<'w, D> {
     // The code that answers every text, if there is one. It leaves the desk as it is.
     fn refusal(&self) -> Option<Reply>
         ensures answers { IfSome result (λ code. AnswersAll (desk_schema self.now) (desk_world self.now) (desk_user self.now) (desk_standing self.now) (state_of self.now) (reply_of code)) }
+        ensures adds { IfSome result (λ _. AddsNone (desk_schema self.now) (desk_world self.now) (desk_user self.now) (state_of self.now)) }
         ensures broken { IfSome result (λ code. (code ≡ Reply.Broken) ↔ IsTrue (is_broken_desk self.now)) }
         ensures opened { IfNone result (desk_standing self.now ≡ Standing.Open) }
         ensures whole { IfNone result (entry_in_flight self.now ≡ None) }
