@@ -13,6 +13,10 @@ use Rattle.user_desk.specs.Standings.{is_open, is_sealed}
 use Rattle.user_desk.specs.Kept.{IsKept}
 use Rattle.user_desk.specs.declared.standing.Standing.{Standing}
 use Rattle.user_desk.specs.declared.standing.Standing.TheVariants.{Open, Closed, Sealed}
+use Rattle.log_journal.specs.Opening.{IsRefused}
+use Rattle.log_journal.specs.declared.header.OpenError.{OpenError}
+use Rattle.log_journal.specs.declared.header.OpenError.TheVariants.{NotAJournal, OtherPolicy, Damaged, DiskFault, Memory}
+use Rattle.user_desk.specs.declared.standing.DeskError.TheVariants.{Journal}
 use Rattle.user_desk.proofs.Bytes.{within_more, within_all}
 use Rattle.user_desk.proofs.Restarting.{opens_served}
 
@@ -79,3 +83,33 @@ kept_open told image schema world user header standing entries in_flight has_jou
   journal = λ e. journal;
   broken = broken;
 }
+
+-- ---- openings
+
+-- what a log keeps, at an equal schema, world and user
+pub legal_at : (schema schema' : DatabaseSchema) (world world' : FactSet) (user user' : UserProfile) (entries : History) → schema' ≡ schema → world' ≡ world → user' ≡ user → IsLegal schema' world' user' entries → IsLegal schema world user entries
+legal_at schema schema' world world' user user' entries s w u legal =
+    subst (λ x. IsLegal x world user entries) s (subst (λ x. IsLegal schema' x user entries) w (subst (λ x. IsLegal schema' world' x entries) u legal))
+
+pub sizes_at : (schema schema' : DatabaseSchema) (user user' : UserProfile) (entries : History) → schema' ≡ schema → user' ≡ user → KeepsSizes schema' user' entries → KeepsSizes schema user entries
+sizes_at schema schema' user user' entries s u sizes = subst (λ x. KeepsSizes x user entries) s (subst (λ x. KeepsSizes schema' x entries) u sizes)
+
+-- a journal that isn't opened seals the desk
+pub standing_sealed_by : (schema : DatabaseSchema) (world : FactSet) (user : UserProfile) (told : Type 0) (header : List ℕ) (bytes : List ℕ) (entries : History) (before now : ℕ) (why : OpenError) → entries ≡ [] → IsRefused told header bytes before now why → (why ≡ Memory → ⊥)
+    → IsStanding schema world user told header bytes entries before now (Sealed (Journal why))
+standing_sealed_by schema world user told header bytes entries before now NotAJournal none refused other = (none, refused)
+standing_sealed_by schema world user told header bytes entries before now OtherPolicy none refused other = (none, refused)
+standing_sealed_by schema world user told header bytes entries before now (Damaged number) none refused other = (none, refused)
+standing_sealed_by schema world user told header bytes entries before now DiskFault none refused other = (none, refused)
+standing_sealed_by schema world user told header bytes entries before now Memory none refused other = absurd (other refl)
+
+-- what a desk keeps at its opening, from its standing
+pub kept_first : (schema schema' : DatabaseSchema) (world world' : FactSet) (user user' : UserProfile) (told : Type 0) (image : List ℕ → Type 0) (header : List ℕ) (bytes : List ℕ) (entries : History) (before now : ℕ) (standing : Standing) (has_journal has_failed : Bool)
+    → schema' ≡ schema → world' ≡ world → user' ≡ user → IsStanding schema world user told header bytes entries before now standing → IsLegal schema' world' user' entries → KeepsSizes schema' user' entries
+    → (is_sealed standing ≡ false → (c : List ℕ) → image c → c ≡ bytes) → (is_open standing ≡ true → has_journal ≡ true) → has_failed ≡ false
+    → IsKept told image schema' world' user' header standing entries None has_journal has_failed
+kept_first schema schema' world world' user user' told image header bytes entries before now standing has_journal has_failed s w u is legal sizes only journal whole =
+    kept_still told image image schema schema' world world' user user' header standing entries entries None has_journal has_journal has_failed has_failed
+    (kept_opening schema world user told image header bytes entries before now standing has_journal has_failed is
+     (legal_at schema schema' world world' user user' entries s w u legal) (sizes_at schema schema' user user' entries s u sizes) only journal whole)
+    s w u refl (λ c here. here) refl refl

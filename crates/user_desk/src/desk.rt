@@ -26,12 +26,12 @@ use user_log::{Reply, UserLog, Weighed};
 /// One user's desk: his log, and a journal of it on a disk.
 #[derive(Drop)]
 pub struct Desk<'w, D: Disk> {
-    log: UserLog<'w>,
-    header: Header,
-    standing: Standing,
-    store: Store<D>,
+    pub(crate) log: UserLog<'w>,
+    pub(crate) header: Header,
+    pub(crate) standing: Standing,
+    pub(crate) store: Store<D>,
     /// The entry whose append failed at the disk.
-    in_flight: Option<Entry>,
+    pub(crate) in_flight: Option<Entry>,
     ghost kept: { IsKept D.told (D.image (stored_disk store)) (kept_schema log) (kept_world log) (kept_user log) (header_bytes header) standing (kept_history log) (option_map answered_query_of in_flight) (has_journal store) (has_failed store) } by { IsKept-prop _ _ _ _ _ _ _ _ _ _ _ },
 }
 
@@ -107,32 +107,6 @@ impl<'w, D: Disk> Desk<'w, D> {
             Ok(Weighed::Answer(query, mark)) => self.record(alloc, text, query, mark),
             Ok(Weighed::Code(code)) => code,
             Err(_) => Reply::Memory,
-        }
-    }
-
-    // A desk to which nothing was asked yet.
-    pub(crate) fn at_rest(
-        log: UserLog<'w>,
-        header: Header,
-        standing: Standing,
-        store: Store<D>,
-    ) -> Self
-        requires { IsKept D.told (D.image (stored_disk store)) (kept_schema log) (kept_world log) (kept_user log) (header_bytes header) standing (kept_history log) None (has_journal store) (has_failed store) }
-        ensures schema { desk_schema result ≡ kept_schema log.entry }
-        ensures world { desk_world result ≡ kept_world log.entry }
-        ensures user { desk_user result ≡ kept_user log.entry }
-        ensures history { desk_history result ≡ kept_history log.entry }
-        ensures header { desk_header result ≡ header_bytes header }
-        ensures standing { desk_standing result ≡ standing }
-        ensures disk { desk_disk result ≡ stored_disk store }
-        ensures whole { entry_in_flight result ≡ None }
-    {
-        Desk {
-            log,
-            header,
-            standing,
-            store,
-            in_flight: None,
         }
     }
 

@@ -1,10 +1,12 @@
 // How a desk is opened.
-ghost use Rattle.std.specs.Prelude.{◌≡◌, ◌≤◌, false, List, ℕ, All, IfOk, map};
+ghost use Rattle.std.specs.Prelude.{◌≡◌, ◌≢◌, ◌≤◌, false, List, [], ℕ, IfOk};
 ghost use Rattle.outside.specs.Disk.{Only, Elapses};
 ghost use Rattle.cqe_base.specs.History.{profile_of};
 ghost use Rattle.cqe_base.specs.Limits.{KeepsLimits};
 ghost use Rattle.cqe_base.specs.Run.{UserState};
 ghost use Rattle.log_journal.specs.Opening.{header_bytes};
+ghost use Rattle.user_log.specs.UserLogs.{kept_history};
+ghost use Rattle.user_desk.specs.Replays.{IsLogOf};
 ghost use Rattle.user_desk.specs.Causes.{Opens, IsStanding};
 ghost use Rattle.user_desk.specs.Standings.{is_sealed};
 ghost use Rattle.user_desk.specs.Lives.{Holds, Restarts};
@@ -59,25 +61,57 @@ pub fn open_desk<'w, D: Disk>(
 {
     match open(alloc, disk, header) {
         Ok((journal, records)) => match replay(alloc, schema, world, user, &records) {
-            Ok((log, standing)) => Ok(Desk::at_rest(log, *header, standing, Store::Journal(journal))),
+            Ok((log, standing)) => {
+                log.known();
+                Ok(Desk {
+                    log,
+                    header: *header,
+                    standing,
+                    store: Store::Journal(journal),
+                    in_flight: None,
+                })
+            }
             Err(why) => Err(Refused {
                 disk: journal.close(),
                 why,
             }),
         },
-        Err(Refused {
-            disk,
-            why: OpenError::Memory,
-        }) => Err(Refused {
-            disk,
-            why: AllocError,
-        }),
-        Err(Refused { disk, why }) => match UserLog::new(alloc, schema, world, user) {
-            Ok(log) => {
-                let standing = Standing::Sealed(DeskError::Journal(why));
-                Ok(Desk::at_rest(log, *header, standing, Store::Disk(disk)))
+        Err(refused) => match refused_journal(alloc, schema, world, user, refused.why) {
+            Ok((log, standing)) => {
+                log.known();
+                Ok(Desk {
+                    log,
+                    header: *header,
+                    standing,
+                    store: Store::Disk(refused.disk),
+                    in_flight: None,
+                })
             }
-            Err(why) => Err(Refused { disk, why }),
+            Err(why) => Err(Refused {
+                disk: refused.disk,
+                why,
+            }),
         },
     }
+}
+
+// The log and the standing of a user whose journal isn't opened. Want of memory stays what it is.
+fn refused_journal<'w>(
+    alloc: Global,
+    schema: &'w Schema,
+    world: &'w World,
+    user: &'w User,
+    why: OpenError,
+) -> Result<(UserLog<'w>, Standing), AllocError>
+    requires { KeepsLimits schema.now (profile_of user.now) }
+    ensures log { IfOk result (λ r. IsLogOf schema.now world.now (profile_of user.now) r.0) }
+    ensures none { IfOk result (λ r. kept_history r.0 ≡ []) }
+    ensures sealed { IfOk result (λ r. r.1 ≡ Standing.Sealed (DeskError.Journal why)) }
+    ensures outside { IfOk result (λ _. why ≢ OpenError.Memory) }
+{
+    if why == OpenError::Memory {
+        return Err(AllocError);
+    }
+    let log = UserLog::new(alloc, schema, world, user)?;
+    Ok((log, Standing::Sealed(DeskError::Journal(why))))
 }
