@@ -111,5 +111,5 @@ pub kept_first : (schema schema' : DatabaseSchema) (world world' : FactSet) (use
 kept_first schema schema' world world' user user' told image header bytes entries before now standing has_journal has_failed s w u is legal sizes only journal whole =
     kept_still told image image schema schema' world world' user user' header standing entries entries None has_journal has_journal has_failed has_failed
     (kept_opening schema world user told image header bytes entries before now standing has_journal has_failed is
-     (legal_at schema schema' world world' user user' entries s w u legal) (sizes_at schema schema' user user' entries s u sizes) only journal whole)
+    (legal_at schema schema' world world' user user' entries s w u legal) (sizes_at schema schema' user user' entries s u sizes) only journal whole)
     s w u refl (λ c here. here) refl refl

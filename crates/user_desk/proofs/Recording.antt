@@ -38,15 +38,15 @@ pub legal_back : (schema schema' : DatabaseSchema) (world world' : FactSet) (use
 legal_back schema schema' world world' user user' entries entries' entry entry' s w u h e legal =
     subst (λ x. IsLegal x world user (entries ++ entry ∷ [])) s
     (subst (λ x. IsLegal schema' x user (entries ++ entry ∷ [])) w
-     (subst (λ x. IsLegal schema' world' x (entries ++ entry ∷ [])) u
-      (subst (λ (x : History). IsLegal schema' world' user' (x ++ entry ∷ [])) h (subst (λ x. IsLegal schema' world' user' (entries' ++ x ∷ [])) e legal))))
+    (subst (λ x. IsLegal schema' world' x (entries ++ entry ∷ [])) u
+    (subst (λ (x : History). IsLegal schema' world' user' (x ++ entry ∷ [])) h (subst (λ x. IsLegal schema' world' user' (entries' ++ x ∷ [])) e legal))))
 
 pub sizes_back : (schema schema' : DatabaseSchema) (user user' : UserProfile) (entries entries' : History) (entry entry' : AnsweredQuery) → schema' ≡ schema → user' ≡ user → entries' ≡ entries → entry' ≡ entry
     → KeepsSizes schema' user' (entries' ++ entry' ∷ []) → KeepsSizes schema user (entries ++ entry ∷ [])
 sizes_back schema schema' user user' entries entries' entry entry' s u h e sizes =
     subst (λ x. KeepsSizes x user (entries ++ entry ∷ [])) s
     (subst (λ x. KeepsSizes schema' x (entries ++ entry ∷ [])) u
-     (subst (λ (x : History). KeepsSizes schema' user' (x ++ entry ∷ [])) h (subst (λ x. KeepsSizes schema' user' (entries' ++ x ∷ [])) e sizes)))
+    (subst (λ (x : History). KeepsSizes schema' user' (x ++ entry ∷ [])) h (subst (λ x. KeepsSizes schema' user' (entries' ++ x ∷ [])) e sizes)))
 
 -- of an ask where nothing was written
 pub still_holds : (told : Type 0) (image : List ℕ → Type 0) (schema : DatabaseSchema) (world : FactSet) (user : UserProfile) (header : List ℕ) (standing : Standing) (entries : History) (in_flight : Option AnsweredQuery) (has_journal has_failed : Bool)
@@ -102,14 +102,14 @@ module _ (told : Type 0) (image : List ℕ → Type 0) (schema : DatabaseSchema)
   kept_added image' schema' world' user' entries' has_journal has_failed s w u h journal whole adds =
       subst (λ x. IsKept told image' x world' user' header standing entries' in_flight has_journal has_failed) (sym s)
       (subst (λ x. IsKept told image' schema x user' header standing entries' in_flight has_journal has_failed) (sym w)
-       (subst (λ x. IsKept told image' schema world x header standing entries' in_flight has_journal has_failed) (sym u)
-        (subst (λ x. IsKept told image' schema world user header standing x in_flight has_journal has_failed) (sym h)
-         (subst (λ x. IsKept told image' schema world user header standing (entries ++ entry ∷ []) x has_journal has_failed) (sym grows.idle)
-          (kept_open told image' schema world user header standing (entries ++ entry ∷ []) None has_journal has_failed grows.opened grows.admits
-           (subst (λ x. IsLegal schema world user x) (sym (append-nil (entries ++ entry ∷ []))) grows.legal_more)
-           (subst (λ x. KeepsSizes schema user x) (sym (append-nil (entries ++ entry ∷ []))) grows.sizes_more)
-           journal whole
-           (λ told_is c here. within_more schema header (entries ++ entry ∷ []) [] c (stands_more schema header entries next entry bytes c grows.is (grows.stands told_is) (adds told_is c here))))))))
+      (subst (λ x. IsKept told image' schema world x header standing entries' in_flight has_journal has_failed) (sym u)
+      (subst (λ x. IsKept told image' schema world user header standing x in_flight has_journal has_failed) (sym h)
+      (subst (λ x. IsKept told image' schema world user header standing (entries ++ entry ∷ []) x has_journal has_failed) (sym grows.idle)
+      (kept_open told image' schema world user header standing (entries ++ entry ∷ []) None has_journal has_failed grows.opened grows.admits
+      (subst (λ x. IsLegal schema world user x) (sym (append-nil (entries ++ entry ∷ []))) grows.legal_more)
+      (subst (λ x. KeepsSizes schema user x) (sym (append-nil (entries ++ entry ∷ []))) grows.sizes_more)
+      journal whole
+      (λ told_is c here. within_more schema header (entries ++ entry ∷ []) [] c (stands_more schema header entries next entry bytes c grows.is (grows.stands told_is) (adds told_is c here))))))))
 
   -- the entry is in flight
   pub kept_flying : (image' : List ℕ → Type 0) (schema' : DatabaseSchema) (world' : FactSet) (user' : UserProfile) (entries' : History) (entry' : AnsweredQuery) (has_journal has_failed : Bool) → schema' ≡ schema → world' ≡ world → user' ≡ user → entries' ≡ entries → entry' ≡ entry
@@ -117,14 +117,14 @@ module _ (told : Type 0) (image : List ℕ → Type 0) (schema : DatabaseSchema)
   kept_flying image' schema' world' user' entries' entry' has_journal has_failed s w u h e journal broken either =
       subst (λ x. IsKept told image' x world' user' header standing entries' (Some entry') has_journal has_failed) (sym s)
       (subst (λ x. IsKept told image' schema x user' header standing entries' (Some entry') has_journal has_failed) (sym w)
-       (subst (λ x. IsKept told image' schema world x header standing entries' (Some entry') has_journal has_failed) (sym u)
-        (subst (λ x. IsKept told image' schema world user header standing x (Some entry') has_journal has_failed) (sym h)
-         (subst (λ x. IsKept told image' schema world user header standing entries (Some x) has_journal has_failed) (sym e)
-          (kept_open told image' schema world user header standing entries (Some entry) has_journal has_failed grows.opened grows.admits grows.legal_more grows.sizes_more journal broken
-           (λ told_is c here. ⊎_elim
-            (λ stands. within_more schema header entries (entry ∷ []) c stands)
-            (λ stands. within_all schema header (entries ++ entry ∷ []) (length entries) c (more entries) stands)
-            (stands_either schema header entries next entry bytes c grows.is (grows.stands told_is) (either told_is c here))))))))
+      (subst (λ x. IsKept told image' schema world x header standing entries' (Some entry') has_journal has_failed) (sym u)
+      (subst (λ x. IsKept told image' schema world user header standing x (Some entry') has_journal has_failed) (sym h)
+      (subst (λ x. IsKept told image' schema world user header standing entries (Some x) has_journal has_failed) (sym e)
+      (kept_open told image' schema world user header standing entries (Some entry) has_journal has_failed grows.opened grows.admits grows.legal_more grows.sizes_more journal broken
+      (λ told_is c here. ⊎_elim
+      (λ stands. within_more schema header entries (entry ∷ []) c stands)
+      (λ stands. within_all schema header (entries ++ entry ∷ []) (length entries) c (more entries) stands)
+      (stands_either schema header entries next entry bytes c grows.is (grows.stands told_is) (either told_is c here))))))))
     where
       more : (xs : History) → length xs ≤ length (xs ++ entry ∷ [])
       more [] = omega arith
@@ -141,6 +141,6 @@ module _ (told : Type 0) (image : List ℕ → Type 0) (schema : DatabaseSchema)
       let found = entry_of_answer schema world user state text query mark (ap standing_of grows.opened) (ap (λ (o : Option AnsweredQuery). is_some o) grows.idle) answer in
       stop_holds schema world user header state text entry c (found.1 ∙ ap (λ x. Some x) (sym is_entry))
       (⊎_elim
-       (λ stands. inl (record { stands = stands; legal = grows.legal; sizes = grows.sizes; none = λ isnt. no_one entries isnt }))
-       (λ stands. inr (record { stands = stands; legal = grows.legal_more; sizes = grows.sizes_more; none = λ isnt. no_one (entries ++ entry ∷ []) isnt }))
-       (stands_either schema header entries next entry bytes c grows.is (grows.stands told_is) either))
+      (λ stands. inl (record { stands = stands; legal = grows.legal; sizes = grows.sizes; none = λ isnt. no_one entries isnt }))
+      (λ stands. inr (record { stands = stands; legal = grows.legal_more; sizes = grows.sizes_more; none = λ isnt. no_one (entries ++ entry ∷ []) isnt }))
+      (stands_either schema header entries next entry bytes c grows.is (grows.stands told_is) either))

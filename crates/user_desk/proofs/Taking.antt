@@ -136,5 +136,5 @@ replay_refused_of schema schema' world world' user user' same_schema same_world 
     (subst (λ s. IsLegal s world user before) same_schema (subst (λ w. IsLegal schema' w user before) same_world (subst (λ u. IsLegal schema' world' u before) same_user legal)))
     (subst (λ s. KeepsSizes s user before) same_schema (subst (λ u. KeepsSizes schema' u before) same_user sizes))
     (subst (λ s. RefusesRecord s world user before (recorded next) why) same_schema
-     (subst (λ w. RefusesRecord schema' w user before (recorded next) why) same_world (subst (λ u. RefusesRecord schema' world' u before (recorded next) why) same_user refused)))
+    (subst (λ w. RefusesRecord schema' w user before (recorded next) why) same_world (subst (λ u. RefusesRecord schema' world' u before (recorded next) why) same_user refused)))
     none admits

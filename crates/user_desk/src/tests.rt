@@ -37,6 +37,7 @@ const OPENING: u64 = 3;
 const RULE: &str = "forall x: person . drug(x) -> hiv(x)";
 
 /// Two persons; Ann takes the drug and is infected. A liar keeps that secret.
+#[derive(Drop)]
 struct Clinic {
     schema: Schema,
     world: World,
@@ -65,12 +66,7 @@ fn schema(alloc: Global) -> Result<Schema, Fail> {
 }
 
 /// A small sentence of the schema.
-fn sentence(
-    rt: &impl Abort,
-    alloc: Global,
-    schema: &Schema,
-    text: &str,
-) -> Result<Sentence, Fail>
+fn sentence(rt: &impl Abort, alloc: Global, schema: &Schema, text: &str) -> Result<Sentence, Fail>
     requires { length text.now ≤ 4096 }
     ensures sentence { IfOk result (λ s. is_sentence_of schema.now (formula_of s) ≡ true) }
     ensures small { IfOk result (λ s. nodes schema.now (formula_of s) ≤ 1000) }
@@ -101,7 +97,7 @@ fn liar(rt: &impl Abort, alloc: Global, schema: &Schema, known: &str) -> Result<
     })
 }
 
-fn clinic(rt: &impl Abort, alloc: Global, known: &str) -> Result<Clinic, Fail>
+fn clinic_knowing(rt: &impl Abort, alloc: Global, known: &str) -> Result<Clinic, Fail>
     requires { length known.now ≤ 4096 }
     ensures { IfOk result (λ c. KeepsLimits c.schema (profile_of c.user)) }
 {
@@ -175,7 +171,7 @@ fn opened(
 #[test]
 fn one_ask_writes_its_bytes(rt: HostRuntime) -> Result<(), Fail> {
     let alloc = rt.alloc();
-    let clinic = clinic(&rt, alloc, RULE)?;
+    let clinic = clinic_knowing(&rt, alloc, RULE)?;
     let mut disk = MemoryDisk::new(alloc, Vec::new(alloc))?;
     format(&mut disk, &HEADER)?;
     let mut desk = desk_on(&rt, alloc, &clinic, disk)?;
@@ -188,7 +184,10 @@ fn one_ask_writes_its_bytes(rt: HostRuntime) -> Result<(), Fail> {
     assert!(rt; matches!(reply, Reply::Syntax(error) if error.kind == 2 && error.place == 0));
     let disk = desk.close();
     assert_eq!(rt; disk.bytes().len(), 86);
-    assert_eq!(rt; disk.bytes(), with_header(alloc, &FROM_THE_GATE)?.as_slice());
+    assert_eq!(rt;
+        disk.bytes(),
+        with_header(alloc, &FROM_THE_GATE)?.as_slice()
+    );
     assert_eq!(rt; disk.crash_image(alloc, 0)?.as_slice(), disk.bytes());
     // Two calls of `format`, three of the opening, four of the append.
     assert_eq!(rt; disk.calls().len(), 9);
@@ -199,7 +198,7 @@ fn one_ask_writes_its_bytes(rt: HostRuntime) -> Result<(), Fail> {
 #[test]
 fn a_changed_byte_is_refused_by_name(rt: HostRuntime) -> Result<(), Fail> {
     let alloc = rt.alloc();
-    let clinic = clinic(&rt, alloc, RULE)?;
+    let clinic = clinic_knowing(&rt, alloc, RULE)?;
     let unlawful = DeskError::Unlawful {
         number: 0,
         stored: Mark::Yes,
@@ -266,7 +265,7 @@ fn with_record(alloc: Global, kind: u8, text: &[u8]) -> Result<Vec<u8>, Fail>
 #[test]
 fn a_record_beyond_the_limits_is_refused(rt: HostRuntime) -> Result<(), Fail> {
     let alloc = rt.alloc();
-    let clinic = clinic(&rt, alloc, RULE)?;
+    let clinic = clinic_knowing(&rt, alloc, RULE)?;
     let mut text = String::new(alloc);
     for variable in ["a", "b", "c", "d", "e", "f", "g", "h"] {
         text.push_str("forall ")?;
@@ -288,7 +287,7 @@ fn a_record_beyond_the_limits_is_refused(rt: HostRuntime) -> Result<(), Fail> {
 #[test]
 fn a_user_who_is_not_admitted_has_no_entry(rt: HostRuntime) -> Result<(), Fail> {
     let alloc = rt.alloc();
-    let clinic = clinic(&rt, alloc, "hiv(ann)")?;
+    let clinic = clinic_knowing(&rt, alloc, "hiv(ann)")?;
     let implied = Admission::Implied(None);
     let bytes = with_header(alloc, &FROM_THE_GATE)?;
     let found = opened(&rt, alloc, &clinic, bytes)?;
@@ -306,7 +305,7 @@ fn a_user_who_is_not_admitted_has_no_entry(rt: HostRuntime) -> Result<(), Fail> 
 #[test]
 fn a_fault_at_the_opening_seals_the_desk(rt: HostRuntime) -> Result<(), Fail> {
     let alloc = rt.alloc();
-    let clinic = clinic(&rt, alloc, RULE)?;
+    let clinic = clinic_knowing(&rt, alloc, RULE)?;
     for call in 0..OPENING {
         let bytes = with_header(alloc, &FROM_THE_GATE)?;
         let plan = Plan::At(vec![in alloc; call]?);
@@ -350,7 +349,7 @@ fn two_lives(
 #[test]
 fn a_new_life_finds_what_was_answered(rt: HostRuntime) -> Result<(), Fail> {
     let alloc = rt.alloc();
-    let clinic = clinic(&rt, alloc, RULE)?;
+    let clinic = clinic_knowing(&rt, alloc, RULE)?;
     let no = Reply::Mark(Mark::No);
     for (picture, torn) in [(0, 0), (1, 1), (2, 0), (3, 0), (4, 1), (7, 1)] {
         for (stop, first, second, count) in [
@@ -365,7 +364,11 @@ fn a_new_life_finds_what_was_answered(rt: HostRuntime) -> Result<(), Fail> {
             (11, no, no, 2),
         ] {
             let found = two_lives(&rt, alloc, &clinic, stop, picture)?;
-            assert_eq!(rt; found, (first, second, count), "stop {stop}, picture {picture}");
+            assert_eq!(rt;
+                found,
+                (first, second, count),
+                "stop {stop}, picture {picture}"
+            );
         }
     }
     Ok(())
@@ -376,7 +379,7 @@ fn crosses_threads<T: Send + Sync>(_value: &T) {}
 #[test]
 fn a_desk_crosses_threads(rt: HostRuntime) -> Result<(), Fail> {
     let alloc = rt.alloc();
-    let clinic = clinic(&rt, alloc, RULE)?;
+    let clinic = clinic_knowing(&rt, alloc, RULE)?;
     let disk = MemoryDisk::new(alloc, with_header(alloc, &[0])?)?;
     let desk = desk_on(&rt, alloc, &clinic, disk)?;
     crosses_threads(&desk);
