@@ -1,6 +1,6 @@
 -- What an ask makes of a user's state, and what its moments stand for.
-use Rattle.std.proofs.Common.{◌≡◌, ◌⊎◌, ℕ, ◌≤◌, Bool, true, false, List, [], ◌∷◌, ◌++◌, length, refl, sym, ap, ◌∙◌, subst, inl, inr, ⊎_elim, arith}
-use Rattle.std.specs.Prelude.{Option, Some, None, Result, Ok, Err, option_to_list, is_some}
+use Rattle.std.proofs.Common.{◌≡◌, ◌⊎◌, ℕ, Bool, true, false, List, [], ◌∷◌, ◌++◌, length, refl, sym, ap, ◌∙◌, subst, inl, inr}
+use Rattle.std.specs.Prelude.{Option, Some, None, Result, Ok, Err, option_to_list}
 use Rattle.std.proofs.lemmas.List.{append-nil}
 use Rattle.cqe_base.specs.declared.user.Mark.{Mark}
 use Rattle.cqe_base.specs.Schema.{DatabaseSchema, Text}
@@ -8,13 +8,10 @@ use Rattle.cqe_base.specs.Facts.{FactSet}
 use Rattle.cqe_base.specs.Formula.{Formula}
 use Rattle.cqe_base.specs.Reading.{Refusal, reading}
 use Rattle.cqe_base.specs.History.{UserProfile, AnsweredQuery, History}
-use Rattle.cqe_base.specs.Censor.{IsLegal, admitted}
-use Rattle.cqe_base.specs.Limits.{KeepsSizes}
 use Rattle.cqe_base.specs.Run
 use Rattle.cqe_base.specs.Run.{UserState, Standing, standing_open, standing_closed, standing_sealed, Ending, want, kept, failed, ask, stop, restart, after_event, after_failure, reply_at, entry_at, entry_added, marked, reply_by, user_closed, desk_sealed, desk_broken, no_memory, opening_standing, entries_found}
 use Rattle.outside.specs.Faults.{Rose}
-use Rattle.user_log.specs.Asked.{IsAnswer, open_reply}
-use Rattle.user_desk.specs.Entries.{StandsFor}
+use Rattle.user_log.specs.Asked.{IsAnswer}
 use Rattle.user_desk.specs.Causes.{Opens}
 use Rattle.user_desk.specs.Lives.{Holds, Settles, AddsNone}
 

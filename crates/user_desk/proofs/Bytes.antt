@@ -1,7 +1,7 @@
 -- Which entries bytes stand for.
 use Rattle.std.proofs.Common.{◌≡◌, ◌⊎◌, ℕ, ◌+◌, ◌≤◌, List, [], ◌∷◌, ◌++◌, length, map, take, refl, sym, ap, ◌∙◌, subst, inl, inr, ⊎_elim, arith, length-append}
-use Rattle.std.specs.Prelude.{Option, Some, None, option_to_list}
-use Rattle.std.proofs.lemmas.List.{length-map, map-append, length-take, take_at, take_all, append-nil}
+use Rattle.std.specs.Prelude.{Some}
+use Rattle.std.proofs.lemmas.List.{length-map, map-append, length-take, take_at, take_all}
 use Rattle.cqe_base.specs.Schema.{DatabaseSchema}
 use Rattle.cqe_base.specs.History.{AnsweredQuery, History}
 use Rattle.log_journal.specs.Records.{Recorded, records, IsJournal, Adds, KeepsOrAdds}

@@ -1,14 +1,14 @@
 -- What a desk keeps, from its opening and from ask to ask.
-use Rattle.std.proofs.Common.{◌≡◌, ◌⊎◌, ℕ, ◌≤◌, Bool, true, false, List, [], ◌∷◌, ◌++◌, length, refl, sym, ap, ◌∙◌, subst, ⊎_elim, arith}
-use Rattle.std.specs.Prelude.{Option, Some, None, option_to_list, is_some}
+use Rattle.std.proofs.Common.{◌≡◌, ℕ, Bool, true, false, List, [], ◌++◌, length, refl, sym, ap, ◌∙◌, subst}
+use Rattle.std.specs.Prelude.{Option, None, option_to_list, is_some}
 use Rattle.std.proofs.lemmas.List.{append-nil}
 use Rattle.cqe_base.specs.Schema.{DatabaseSchema}
 use Rattle.cqe_base.specs.Facts.{FactSet}
 use Rattle.cqe_base.specs.History.{UserProfile, AnsweredQuery, History}
 use Rattle.cqe_base.specs.Censor.{IsLegal, admitted}
 use Rattle.cqe_base.specs.Limits.{KeepsSizes}
-use Rattle.user_desk.specs.Entries.{StandsFor, StandsWithin}
-use Rattle.user_desk.specs.Causes.{Opens, IsStanding}
+use Rattle.user_desk.specs.Entries.{StandsWithin}
+use Rattle.user_desk.specs.Causes.{IsStanding}
 use Rattle.user_desk.specs.Standings.{is_open, is_sealed}
 use Rattle.user_desk.specs.Kept.{IsKept}
 use Rattle.user_desk.specs.declared.standing.Standing.{Standing}
@@ -17,7 +17,7 @@ use Rattle.log_journal.specs.Opening.{IsRefused}
 use Rattle.log_journal.specs.declared.header.OpenError.{OpenError}
 use Rattle.log_journal.specs.declared.header.OpenError.TheVariants.{NotAJournal, OtherPolicy, Damaged, DiskFault, Memory}
 use Rattle.user_desk.specs.declared.standing.DeskError.TheVariants.{Journal}
-use Rattle.user_desk.proofs.Bytes.{within_more, within_all}
+use Rattle.user_desk.proofs.Bytes.{within_more}
 use Rattle.user_desk.proofs.Restarting.{opens_served}
 
 module _ (schema : DatabaseSchema) (world : FactSet) (user : UserProfile) where

@@ -1,6 +1,6 @@
 -- What the append of an entry makes of a desk.
-use Rattle.std.proofs.Common.{◌≡◌, ◌⊎◌, ℕ, ◌≤◌, Bool, true, false, List, [], ◌∷◌, ◌++◌, length, refl, sym, ap, ◌∙◌, subst, inl, inr, ⊎_elim, arith}
-use Rattle.std.specs.Prelude.{Option, Some, None, Ok, option_to_list, is_some}
+use Rattle.std.proofs.Common.{◌≡◌, ℕ, ◌≤◌, Bool, true, false, List, [], ◌∷◌, ◌++◌, length, sym, ap, ◌∙◌, subst, inl, inr, ⊎_elim, arith}
+use Rattle.std.specs.Prelude.{Option, Some, None, Ok, is_some}
 use Rattle.std.proofs.lemmas.List.{append-nil}
 use Rattle.cqe_base.specs.declared.user.Mark.{Mark}
 use Rattle.cqe_base.specs.Schema.{DatabaseSchema, Text}
@@ -13,8 +13,7 @@ use Rattle.cqe_base.specs.Limits.{KeepsSizes}
 use Rattle.cqe_base.specs.Run.{stop, after_event}
 use Rattle.log_journal.specs.Records.{Recorded, Adds, KeepsOrAdds}
 use Rattle.user_log.specs.Asked.{IsAnswer}
-use Rattle.user_desk.specs.Entries.{mark_of, entry_of, StandsFor, StandsWithin}
-use Rattle.user_desk.specs.Causes.{Opens}
+use Rattle.user_desk.specs.Entries.{mark_of, entry_of, StandsFor}
 use Rattle.user_desk.specs.Standings.{standing_of, is_open, is_sealed}
 use Rattle.user_desk.specs.Kept.{IsKept}
 use Rattle.user_desk.specs.Lives.{shown, Holds, AddsNone}

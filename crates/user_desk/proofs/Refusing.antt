@@ -1,8 +1,8 @@
 -- Bytes that open a desk aren't refused, and what going through the records shows of them.
-use Rattle.std.proofs.Common.{◌≡◌, ◌≢◌, ◌⊎◌, ℕ, ◌+◌, ◌≤◌, ◌<◌, Bool, true, false, ◌||◌, List, [], ◌∷◌, ◌++◌, length, map, take, drop, refl, sym, ap, ◌∙◌, subst, inl, inr, ⊎_elim, arith, length-append}
-use Rattle.std.specs.Prelude.{Option, Some, None, Result, Ok, Err, nat_le}
+use Rattle.std.proofs.Common.{◌≡◌, ℕ, ◌≤◌, ◌<◌, Bool, true, false, ◌||◌, List, [], ◌∷◌, ◌++◌, length, map, take, refl, sym, ap, ◌∙◌, subst, ⊎_elim, arith, length-append}
+use Rattle.std.specs.Prelude.{Option, Some, None, Result, Ok, Err}
 use Rattle.std.proofs.lemmas.Grind.{common_steps}
-use Rattle.std.proofs.lemmas.List.{length-map, map-append, take_at, take-take}
+use Rattle.std.proofs.lemmas.List.{map-append, take_at, take-take}
 use Rattle.std.proofs.lemmas.Bool.Decides.{nat_tests}
 use Rattle.cqe_base.specs.declared.user.Mark.{Mark}
 use Rattle.cqe_base.specs.Schema.{DatabaseSchema, Text}
@@ -14,14 +14,13 @@ use Rattle.cqe_base.specs.Censor.{IsLegal, rule, admitted}
 use Rattle.cqe_base.specs.Limits.{KeepsSizes, KeepsSizesAt}
 use Rattle.cqe_base.specs.Run.{is_full, is_too_large}
 use Rattle.outside.specs.Faults.{Rose}
-use Rattle.log_journal.specs.Records.{Recorded, records, IsJournal, damaged}
+use Rattle.log_journal.specs.Records.{Recorded, records, IsJournal}
 use Rattle.log_journal.specs.Opening as journal
 use Rattle.log_journal.specs.Opening.{header_bytes, first_eight}
 use Rattle.log_journal.specs.declared.header.Header.{Header}
 use Rattle.log_journal.specs.declared.header.OpenError.{OpenError}
 use Rattle.log_journal.specs.declared.header.OpenError.TheVariants.{NotAJournal, OtherPolicy, Damaged, DiskFault, Memory}
-use Rattle.censors.specs.Admitting.{admission_of}
-use Rattle.user_desk.specs.Entries.{mark_of, entry_by, entry_of, StandsFor}
+use Rattle.user_desk.specs.Entries.{mark_of, entry_by, entry_of}
 use Rattle.user_desk.specs.Causes.{Opens, is_beyond, RefusesRecord, RefusesRecords, Refuses, IsSealedBy, IsStanding, IsReplay}
 use Rattle.user_desk.specs.declared.standing.DeskError.{DeskError}
 use Rattle.user_desk.specs.declared.standing.DeskError.TheVariants.{Journal, Stale, Unlawful, Size, NotAdmitted}

@@ -1,5 +1,5 @@
 -- What an opening makes of a user's state, and what a desk at rest stands for.
-use Rattle.std.proofs.Common.{◌≡◌, ◌⊎◌, ℕ, Bool, true, false, List, [], ◌∷◌, ◌++◌, length, refl, sym, ap, ◌∙◌, subst, ⊎_elim}
+use Rattle.std.proofs.Common.{◌≡◌, ℕ, Bool, true, false, List, [], ◌∷◌, ◌++◌, length, refl, sym, ap, ◌∙◌, subst, ⊎_elim}
 use Rattle.std.specs.Prelude.{Option, Some, None, option_to_list, is_some, if◌then◌else◌}
 use Rattle.std.proofs.lemmas.List.{append-nil}
 use Rattle.cqe_base.specs.Schema.{DatabaseSchema}
@@ -9,7 +9,6 @@ use Rattle.cqe_base.specs.Censor.{IsLegal, admitted}
 use Rattle.cqe_base.specs.Limits.{KeepsSizes}
 use Rattle.cqe_base.specs.Run
 use Rattle.cqe_base.specs.Run.{UserState, standing_open, standing_closed, standing_sealed, restart, after_event, opening_standing, entries_found}
-use Rattle.outside.specs.Faults.{Rose}
 use Rattle.log_journal.specs.Opening.{header_bytes}
 use Rattle.log_journal.specs.declared.header.Header.{Header}
 use Rattle.user_desk.specs.Entries.{StandsFor, StandsWithin}
@@ -19,7 +18,7 @@ use Rattle.user_desk.specs.Kept.{IsKept}
 use Rattle.user_desk.specs.Lives.{shown, IsState, Holds, Restarts}
 use Rattle.user_desk.specs.declared.standing.Standing.{Standing}
 use Rattle.user_desk.specs.declared.standing.Standing.TheVariants.{Open, Closed, Sealed}
-use Rattle.user_desk.proofs.Bytes.{one_history, within_exact, within_either, within_all, within_more}
+use Rattle.user_desk.proofs.Bytes.{one_history, within_exact, within_either}
 use Rattle.user_desk.proofs.Refusing.{sealed_by_fault}
 
 module _ (schema : DatabaseSchema) (world : FactSet) (user : UserProfile) where

@@ -1,6 +1,6 @@
 -- What weighing the text of a record shows of it.
-use Rattle.std.proofs.Common.{◌≡◌, ℕ, suc, ◌+◌, ◌<◌, Bool, true, false, ◌||◌, List, [], ◌∷◌, ◌++◌, length, map, take, drop, get_or, refl, sym, ap, ◌∙◌, subst, arith, add-one, drop-cons}
-use Rattle.std.specs.Prelude.{Option, Some, None, Result, Ok, Err, if◌then◌else◌, IsUtf8}
+use Rattle.std.proofs.Common.{◌≡◌, ℕ, suc, ◌+◌, ◌<◌, Bool, true, false, ◌||◌, List, [], ◌∷◌, ◌++◌, length, map, take, drop, get_or, refl, sym, ap, ◌∙◌, subst, add-one, drop-cons}
+use Rattle.std.specs.Prelude.{Some, None, Result, Ok, Err, if◌then◌else◌, IsUtf8}
 use Rattle.std.proofs.lemmas.List.{length-map, map-append, take-append-drop}
 use Rattle.cqe_base.specs.declared.user.Mark.{Mark}
 use Rattle.cqe_base.specs.declared.user.Entry.{Entry}
@@ -8,7 +8,7 @@ use Rattle.cqe_base.specs.Schema.{DatabaseSchema, Text}
 use Rattle.cqe_base.specs.Facts.{FactSet}
 use Rattle.cqe_base.specs.Formula.{Formula}
 use Rattle.cqe_base.specs.Reading.{Refusal, reading}
-use Rattle.cqe_base.specs.History.{UserProfile, AnsweredQuery, History, answered_query_of, log}
+use Rattle.cqe_base.specs.History.{UserProfile, History, answered_query_of, log}
 use Rattle.cqe_base.specs.Censor.{IsLegal, rule, admitted}
 use Rattle.cqe_base.specs.Limits.{KeepsSizes}
 use Rattle.cqe_base.specs.Run
@@ -22,8 +22,8 @@ use Rattle.user_log.specs.Replies.{reply_of}
 use Rattle.user_log.specs.declared.reply.Reply.{Reply}
 use Rattle.user_log.specs.declared.reply.Reply.TheVariants as replies
 use Rattle.user_desk.specs.Entries.{mark_of, entry_of}
-use Rattle.user_desk.specs.Causes.{is_beyond, RefusesRecord, RefusesRecords, IsReplay}
-use Rattle.user_desk.specs.Replays.{IsTaken, refused_by}
+use Rattle.user_desk.specs.Causes.{RefusesRecord, RefusesRecords, IsReplay}
+use Rattle.user_desk.specs.Replays.{refused_by}
 use Rattle.user_desk.specs.declared.standing.DeskError.{DeskError}
 use Rattle.user_desk.specs.declared.standing.DeskError.TheVariants.{Journal, Stale, Unlawful, Size, NotAdmitted}
 use Rattle.user_desk.specs.declared.standing.Standing.TheVariants.{Sealed}

@@ -1,5 +1,5 @@
 -- What the records of a journal stand for: the entries of a user.
-use Rattle.std.specs.Prelude.{◌≡◌, ℕ, ◌==◌, ◌≤◌, List, length, map, take, Option, Some, None, Result, Ok, Err, if◌then◌else◌}
+use Rattle.std.specs.Prelude.{◌≡◌, ℕ, ◌==◌, ◌≤◌, List, length, map, take, Option, Some, None, Result, Ok, if◌then◌else◌}
 use Rattle.cqe_base.specs.declared.user.Mark.{Mark}
 use Rattle.cqe_base.specs.declared.user.Mark.TheVariants.{Yes, No, Refused, Undecided}
 use Rattle.cqe_base.specs.Schema.{DatabaseSchema, Text}

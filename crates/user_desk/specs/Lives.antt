@@ -8,7 +8,7 @@ use Rattle.cqe_base.specs.Run.{Reply, UserState, Ending, failed, ask, restart, a
 use Rattle.outside.specs.Faults.{Rose}
 use Rattle.user_desk.specs.Causes.{Opens}
 use Rattle.user_desk.specs.declared.standing.Standing.{Standing}
-use Rattle.user_desk.specs.declared.standing.Standing.TheVariants.{Open, Closed, Sealed}
+use Rattle.user_desk.specs.declared.standing.Standing.TheVariants.{Sealed}
 
 -- the state with these entries, this standing and, if an append failed, the entry of that append
 abbrev pub shown : History → Run.Standing → Option AnsweredQuery → UserState
