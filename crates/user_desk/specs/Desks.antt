@@ -13,16 +13,19 @@ use Rattle.user_desk.specs.Lives.{shown, IsState}
 use Rattle.user_desk.specs.declared.standing.Standing.{Standing}
 use Rattle.user_desk.specs.declared.desk.Desk.{Desk}
 
--- its schema, its world, its user, and the header of its journal
+-- its schema
 abbrev pub desk_schema : {D : Type 0} {g : _} → Desk D g → DatabaseSchema
 desk_schema desk = kept_schema desk.log
 
+-- its world
 abbrev pub desk_world : {D : Type 0} {g : _} → Desk D g → FactSet
 desk_world desk = kept_world desk.log
 
+-- its user
 abbrev pub desk_user : {D : Type 0} {g : _} → Desk D g → UserProfile
 desk_user desk = kept_user desk.log
 
+-- the header of its journal
 abbrev pub desk_header : {D : Type 0} {g : _} → Desk D g → List ℕ
 desk_header desk = header_bytes desk.header
 
