@@ -66,7 +66,7 @@ module _ {X : Type 0} where
       longer x b heads xs last before y (split_last xs last before y after tails)
 
 -- entries within the limits and one more
-sizes_push : (schema : DatabaseSchema) (user : UserProfile) (entries : History) (last : AnsweredQuery) → KeepsSizes schema user entries → KeepsSizesAt schema user entries last → KeepsSizes schema user (entries ++ last ∷ [])
+pub sizes_push : (schema : DatabaseSchema) (user : UserProfile) (entries : History) (last : AnsweredQuery) → KeepsSizes schema user entries → KeepsSizesAt schema user entries last → KeepsSizes schema user (entries ++ last ∷ [])
 sizes_push schema user entries last sizes here before entry after e = at (split_last entries last before entry after e)
   where
     at : ((before ≡ entries) × (entry ≡ last)) ⊎ ((rest : History) × (entries ≡ before ++ entry ∷ rest)) → KeepsSizesAt schema user before entry

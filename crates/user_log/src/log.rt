@@ -11,7 +11,7 @@ ghost use Rattle.entailment.specs.Logs.{log_nodes};
 ghost use Rattle.user_log.specs.Nodes.{told_nodes};
 ghost use Rattle.user_log.specs.Kept.{IsKept, IsKept-prop};
 
-use crate::{Reply, Weighed};
+use crate::{Prepared, Reply, Weighed};
 use censors::{decide, examine};
 use cqe_base::laws::{law_findings_decide, law_legal_grows, law_limits, law_reading};
 use cqe_base::schema::Schema;
@@ -21,6 +21,7 @@ use cqe_base::world::World;
 use entailment::View;
 use sentence_text::{ReadError, read_sentence};
 use std::alloc::{AllocError, Global};
+use std::mem;
 use truth_eval::holds;
 
 /// A history has at most so many entries.
@@ -52,6 +53,7 @@ impl<'w> UserLog<'w> {
     ghost use Rattle.user_log.specs.UserLogs.{kept_schema, kept_world, kept_user, kept_history, IsOfSame};
     ghost use Rattle.user_log.specs.Asked.{IsAnswer, IsWeighed, IsAsked};
     ghost use Rattle.user_log.specs.Replies.{reply_of};
+    ghost use Rattle.user_log.specs.Prepared.{IsPrepared, prepared_entry};
 
     /// The log of a user who has asked nothing.
     pub fn new(
@@ -146,6 +148,61 @@ impl<'w> UserLog<'w> {
         Ok(decide(self.user.method, &findings, truth))
     }
 
+    /// Takes all that adding the entry of a text that was weighed takes, with the mark that answers it. The entries stay.
+    pub fn prepare(
+        &mut self,
+        alloc: Global,
+        text: &str,
+        query: Sentence,
+        mark: Mark,
+    ) -> Result<Prepared<'w>, AllocError>
+        requires few { length text.now ≤ 4096 }
+        requires answer { IsAnswer (kept_schema self.old) (kept_world self.old) (kept_user self.old) (kept_history self.old) text.now (formula_of query) mark }
+        ensures same { IsOfSame self.old self.new }
+        ensures unchanged { kept_history self.new ≡ kept_history self.old }
+        ensures prepared { IfOk result (IsPrepared self.new) }
+        ensures legal { IfOk result (λ prepared. IsLegal (kept_schema self.new) (kept_world self.new) (kept_user self.new) (kept_history self.new ++ prepared_entry prepared ∷ [])) }
+        ensures sizes { IfOk result (λ prepared. KeepsSizes (kept_schema self.new) (kept_user self.new) (kept_history self.new ++ prepared_entry prepared ∷ [])) }
+        ensures entry { IfOk result (λ prepared. prepared_entry prepared ≡ record { query = formula_of query; mark = mark; length = length text.now }) }
+    {
+        law_reading();
+        law_limits();
+        law_legal_grows();
+        self.entries.reserve(1)?;
+        let nodes = told_nodes(self.schema, &query, mark);
+        let mut view = self.view.copy(alloc)?;
+        tell(alloc, &mut view, &query, mark)?;
+        let length = text.len() as u32;
+        let new_entry = Entry {
+            query,
+            mark,
+            length,
+        };
+        Ok(Prepared {
+            view,
+            new_entry,
+            nodes,
+        })
+    }
+
+    /// Adds an entry that was prepared for these entries. It takes no memory.
+    pub fn commit(&mut self, prepared: Prepared<'w>)
+        requires { IsPrepared self.old prepared }
+        ensures same { IsOfSame self.old self.new }
+        ensures added { kept_history self.new ≡ kept_history self.old ++ prepared_entry prepared.entry ∷ [] }
+    {
+        law_legal_grows();
+        let Prepared {
+            view,
+            new_entry,
+            nodes,
+        } = prepared;
+        let _before = mem::replace(&mut self.view, view);
+        self.text_bytes += u64::from(new_entry.length);
+        self.view_nodes += nodes;
+        self.entries.push_reserved(new_entry);
+    }
+
     /// Adds the entry of a text that was weighed, with the mark that answers it. A refusal changes nothing.
     pub fn add(
         &mut self,
@@ -161,20 +218,8 @@ impl<'w> UserLog<'w> {
             ≡ kept_history self.old ++ record { query = formula_of query; mark = mark; length = length text.now } ∷ []) }
         ensures refused { OnErr result (kept_history self.new ≡ kept_history self.old) }
     {
-        law_reading();
-        law_limits();
-        law_legal_grows();
-        self.entries.reserve(1)?;
-        let count = told_nodes(self.schema, &query, mark);
-        tell(alloc, &mut self.view, &query, mark)?;
-        let length = text.len() as u32;
-        self.text_bytes += u64::from(length);
-        self.view_nodes += count;
-        self.entries.push_reserved(Entry {
-            query,
-            mark,
-            length,
-        });
+        let prepared = self.prepare(alloc, text, query, mark)?;
+        self.commit(prepared);
         Ok(())
     }
 

@@ -1,0 +1,200 @@
+-- Bytes that open a desk aren't refused, and what going through the records shows of them.
+use Rattle.std.proofs.Common.{◌≡◌, ℕ, ◌≤◌, ◌<◌, Bool, true, false, ◌||◌, List, [], ◌∷◌, ◌++◌, length, map, take, refl, sym, ap, ◌∙◌, subst, ⊎_elim, arith, length-append}
+use Rattle.std.specs.Prelude.{Option, Some, None, Result, Ok, Err}
+use Rattle.std.proofs.lemmas.Grind.{common_steps}
+use Rattle.std.proofs.lemmas.List.{map-append, take_at, take-take}
+use Rattle.std.proofs.lemmas.Bool.Decides.{nat_tests}
+use Rattle.cqe_base.specs.declared.user.Mark.{Mark}
+use Rattle.cqe_base.specs.Schema.{DatabaseSchema, Text}
+use Rattle.cqe_base.specs.Facts.{FactSet}
+use Rattle.cqe_base.specs.Formula.{Formula}
+use Rattle.cqe_base.specs.Reading.{Refusal, reading}
+use Rattle.cqe_base.specs.History.{UserProfile, AnsweredQuery, History, log}
+use Rattle.cqe_base.specs.Censor.{IsLegal, rule, admitted}
+use Rattle.cqe_base.specs.Limits.{KeepsSizes, KeepsSizesAt}
+use Rattle.cqe_base.specs.Run.{is_full, is_too_large}
+use Rattle.outside.specs.Faults.{Rose}
+use Rattle.log_journal.specs.Records.{Recorded, records, IsJournal}
+use Rattle.log_journal.specs.Opening as journal
+use Rattle.log_journal.specs.Opening.{header_bytes, first_eight}
+use Rattle.log_journal.specs.declared.header.Header.{Header}
+use Rattle.log_journal.specs.declared.header.OpenError.{OpenError}
+use Rattle.log_journal.specs.declared.header.OpenError.TheVariants.{NotAJournal, OtherPolicy, Damaged, DiskFault, Memory}
+use Rattle.user_desk.specs.Entries.{mark_of, entry_by, entry_of}
+use Rattle.user_desk.specs.Causes.{Opens, is_beyond, RefusesRecord, RefusesRecords, Refuses, IsSealedBy, IsStanding, IsReplay}
+use Rattle.user_desk.specs.declared.standing.DeskError.{DeskError}
+use Rattle.user_desk.specs.declared.standing.DeskError.TheVariants.{Journal, Stale, Unlawful, Size, NotAdmitted}
+use Rattle.user_desk.specs.declared.standing.Standing.{Standing}
+use Rattle.user_desk.specs.declared.standing.Standing.TheVariants.{Open, Closed, Sealed}
+
+-- ---- one record
+
+-- what an entry shows of its record
+pub record IsEntryOf (text : Text) (mark : Option Mark) (read : Result Formula Refusal) (entry : AnsweredQuery) : Type 0 where
+  pub marks : mark ≡ Some entry.mark
+  pub reads : read ≡ Ok entry.query
+  pub size : entry.length ≡ length text
+
+pub entry_shows : (text : Text) (mark : Option Mark) (read : Result Formula Refusal) (entry : AnsweredQuery) → entry_by text mark read ≡ Some entry → IsEntryOf text mark read entry
+entry_shows text (Some mark) (Ok query) entry e =
+    let made : AnsweredQuery = record { query = query; mark = mark; length = length text } in
+    let same : made ≡ entry = cc in
+    record { marks = ap (λ (x : AnsweredQuery). Some x.mark) same; reads = ap (λ (x : AnsweredQuery). let read : Result Formula Refusal = Ok x.query in read) same; size = sym (ap (λ (x : AnsweredQuery). x.length) same) }
+entry_shows text (Some mark) (Err why) entry e = absurd cc
+entry_shows text None (Ok query) entry e = absurd cc
+entry_shows text None (Err why) entry e = absurd cc
+
+pub entry_is : (text : Text) (marks : Option Mark) (read : Result Formula Refusal) (mark : Mark) (query : Formula) → marks ≡ Some mark → read ≡ Ok query → entry_by text marks read ≡ Some (record { query = query; mark = mark; length = length text })
+entry_is text marks read mark query is reads = ap (λ m. entry_by text m read) is ∙ ap (λ r. entry_by text (Some mark) r) reads
+
+same_ok : (read : Result Formula Refusal) (a b : Formula) → read ≡ Ok a → read ≡ Ok b → a ≡ b
+same_ok read a b is other = same_in_ok (sym is ∙ other)
+  where
+    same_in_ok : (let left : Result Formula Refusal = Ok a in left) ≡ Ok b → a ≡ b
+    same_in_ok e = cc
+
+same_some : (marks : Option Mark) (a b : Mark) → marks ≡ Some a → marks ≡ Some b → a ≡ b
+same_some marks a b is other = let e : Some a ≡ Some b = sym is ∙ other in cc
+
+no_err : (read : Result Formula Refusal) (query : Formula) (why : Refusal) → read ≡ Ok query → read ≡ Err why → ⊥
+no_err read query why is other = let e : Ok query ≡ Err why = sym is ∙ other in cc
+
+no_true : (b : Bool) → b ≡ false → b ≡ true → ⊥
+no_true b isnt is = let e : false ≡ true = sym isnt ∙ is in cc
+
+module _ (schema : DatabaseSchema) (world : FactSet) (user : UserProfile) where
+  -- the limits let an entry through
+  fits : (before : History) (text : Text) (entry : AnsweredQuery) (query : Formula) → KeepsSizesAt schema user before entry → entry.length ≡ length text → query ≡ entry.query → is_beyond schema world user before (length text) query ≡ false
+  fits before text entry query sizes size same =
+      ap (λ n. is_beyond schema world user before n query) (sym size) ∙ ap (λ q. is_beyond schema world user before entry.length q) same
+      ∙ ap (λ b. b || is_too_large schema user before entry.query) sizes.room ∙ sizes.small
+
+  -- the record of a lawful entry isn't refused
+  lawful : (before : History) (next : Recorded) (entry : AnsweredQuery) (why : DeskError) → entry_of schema next ≡ Some entry → entry.mark ≡ rule schema world user (log user before) entry.query → KeepsSizesAt schema user before entry
+      → RefusesRecord schema world user before next why → ⊥
+  lawful before next entry (Stale number) is marks sizes refused =
+      let shows = entry_shows next.1 (mark_of next.0) (reading schema next.1) entry is in
+      no_err (reading schema next.1) entry.query refused.1 shows.reads refused.2
+  lawful before next entry (Size number) is marks sizes refused =
+      let shows = entry_shows next.1 (mark_of next.0) (reading schema next.1) entry is in
+      let same = same_ok (reading schema next.1) refused.1 entry.query refused.2 shows.reads in
+      no_true (is_beyond schema world user before (length next.1) refused.1) (fits before next.1 entry refused.1 sizes shows.size same) refused.3
+  lawful before next entry (Unlawful number stored computed) is marks sizes refused =
+      let shows = entry_shows next.1 (mark_of next.0) (reading schema next.1) entry is in
+      let same = same_ok (reading schema next.1) refused.1 entry.query refused.2 shows.reads in
+      let is_stored = same_some (mark_of next.0) stored entry.mark refused.4 shows.marks in
+      refused.6 (is_stored ∙ marks ∙ ap (λ q. rule schema world user (log user before) q) (sym same) ∙ sym refused.5)
+  lawful before next entry (Journal why) is marks sizes refused = refused
+  lawful before next entry (NotAdmitted admission) is marks sizes refused = refused
+
+-- ---- a list of records
+
+-- where entries and a record stand in a list of entries
+split_entries : (before : History) (next : Option AnsweredQuery) (rest : List (Option AnsweredQuery)) (entries : History) → map Some before ++ next ∷ rest ≡ map Some entries
+    → (entry : AnsweredQuery) × (after : History) × (entries ≡ before ++ entry ∷ after) × (next ≡ Some entry)
+split_entries [] next rest [] e = absurd cc
+split_entries [] next rest (x ∷ entries) e = let is : next ≡ Some x = cc in (x, entries, refl, is)
+split_entries (b ∷ before) next rest [] e = absurd cc
+split_entries (b ∷ before) next rest (x ∷ entries) e =
+    let heads : b ≡ x = cc in
+    let tails : map Some before ++ next ∷ rest ≡ map Some entries = cc in
+    let found = split_entries before next rest entries tails in
+    (found.0, found.1, ap (λ h. h ∷ entries) (sym heads) ∙ ap (λ t. b ∷ t) found.2, found.3)
+
+module _ (schema : DatabaseSchema) (world : FactSet) (user : UserProfile) where
+  -- records of a legal history within the limits aren't refused
+  all_lawful : (all : List Recorded) (entries : History) (why : DeskError) → map (entry_of schema) all ≡ map Some entries → IsLegal schema world user entries → KeepsSizes schema user entries → RefusesRecords schema world user all why → ⊥
+  all_lawful all entries why are legal sizes refused =
+      let f = entry_of schema in
+      let joined : map Some refused.before ++ f refused.next ∷ map f refused.rest ≡ map Some entries =
+      ap (λ l. l ++ f refused.next ∷ map f refused.rest) (sym refused.are) ∙ sym (map-append f refused.read (refused.next ∷ refused.rest)) ∙ ap (λ l. map f l) (sym refused.split) ∙ are in
+      let found = split_entries refused.before (f refused.next) (map f refused.rest) entries joined in
+      lawful schema world user refused.before refused.next found.0 why found.3 (legal refused.before found.0 found.1 found.2) (sizes refused.before found.0 found.1 found.2) refused.refused
+
+  -- ---- bytes
+
+  no_journal_refusal : (header : Header) (bytes : List ℕ) (why : OpenError) → IsJournal (header_bytes header) (records bytes) bytes → journal.Refuses (header_bytes header) bytes why → ⊥
+  no_journal_refusal header bytes NotAJournal is refused = ⊎_elim
+      (λ few. absurd (omega (arith, few, is.long)))
+      (λ other. other (sym (take-take 8 72 bytes (omega arith)) ∙ ap (λ l. take 8 l) is.begins ∙ take_at first_eight (header.policy ++ header.facts) 8 refl))
+      refused
+  no_journal_refusal header bytes OtherPolicy is refused = refused.2 is.begins
+  no_journal_refusal header bytes (Damaged number) is refused = let e : None ≡ Some number = sym is.whole ∙ refused.2 in cc
+  no_journal_refusal header bytes DiskFault is refused = refused
+  no_journal_refusal header bytes Memory is refused = refused
+
+  no_records : (all : List Recorded) (entries : History) → map (entry_of schema) all ≡ map Some entries → entries ≡ [] → all ≡ []
+  no_records [] entries are none = refl
+  no_records (one ∷ all) [] are none = absurd cc
+  no_records (one ∷ all) (x ∷ entries) are none = absurd cc
+
+  -- bytes that open a desk show no reason to refuse them
+  pub not_refused : (header : Header) (bytes : List ℕ) (entries : History) (why : DeskError) → Opens schema world user (header_bytes header) entries bytes → Refuses schema world user (header_bytes header) bytes why → ⊥
+  not_refused header bytes entries (Journal why) opens refused = no_journal_refusal header bytes why opens.stands.journal refused
+  not_refused header bytes entries (NotAdmitted admission) opens refused = refused.3 (no_records (records bytes) entries opens.stands.are (opens.none refused.1))
+  not_refused header bytes entries (Stale number) opens refused = all_lawful (records bytes) entries (Stale number) opens.stands.are opens.legal opens.sizes refused.2
+  not_refused header bytes entries (Size number) opens refused = all_lawful (records bytes) entries (Size number) opens.stands.are opens.legal opens.sizes refused.2
+  not_refused header bytes entries (Unlawful number stored computed) opens refused = all_lawful (records bytes) entries (Unlawful number stored computed) opens.stands.are opens.legal opens.sizes refused.2
+
+  -- where they open a desk, only a fault of the disk seals it
+  pub sealed_by_fault : (told : Type 0) (header : Header) (bytes : List ℕ) (entries : History) (before now : ℕ) (why : DeskError) → told → Opens schema world user (header_bytes header) entries bytes → IsSealedBy schema world user told (header_bytes header) bytes before now why → Rose before now
+  sealed_by_fault told header bytes entries before now (Journal Memory) is opens sealed = absurd sealed
+  sealed_by_fault told header bytes entries before now (Journal DiskFault) is opens sealed = sealed
+  sealed_by_fault told header bytes entries before now (Journal NotAJournal) is opens sealed = absurd (not_refused header bytes entries (Journal NotAJournal) opens (sealed is))
+  sealed_by_fault told header bytes entries before now (Journal OtherPolicy) is opens sealed = absurd (not_refused header bytes entries (Journal OtherPolicy) opens (sealed is))
+  sealed_by_fault told header bytes entries before now (Journal (Damaged number)) is opens sealed = absurd (not_refused header bytes entries (Journal (Damaged number)) opens (sealed is))
+  sealed_by_fault told header bytes entries before now (NotAdmitted admission) is opens sealed = absurd (not_refused header bytes entries (NotAdmitted admission) opens (sealed is))
+  sealed_by_fault told header bytes entries before now (Stale number) is opens sealed = absurd (not_refused header bytes entries (Stale number) opens (sealed is))
+  sealed_by_fault told header bytes entries before now (Size number) is opens sealed = absurd (not_refused header bytes entries (Size number) opens (sealed is))
+  sealed_by_fault told header bytes entries before now (Unlawful number stored computed) is opens sealed = absurd (not_refused header bytes entries (Unlawful number stored computed) opens (sealed is))
+
+  -- ---- from the records to the standing
+
+  true_no : (b : Bool) → b ≡ true → b ≡ false → {A : Type 0} → A
+  true_no b is isnt = absurd (no_true b isnt is)
+
+  journal_of : (header : List ℕ) (bytes : List ℕ) (all : List Recorded) → IsJournal header all bytes → IsJournal header (records bytes) bytes
+  journal_of header bytes all is = subst (λ l. IsJournal header l bytes) (sym is.are) is
+
+  opens_of : (header : List ℕ) (bytes : List ℕ) (all : List Recorded) (entries : History) → IsJournal header all bytes → map (entry_of schema) all ≡ map Some entries → IsLegal schema world user entries → KeepsSizes schema user entries
+      → (admitted schema world user ≡ false → entries ≡ []) → Opens schema world user header entries bytes
+  opens_of header bytes all entries is are legal sizes none = record {
+    stands = record { journal = journal_of header bytes all is; are = ap (λ l. map (entry_of schema) l) is.are ∙ are };
+    legal = legal;
+    sizes = sizes;
+    none = none;
+  }
+
+  -- what was found of the records gives the standing
+  pub standing_from : (told : Type 0) (header : List ℕ) (bytes : List ℕ) (all : List Recorded) (entries : History) (before now : ℕ) (standing : Standing) → (told → IsJournal header all bytes)
+      → IsLegal schema world user entries → KeepsSizes schema user entries → IsReplay schema world user all entries standing → IsStanding schema world user told header bytes entries before now standing
+  standing_from told header bytes all entries before now Open journal legal sizes replay =
+      (replay.0, λ is. opens_of header bytes all entries (journal is) replay.1 legal sizes (λ isnt. true_no (admitted schema world user) replay.0 isnt))
+  standing_from told header bytes all entries before now (Closed admission) journal legal sizes replay =
+      (replay.0, replay.1, replay.2, λ is. opens_of header bytes all entries (journal is) (ap (λ l. map (entry_of schema) l) replay.3 ∙ ap (λ l. map Some l) (sym replay.2)) legal sizes (λ isnt. replay.2))
+  standing_from told header bytes all entries before now (Sealed (Journal why)) journal legal sizes replay = absurd replay.2.refused
+  standing_from told header bytes all entries before now (Sealed (NotAdmitted admission)) journal legal sizes replay =
+      (replay.0, λ is. (journal_of header bytes all (journal is), replay.1, replay.2, λ none. replay.3 (sym (journal is).are ∙ none)))
+  standing_from told header bytes all entries before now (Sealed (Stale number)) journal legal sizes replay =
+      (replay.0, λ is. (journal_of header bytes all (journal is), replay.1, subst (λ l. RefusesRecords schema world user l (Stale number)) (sym (journal is).are) replay.2))
+  standing_from told header bytes all entries before now (Sealed (Size number)) journal legal sizes replay =
+      (replay.0, λ is. (journal_of header bytes all (journal is), replay.1, subst (λ l. RefusesRecords schema world user l (Size number)) (sym (journal is).are) replay.2))
+  standing_from told header bytes all entries before now (Sealed (Unlawful number stored computed)) journal legal sizes replay =
+      (replay.0, λ is. (journal_of header bytes all (journal is), replay.1, subst (λ l. RefusesRecords schema world user l (Unlawful number stored computed)) (sym (journal is).are) replay.2))
+
+  -- ---- how many entries there are
+
+  ends : (x : AnsweredQuery) (xs : History) → (before : History) × (last : AnsweredQuery) × (x ∷ xs ≡ before ++ last ∷ [])
+  ends x [] = ([], x, refl)
+  ends x (y ∷ ys) = let rest = ends y ys in (x ∷ rest.0, rest.1, ap (λ l. x ∷ l) rest.2)
+
+  few_before : (before : History) (size : ℕ) → is_full before size ≡ false → length before < 4096
+  few_before before size room = grind (arith, nat_tests, common_steps)
+
+  -- a history within the limits has at most 4,096 entries
+  pub few : (entries : History) → KeepsSizes schema user entries → length entries ≤ 4096
+  few [] sizes = omega arith
+  few (x ∷ xs) sizes =
+      let split = ends x xs in
+      let below = few_before split.0 split.1.length (sizes split.0 split.1 [] split.2).room in
+      omega (arith, below, ap length split.2, length-append split.0 (split.1 ∷ []))

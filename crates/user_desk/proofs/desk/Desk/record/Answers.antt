@@ -1,0 +1,102 @@
+use Rattle.std.proofs.Common.{◌++◌, ◌∷◌, [], ℕ, List, length, refl, ap, sym, ◌∙◌, subst}
+use Rattle.std.specs.Prelude.{Option, Some, is_some}
+use Rattle.outside.specs.Faults.{Rose}
+use Rattle.cqe_base.specs.Formula.{formula_of}
+use Rattle.cqe_base.specs.History.{AnsweredQuery, History}
+use Rattle.log_journal.specs.Records.{Recorded}
+use Rattle.user_log.specs.Prepared.{prepared_entry}
+use Rattle.user_log.specs.UserLogs.{kept_schema, kept_world, kept_user, kept_history}
+use Rattle.user_desk.specs.Standings.{is_sealed, standing_of}
+use Rattle.user_desk.specs.Stores.{stored_disk}
+use Rattle.user_desk.specs.Lives.{shown}
+use Rattle.user_desk.specs.Desks.{state_of}
+use Rattle.user_desk.proofs.Asking.{failure_settles}
+use Rattle.user_desk.proofs.Recording.{still_holds, record_of_answer, legal_back, sizes_back, growing, kept_added, kept_flying, moment_holds}
+use Rattle.user_desk.proofs.desk.Desk.record.Goals as goal
+
+pub returns-then-is_err-clause-moments : goal.returns-then-is_err-clause-moments
+returns-then-is_err-clause-moments g c told c' here =
+    let desk = c.args.self.now in
+    still_holds _ _ _ _ _ _ _ _ _ _ _ desk.kept c.known.ensures.legal c.known.ensures.sizes c.args.text.now (ap is_sealed c.requires.opened) c.requires.whole told c'
+    (g.met.D.Disk.only_now (stored_disk desk.store) c' (subst (λ d. g.D.Disk.image_since d (g.D.Disk.moment (stored_disk desk.store)) c') c.reserve.ensures.disk here))
+
+pub invariant_of-self-in-Ok-append : goal.invariant_of-self-in-Ok-append
+invariant_of-self-in-Ok-append g c =
+    let desk = c.args.self.now in
+    let store = c.reserve.new.self in
+    let entry : AnsweredQuery = record { query = formula_of c.args.query; mark = c.args.mark; length = length c.args.text.now } in
+    let next : Recorded = (c.kind_of.result, c.as_bytes.result.now) in
+    let bytes : List ℕ = g.D.Disk.reads (stored_disk store) in
+    let same = c.in-Ok.ensures.same in
+    let legal = legal_back _ _ _ _ _ _ (kept_history desk.log) _ entry _ same.schema same.world same.user c.in-Ok.ensures.unchanged c.in-Ok.ensures.entry c.in-Ok.ensures.legal in
+    let sizes = sizes_back _ _ _ _ (kept_history desk.log) _ entry _ same.schema same.user c.in-Ok.ensures.unchanged c.in-Ok.ensures.entry c.in-Ok.ensures.sizes in
+    let read = λ (told : g.D.Disk.told). subst (λ d. g.D.Disk.image d bytes) c.reserve.ensures.disk (g.met.D.Disk.read_is_image (stored_disk store) told) in
+    let is = record_of_answer (kept_schema desk.log) c.args.text.now c.as_bytes.result.now (formula_of c.args.query) c.args.mark c.kind_of.result c.as_bytes.ensures.value c.kind_of.ensures.back c.requires.answer.read in
+    let grows = growing _ _ _ _ _ _ _ _ _ _ _ entry next bytes desk.kept c.requires.opened c.requires.whole c.known.ensures.legal c.known.ensures.sizes legal sizes read is in
+    let again = c.commit.ensures.same in
+    let grown = c.commit.ensures.added ∙ ap (λ (h : History). h ++ prepared_entry c.in-Ok.prepared ∷ []) c.in-Ok.ensures.unchanged ∙ ap (λ e. kept_history desk.log ++ e ∷ []) c.in-Ok.ensures.entry in
+    record {
+      kept = kept_added _ _ _ _ _ _ _ _ _ entry next bytes grows _ _ _ _ _ _ _ (again.schema ∙ same.schema) (again.world ∙ same.world) (again.user ∙ same.user) grown
+          c.append.ensures.journal c.in-Ok-append.ensures.whole c.in-Ok-append.ensures.added;
+    }
+
+pub invariant_of-self-in-Err : goal.invariant_of-self-in-Err
+invariant_of-self-in-Err g c =
+    let desk = c.args.self.now in
+    let store = c.reserve.new.self in
+    let entry : AnsweredQuery = record { query = formula_of c.args.query; mark = c.args.mark; length = length c.args.text.now } in
+    let next : Recorded = (c.kind_of.result, c.as_bytes.result.now) in
+    let bytes : List ℕ = g.D.Disk.reads (stored_disk store) in
+    let same = c.in-Ok.ensures.same in
+    let legal = legal_back _ _ _ _ _ _ (kept_history desk.log) _ entry _ same.schema same.world same.user c.in-Ok.ensures.unchanged c.in-Ok.ensures.entry c.in-Ok.ensures.legal in
+    let sizes = sizes_back _ _ _ _ (kept_history desk.log) _ entry _ same.schema same.user c.in-Ok.ensures.unchanged c.in-Ok.ensures.entry c.in-Ok.ensures.sizes in
+    let read = λ (told : g.D.Disk.told). subst (λ d. g.D.Disk.image d bytes) c.reserve.ensures.disk (g.met.D.Disk.read_is_image (stored_disk store) told) in
+    let is = record_of_answer (kept_schema desk.log) c.args.text.now c.as_bytes.result.now (formula_of c.args.query) c.args.mark c.kind_of.result c.as_bytes.ensures.value c.kind_of.ensures.back c.requires.answer.read in
+    let grows = growing _ _ _ _ _ _ _ _ _ _ _ entry next bytes desk.kept c.requires.opened c.requires.whole c.known.ensures.legal c.known.ensures.sizes legal sizes read is in
+    record {
+      kept = kept_flying _ _ _ _ _ _ _ _ _ entry next bytes grows _ _ _ _ _ _ _ _ same.schema same.world same.user c.in-Ok.ensures.unchanged (c.into_entry.ensures ∙ c.in-Ok.ensures.entry)
+          c.append.ensures.journal c.in-Err.ensures.failed c.in-Err.ensures.either;
+    }
+
+pub returns-in-Ok-append-clause-moments : goal.returns-in-Ok-append-clause-moments
+returns-in-Ok-append-clause-moments g c told c' here =
+    let desk = c.args.self.now in
+    let store = c.reserve.new.self in
+    let entry : AnsweredQuery = record { query = formula_of c.args.query; mark = c.args.mark; length = length c.args.text.now } in
+    let next : Recorded = (c.kind_of.result, c.as_bytes.result.now) in
+    let bytes : List ℕ = g.D.Disk.reads (stored_disk store) in
+    let same = c.in-Ok.ensures.same in
+    let legal = legal_back _ _ _ _ _ _ (kept_history desk.log) _ entry _ same.schema same.world same.user c.in-Ok.ensures.unchanged c.in-Ok.ensures.entry c.in-Ok.ensures.legal in
+    let sizes = sizes_back _ _ _ _ (kept_history desk.log) _ entry _ same.schema same.user c.in-Ok.ensures.unchanged c.in-Ok.ensures.entry c.in-Ok.ensures.sizes in
+    let read = λ (told : g.D.Disk.told). subst (λ d. g.D.Disk.image d bytes) c.reserve.ensures.disk (g.met.D.Disk.read_is_image (stored_disk store) told) in
+    let is = record_of_answer (kept_schema desk.log) c.args.text.now c.as_bytes.result.now (formula_of c.args.query) c.args.mark c.kind_of.result c.as_bytes.ensures.value c.kind_of.ensures.back c.requires.answer.read in
+    let grows = growing _ _ _ _ _ _ _ _ _ _ _ entry next bytes desk.kept c.requires.opened c.requires.whole c.known.ensures.legal c.known.ensures.sizes legal sizes read is in
+    let since = subst (λ d. g.D.Disk.image_since (stored_disk c.append.new.self) (g.D.Disk.moment d) c') (sym c.reserve.ensures.disk) here in
+    moment_holds _ _ _ _ _ _ _ _ _ entry next bytes grows c.args.text.now (formula_of c.args.query) c.args.mark c.requires.answer refl told c' (c.append.ensures.moments told c' since)
+
+pub returns-in-Err-clause-settled : goal.returns-in-Err-clause-settled
+returns-in-Err-clause-settled g c =
+    let desk = c.args.self.now in
+    let entry : AnsweredQuery = record { query = formula_of c.args.query; mark = c.args.mark; length = length c.args.text.now } in
+    let standing = standing_of desk.standing in
+    let rose = subst (λ d. Rose (g.D.Disk.faults d) (g.D.Disk.faults (stored_disk c.append.new.self))) c.reserve.ensures.disk c.in-Err.ensures.cause in
+    let flies = ap (λ (h : History). shown h standing (Some (prepared_entry c.in-Ok.prepared))) c.in-Ok.ensures.unchanged ∙ ap (λ (e : AnsweredQuery). shown (kept_history desk.log) standing (Some e)) c.in-Ok.ensures.entry in
+    failure_settles (kept_schema desk.log) (kept_world desk.log) (kept_user desk.log) (state_of desk) _ c.args.text.now (formula_of c.args.query) c.args.mark _ _
+    (ap standing_of c.requires.opened) (ap (λ (o : Option AnsweredQuery). is_some o) c.requires.whole) c.requires.answer rose
+    (ap (λ (e : AnsweredQuery). shown (kept_history c.prepare.new.self) standing (Some e)) c.into_entry.ensures ∙ flies)
+
+pub returns-in-Err-clause-moments : goal.returns-in-Err-clause-moments
+returns-in-Err-clause-moments g c told c' here =
+    let desk = c.args.self.now in
+    let store = c.reserve.new.self in
+    let entry : AnsweredQuery = record { query = formula_of c.args.query; mark = c.args.mark; length = length c.args.text.now } in
+    let next : Recorded = (c.kind_of.result, c.as_bytes.result.now) in
+    let bytes : List ℕ = g.D.Disk.reads (stored_disk store) in
+    let same = c.in-Ok.ensures.same in
+    let legal = legal_back _ _ _ _ _ _ (kept_history desk.log) _ entry _ same.schema same.world same.user c.in-Ok.ensures.unchanged c.in-Ok.ensures.entry c.in-Ok.ensures.legal in
+    let sizes = sizes_back _ _ _ _ (kept_history desk.log) _ entry _ same.schema same.user c.in-Ok.ensures.unchanged c.in-Ok.ensures.entry c.in-Ok.ensures.sizes in
+    let read = λ (told : g.D.Disk.told). subst (λ d. g.D.Disk.image d bytes) c.reserve.ensures.disk (g.met.D.Disk.read_is_image (stored_disk store) told) in
+    let is = record_of_answer (kept_schema desk.log) c.args.text.now c.as_bytes.result.now (formula_of c.args.query) c.args.mark c.kind_of.result c.as_bytes.ensures.value c.kind_of.ensures.back c.requires.answer.read in
+    let grows = growing _ _ _ _ _ _ _ _ _ _ _ entry next bytes desk.kept c.requires.opened c.requires.whole c.known.ensures.legal c.known.ensures.sizes legal sizes read is in
+    let since = subst (λ d. g.D.Disk.image_since (stored_disk c.append.new.self) (g.D.Disk.moment d) c') (sym c.reserve.ensures.disk) here in
+    moment_holds _ _ _ _ _ _ _ _ _ entry next bytes grows c.args.text.now (formula_of c.args.query) c.args.mark c.requires.answer refl told c' (c.append.ensures.moments told c' since)

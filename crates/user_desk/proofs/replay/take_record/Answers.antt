@@ -1,0 +1,31 @@
+use Rattle.std.proofs.Common.{◌∙◌, arith, sym, subst, length}
+use Rattle.user_log.specs.UserLogs.{kept_schema, kept_world, kept_user, kept_history}
+use Rattle.user_desk.specs.Causes.{RefusesRecord}
+use Rattle.user_desk.specs.Replays.{refused_by}
+use Rattle.user_desk.proofs.Refusing.{few}
+use Rattle.user_desk.proofs.Taking.{count_of, no_text, code_refuses}
+use Rattle.user_desk.proofs.replay.take_record.Goals as goal
+
+pub overflow_cast-number : goal.overflow_cast-number
+overflow_cast-number c =
+    let at_most = few (kept_schema c.args.log.now) (kept_world c.args.log.now) (kept_user c.args.log.now) (kept_history c.args.log.now) c.known.ensures.sizes in
+    let count = count_of c.entries.result.now (kept_history c.args.log.now) c.entries.ensures in
+    omega arith
+
+pub returns-in_default-clause-taken : goal.returns-in_default-clause-taken
+returns-in_default-clause-taken c =
+    let count = count_of c.entries.result.now (kept_history c.args.log.now) c.entries.ensures in
+    let why = no_text (kept_schema c.args.log.now) c.args.next.now.text.items c.deref.result.now c.law_sentences_are_ascii.ensures c.deref.ensures.value c.in_default.ensures.cases.0 in
+    (count, why.0, why.1)
+
+pub returns-in-Code-clause-taken : goal.returns-in-Code-clause-taken
+returns-in-Code-clause-taken c =
+    let schema = kept_schema c.args.log.now in
+    let world = kept_world c.args.log.now in
+    let user = kept_user c.args.log.now in
+    let history = kept_history c.args.log.now in
+    let kind = c.args.next.now.kind in
+    let count = count_of c.entries.result.now history c.entries.ensures in
+    let refused = code_refuses schema world user history kind c.in-Ok.text.now c.in-Code.code _ count (rw c.in-Code.is at c.in_ok-code.ensures) in
+    subst (λ why. RefusesRecord schema world user history (kind, c.args.next.now.text.items) why) (sym c.refused_by.ensures)
+    (subst (λ t. RefusesRecord schema world user history (kind, t) (refused_by c.in-Code.code (length c.entries.result.now))) (c.in-Ok.ensures.cases.0 ∙ c.deref.ensures.value) refused)

@@ -1,0 +1,29 @@
+-- What a desk keeps between its calls.
+use Rattle.std.specs.Prelude.{◌≡◌, ℕ, Bool, true, false, List, [], ◌++◌, length, Option, None, is_some, option_to_list}
+use Rattle.std.proofs.Props.{props}
+use Rattle.cqe_base.specs.Schema.{DatabaseSchema}
+use Rattle.cqe_base.specs.Facts.{FactSet}
+use Rattle.cqe_base.specs.FormulaCode.{formula_set}
+use Rattle.cqe_base.specs.History.{UserProfile, AnsweredQuery, History}
+use Rattle.cqe_base.specs.Censor.{IsLegal, admitted}
+use Rattle.cqe_base.specs.Limits.{KeepsSizes}
+use Rattle.user_desk.specs.Entries.{StandsWithin}
+use Rattle.user_desk.specs.Standings.{is_open, is_sealed}
+use Rattle.user_desk.specs.declared.standing.Standing.{Standing}
+
+-- Unless the journal was refused, each image stands for the entries, or for these and the one in flight; with the one in
+-- flight too the entries are a legal history within the limits; and only an open desk has any.
+pub record IsKept (told : Type 0) (image : List ℕ → Type 0) (schema : DatabaseSchema) (world : FactSet) (user : UserProfile) (header : List ℕ) (standing : Standing) (entries : History)
+    (in_flight : Option AnsweredQuery) (has_journal is_broken : Bool) : Type 0 where
+  pub images : told → is_sealed standing ≡ false → (c : List ℕ) → image c → StandsWithin schema header (length entries) (entries ++ option_to_list in_flight) c
+  pub legal : IsLegal schema world user (entries ++ option_to_list in_flight)
+  pub sizes : KeepsSizes schema user (entries ++ option_to_list in_flight)
+  pub admits : is_open standing ≡ true → admitted schema world user ≡ true
+  pub idle : is_open standing ≡ false → (entries ≡ []) × (in_flight ≡ None)
+  pub journal : is_open standing ≡ true → has_journal ≡ true
+  pub broken : is_broken ≡ is_some in_flight
+
+-- a fact that holds in one way
+pub IsKept-prop : (told : Type 0) (image : List ℕ → Type 0) (schema : DatabaseSchema) (world : FactSet) (user : UserProfile) (header : List ℕ) (standing : Standing) (entries : History)
+    (in_flight : Option AnsweredQuery) (has_journal is_broken : Bool) → IsProp (IsKept told image schema world user header standing entries in_flight has_journal is_broken)
+IsKept-prop told image schema world user header standing entries in_flight has_journal is_broken = hlevel (props, formula_set)

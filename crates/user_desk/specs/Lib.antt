@@ -1,0 +1,9 @@
+pub mod Entries
+pub mod Causes
+pub mod Standings
+pub mod Kept
+pub mod Stores
+pub mod Lives
+pub mod Desks
+pub mod Replays
+pub mod Replying

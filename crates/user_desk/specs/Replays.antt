@@ -1,0 +1,30 @@
+-- What going through the records of a journal makes of a user's log.
+use Rattle.std.specs.Prelude.{◌≡◌, ℕ, [], ◌∷◌, ◌++◌, Option, Some, None}
+use Rattle.cqe_base.specs.Schema.{DatabaseSchema}
+use Rattle.cqe_base.specs.Facts.{FactSet}
+use Rattle.cqe_base.specs.History.{UserProfile, AnsweredQuery, History}
+use Rattle.log_journal.specs.Records.{Recorded}
+use Rattle.user_log.specs.UserLogs.{kept_schema, kept_world, kept_user}
+use Rattle.user_log.specs.declared.log.UserLog.{UserLog}
+use Rattle.user_log.specs.declared.reply.Reply.{Reply}
+use Rattle.user_log.specs.declared.reply.Reply.TheVariants.{Syntax}
+use Rattle.user_desk.specs.Entries.{entry_of}
+use Rattle.user_desk.specs.Causes.{RefusesRecord}
+use Rattle.user_desk.specs.declared.standing.DeskError.{DeskError}
+use Rattle.user_desk.specs.declared.standing.DeskError.TheVariants.{Stale, Size}
+
+-- the log is of this user in this world
+pub record IsLogOf (schema : DatabaseSchema) (world : FactSet) (user : UserProfile) (log : UserLog) : Type 0 where
+  pub schema_is : kept_schema log ≡ schema
+  pub world_is : kept_world log ≡ world
+  pub user_is : kept_user log ≡ user
+
+-- a record was taken as the next entry, or is refused behind these
+abbrev pub IsTaken : DatabaseSchema → FactSet → UserProfile → History → History → Recorded → Option DeskError → Type 0
+IsTaken schema world user old new next None = (entry : AnsweredQuery) × (entry_of schema next ≡ Some entry) × (new ≡ old ++ entry ∷ [])
+IsTaken schema world user old new next (Some why) = RefusesRecord schema world user old next why
+
+-- why the record of this number is refused, whose text is answered by a code
+abbrev pub refused_by : Reply → ℕ → DeskError
+refused_by (Syntax refusal) number = Stale number
+refused_by code number = Size number

@@ -1,0 +1,170 @@
+// A desk between its opening and its close.
+ghost use Rattle.std.specs.Prelude.{◌≡◌, ◌≤◌, ◌++◌, ◌∷◌, [], true, false, List, ℕ, length, map, option_map, None, IfSome, IfNone, ◌↔◌, IsTrue};
+ghost use Rattle.outside.specs.Disk.{Elapses};
+ghost use Rattle.outside.specs.Faults.{Rose};
+ghost use Rattle.cqe_base.specs.Formula.{formula_of};
+ghost use Rattle.cqe_base.specs.History.{answered_query_of};
+ghost use Rattle.cqe_base.specs.Limits.{KeepsLimits, KeepsSizes};
+ghost use Rattle.cqe_base.specs.Censor.{IsLegal, admitted};
+ghost use Rattle.cqe_base.specs.Run.{UserState, after_event, stop};
+ghost use Rattle.log_journal.specs.Opening.{header_bytes};
+ghost use Rattle.user_log.specs.UserLogs.{kept_schema, kept_world, kept_user, kept_history};
+ghost use Rattle.user_desk.specs.Kept.{IsKept, IsKept-prop};
+ghost use Rattle.user_desk.specs.Stores.{stored_disk, has_journal, has_failed};
+ghost use Rattle.user_desk.specs.Standings.{is_open, is_sealed};
+
+use crate::kinds::kind_of;
+use crate::standing::Standing;
+use crate::store::Store;
+use cqe_base::sentence::Sentence;
+use cqe_base::user::{Entry, Mark};
+use log_journal::Header;
+use outside::Disk;
+use std::alloc::Global;
+use user_log::{Reply, UserLog, Weighed};
+
+/// One user's desk: his log, and a journal of it on a disk.
+#[derive(Drop)]
+pub struct Desk<'w, D: Disk> {
+    pub(crate) log: UserLog<'w>,
+    pub(crate) header: Header,
+    pub(crate) standing: Standing,
+    pub(crate) store: Store<D>,
+    /// The entry whose append failed at the disk.
+    pub(crate) in_flight: Option<Entry>,
+    ghost kept: { IsKept D.told (D.image (stored_disk store)) (kept_schema log) (kept_world log) (kept_user log) (header_bytes header) standing (kept_history log) (option_map answered_query_of in_flight) (has_journal store) (has_failed store) } by { IsKept-prop _ _ _ _ _ _ _ _ _ _ _ },
+}
+
+impl<'w, D: Disk> Desk<'w, D> {
+    ghost use Rattle.user_log.specs.Asked.{IsAnswer};
+    ghost use Rattle.user_log.specs.Replies.{reply_of};
+    ghost use Rattle.user_desk.specs.Entries.{StandsFor};
+    ghost use Rattle.user_desk.specs.Lives.{Holds, Settles, AnswersAll, AddsNone};
+    ghost use Rattle.user_desk.specs.Desks.{desk_schema, desk_world, desk_user, desk_header, desk_standing, desk_history, desk_disk, entry_in_flight, is_broken_desk, state_of, IsIn, IsOfSame};
+    ghost use Rattle.user_desk.specs.Replying.{IsCode};
+
+    /// Whether the user is served, and else why not.
+    pub fn standing(&self) -> &Standing
+        ensures { result.now ≡ desk_standing self.now }
+    {
+        &self.standing
+    }
+
+    /// The entries, oldest first. A desk whose journal was refused has none.
+    pub fn entries(&self) -> &[Entry]
+        ensures { map answered_query_of result.now ≡ desk_history self.now }
+    {
+        self.log.entries()
+    }
+
+    /// Whether an append to the journal failed. From then on each ask is answered so.
+    pub fn broken(&self) -> bool
+        ensures { result ≡ is_broken_desk self.now }
+    {
+        self.in_flight.is_some()
+    }
+
+    /// What is known of a desk: its entries are legal and within the limits, each image of its disk stands for its state,
+    /// or where no append failed for its entries, and only of a user who is admitted are there any. It computes nothing.
+    pub fn known(&self)
+        ensures limits { KeepsLimits (desk_schema self.now) (desk_user self.now) }
+        ensures sizes { KeepsSizes (desk_schema self.now) (desk_user self.now) (desk_history self.now) }
+        ensures legal { IsLegal (desk_schema self.now) (desk_world self.now) (desk_user self.now) (desk_history self.now) }
+        ensures images { D.told → is_sealed (desk_standing self.now) ≡ false → (c : List ℕ) → D.image (desk_disk self.now) c
+            → Holds (desk_schema self.now) (desk_world self.now) (desk_user self.now) (desk_header self.now) (state_of self.now) c }
+        ensures whole { D.told → is_sealed (desk_standing self.now) ≡ false → is_broken_desk self.now ≡ false → (c : List ℕ) → D.image (desk_disk self.now) c
+            → StandsFor (desk_schema self.now) (desk_header self.now) (desk_history self.now) c }
+        ensures admits { is_open (desk_standing self.now) ≡ true → admitted (desk_schema self.now) (desk_world self.now) (desk_user self.now) ≡ true }
+        ensures none { is_open (desk_standing self.now) ≡ false → desk_history self.now ≡ [] }
+        ensures idle { is_open (desk_standing self.now) ≡ false → is_broken_desk self.now ≡ false }
+    {
+        self.log.known();
+    }
+
+    /// The reply to a text by the entries so far. A mark comes once its entry is on the disk, and adds it; want of memory
+    /// and a code change nothing, and from the first write on the answer is a mark or that the append failed.
+    pub fn settle(&mut self, alloc: Global, text: &str) -> Reply
+        requires { length text.now ≤ 4096 }
+        ensures same { IsOfSame self.old self.new }
+
+        // It is an ask of the run, with its reply and its ending.
+        ensures settled { (state : UserState) → IsIn self.old state
+            → Settles (desk_schema self.old) (desk_world self.old) (desk_user self.old) (IsIn self.new) state text.now (reply_of result) (D.faults (desk_disk self.old)) (D.faults (desk_disk self.new)) }
+        ensures broken { (result ≡ Reply.Broken) ↔ IsTrue (is_broken_desk self.new) }
+        ensures untouched { IsCode result → desk_disk self.new ≡ desk_disk self.old }
+        ensures count { D.faults (desk_disk self.old) ≤ D.faults (desk_disk self.new) }
+
+        // At every moment of the call each image stands for what a crash of this ask leaves.
+        ensures moments { D.told → is_sealed (desk_standing self.old) ≡ false → (c : List ℕ) → D.image_since (desk_disk self.new) (D.moment (desk_disk self.old)) c
+            → Holds (desk_schema self.old) (desk_world self.old) (desk_user self.old) (desk_header self.old) (after_event (desk_schema self.old) (desk_world self.old) (desk_user self.old) (state_of self.old) (stop text.now)) c }
+        ensures time { Elapses (D.moment (desk_disk self.old)) (D.moment (desk_disk self.new)) (D.image_since (desk_disk self.old)) (D.image_since (desk_disk self.new)) }
+    {
+        self.log.known();
+        if let Some(code) = self.refusal() {
+            return code;
+        }
+        match self.log.weigh(alloc, text) {
+            Ok(Weighed::Answer(query, mark)) => self.record(alloc, text, query, mark),
+            Ok(Weighed::Code(code)) => code,
+            Err(_) => Reply::Memory,
+        }
+    }
+
+    // The code that answers every text, if there is one. It leaves the desk as it is.
+    fn refusal(&self) -> Option<Reply>
+        ensures answers { IfSome result (λ code. AnswersAll (desk_schema self.now) (desk_world self.now) (desk_user self.now) (desk_standing self.now) (state_of self.now) (reply_of code)) }
+        ensures adds { IfSome result (λ _. AddsNone (desk_schema self.now) (desk_world self.now) (desk_user self.now) (state_of self.now)) }
+        ensures broken { IfSome result (λ code. (code ≡ Reply.Broken) ↔ IsTrue (is_broken_desk self.now)) }
+        ensures opened { IfNone result (desk_standing self.now ≡ Standing.Open) }
+        ensures whole { IfNone result (entry_in_flight self.now ≡ None) }
+    {
+        match self.standing {
+            Standing::Sealed(_) => Some(Reply::Sealed),
+            Standing::Closed(_) => Some(Reply::Closed),
+            Standing::Open if self.in_flight.is_some() => Some(Reply::Broken),
+            Standing::Open => None,
+        }
+    }
+
+    // Appends the entry of a text that was weighed to the journal, and adds it to the log.
+    fn record(&mut self, alloc: Global, text: &str, query: Sentence, mark: Mark) -> Reply
+        requires short { length text.now ≤ 4096 }
+        requires opened { desk_standing self.old ≡ Standing.Open }
+        requires whole { entry_in_flight self.old ≡ None }
+        requires answer { IsAnswer (desk_schema self.old) (desk_world self.old) (desk_user self.old) (desk_history self.old) text.now (formula_of query) mark }
+        ensures same { IsOfSame self.old self.new }
+        ensures settled { Settles (desk_schema self.old) (desk_world self.old) (desk_user self.old) (λ state. state ≡ state_of self.new) (state_of self.old) text.now (reply_of result)
+            (D.faults (desk_disk self.old)) (D.faults (desk_disk self.new)) }
+        ensures broken { (result ≡ Reply.Broken) ↔ IsTrue (is_broken_desk self.new) }
+        ensures untouched { IsCode result → desk_disk self.new ≡ desk_disk self.old }
+        ensures count { D.faults (desk_disk self.old) ≤ D.faults (desk_disk self.new) }
+        ensures moments { D.told → (c : List ℕ) → D.image_since (desk_disk self.new) (D.moment (desk_disk self.old)) c
+            → Holds (desk_schema self.old) (desk_world self.old) (desk_user self.old) (desk_header self.old) (after_event (desk_schema self.old) (desk_world self.old) (desk_user self.old) (state_of self.old) (stop text.now)) c }
+        ensures time { Elapses (D.moment (desk_disk self.old)) (D.moment (desk_disk self.new)) (D.image_since (desk_disk self.old)) (D.image_since (desk_disk self.new)) }
+    {
+        self.log.known();
+        let Ok(prepared) = self.log.prepare(alloc, text, query, mark) else {
+            return Reply::Memory;
+        };
+        if self.store.reserve(text.len()).is_err() {
+            return Reply::Memory;
+        }
+        match self.store.append(kind_of(mark), text.as_bytes()) {
+            Ok(()) => {
+                self.log.commit(prepared);
+                Reply::Mark(mark)
+            }
+            Err(_) => {
+                self.in_flight = Some(prepared.into_entry());
+                Reply::Broken
+            }
+        }
+    }
+
+    /// Gives the disk back.
+    pub fn close(self) -> D
+        ensures { result ≡ desk_disk self.entry }
+    {
+        self.store.close()
+    }
+}

@@ -1,0 +1,117 @@
+// How a desk is opened.
+ghost use Rattle.std.specs.Prelude.{◌≡◌, ◌≢◌, ◌≤◌, false, List, [], ℕ, IfOk};
+ghost use Rattle.outside.specs.Disk.{Only, Elapses};
+ghost use Rattle.cqe_base.specs.History.{profile_of};
+ghost use Rattle.cqe_base.specs.Limits.{KeepsLimits};
+ghost use Rattle.cqe_base.specs.Run.{UserState};
+ghost use Rattle.log_journal.specs.Opening.{header_bytes};
+ghost use Rattle.user_log.specs.UserLogs.{kept_history};
+ghost use Rattle.user_desk.specs.Replays.{IsLogOf};
+ghost use Rattle.user_desk.specs.Causes.{Opens, IsStanding};
+ghost use Rattle.user_desk.specs.Standings.{is_sealed};
+ghost use Rattle.user_desk.specs.Lives.{Holds, Restarts};
+ghost use Rattle.user_desk.specs.Desks.{desk_schema, desk_world, desk_user, desk_header, desk_standing, desk_history, desk_disk, is_broken_desk, IsIn, disk_opened};
+
+use crate::Desk;
+use crate::replay::replay;
+use crate::standing::{DeskError, Standing};
+use crate::store::Store;
+use cqe_base::schema::Schema;
+use cqe_base::user::User;
+use cqe_base::world::World;
+use log_journal::{Header, OpenError, Refused, open};
+use outside::Disk;
+use std::alloc::{AllocError, Global};
+use user_log::UserLog;
+
+/// Opens the desk of a user from any disk. It begins with a sync and repairs nothing: the bytes stay, and no crash at any
+/// moment leaves anything new. The desk is open with the entries of the journal where these are a legal history within
+/// the limits of a user who is admitted; it is closed where the user isn't admitted and there are none; and else it is
+/// sealed, for the first reason that the bytes show or for a fault of the disk. Want of memory hands the disk back.
+pub fn open_desk<'w, D: Disk>(
+    alloc: Global,
+    schema: &'w Schema,
+    world: &'w World,
+    user: &'w User,
+    header: &Header,
+    disk: D,
+) -> Result<Desk<'w, D>, Refused<D, AllocError>>
+    requires { KeepsLimits schema.now (profile_of user.now) }
+    ensures schema { IfOk result (λ desk. desk_schema desk ≡ schema.now) }
+    ensures world { IfOk result (λ desk. desk_world desk ≡ world.now) }
+    ensures user { IfOk result (λ desk. desk_user desk ≡ profile_of user.now) }
+    ensures header { IfOk result (λ desk. desk_header desk ≡ header_bytes header.now) }
+
+    // The standing has its cause, and a desk that isn't sealed has the entries that the bytes open it with.
+    ensures standing { IfOk result (λ desk. IsStanding schema.now world.now (profile_of user.now) D.told (header_bytes header.now) (D.reads disk) (desk_history desk)
+        (D.faults disk) (D.faults (desk_disk desk)) (desk_standing desk)) }
+    ensures sound { D.told → IfOk result (λ desk. is_sealed (desk_standing desk) ≡ false → Opens schema.now world.now (profile_of user.now) (header_bytes header.now) (desk_history desk) (D.reads disk)) }
+    ensures whole { IfOk result (λ desk. is_broken_desk desk ≡ false) }
+
+    // It is a restart of each state that the bytes hold, which is refused only for a fault of the disk.
+    ensures restarted { D.told → IfOk result (λ desk. (state : UserState) → Holds schema.now world.now (profile_of user.now) (header_bytes header.now) state (D.reads disk)
+        → Restarts schema.now world.now (profile_of user.now) (IsIn desk) state (D.faults disk) (D.faults (desk_disk desk))) }
+
+    ensures reads { D.reads (disk_opened result) ≡ D.reads disk }
+    ensures durable { IfOk result (λ desk. is_sealed (desk_standing desk) ≡ false → Only (D.reads disk) (D.image (desk_disk desk))) }
+    ensures images { (c : List ℕ) → D.image (disk_opened result) c → D.image disk c }
+    ensures time { Elapses (D.moment disk) (D.moment (disk_opened result)) (D.image_since disk) (D.image_since (disk_opened result)) }
+    ensures moments { (c : List ℕ) → D.image_since (disk_opened result) (D.moment disk) c → D.image disk c }
+    ensures count { D.faults disk ≤ D.faults (disk_opened result) }
+{
+    match open(alloc, disk, header) {
+        Ok((journal, records)) => match replay(alloc, schema, world, user, &records) {
+            Ok((log, standing)) => {
+                log.known();
+                Ok(Desk {
+                    log,
+                    header: *header,
+                    standing,
+                    store: Store::Journal(journal),
+                    in_flight: None,
+                })
+            }
+            Err(why) => Err(Refused {
+                disk: journal.close(),
+                why,
+            }),
+        },
+        Err(refused) => match refused_journal(alloc, schema, world, user, refused.why) {
+            Ok((log, standing)) => {
+                log.known();
+                Ok(Desk {
+                    log,
+                    header: *header,
+                    standing,
+                    store: Store::Disk(refused.disk),
+                    in_flight: None,
+                })
+            }
+            Err(why) => Err(Refused {
+                disk: refused.disk,
+                why,
+            }),
+        },
+    }
+}
+
+// The log and the standing of a user whose journal isn't opened. Want of memory stays what it is.
+fn refused_journal<'w>(
+    alloc: Global,
+    schema: &'w Schema,
+    world: &'w World,
+    user: &'w User,
+    why: OpenError,
+) -> Result<(UserLog<'w>, Standing), AllocError>
+    requires { KeepsLimits schema.now (profile_of user.now) }
+    ensures log { IfOk result (λ r. IsLogOf schema.now world.now (profile_of user.now) r.0) }
+    ensures none { IfOk result (λ r. kept_history r.0 ≡ []) }
+    ensures sealed { IfOk result (λ r. r.1 ≡ Standing.Sealed (DeskError.Journal why)) }
+    ensures outside { IfOk result (λ _. why ≢ OpenError.Memory) }
+{
+    if why == OpenError::Memory {
+        return Err(AllocError);
+    }
+    let log = UserLog::new(alloc, schema, world, user)?;
+    Ok((log, Standing::Sealed(DeskError::Journal(why))))
+}
