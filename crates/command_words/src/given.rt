@@ -7,7 +7,7 @@ ghost use Rattle.command_words.specs.Given.{row_in, make_uses, make_known, value
 use crate::table::{OptionRow, is_known};
 use crate::uses::first_use;
 
-// Whether all words make uses of these options, and give each as often as they must.
+/// Whether all words make uses of these options, and give each as often as they must.
 pub(crate) fn do_fit(rows: &[OptionRow], words: &[String]) -> bool
     ensures { result ≡ (make_known (map row_in rows.now) (map string_bytes words.now) && are_well_given (map row_in rows.now) (map string_bytes words.now)) }
 {
@@ -53,7 +53,7 @@ fn is_well_given(row: &OptionRow, words: &[String]) -> bool
     }
 }
 
-// The value that the words give to an option.
+/// The value that the words give to an option.
 pub(crate) fn value_of<'a>(name: &str, words: &'a [String]) -> Option<&'a str>
     requires { make_uses (map string_bytes words.now) ≡ true }
     ensures { option_map (λ value. value.now) result ≡ value_in name.now (map string_bytes words.now) }

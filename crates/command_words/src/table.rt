@@ -22,7 +22,7 @@ static BATCH: [OptionRow; 2] = [
     },
 ];
 
-// The options of a command, if there is such a command.
+/// The options of a command, if there is such a command.
 pub(crate) fn options_of(command: &str) -> Option<&'static [OptionRow]>
     ensures { option_map (λ rows. map row_in rows.now) result ≡ options_of command.now }
 {
@@ -33,7 +33,7 @@ pub(crate) fn options_of(command: &str) -> Option<&'static [OptionRow]>
     }
 }
 
-// Whether an option has the name.
+/// Whether an option has the name.
 pub(crate) fn is_known(rows: &[OptionRow], name: &str) -> bool
     ensures { result ≡ is_known (map row_in rows.now) name.now }
 {

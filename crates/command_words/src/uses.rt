@@ -10,7 +10,7 @@ pub(crate) struct OptionUse<'a> {
     pub value: &'a str,
 }
 
-// The first use that the words make, and the words behind it. There is none where the words end, or don't make one.
+/// The first use that the words make, and the words behind it. There is none where the words end, or don't make one.
 pub(crate) fn first_use<'a>(words: &'a [String]) -> Option<(OptionUse<'a>, &'a [String])>
     ensures taken { option_map (λ found. (use_in found.0, map string_bytes found.1.now)) result ≡ first_use (map string_bytes words.now) }
     ensures fewer { IfSome result (λ found. length found.1.now < length words.now) }

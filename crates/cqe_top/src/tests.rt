@@ -10,15 +10,15 @@ mod case;
 
 // What the program did.
 #[derive(Drop)]
-pub(super) struct Run {
-    pub status: u8,
-    pub source: MemorySource,
-    pub sink: MemorySink,
-    pub complaints: MemorySink,
+struct Run {
+    status: u8,
+    source: MemorySource,
+    sink: MemorySink,
+    complaints: MemorySink,
 }
 
 impl Run {
-    pub(super) fn new(
+    fn new(
         alloc: Global,
         words: &[&str],
         mut shelf: MemoryShelf,
@@ -46,12 +46,12 @@ impl Run {
         })
     }
 
-    // A case whose script has these parts.
-    pub(super) fn case(alloc: Global, script: &[&str]) -> Result<Run, AllocError> {
+    /// A case whose script has these parts.
+    fn case(alloc: Global, script: &[&str]) -> Result<Run, AllocError> {
         Run::script(alloc, joined(alloc, script)?)
     }
 
-    pub(super) fn script(alloc: Global, script: Vec<u8>) -> Result<Run, AllocError> {
+    fn script(alloc: Global, script: Vec<u8>) -> Result<Run, AllocError> {
         let sink = MemorySink::new(alloc);
         let complaints = MemorySink::new(alloc);
         Run::new(
@@ -64,8 +64,8 @@ impl Run {
         )
     }
 
-    // The same, where the streams cut.
-    pub(super) fn cut_case(
+    /// The same, where the streams cut.
+    fn cut_case(
         alloc: Global,
         script: &[&str],
         taken: Pieces,
@@ -84,21 +84,14 @@ impl Run {
         )
     }
 
-    pub(super) fn check(
-        &self,
-        rt: &impl Abort,
-        status: u8,
-        output: &str,
-        complaint: &str,
-        what: &str,
-    ) {
+    fn check(&self, rt: &impl Abort, status: u8, output: &str, complaint: &str, what: &str) {
         assert_eq!(rt; self.complaints.bytes(), complaint.as_bytes(), "{what}");
         assert_eq!(rt; self.sink.bytes(), output.as_bytes(), "{what}");
         assert_eq!(rt; self.status, status, "{what}");
     }
 }
 
-pub(super) fn joined(alloc: Global, parts: &[&str]) -> Result<Vec<u8>, AllocError> {
+fn joined(alloc: Global, parts: &[&str]) -> Result<Vec<u8>, AllocError> {
     let mut bytes = Vec::new(alloc);
     for part in parts {
         bytes.extend_from_slice(part.as_bytes())?;

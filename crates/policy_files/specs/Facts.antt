@@ -34,6 +34,7 @@ with_line schema number world line =
 
 -- what follows a line, unless it is refused
 infixl 10 ◌>>=◌
+-- what follows facts that were read, unless they are refused
 abbrev pub ◌>>=◌ : Result FactSet FactsError → (FactSet → Result FactSet FactsError) → Result FactSet FactsError
 (Ok world) >>= rest = rest world
 (Err why) >>= rest = Err why

@@ -14,6 +14,7 @@ Step A = Result A PolicyError
 
 -- one step after another, where each may refuse
 infixl 10 ◌>>=◌
+-- what follows a check, unless it fails
 abbrev pub ◌>>=◌ : {A B : Type 0} → Step A → (A → Step B) → Step B
 (Ok x) >>= f = f x
 (Err e) >>= f = Err e

@@ -68,7 +68,7 @@ fn bytes_of<R: Files>(runtime: &R, alloc: Global, path: &str) -> Result<Vec<u8>,
     read_whole(alloc, &mut file)
 }
 
-// All bytes that a file has. An opened file isn't missing.
+/// All bytes that a file has. An opened file isn't missing.
 pub(crate) fn read_whole<F: Read>(alloc: Global, file: &mut F) -> Result<Vec<u8>, ShelfError>
     ensures whole { IfOk result (λ bytes. IfSome (F.remaining file.old) (λ held. bytes.items ≡ held)) }
     ensures opened { IfErr result (λ refusal. refusal ≢ ShelfError.Missing) }

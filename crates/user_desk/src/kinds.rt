@@ -4,7 +4,7 @@ ghost use Rattle.user_desk.specs.Entries.{kind_of, mark_of};
 
 use cqe_base::user::Mark;
 
-// The kind of a record with this mark.
+/// The kind of a record with this mark.
 pub(crate) fn kind_of(mark: Mark) -> u8
     ensures kind { result ≡ kind_of mark }
     ensures back { mark_of result ≡ Some mark }
@@ -19,7 +19,7 @@ pub(crate) fn kind_of(mark: Mark) -> u8
     }
 }
 
-// The mark of a record of this kind.
+/// The mark of a record of this kind.
 pub(crate) fn mark_of(kind: u8) -> Mark
     requires low { 1 ≤ kind }
     requires high { kind ≤ 4 }

@@ -19,7 +19,7 @@ use sentence_text::laws::law_sentences_are_ascii;
 use std::alloc::{AllocError, Global};
 use user_log::{Reply, UserLog, Weighed};
 
-// The log of a user with these records, and his standing. Where he isn't served the log is empty.
+/// The log of a user with these records, and his standing. Where he isn't served the log is empty.
 pub(crate) fn replay<'w>(
     alloc: Global,
     schema: &'w Schema,

@@ -19,7 +19,7 @@ pub(crate) enum Store<D: Disk> {
 impl<D: Disk> Store<D> {
     ghost use Rattle.user_desk.specs.Stores.{stored_disk, has_journal, has_failed, HasRoomFor};
 
-    // Takes the room for a record of a text of this length.
+    /// Takes the room for a record of a text of this length.
     pub(crate) fn reserve(&mut self, length: usize) -> Result<(), AllocError>
         requires journal { has_journal self.old ≡ true }
         requires short { length ≤ 4096 }
@@ -34,7 +34,7 @@ impl<D: Disk> Store<D> {
         }
     }
 
-    // Appends a record of this kind and text. It takes no memory.
+    /// Appends a record of this kind and text. It takes no memory.
     pub(crate) fn append(&mut self, kind: u8, text: &[u8]) -> Result<(), Failed>
         requires journal { has_journal self.old ≡ true }
         requires whole { has_failed self.old ≡ false }
@@ -61,7 +61,7 @@ impl<D: Disk> Store<D> {
         }
     }
 
-    // Gives the disk back.
+    /// Gives the disk back.
     pub(crate) fn close(self) -> D
         ensures { result ≡ stored_disk self }
     {
