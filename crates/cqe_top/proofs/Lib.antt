@@ -1,3 +1,4 @@
 mod Digits
-mod OneWord
-mod Reached
+mod Writing
+mod Users
+mod Reaching

@@ -1,5 +1,5 @@
 -- What is said where a command didn't do all that it does.
-use Rattle.std.specs.Prelude.{◌≡◌, ◌⊎◌, ℕ, List, [], ◌∷◌, ◌++◌, Option, Some, None, codes, decimal}
+use Rattle.std.specs.Prelude.{◌≡◌, ◌⊎◌, ℕ, List, [], ◌++◌, Option, Some, None, codes, decimal}
 use Rattle.cqe_base.specs.Schema.{Text}
 use Rattle.cqe_base.specs.declared.text.ScriptKind.{ScriptKind}
 use Rattle.cqe_base.specs.declared.text.ScriptKind.TheVariants as kinds
@@ -41,19 +41,6 @@ schema_number schema_errors.EmptyDomain = 4
 schema_number schema_errors.BadName = 5
 schema_number schema_errors.Memory = 6
 
--- the number of a policy's refusal
-abbrev pub policy_number : PolicyError → ℕ
-policy_number policy_errors.NotToml = 1
-policy_number (policy_errors.MissingKey place) = 2
-policy_number (policy_errors.WrongKind place) = 3
-policy_number (policy_errors.UnknownKey place) = 4
-policy_number (policy_errors.Schema why) = 5
-policy_number (policy_errors.Sentence place) = 6
-policy_number (policy_errors.Limit place) = 7
-policy_number (policy_errors.DuplicateUser place) = 8
-policy_number policy_errors.Version = 9
-policy_number policy_errors.Memory = 10
-
 -- a number in brackets behind a key, where there is one
 abbrev pub index_text : Option ℕ → Text
 index_text None = []
@@ -73,22 +60,22 @@ cause_text (Some why) = codes " " ++ decimal why.kind ++ codes " " ++ decimal wh
 abbrev pub place_text : Place → Text
 place_text place = user_text place.user ++ place.key ++ index_text place.index ++ cause_text place.text
 
--- what follows the number of a policy's refusal
-abbrev pub policy_text : PolicyError → Text
-policy_text policy_errors.NotToml = []
-policy_text (policy_errors.MissingKey place) = place_text place
-policy_text (policy_errors.WrongKind place) = place_text place
-policy_text (policy_errors.UnknownKey place) = place_text place
-policy_text (policy_errors.Schema why) = codes " " ++ decimal (schema_number why)
-policy_text (policy_errors.Sentence place) = place_text place
-policy_text (policy_errors.Limit place) = place_text place
-policy_text (policy_errors.DuplicateUser place) = place_text place
-policy_text policy_errors.Version = []
-policy_text policy_errors.Memory = []
+-- the number of a policy's refusal with its place
+abbrev pub place_complaint : ℕ → Place → Text
+place_complaint number place = codes "cqe: policy " ++ decimal number ++ place_text place ++ codes "\n"
 
--- the number of a policy's refusal, and its place
+-- the number of a policy's refusal, and its place or the number of the schema's refusal where there is one
 abbrev pub policy_complaint : PolicyError → Text
-policy_complaint why = codes "cqe: policy " ++ decimal (policy_number why) ++ policy_text why ++ codes "\n"
+policy_complaint policy_errors.NotToml = codes "cqe: policy 1\n"
+policy_complaint (policy_errors.MissingKey place) = place_complaint 2 place
+policy_complaint (policy_errors.WrongKind place) = place_complaint 3 place
+policy_complaint (policy_errors.UnknownKey place) = place_complaint 4 place
+policy_complaint (policy_errors.Schema why) = codes "cqe: policy " ++ decimal 5 ++ codes " " ++ decimal (schema_number why) ++ codes "\n"
+policy_complaint (policy_errors.Sentence place) = place_complaint 6 place
+policy_complaint (policy_errors.Limit place) = place_complaint 7 place
+policy_complaint (policy_errors.DuplicateUser place) = place_complaint 8 place
+policy_complaint policy_errors.Version = codes "cqe: policy 9\n"
+policy_complaint policy_errors.Memory = codes "cqe: policy 10\n"
 
 -- the number of a facts file's refusal
 abbrev pub facts_number : FactsError → ℕ

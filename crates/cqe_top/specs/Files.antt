@@ -1,6 +1,5 @@
 -- What the policy file and the facts file say.
 use Rattle.std.specs.Prelude.{ℕ, List, [], map, Option, Some, None, Result, Ok, Err}
-use Rattle.cqe_base.specs.Schema.{DatabaseSchema}
 use Rattle.cqe_base.specs.Facts.{FactSet}
 use Rattle.cqe_base.specs.Transcript.{NamedUser}
 use Rattle.policy_files.specs.declared.error.PolicyError.{PolicyError}

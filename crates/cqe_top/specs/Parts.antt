@@ -1,5 +1,6 @@
 -- Texts in parts.
-use Rattle.std.specs.Prelude.{ℕ, List, Bor}
+use Rattle.std.specs.Prelude.{ℕ, List}
+use Rattle.std.specs.Borrow.{Bor}
 use Rattle.std.specs.List.{flat_map}
 
 -- the parts, one after the other

@@ -1,5 +1,5 @@
 -- What an end of a command says of the files, of what was read and of what was written.
-use Rattle.std.specs.Prelude.{◌≡◌, ◌⊎◌, ℕ, List, [], Ok, Err}
+use Rattle.std.specs.Prelude.{◌≡◌, ◌⊎◌, ℕ, List, [], Err}
 use Rattle.case_engine.specs.Script.{script_of}
 use Rattle.case_engine.specs.Case as case
 use Rattle.batch_engine.specs.BatchLines.{batch_of}

@@ -1,10 +1,10 @@
 -- The ends of a command whose files weren't read.
-use Rattle.std.specs.Prelude.{◌≡◌, ◌⊎◌, ℕ, List, Option, Some, None, Result, Err}
+use Rattle.std.specs.Prelude.{◌≡◌, ℕ, List, Option, None, Result, Err}
 use Rattle.cqe_base.specs.Facts.{FactSet}
 use Rattle.policy_files.specs.declared.error.PolicyError.{PolicyError}
 use Rattle.policy_files.specs.declared.error.FactsError.{FactsError}
 use Rattle.policy_files.specs.Policies.{PolicyValue}
-use Rattle.cqe_top.specs.Files.{FilesSay, no_policy, bad_policy, no_facts, bad_facts}
+use Rattle.cqe_top.specs.Files.{FilesSay, bad_policy, bad_facts}
 use Rattle.cqe_top.specs.Reaches.{IsMissing}
 use Rattle.cqe_top.specs.declared.end.CommandEnd.{CommandEnd}
 use Rattle.cqe_top.specs.declared.end.CommandEnd.TheVariants.{Done, Usage, Missing, ShelfFault, Policy, Facts, Script, ReadFault, WriteFault, Memory}
@@ -36,3 +36,16 @@ RefusesFiles policy facts files (Facts why) = files ≡ bad_facts why
 RefusesFiles policy facts files ShelfFault = Unit {0}
 RefusesFiles policy facts files Memory = Unit {0}
 RefusesFiles policy facts files end = ⊥
+
+-- the end of a command whose files weren't read is one of these
+abbrev pub IsFileEnd : CommandEnd → Type 0
+IsFileEnd Done = ⊥
+IsFileEnd Usage = ⊥
+IsFileEnd (Missing name) = Unit {0}
+IsFileEnd ShelfFault = Unit {0}
+IsFileEnd (Policy why) = Unit {0}
+IsFileEnd (Facts why) = Unit {0}
+IsFileEnd (Script refusal) = ⊥
+IsFileEnd ReadFault = ⊥
+IsFileEnd WriteFault = ⊥
+IsFileEnd Memory = Unit {0}

@@ -2,7 +2,7 @@
 ghost use Rattle.std.specs.Prelude.{◌≡◌, ◌≤◌, ◌++◌, length, codes, decimal, OnOk, OnErr};
 ghost use Rattle.outside.specs.Faults.{Rose, HasCause};
 ghost use Rattle.outside.specs.Streams.{AppendsPart};
-ghost use Rattle.cqe_top.specs.Complaints.{complaint_of, kind_number, schema_number, policy_number, facts_number, facts_line, script_complaint, policy_complaint, facts_complaint, user_text, index_text, cause_text, Gives};
+ghost use Rattle.cqe_top.specs.Complaints.{complaint_of, kind_number, schema_number, place_complaint, script_complaint, policy_complaint, facts_complaint, user_text, index_text, cause_text, Gives};
 ghost use Rattle.cqe_top.specs.Parts.{joined};
 
 use crate::end::CommandEnd;
@@ -48,7 +48,10 @@ fn write_parts<K: Sink>(sink: &mut K, parts: &[&[u8]]) -> Result<(), Failed>
     ensures cause { HasCause (K.faults sink.old) (K.faults sink.new) result }
 {
     for part in parts {
-        write_all(sink, part)?;
+        match write_all(sink, part) {
+            Ok(()) => (),
+            Err(Failed) => return Err(Failed),
+        }
     }
     Ok(())
 }
@@ -59,38 +62,45 @@ fn give_policy<E: Sink>(complaints: &mut E, why: &PolicyError) -> Result<(), Fai
     ensures part { E.told → OnErr result (AppendsPart (E.written complaints.old) (E.written complaints.new) (policy_complaint why.now)) }
     ensures cause { HasCause (E.faults complaints.old) (E.faults complaints.new) result }
 {
-    let number = numbered("cqe: policy ", policy_number(why));
     match why {
-        PolicyError::MissingKey(place)
-        | PolicyError::WrongKind(place)
-        | PolicyError::UnknownKey(place)
-        | PolicyError::Sentence(place)
-        | PolicyError::Limit(place)
-        | PolicyError::DuplicateUser(place) => {
-            let user = user_text(place.user);
-            let key = place.key.as_str().as_bytes();
-            let index = index_text(place.index);
-            let cause = cause_text(place.text);
-            write_parts(
-                complaints,
-                &[
-                    number.bytes(),
-                    user.bytes(),
-                    key,
-                    index.bytes(),
-                    cause.bytes(),
-                    b"\n",
-                ],
-            )
-        }
+        PolicyError::NotToml => write_all(complaints, b"cqe: policy 1\n"),
+        PolicyError::MissingKey(place) => give_place(complaints, 2, place),
+        PolicyError::WrongKind(place) => give_place(complaints, 3, place),
+        PolicyError::UnknownKey(place) => give_place(complaints, 4, place),
         PolicyError::Schema(why) => {
-            let schema = numbered(" ", schema_number(*why));
-            write_parts(complaints, &[number.bytes(), schema.bytes(), b"\n"])
+            let text = numbers_behind("cqe: policy ", 5, schema_number(*why), "\n");
+            write_all(complaints, text.bytes())
         }
-        PolicyError::NotToml | PolicyError::Version | PolicyError::Memory => {
-            write_parts(complaints, &[number.bytes(), b"\n"])
-        }
+        PolicyError::Sentence(place) => give_place(complaints, 6, place),
+        PolicyError::Limit(place) => give_place(complaints, 7, place),
+        PolicyError::DuplicateUser(place) => give_place(complaints, 8, place),
+        PolicyError::Version => write_all(complaints, b"cqe: policy 9\n"),
+        PolicyError::Memory => write_all(complaints, b"cqe: policy 10\n"),
     }
+}
+
+/// Gives the complaint of a policy's refusal that has a place.
+fn give_place<E: Sink>(complaints: &mut E, number: u32, place: &Place) -> Result<(), Failed>
+    ensures all { E.told → OnOk result (E.written complaints.new ≡ E.written complaints.old ++ place_complaint number place.now) }
+    ensures part { E.told → OnErr result (AppendsPart (E.written complaints.old) (E.written complaints.new) (place_complaint number place.now)) }
+    ensures cause { HasCause (E.faults complaints.old) (E.faults complaints.new) result }
+{
+    let number = numbered("cqe: policy ", number);
+    let user = user_text(place.user);
+    let key = place.key.as_str().as_bytes();
+    let index = index_text(place.index);
+    let cause = cause_text(place.text);
+    write_parts(
+        complaints,
+        &[
+            number.bytes(),
+            user.bytes(),
+            key,
+            index.bytes(),
+            cause.bytes(),
+            b"\n",
+        ],
+    )
 }
 
 /// A text with a number behind it.
@@ -203,22 +213,5 @@ fn schema_number(why: SchemaError) -> u32
         SchemaError::EmptyDomain => 4,
         SchemaError::BadName => 5,
         SchemaError::Memory => 6,
-    }
-}
-
-fn policy_number(why: &PolicyError) -> u32
-    ensures { result ≡ policy_number why.now }
-{
-    match why {
-        PolicyError::NotToml => 1,
-        PolicyError::MissingKey(_) => 2,
-        PolicyError::WrongKind(_) => 3,
-        PolicyError::UnknownKey(_) => 4,
-        PolicyError::Schema(_) => 5,
-        PolicyError::Sentence(_) => 6,
-        PolicyError::Limit(_) => 7,
-        PolicyError::DuplicateUser(_) => 8,
-        PolicyError::Version => 9,
-        PolicyError::Memory => 10,
     }
 }

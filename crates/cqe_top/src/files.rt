@@ -1,12 +1,15 @@
 // The policy file and the facts file of a command.
-ghost use Rattle.std.specs.Prelude.{◌≡◌, ◌≤◌, ◌⊎◌, List, ℕ, Some, Ok, IfOk, IfErr};
+ghost use Rattle.std.specs.Prelude.{◌≡◌, ◌≤◌, List, ℕ, false, map, All, Some, Ok, IfOk, IfErr};
+ghost use Rattle.cqe_base.specs.Schema.{has_duplicate};
+ghost use Rattle.cqe_base.specs.History.{profile_of};
+ghost use Rattle.cqe_base.specs.Limits.{KeepsLimits};
+ghost use Rattle.batch_engine.specs.Crew.{named_user};
 ghost use Rattle.outside.specs.Faults.{Rose};
 ghost use Rattle.policy_files.specs.Memory.{policy_value_of};
-ghost use Rattle.policy_files.specs.Laws.{IsKeptPolicy};
 ghost use Rattle.cqe_top.specs.Files.{files_say, both};
 ghost use Rattle.policy_files.specs.Policy.{policy_in};
 ghost use Rattle.policy_files.specs.Facts.{facts_of};
-ghost use Rattle.cqe_top.specs.Refusals.{RefusesFiles, RefusesFile, RefusesPolicy, RefusesFacts};
+ghost use Rattle.cqe_top.specs.Refusals.{RefusesFiles, RefusesFile, RefusesPolicy, RefusesFacts, IsFileEnd};
 ghost use Rattle.cqe_top.specs.declared.end.CommandEnd.{CommandEnd};
 
 use crate::end::CommandEnd;
@@ -31,7 +34,9 @@ pub(crate) fn read_files<'w, F: Shelf>(
     facts: &'w str,
 ) -> Result<Files, CommandEnd<'w>>
     ensures read { F.told → IfOk result (λ files. files_say (F.file shelf.old policy.now) (F.file shelf.old facts.now) ≡ both (policy_value_of files.policy) files.world) }
-    ensures kept { IfOk result (λ files. IsKeptPolicy (policy_value_of files.policy)) }
+    ensures limits { IfOk result (λ files. All (λ user. KeepsLimits files.policy.schema (profile_of user)) files.policy.users.items) }
+    ensures names { IfOk result (λ files. has_duplicate (map (λ user. user.name) (map named_user files.policy.users.items)) ≡ false) }
+    ensures ends { IfErr result IsFileEnd }
     ensures refused { IfErr result (λ end. F.told → RefusesFiles policy.now facts.now (files_say (F.file shelf.old policy.now) (F.file shelf.old facts.now)) end) }
     ensures later { F.faults shelf.old ≤ F.faults shelf.new }
     ensures cause { IfErr result (λ end. end ≡ CommandEnd.ShelfFault → Rose (F.faults shelf.old) (F.faults shelf.new)) }
@@ -51,6 +56,7 @@ fn read_file<'w, F: Shelf>(
 ) -> Result<Vec<u8>, CommandEnd<'w>>
     ensures read { F.told → IfOk result (λ bytes. F.file shelf.old name.now ≡ Some bytes.items) }
     ensures refused { IfErr result (λ end. F.told → RefusesFile name.now (F.file shelf.old name.now) end) }
+    ensures ends { IfErr result IsFileEnd }
     ensures files { (other : List ℕ) → F.file shelf.new other ≡ F.file shelf.old other }
     ensures later { F.faults shelf.old ≤ F.faults shelf.new }
     ensures cause { IfErr result (λ end. end ≡ CommandEnd.ShelfFault → Rose (F.faults shelf.old) (F.faults shelf.new)) }
@@ -66,8 +72,10 @@ fn read_file<'w, F: Shelf>(
 /// The policy that the bytes are.
 fn policy_of<'w>(alloc: Global, bytes: &[u8]) -> Result<Policy, CommandEnd<'w>>
     ensures read { IfOk result (λ policy. policy_in bytes.now ≡ Ok (policy_value_of policy)) }
-    ensures kept { IfOk result (λ policy. IsKeptPolicy (policy_value_of policy)) }
+    ensures limits { IfOk result (λ policy. All (λ user. KeepsLimits policy.schema (profile_of user)) policy.users.items) }
+    ensures names { IfOk result (λ policy. has_duplicate (map (λ user. user.name) (map named_user policy.users.items)) ≡ false) }
     ensures refused { IfErr result (RefusesPolicy (policy_in bytes.now)) }
+    ensures ends { IfErr result IsFileEnd }
 {
     match read_policy(alloc, bytes) {
         Ok(policy) => Ok(policy),
@@ -80,6 +88,7 @@ fn policy_of<'w>(alloc: Global, bytes: &[u8]) -> Result<Policy, CommandEnd<'w>>
 fn world_of<'w>(alloc: Global, schema: &Schema, bytes: &[u8]) -> Result<World, CommandEnd<'w>>
     ensures read { IfOk result (λ world. facts_of schema.now bytes.now ≡ Ok world) }
     ensures refused { IfErr result (RefusesFacts (facts_of schema.now bytes.now)) }
+    ensures ends { IfErr result IsFileEnd }
 {
     match read_facts(alloc, schema, bytes) {
         Ok(world) => Ok(world),

@@ -1,0 +1,26 @@
+-- The users of a policy as they begin a batch.
+use Rattle.std.proofs.Common.{◌≡◌, List, [], ◌∷◌, map, refl, ap, ◌∙◌, false}
+use Rattle.cqe_base.specs.Schema.{has_duplicate}
+use Rattle.cqe_base.specs.declared.user.User.{User}
+use Rattle.policy_files.specs.Users.{names_of}
+use Rattle.policy_files.specs.Memory.{named_user_of, policy_value_of}
+use Rattle.policy_files.specs.Laws.{IsKeptPolicy}
+use Rattle.policy_files.specs.declared.policy.Policy.{Policy}
+use Rattle.batch_engine.specs.Crew.{named_user}
+use Rattle.cqe_top.specs.Files.{new_user, new_users}
+
+same_names : (users : List User) → map (λ user. user.name) (map named_user users) ≡ names_of (map named_user_of users)
+same_names [] = refl
+same_names (user ∷ users) = ap (λ names. (named_user user).name ∷ names) (same_names users)
+
+-- their names differ
+pub names_differ : (policy : Policy) → IsKeptPolicy (policy_value_of policy) → has_duplicate (map (λ user. user.name) (map named_user policy.users.items)) ≡ false
+names_differ policy kept = ap has_duplicate (same_names policy.users.items) ∙ kept.differ
+
+same_users : (users : List User) → map new_user (map named_user_of users) ≡ map named_user users
+same_users [] = refl
+same_users (user ∷ users) = ap (λ more. named_user user ∷ more) (same_users users)
+
+-- they are the users of the batch
+pub new_users_are : (policy : Policy) → new_users (policy_value_of policy) ≡ map named_user policy.users.items
+new_users_are policy = same_users policy.users.items
