@@ -17,7 +17,6 @@ use cqe_base::schema::Schema;
 use cqe_base::sentence::Sentence;
 use cqe_base::text::Symbol;
 use cqe_base::world::Fact;
-
 use std::alloc::{AllocError, Global};
 
 /// Whether the first token is `(`.
