@@ -507,3 +507,26 @@ fn failing_complaints_change_nothing_else(rt: HostRuntime) -> Result<(), Fail> {
     }
     Ok(())
 }
+
+// One pigeon more than there are holes, unless something else holds, and a load for each place. To find that something
+// else holds, a search first has to refute the pigeons.
+const PIGEONS: &str = "relation z()\nrelation in(p, h)\nrelation load(p, h, l)
+know z() or (forall x: p . exists y: h . in(x, y))
+know forall x: p . forall y: p . forall w: h . in(x, w) and in(y, w) -> x = y
+know forall x: p . forall w: h . forall v: l . in(x, w) -> load(x, w, v)
+method lying\nsecret in(p0, h0)\nask true\n";
+
+#[test]
+fn a_user_whose_admission_is_spent_is_closed(rt: HostRuntime) -> Result<(), Fail> {
+    let alloc = rt.alloc();
+    let few = "domain p = p0, p1, p2\ndomain h = h0, h1\ndomain l = l0\n";
+    let run = Run::case(alloc, &[few, PIGEONS])?;
+    run.check(&rt, 0, "yes\n", "", "three pigeons");
+    // a search of more than 4,000,000
+    let many = "domain p = p0, p1, p2, p3, p4, p5, p6, p7, p8, p9, p10, p11, p12
+domain h = h0, h1, h2, h3, h4, h5, h6, h7, h8, h9, h10, h11
+domain l = l0, l1, l2, l3, l4, l5, l6, l7, l8, l9, l10, l11, l12, l13, l14, l15, l16, l17, l18, l19\n";
+    let run = Run::case(alloc, &[many, PIGEONS])?;
+    run.check(&rt, 0, "error 24\n", "", "thirteen pigeons");
+    Ok(())
+}
