@@ -8,6 +8,7 @@ use crate::parts::Parts;
 use crate::script::Script;
 use censors::{Admission, admit};
 use cqe_base::user::Mark;
+use script_lines::Script as _;
 use std::alloc::Global;
 use std::process::Abort;
 use std::test::Fail;
