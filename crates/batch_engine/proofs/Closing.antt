@@ -1,112 +1,200 @@
--- What the lines of a batch mean for its users.
-use Rattle.std.proofs.Common.{◌≡◌, ℕ, Bool, true, false, List, [], ◌∷◌, ◌++◌, length, take, drop, map, refl, sym, ap, subst, ◌∙◌, append_assoc, append-nil}
-use Rattle.std.specs.Prelude.{Option, Some, None, find, bytes_eq, All, if◌then◌else◌}
-use Rattle.std.specs.List.{flat_map, AllByRecursion}
+-- What the lines of a batch mean for its users, once their disks are back.
+use Rattle.std.proofs.Common.{◌≡◌, ◌≢◌, ◌⊎◌, inl, inr, ℕ, ◌≤◌, Bool, true, false, List, [], ◌∷◌, ◌++◌, length, take, drop, map, refl, sym, ap, subst, ◌∙◌, append_assoc, append-nil, arith}
+use Rattle.std.specs.Prelude.{Option, Some, None, find, bytes_eq, All, if◌then◌else◌, Ok}
+use Rattle.std.specs.List.{list_any, AllByRecursion}
 use Rattle.std.proofs.lemmas.List.Elements.{All-head, All-tail}
 use Rattle.std.proofs.lemmas.List.{take-append-drop}
-use Rattle.cqe_base.specs.Schema.{DatabaseSchema, is_valid_schema, has_duplicate}
+use Rattle.cqe_base.specs.Schema.{Text, DatabaseSchema, is_valid_schema, has_duplicate}
 use Rattle.cqe_base.specs.Facts.{FactSet}
-use Rattle.cqe_base.specs.History.{UserProfile, profile_of}
+use Rattle.cqe_base.specs.History.{UserProfile, History, profile_of}
 use Rattle.cqe_base.specs.Limits.{KeepsLimits}
 use Rattle.cqe_base.specs.Censor.{EmptyHistoryIsLegal, IsLegal, admitted}
-use Rattle.cqe_base.specs.Headline.{RunsStayLegal}
-use Rattle.cqe_base.specs.Hiding.{LegalHistoriesHide}
-use Rattle.cqe_base.specs.Run.{Reply, replies, final_history}
-use Rattle.cqe_base.specs.Transcript.{NamedUser, ScriptEvent, own_events, own_replies, transcript, TranscriptIsPrivate, reply_line, line_text}
+use Rattle.cqe_base.specs.Headline.{RunsStayLegal, ScriptsHide}
+use Rattle.cqe_base.specs.Run.{UserState, standing_sealed, opening, after_events, replies, final_history}
+use Rattle.cqe_base.specs.Transcript.{NamedUser, ScriptEvent, own_events, own_replies, state_after, transcript, TranscriptIsPrivate}
 use Rattle.cqe_base.specs.declared.user.User.{User}
-use Rattle.case_engine.proofs.Replying.{standing_is}
-use Rattle.batch_engine.specs.BatchLines.{NamedAsk}
-use Rattle.batch_engine.specs.Batch.{script_events, Serves, Answers, AppendsAll, AppendsSome}
-use Rattle.batch_engine.specs.Crew.{Seat, user_at, first_seat, named_user, Tells}
-use Rattle.batch_engine.proofs.Telling.{IsSeated, SoFar, so_far_more}
+use Rattle.user_desk.specs.Causes.{Opens}
+use Rattle.user_desk.specs.Lives.{Holds, IsState}
+use Rattle.user_desk.specs.Standings.{is_sealed}
+use Rattle.user_desk.specs.Desks.{desk_standing, state_of}
+use Rattle.user_desk.specs.declared.standing.DeskError.{DeskError}
+use Rattle.user_desk.specs.declared.standing.Standing.{Standing}
+use Rattle.user_desk.specs.declared.standing.Standing.TheVariants.{Open, Closed, Sealed}
+use Rattle.log_journal.specs.Names.{journal_name}
+use Rattle.batch_engine.specs.BatchLines.{BatchItem}
+use Rattle.batch_engine.specs.Lives.{RoseBy, is_opened, failures, OpensNone, IsOpening, IsRefusal}
+use Rattle.batch_engine.specs.Batch.{Journals, Serves, Answers, AreRefusals, AppendsAll, AppendsSome, unopened, with_opening, line_bytes}
+use Rattle.batch_engine.specs.Crew.{named_user, seat_name, seat_journal, seat_disk, IsLeft}
+use Rattle.batch_engine.specs.Shelved.{bytes_on, image_on, journals_on, IsBack, AreBack}
+use Rattle.batch_engine.specs.declared.seat.Seat.{Seat}
+use Rattle.batch_engine.proofs.Courses.{Course, course_on, Fits, IsRunning}
+use Rattle.batch_engine.proofs.Seating.{left_false, right_false, text_is, names, IsSeated, AreSeated}
+use Rattle.batch_engine.proofs.Telling.{SoFar}
 
--- a user who is found begins with no entries, and keeps the limits
-found_user : (schema : DatabaseSchema) (p : NamedUser → Bool) (users : List User) (user : NamedUser) → All (λ u. KeepsLimits schema (profile_of u)) users → find p (map named_user users) ≡ Some user → (user.opened ≡ []) × KeepsLimits schema user.profile
-found_user schema p [] user limits found = absurd cc
-found_user schema p (u ∷ users) user limits found =
-    by (p (named_user u)) refl (λ among. found_user schema p users user (All-tail (λ v. KeepsLimits schema (profile_of v)) u users limits) among)
-  where
-    inside : {x y : NamedUser} → Some x ≡ Some y → x ≡ y
-    inside e = cc
+-- ---- users by their names
 
-    by : (b : Bool) → p (named_user u) ≡ b → (find p (map named_user users) ≡ Some user → (user.opened ≡ []) × KeepsLimits schema user.profile) → (user.opened ≡ []) × KeepsLimits schema user.profile
-    by true e more =
-        let same : named_user u ≡ user = inside (sym (ap (λ b. if b then Some (named_user u) else find p (map named_user users)) e) ∙ found) in
-        (sym (ap (λ x. x.opened) same), subst (λ x. KeepsLimits schema x.profile) same (All-head (λ v. KeepsLimits schema (profile_of v)) u users limits))
-    by false e more = more (sym (ap (λ b. if b then Some (named_user u) else find p (map named_user users)) e) ∙ found)
+abbrev pub Finds : List NamedUser → NamedUser → Type 0
+Finds users user = find (λ u. bytes_eq u.name user.name) users ≡ Some user
 
-module _ (schema : DatabaseSchema) (world : FactSet) (users : List User) where
-  -- at first nobody has asked anything
-  first_seated : (us : List User) → AllByRecursion (IsSeated schema world []) (map (first_seat schema world) us)
-  first_seated [] = tt
-  first_seated (u ∷ us) = (ap (λ s. record { entries = []; standing = s; broken = false; pending = None }) (standing_is schema world (profile_of u) (admitted schema world (profile_of u)) refl), first_seated us)
+find_behind : (first : NamedUser) (base users : List NamedUser) → list_any (bytes_eq first.name) (names users) ≡ false → AllByRecursion (Finds base) users → AllByRecursion (Finds (first ∷ base)) users
+find_behind first base [] none found = tt
+find_behind first base (user ∷ users) none found = (
+  ap (λ b. if b then Some first else find (λ u. bytes_eq u.name user.name) base) (left_false _ _ none) ∙ found.0,
+  find_behind first base users (right_false _ _ none) found.1,
+)
 
-  first_users : (us : List User) → map user_at (map (first_seat schema world) us) ≡ map named_user us
-  first_users [] = refl
-  first_users (u ∷ us) = ap (λ vs. named_user u ∷ vs) (first_users us)
+-- each user is the first of his name
+pub find_all : (users : List NamedUser) → has_duplicate (names users) ≡ false → AllByRecursion (Finds users) users
+find_all [] distinct = tt
+find_all (user ∷ users) distinct = (
+  ap (λ b. if b then Some user else find (λ u. bytes_eq u.name user.name) users) (text_is user.name),
+  find_behind user users users (left_false _ _ distinct) (find_all users (right_false _ _ distinct)),
+)
 
-  so_far_first : SoFar schema world (map named_user users) [] [] (map (first_seat schema world) users)
-  unfolding transcript
-  so_far_first = record { endings = []; one_each = refl; kept_or_want = tt; lines = refl; seated = first_seated users; same_users = first_users users }
+-- names don't tell of openings
+pub names_unopened : (users : List NamedUser) → names (map unopened users) ≡ names users
+names_unopened [] = refl
+names_unopened (user ∷ users) = ap (λ ns. user.name ∷ ns) (names_unopened users)
 
-  -- these asks were answered with what was appended to the old output, and the users then have these seats
-  abbrev pub Told : List NamedAsk → List ℕ → List ℕ → List Seat → Type 0
-  Told asks old new seats = (output : List ℕ) × (new ≡ old ++ output) × SoFar schema world (map named_user users) asks output seats
+-- users of a policy keep the limits
+pub limits_named : (schema : DatabaseSchema) (users : List User) (named : List NamedUser) → map unopened named ≡ map named_user users → All (λ u. KeepsLimits schema (profile_of u)) users
+    → AllByRecursion (λ (u : NamedUser). KeepsLimits schema u.profile) named
+limits_named schema [] [] same limits = tt
+limits_named schema [] (n ∷ named) same limits = absurd cc
+limits_named schema (u ∷ users) [] same limits = absurd cc
+limits_named schema (u ∷ users) (n ∷ named) same limits =
+    let first : unopened n ≡ named_user u = cc in
+    let rest : map unopened named ≡ map named_user users = cc in
+    (subst (KeepsLimits schema) (sym (ap (λ (x : NamedUser). x.profile) first)) (All-head (λ v. KeepsLimits schema (profile_of v)) u users limits), limits_named schema users named rest (All-tail (λ v. KeepsLimits schema (profile_of v)) u users limits))
 
-  pub told_nothing : (old : List ℕ) (seats : List Seat) → seats ≡ map (first_seat schema world) users → Told [] old old seats
-  told_nothing old seats first = ([], sym (append-nil old), subst (λ s. SoFar schema world (map named_user users) [] [] s) (sym first) so_far_first)
+-- what a user's journal read, and its count, as the call began
+abbrev pub bytes_of : {D : Type 0} → (D → List ℕ) → Text → (Text → Option D) → Text → List ℕ
+bytes_of reads directory disk name = bytes_on reads (disk (journal_name directory name))
 
-  pub told_more : (asks : List NamedAsk) (old before after line : List ℕ) (seats new : List Seat) (new_ask : NamedAsk) (told : Option Reply)
-      → has_duplicate (map (λ u. u.name) (map named_user users)) ≡ false → Told asks old before seats → Tells schema world new_ask.name new_ask.text seats new told
-      → line ≡ line_text (reply_line new_ask.name new_ask.session told) ++ 10 ∷ [] → after ≡ before ++ line
-      → Told (asks ++ new_ask ∷ []) old after new
-  told_more asks old before after line seats new new_ask told distinct (output, written, so_far) tells is appended = (
-    output ++ line,
-    appended ∙ ap (λ w. w ++ line) written ∙ append_assoc old output line,
-    subst (λ l. SoFar schema world (map named_user users) (asks ++ new_ask ∷ []) (output ++ l) new) (sym is) (so_far_more schema world (map named_user users) asks output seats new new_ask told distinct so_far tells),
-  )
+abbrev pub count_of : Text → (Text → ℕ) → Text → ℕ
+count_of directory count name = count (journal_name directory name)
 
-  module _ (empty : EmptyHistoryIsLegal) (runs : RunsStayLegal) (hide : LegalHistoriesHide) (alone : TranscriptIsPrivate) (valid : is_valid_schema schema ≡ true) (limits : All (λ u. KeepsLimits schema (profile_of u)) users) where
-    serves : (events : List ScriptEvent) (user : NamedUser) → find (λ u. bytes_eq u.name user.name) (map named_user users) ≡ Some user → Serves schema world (map named_user users) events user
-    serves events user found =
-        let is = found_user schema (λ u. bytes_eq u.name user.name) users user limits found in
-        let legal = runs schema world user.profile [] (own_events user.name events) (empty schema world user.profile) in
+legal_opening : (schema : DatabaseSchema) (world : FactSet) (header c : List ℕ) (user : NamedUser) → EmptyHistoryIsLegal → IsOpening schema world user.profile header c user.opened → IsLegal schema world user.profile user.opened
+legal_opening schema world header c user empty (inl opens) = opens.legal
+legal_opening schema world header c user empty (inr (none, is)) = subst (IsLegal schema world user.profile) (sym is) (empty schema world user.profile)
+
+served_standing : (standing : Standing) (shows : UserState) (state : UserState) → IsState standing shows state → state.standing ≢ standing_sealed → is_sealed standing ≡ false
+served_standing Open shows state is unsealed = refl
+served_standing (Closed admission) shows state is unsealed = refl
+served_standing (Sealed why) shows state is unsealed = absurd (unsealed is)
+
+module _ (schema : DatabaseSchema) (world : FactSet) (users : List NamedUser) (header directory : List ℕ) {D : Type 0} {g : _} (T S : Type 0) (s : S) (reads : D → List ℕ) (image : D → List ℕ → Type 0) (faults : D → ℕ) (t : T)
+    (read_is_image : (d : D) → T → image d (reads d)) (disk disk' : Text → Option D) (count count' : Text → ℕ) where
+  abbrev Seated : NamedUser → List ScriptEvent → Seat D g → Type 0
+  Seated user script seat = IsSeated schema world header directory T reads image faults t read_is_image (bytes_of reads directory disk) (count_of directory count) user (own_events user.name script) seat
+
+  abbrev AllSeated : List ScriptEvent → List NamedUser → List (Seat D g) → Type 0
+  AllSeated script us seats = AreSeated schema world header directory T reads image faults t read_is_image (bytes_of reads directory disk) (count_of directory count) script us seats
+
+  -- the disk of a user's journal, which is back
+  record Back (user : NamedUser) (script : List ScriptEvent) (seat : Seat D g) : Type 0 where
+    now : D
+    held : disk' (journal_name directory user.name) ≡ Some now
+    left : IsLeft reads image faults (seat_disk seat) now
+    course : Course schema world user.profile header (bytes_of reads directory disk user.name) (count_of directory count user.name) user.opened (own_events user.name script) (reads now) (count' (journal_name directory user.name)) seat.refusal
+
+  back : (user : NamedUser) (script : List ScriptEvent) (seat : Seat D g) → Seated user script seat → IsBack S reads image faults disk' count' seat → Back user script seat
+  back user script seat seated is =
+      let counted : count' (journal_name directory user.name) ≡ faults is.now = ap count' (sym seated.journal_is) ∙ is.counted in
+      record {
+        now = is.now;
+        held = ap disk' (sym seated.journal_is) ∙ is.held s;
+        left = is.left;
+        course = course_on schema world user.profile header (bytes_of reads directory disk user.name) (count_of directory count user.name) user.opened (own_events user.name script) (reads (seat_disk seat)) (reads is.now) (faults (seat_disk seat))
+            (count' (journal_name directory user.name)) seat.refusal is.left.reads_same (subst (λ n. faults (seat_disk seat) ≤ n) (sym counted) is.left.later) seated.running.course;
+      }
+
+  module _ (empty : EmptyHistoryIsLegal) (runs : RunsStayLegal) (hide : ScriptsHide) (alone : TranscriptIsPrivate) (valid : is_valid_schema schema ≡ true) where
+    serves : (user : NamedUser) (script : List ScriptEvent) (seat : Seat D g) → Finds users user → KeepsLimits schema user.profile → IsOpening schema world user.profile header (bytes_of reads directory disk user.name) user.opened
+        → Seated user script seat → IsBack S reads image faults disk' count' seat → Serves schema world header (journals_on reads image directory disk disk' count count') users script user
+    serves user script seat found limits opening_is seated is =
+        let at : Back user script seat = back user script seat seated is in
+        let legal = legal_opening schema world header (bytes_of reads directory disk user.name) user empty opening_is in
         record {
-          private = subst (λ opened. own_replies user.name (transcript schema world (map named_user users) events) ≡ replies schema world user.profile opened (own_events user.name events)) is.0 (alone schema world (map named_user users) user events found);
-          legal = legal;
-          hides = λ admits. hide schema world user.profile (final_history schema world user.profile [] (own_events user.name events)) valid is.1.sentences admits legal;
+          opening_is = opening_is;
+          private = alone schema world users user script found;
+          legal = runs schema world user.profile user.opened (own_events user.name script) legal;
+          hides = λ admits. hide schema world users user script found valid limits.sentences admits legal;
+          caused = at.course.caused;
+          refused = λ none. refused_at at none at.course.fits;
+          counted = λ opens. counted_at at opens at.course.fits;
+          stands = λ unsealed c here. seated.running.images (served_standing (desk_standing seat.desk) (state_of seat.desk) (state_after schema world user script) seated.running.is_in unsealed) c
+              (at.left.images c (subst (λ o. image_on image o c) at.held here));
         }
+      where
+        refused_at : (at : Back user script seat) → OpensNone schema world user.profile header (bytes_of reads directory disk user.name) → Fits schema world user.profile header (bytes_of reads directory disk user.name) (count_of directory count user.name) user.opened (own_events user.name script) (reads at.now) (count' (journal_name directory user.name))
+            → (list_any is_opened (own_events user.name script) ≡ false) × (bytes_on reads (disk' (journal_name directory user.name)) ≡ bytes_of reads directory disk user.name)
+        refused_at at none (inl (opens, holds, rose)) = absurd (none user.opened opens)
+        refused_at at none (inr (closed, is_empty, same, never)) = (never, ap (bytes_on reads) at.held ∙ same)
 
-    answers : (asks : List NamedAsk) (output : List ℕ) (seats : List Seat) → SoFar schema world (map named_user users) asks output seats → Answers schema world (map named_user users) asks output
-    answers asks output seats so_far = record {
-      endings = so_far.endings;
-      one_each = so_far.one_each;
-      kept_or_want = so_far.kept_or_want;
-      lines = so_far.lines;
-      each_user = serves (script_events asks so_far.endings);
-    }
+        counted_at : (at : Back user script seat) → Opens schema world user.profile header user.opened (bytes_of reads directory disk user.name) → Fits schema world user.profile header (bytes_of reads directory disk user.name) (count_of directory count user.name) user.opened (own_events user.name script) (reads at.now) (count' (journal_name directory user.name))
+            → RoseBy (failures (own_events user.name script)) (count_of directory count user.name) (count' (journal_name directory user.name))
+        counted_at at opens (inl (was, holds, rose)) = rose
+        counted_at at opens (inr (none, is_empty, same, never)) = absurd (none user.opened opens)
 
-    -- all asks were answered
-    pub answered_all : (asks : List NamedAsk) (old new : List ℕ) (seats : List Seat) → Told asks old new seats → AppendsAll schema world (map named_user users) asks old new
-    answered_all asks old new seats (output, written, so_far) = record { written = output; appended = written; answers = answers asks output seats so_far }
+    serves_all : (us : List NamedUser) (script : List ScriptEvent) (seats : List (Seat D g)) → AllByRecursion (Finds users) us → AllByRecursion (λ (u : NamedUser). KeepsLimits schema u.profile) us
+        → AllByRecursion (λ (u : NamedUser). IsOpening schema world u.profile header (bytes_of reads directory disk u.name) u.opened) us → AllSeated script us seats → AreBack S reads image faults disk' count' seats
+        → AllByRecursion (Serves schema world header (journals_on reads image directory disk disk' count count') users script) us
+    serves_all [] script [] found limits openings seated is = tt
+    serves_all [] script (seat ∷ seats) found limits openings seated is = tt
+    serves_all (user ∷ us) script [] found limits openings seated is = absurd seated
+    serves_all (user ∷ us) script (seat ∷ seats) found limits openings seated is =
+        (serves user script seat found.0 limits.0 openings.0 seated.0 is.0, serves_all us script seats found.1 limits.1 openings.1 seated.1 is.1)
 
-    -- the sink failed in the middle of the line of an ask
-    pub answered_some : (asks back all : List NamedAsk) (n : ℕ) (old before after line : List ℕ) (seats new : List Seat) (new_ask : NamedAsk) (told : Option Reply)
-        → has_duplicate (map (λ u. u.name) (map named_user users)) ≡ false → Told asks old before seats → Tells schema world new_ask.name new_ask.text seats new told
-        → line ≡ line_text (reply_line new_ask.name new_ask.session told) ++ 10 ∷ [] → after ≡ before ++ take n line
-        → all ≡ (asks ++ new_ask ∷ []) ++ back
-        → AppendsSome schema world (map named_user users) all old after
-    answered_some asks back all n old before after line seats new new_ask told distinct sofar tells is appended split =
-        let whole : SoFar schema world (map named_user users) (asks ++ new_ask ∷ []) (sofar.0 ++ line) new =
-        subst (λ l. SoFar schema world (map named_user users) (asks ++ new_ask ∷ []) (sofar.0 ++ l) new) (sym is) (so_far_more schema world (map named_user users) asks sofar.0 seats new new_ask told distinct sofar.2 tells) in
-        record {
-          front = asks ++ new_ask ∷ [];
-          back = back;
-          split = split;
-          written = sofar.0 ++ take n line;
-          rest = drop n line;
-          appended = appended ∙ ap (λ w. w ++ take n line) sofar.1 ∙ append_assoc old sofar.0 (take n line);
-          answers = subst (λ o. Answers schema world (map named_user users) (asks ++ new_ask ∷ []) o)
-              (sym (append_assoc sofar.0 (take n line) (drop n line) ∙ ap (λ l. sofar.0 ++ l) (take-append-drop n line)))
-              (answers (asks ++ new_ask ∷ []) (sofar.0 ++ line) new whole);
-        }
+    refusals_all : (us : List NamedUser) (script : List ScriptEvent) (seats : List (Seat D g)) → AllSeated script us seats → AreBack S reads image faults disk' count' seats
+        → AreRefusals schema world header (journals_on reads image directory disk disk' count count') script us (map (λ (s : Seat D g). s.refusal) seats)
+    refusals_all [] script [] seated is = tt
+    refusals_all [] script (seat ∷ seats) seated is = absurd seated
+    refusals_all (user ∷ us) script [] seated is = absurd seated
+    refusals_all (user ∷ us) script (seat ∷ seats) seated is = ((back user script seat seated.0 is.0).course.refused, refusals_all us script seats seated.1 is.1)
+
+    module _ (policy : List NamedUser) (of_policy : map unopened users ≡ policy) (distinct : has_duplicate (names users) ≡ false) (limits : AllByRecursion (λ (u : NamedUser). KeepsLimits schema u.profile) users)
+        (openings : AllByRecursion (λ (u : NamedUser). IsOpening schema world u.profile header (bytes_of reads directory disk u.name) u.opened) users) (found opened : Text → Bool) where
+      abbrev pub Told : List BatchItem → List ℕ → List ℕ → List (Seat D g) → Bool → Type 0
+      Told items old new seats is_broken = (output : List ℕ) × (new ≡ old ++ output) × SoFar schema world users header directory T reads image faults t read_is_image (bytes_of reads directory disk) (count_of directory count) found opened items output seats is_broken
+
+      abbrev answers : (items : List BatchItem) (output : List ℕ) (seats : List (Seat D g)) (is_broken : Bool) → SoFar schema world users header directory T reads image faults t read_is_image (bytes_of reads directory disk) (count_of directory count) found opened items output seats is_broken
+          → AreBack S reads image faults disk' count' seats → Answers schema world header (journals_on reads image directory disk disk' count count') policy items output
+      answers items output seats is_broken so_far is = record {
+        users = users;
+        of_policy = of_policy;
+        found = found;
+        opened = opened;
+        events = so_far.events;
+        of_items = so_far.of_items;
+        lines = so_far.lines;
+        each_user = serves_all users (with_opening found opened so_far.events) seats (find_all users distinct) limits openings so_far.seated is;
+      }
+
+      -- all items were answered
+      pub answered_all : (items : List BatchItem) (old new : List ℕ) (seats : List (Seat D g)) (is_broken : Bool) → Told items old new seats is_broken → AreBack S reads image faults disk' count' seats
+          → AppendsAll schema world header (journals_on reads image directory disk disk' count count') policy items old new (map (λ (s : Seat D g). s.refusal) seats) is_broken
+      answered_all items old new seats is_broken (output, written, so_far) is = record {
+        written = output;
+        appended = written;
+        answers = answers items output seats is_broken so_far is;
+        refused = refusals_all users (with_opening found opened so_far.events) seats so_far.seated is;
+        broken = so_far.broken;
+      }
+
+      -- the first items were answered, and of the last line a part was written
+      pub answered_some : (front back all : List BatchItem) (n : ℕ) (old before_line new line : List ℕ) (seats : List (Seat D g)) (is_broken : Bool)
+          → (output : List ℕ) → before_line ≡ old ++ output → SoFar schema world users header directory T reads image faults t read_is_image (bytes_of reads directory disk) (count_of directory count) found opened front (output ++ line) seats is_broken
+          → AreBack S reads image faults disk' count' seats → new ≡ before_line ++ take n line → all ≡ front ++ back
+          → AppendsSome schema world header (journals_on reads image directory disk disk' count count') policy all old new
+      answered_some front back all n old before_line new line seats is_broken output written so_far is appended split = record {
+        front = front;
+        back = back;
+        split = split;
+        written = output ++ take n line;
+        rest = drop n line;
+        appended = appended ∙ ap (λ w. w ++ take n line) written ∙ append_assoc old output (take n line);
+        answers = subst (λ o. Answers schema world header (journals_on reads image directory disk disk' count count') policy front o)
+            (sym (append_assoc output (take n line) (drop n line) ∙ ap (λ l. output ++ l) (take-append-drop n line)))
+            (answers front (output ++ line) seats is_broken so_far is);
+      }

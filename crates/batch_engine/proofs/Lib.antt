@@ -1,6 +1,11 @@
+pub mod Courses
+pub mod Seating
 pub mod Telling
 pub mod Closing
-pub mod Beginning
-pub mod Answering
+pub mod Shelving
+pub mod Reopening
+pub mod Opening
 pub mod Shorts
-pub mod Items
+pub mod Asking
+pub mod Running
+pub mod Ending

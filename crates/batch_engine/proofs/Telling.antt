@@ -1,182 +1,109 @@
--- The asks of a batch, one after the other: what is told, and what becomes of each user.
-use Rattle.std.proofs.Common.{◌≡◌, ◌⊎◌, inl, inr, ℕ, Bool, true, false, List, [], ◌∷◌, ◌++◌, length, map, refl, sym, ap, subst, ◌∙◌, append_assoc, append-nil, arith}
-use Rattle.std.specs.Prelude.{Option, Some, None, ◌||◌, find, bytes_eq, if◌then◌else◌, option_to_list}
-use Rattle.std.specs.List.{list_any, flat_map, AllByRecursion}
-use Rattle.std.specs.Cmp.Lexicographic.{same_text}
+-- The items of a batch, one after the other: what was written, and where its users sit.
+use Rattle.std.proofs.Common.{◌≡◌, ◌⊎◌, inl, inr, ℕ, Bool, true, false, List, [], ◌∷◌, ◌++◌, map, refl, sym, ap, subst, ◌∙◌, append_assoc, append-nil}
+use Rattle.std.specs.Prelude.{Option, Some, None, ◌||◌, find, bytes_eq}
+use Rattle.std.specs.List.{list_any, flat_map}
 use Rattle.cqe_base.specs.Schema.{Text, DatabaseSchema, has_duplicate}
 use Rattle.cqe_base.specs.Facts.{FactSet}
-use Rattle.cqe_base.specs.Reading.{reading}
-use Rattle.cqe_base.specs.History.{UserProfile, History}
-use Rattle.cqe_base.specs.Run.{Reply, no_memory, Ending, want, kept, Event, ask, UserState, opening, after_event, after_events, replies_to_event, reply_to_ask, entry_added}
-use Rattle.cqe_base.specs.Transcript.{NamedUser, ScriptEvent, script_ask, Line, reply_line, own_event, own_events, state_after, told_after, written_after, lines_after, transcript, line_text}
-use Rattle.user_log.specs.Asked.{IsAsked, wanted, answered, open_reply}
-use Rattle.case_engine.specs.Answering.{IsTold}
-use Rattle.case_engine.specs.Case.{IsKeptOrWant}
-use Rattle.std.proofs.lemmas.Grind.{common_steps}
-use Rattle.case_engine.proofs.Replying.{state_with, OneAsk, one_ask}
-use Rattle.batch_engine.specs.BatchLines.{NamedAsk}
-use Rattle.batch_engine.specs.Batch.{script_events, line_bytes}
-use Rattle.batch_engine.specs.Crew.{Seat, user_at, with_entries, Tells, nobody, here, further}
+use Rattle.cqe_base.specs.History.{UserProfile}
+use Rattle.cqe_base.specs.Run
+use Rattle.cqe_base.specs.Run.{Reply, restart}
+use Rattle.cqe_base.specs.Transcript.{NamedUser, ScriptEvent, script_ask, script_restart, script_opening, Line, reply_line, restart_line, own_event, told_after, written_after, lines_after, transcript, line_text}
+use Rattle.batch_engine.specs.BatchLines.{BatchItem, asked, restarted}
+use Rattle.batch_engine.specs.Batch.{IsEventOf, AreEventsOf, line_bytes, is_broken_line, with_opening}
+use Rattle.batch_engine.specs.Crew.{Tells, AreReopened}
+use Rattle.batch_engine.specs.Steps.{Carries, is_broken_reply}
+use Rattle.batch_engine.specs.declared.seat.Seat.{Seat}
+use Rattle.batch_engine.proofs.Courses.{IsExclusive, any-push}
+use Rattle.batch_engine.proofs.Seating.{flat_map-append, names, AreSeated, Next, told_next, Choices, restart_all, Chosen, choose}
 
--- ---- lists
+events-push : (items : List BatchItem) (events : List ScriptEvent) (item : BatchItem) (event : ScriptEvent) → AreEventsOf items events → IsEventOf item event → AreEventsOf (items ++ item ∷ []) (events ++ event ∷ [])
+events-push [] [] item event are is = (is, tt)
+events-push [] (e ∷ events) item event are is = absurd are
+events-push (i ∷ items) [] item event are is = absurd are
+events-push (i ∷ items) (e ∷ events) item event are is = (are.0, events-push items events item event are.1 is)
 
-flat_map-append : {X A : Type 0} (f : X → List A) (xs ys : List X) → flat_map f (xs ++ ys) ≡ flat_map f xs ++ flat_map f ys
-flat_map-append f [] ys = refl
-flat_map-append f (x ∷ xs) ys = ap (λ zs. f x ++ zs) (flat_map-append f xs ys) ∙ sym (append_assoc (f x) (flat_map f xs) (flat_map f ys))
+-- a line that says that an append failed
+pub broken_told : (name : Text) (session : ℕ) (told : Option Reply) → is_broken_line (reply_line name session told) ≡ is_broken_reply told
+broken_told name session None = refl
+broken_told name session (Some (Run.marked mark)) = refl
+broken_told name session (Some (Run.no_sentence kind place)) = refl
+broken_told name session (Some Run.history_full) = refl
+broken_told name session (Some Run.too_large) = refl
+broken_told name session (Some Run.user_closed) = refl
+broken_told name session (Some Run.desk_sealed) = refl
+broken_told name session (Some Run.desk_broken) = refl
+broken_told name session (Some Run.no_memory) = refl
 
-script_events-push : (asks : List NamedAsk) (endings : List Ending) (new : NamedAsk) (ending : Ending) → length endings ≡ length asks
-    → script_events (asks ++ new ∷ []) (endings ++ ending ∷ []) ≡ script_events asks endings ++ script_ask new.name new.session new.text ending ∷ []
-script_events-push [] [] new ending same = refl
-script_events-push [] (e ∷ endings) new ending same = absurd (omega arith)
-script_events-push (a ∷ asks) [] new ending same = absurd (omega arith)
-script_events-push (a ∷ asks) (e ∷ endings) new ending same = ap (λ events. script_ask a.name a.session a.text e ∷ events) (script_events-push asks endings new ending (omega arith))
-
-all_push : (endings : List Ending) (ending : Ending) → AllByRecursion IsKeptOrWant endings → IsKeptOrWant ending → AllByRecursion IsKeptOrWant (endings ++ ending ∷ [])
-all_push [] ending all last = (last, tt)
-all_push (e ∷ endings) ending all last = (all.0, all_push endings ending all.1 last)
-
-left_false : (a b : Bool) → (a || b) ≡ false → a ≡ false
-left_false true b e = e
-left_false false b e = refl
-
-right_false : (a b : Bool) → (a || b) ≡ false → b ≡ false
-right_false true b e = absurd cc
-right_false false b e = e
-
--- two texts are compared alike from both sides
-other_text : (a b : Text) → bytes_eq a b ≡ false → bytes_eq b a ≡ false
-other_text a b differ = by (bytes_eq b a) refl
-  where
-    by : (t : Bool) → bytes_eq b a ≡ t → t ≡ false
-    by false e = refl
-    by true e = sym e ∙ (λ i. bytes_eq (same_text b a (sym e) i) (sym (same_text b a (sym e)) i)) ∙ differ
-
-module _ (schema : DatabaseSchema) (world : FactSet) where
-  -- ---- one user
-
-  -- the state of a seat's user after events: his entries, with nothing in flight
-  abbrev pub IsSeated : List ScriptEvent → Seat → Type 0
-  IsSeated events seat = state_after schema world (user_at seat) events ≡ state_with schema world seat.profile seat.is_open seat.entries
-
-  after-append : (user : UserProfile) (state : UserState) (first rest : List Event) → after_events schema world user state (first ++ rest) ≡ after_events schema world user (after_events schema world user state first) rest
-  after-append user state [] rest = refl
-  after-append user state (event ∷ first) rest = after-append user (after_event schema world user state event) first rest
-
-  state-push : (user : NamedUser) (events : List ScriptEvent) (event : ScriptEvent) → state_after schema world user (events ++ event ∷ []) ≡ after_events schema world user.profile (state_after schema world user events) (own_event user.name event)
-  state-push user events event =
-      ap (after_events schema world user.profile (opening schema world user.profile user.opened)) (flat_map-append (own_event user.name) events (event ∷ []) ∙ ap (λ es. own_events user.name events ++ es) (append-nil (own_event user.name event)))
-      ∙ after-append user.profile (opening schema world user.profile user.opened) (own_events user.name events) (own_event user.name event)
-
-  -- an ask of another name changes nothing
-  unnamed : (events : List ScriptEvent) (name : Text) (session : ℕ) (text : Text) (ending : Ending) (seat : Seat) → bytes_eq name seat.name ≡ false → IsSeated events seat → IsSeated (events ++ script_ask name session text ending ∷ []) seat
-  unnamed events name session text ending seat other seated =
-      state-push (user_at seat) events (script_ask name session text ending)
-      ∙ ap (λ b. after_events schema world seat.profile (state_after schema world (user_at seat) events) (if b then ask text ending ∷ [] else [])) other
-      ∙ seated
-
-  all_unnamed : (events : List ScriptEvent) (name : Text) (session : ℕ) (text : Text) (ending : Ending) (seats : List Seat) → list_any (bytes_eq name) (map (λ u. u.name) (map user_at seats)) ≡ false
-      → AllByRecursion (IsSeated events) seats → AllByRecursion (IsSeated (events ++ script_ask name session text ending ∷ [])) seats
-  all_unnamed events name session text ending [] none seated = tt
-  all_unnamed events name session text ending (seat ∷ seats) none seated =
-      (unnamed events name session text ending seat (left_false _ _ none) seated.0, all_unnamed events name session text ending seats (right_false _ _ none) seated.1)
-
-  -- ---- one ask
-
-  -- an ask with some ending: its reply, the seats behind it, and the users, who are the same
-  record Next (events : List ScriptEvent) (name : Text) (session : ℕ) (text : Text) (old new : List Seat) (told : Option Reply) : Type 0 where
-    ending : Ending
-    kept_or_want : IsKeptOrWant ending
-    replied : told_after schema world events text ending (find (λ u. bytes_eq u.name name) (map user_at old)) ≡ told
-    seated : AllByRecursion (IsSeated (events ++ script_ask name session text ending ∷ [])) new
-    users : map user_at new ≡ map user_at old
-
-  abbrev names : List Seat → List Text
-  names seats = map (λ u. u.name) (map user_at seats)
-
-  told_here : (events : List ScriptEvent) (name : Text) (session : ℕ) (text : Text) (seat : Seat) (others : List Seat) (entries : History) (told : Reply)
-      → bytes_eq seat.name name ≡ true → IsTold seat.is_open schema world seat.profile seat.entries entries text told
-      → list_any (bytes_eq seat.name) (names others) ≡ false → AllByRecursion (IsSeated events) (seat ∷ others)
-      → Next events name session text (seat ∷ others) (with_entries seat entries ∷ others) (Some told)
-  told_here events name session text seat others entries told is answer distinct seated =
-      let one : OneAsk schema world seat.profile seat.is_open seat.entries entries text told = one_ask schema world seat.profile seat.is_open seat.entries entries text told answer in
-      let same : seat.name ≡ name = same_text seat.name name (sym is) in
-      record {
-        ending = one.ending;
-        kept_or_want = one.kept_or_want;
-        replied =
-            ap (λ b. told_after schema world events text one.ending (if b then Some (user_at seat) else find (λ u. bytes_eq u.name name) (map user_at others))) is
-            ∙ ap (λ state. Some (reply_to_ask schema world seat.profile state text one.ending)) seated.0
-            ∙ ap Some one.replied;
-        seated = (
-          state-push (user_at seat) events (script_ask name session text one.ending)
-              ∙ ap (λ b. after_events schema world seat.profile (state_after schema world (user_at seat) events) (if b then ask text one.ending ∷ [] else [])) (ap (λ n. bytes_eq n seat.name) (sym same) ∙ ap (bytes_eq seat.name) same ∙ is)
-              ∙ ap (λ state. after_event schema world seat.profile state (ask text one.ending)) seated.0
-              ∙ one.next,
-          all_unnamed events name session text one.ending others (ap (λ n. list_any (bytes_eq n) (names others)) (sym same) ∙ distinct) seated.1,
-        );
-        users = refl;
-      }
-
-  told_next : (events : List ScriptEvent) (name : Text) (session : ℕ) (text : Text) (old new : List Seat) (told : Option Reply)
-      → has_duplicate (names old) ≡ false → AllByRecursion (IsSeated events) old → Tells schema world name text old new told
-      → Next events name session text old new told
-  told_next events name session text old new told distinct seated nobody = record { ending = kept; kept_or_want = inl refl; replied = refl; seated = tt; users = refl }
-  told_next events name session text old new told distinct seated (here {seat} {others} {entries} {told = reply} is answer) =
-      told_here events name session text seat others entries reply is answer (left_false _ _ distinct) seated
-  told_next events name session text old new told distinct seated (further {seat} {others} {after} {told = reply} other more) =
-      let rest : Next events name session text others after reply = told_next events name session text others after reply (right_false _ _ distinct) seated.1 more in
-      record {
-        ending = rest.ending;
-        kept_or_want = rest.kept_or_want;
-        replied = ap (λ b. told_after schema world events text rest.ending (if b then Some (user_at seat) else find (λ u. bytes_eq u.name name) (map user_at others))) other ∙ rest.replied;
-        seated = (unnamed events name session text rest.ending seat (other_text seat.name name other) seated.0, rest.seated);
-        users = ap (λ us. user_at seat ∷ us) rest.users;
-      }
-
-  -- ---- the asks so far
-
-  lines-push : (users : List NamedUser) (events earlier : List ScriptEvent) (event : ScriptEvent) → lines_after schema world users earlier (events ++ event ∷ []) ≡ lines_after schema world users earlier events ++ written_after schema world users (earlier ++ events) event
-  lines-push users [] earlier event = append-nil (written_after schema world users earlier event) ∙ ap (λ es. written_after schema world users es event) (sym (append-nil earlier))
-  lines-push users (e ∷ events) earlier event =
-      ap (λ ls. written_after schema world users earlier e ++ ls) (lines-push users events (earlier ++ e ∷ []) event)
+module _ (schema : DatabaseSchema) (world : FactSet) (users : List NamedUser) where
+  lines-push : (events earlier : List ScriptEvent) (event : ScriptEvent) → lines_after schema world users earlier (events ++ event ∷ []) ≡ lines_after schema world users earlier events ++ written_after schema world users (earlier ++ events) event
+  lines-push [] earlier event = append-nil (written_after schema world users earlier event) ∙ ap (λ es. written_after schema world users es event) (sym (append-nil earlier))
+  lines-push (e ∷ events) earlier event =
+      ap (λ ls. written_after schema world users earlier e ++ ls) (lines-push events (earlier ++ e ∷ []) event)
       ∙ sym (append_assoc (written_after schema world users earlier e) (lines_after schema world users (earlier ++ e ∷ []) events) (written_after schema world users ((earlier ++ e ∷ []) ++ events) event))
       ∙ ap (λ es. (written_after schema world users earlier e ++ lines_after schema world users (earlier ++ e ∷ []) events) ++ written_after schema world users es event) (append_assoc earlier (e ∷ []) events)
 
-  transcript-push : (users : List NamedUser) (events : List ScriptEvent) (event : ScriptEvent) → transcript schema world users (events ++ event ∷ []) ≡ transcript schema world users events ++ written_after schema world users events event
+  transcript-push : (events : List ScriptEvent) (event : ScriptEvent) → transcript schema world users (events ++ event ∷ []) ≡ transcript schema world users events ++ written_after schema world users events event
   unfolding transcript
-  transcript-push users events event = lines-push users events [] event
+  transcript-push events event = lines-push events [] event
 
-  module _ (users : List NamedUser) where
-    -- these asks were answered with these lines, and the users then have these seats
-    pub record SoFar (asks : List NamedAsk) (output : List ℕ) (seats : List Seat) : Type 0 where
-      pub endings : List Ending
-      pub one_each : length endings ≡ length asks
-      pub kept_or_want : AllByRecursion IsKeptOrWant endings
-      pub lines : output ≡ line_bytes (transcript schema world users (script_events asks endings))
-      pub seated : AllByRecursion (IsSeated (script_events asks endings)) seats
-      pub same_users : map user_at seats ≡ users
+  -- the output behind an event that writes this line
+  written-push : (events : List ScriptEvent) (event : ScriptEvent) (line : Line) (output : List ℕ) → written_after schema world users events event ≡ line ∷ [] → output ≡ line_bytes (transcript schema world users events)
+      → output ++ (line_text line ++ 10 ∷ []) ≡ line_bytes (transcript schema world users (events ++ event ∷ []))
+  written-push events event line output one is =
+      ap (λ o. o ++ (line_text line ++ 10 ∷ [])) is
+      ∙ ap (λ l. line_bytes (transcript schema world users events) ++ l) (sym (append-nil (line_text line ++ 10 ∷ [])))
+      ∙ sym (flat_map-append (λ l. line_text l ++ 10 ∷ []) (transcript schema world users events) (line ∷ []))
+      ∙ ap (λ ls. line_bytes (transcript schema world users events ++ ls)) (sym one)
+      ∙ ap line_bytes (sym (transcript-push events event))
 
-    pub so_far_more : (asks : List NamedAsk) (output : List ℕ) (old new : List Seat) (new_ask : NamedAsk) (told : Option Reply)
-        → has_duplicate (map (λ u. u.name) users) ≡ false → SoFar asks output old → Tells schema world new_ask.name new_ask.text old new told
-        → SoFar (asks ++ new_ask ∷ []) (output ++ (line_text (reply_line new_ask.name new_ask.session told) ++ 10 ∷ [])) new
-    so_far_more asks output old new new_ask told distinct so_far tells =
-        let events = script_events asks so_far.endings in
-        let next : Next events new_ask.name new_ask.session new_ask.text old new told =
-        told_next events new_ask.name new_ask.session new_ask.text old new told (ap (λ us. has_duplicate (map (λ u. u.name) us)) so_far.same_users ∙ distinct) so_far.seated tells in
-        let pushed = script_events-push asks so_far.endings new_ask next.ending so_far.one_each in
-        let line = line_text (reply_line new_ask.name new_ask.session told) ++ 10 ∷ [] in
+  broken-push : (events : List ScriptEvent) (event : ScriptEvent) (line : Line) (is_broken : Bool) → written_after schema world users events event ≡ line ∷ [] → is_broken ≡ list_any is_broken_line (transcript schema world users events)
+      → (is_broken || is_broken_line line) ≡ list_any is_broken_line (transcript schema world users (events ++ event ∷ []))
+  broken-push events event line is_broken one is =
+      ap (λ b. b || is_broken_line line) is ∙ sym (any-push is_broken_line (transcript schema world users events) line)
+      ∙ ap (λ ls. list_any is_broken_line (transcript schema world users events ++ ls)) (sym one)
+      ∙ ap (λ ls. list_any is_broken_line ls) (sym (transcript-push events event))
+
+  module _ (header directory : List ℕ) {D : Type 0} {g : _} (T : Type 0) (reads : D → List ℕ) (image : D → List ℕ → Type 0) (faults : D → ℕ) (t : T) (read_is_image : (d : D) → T → image d (reads d))
+      (bytes : Text → List ℕ) (before : Text → ℕ) (found opened : Text → Bool) where
+    -- these items were answered with these lines, the users then sit at these desks, and it is known whether some line says that an append failed
+    pub record SoFar (items : List BatchItem) (output : List ℕ) (seats : List (Seat D g)) (is_broken : Bool) : Type 0 where
+      pub events : List ScriptEvent
+      pub of_items : AreEventsOf items events
+      pub lines : output ≡ line_bytes (transcript schema world users (with_opening found opened events))
+      pub seated : AreSeated schema world header directory T reads image faults t read_is_image bytes before (with_opening found opened events) users seats
+      pub broken : is_broken ≡ list_any is_broken_line (transcript schema world users (with_opening found opened events))
+
+    pub so_far_first : (seats : List (Seat D g)) → AreSeated schema world header directory T reads image faults t read_is_image bytes before (with_opening found opened []) users seats → SoFar [] [] seats false
+    unfolding transcript
+    so_far_first seats seated = record { events = []; of_items = tt; lines = refl; seated = seated; broken = refl }
+
+    pub so_far_more : ((user : UserProfile) → IsExclusive schema world user header) → has_duplicate (names users) ≡ false
+        → (items : List BatchItem) (output : List ℕ) (old new : List (Seat D g)) (is_broken says_broken : Bool) (item : BatchItem) (line : List ℕ)
+        → SoFar items output old is_broken → Carries schema world header T reads image faults item old new line says_broken → SoFar (items ++ item ∷ []) (output ++ line) new (is_broken || says_broken)
+    so_far_more exclusive distinct items output old new is_broken says_broken (asked ask) line so_far (told, tells, is, says) =
+        let script = with_opening found opened so_far.events in
+        let next : Next schema world header directory T reads image faults t read_is_image bytes before script ask.name ask.session ask.text users new told =
+        told_next schema world header directory T reads image faults t read_is_image bytes before script ask.name ask.session ask.text users old new told distinct so_far.seated tells in
+        let event = script_ask ask.name ask.session ask.text next.ending in
+        let one : written_after schema world users script event ≡ reply_line ask.name ask.session told ∷ [] = ap (λ r. reply_line ask.name ask.session r ∷ []) next.replied in
         record {
-          endings = so_far.endings ++ next.ending ∷ [];
-          one_each = let was = so_far.one_each in grind (arith, common_steps, was);
-          kept_or_want = all_push so_far.endings next.ending so_far.kept_or_want next.kept_or_want;
-          lines =
-              ap (λ o. o ++ line) so_far.lines
-              ∙ ap (λ l. line_bytes (transcript schema world users events) ++ l) (sym (append-nil line))
-              ∙ sym (flat_map-append (λ l. line_text l ++ 10 ∷ []) (transcript schema world users events) (reply_line new_ask.name new_ask.session told ∷ []))
-              ∙ ap (λ r. line_bytes (transcript schema world users events ++ reply_line new_ask.name new_ask.session r ∷ []))
-              (sym (ap (λ us. told_after schema world events new_ask.text next.ending (find (λ u. bytes_eq u.name new_ask.name) us)) (sym so_far.same_users) ∙ next.replied))
-              ∙ ap line_bytes (sym (transcript-push users events (script_ask new_ask.name new_ask.session new_ask.text next.ending)))
-              ∙ ap (λ es. line_bytes (transcript schema world users es)) (sym pushed);
-          seated = subst (λ es. AllByRecursion (IsSeated es) new) (sym pushed) next.seated;
-          same_users = next.users ∙ so_far.same_users;
+          events = so_far.events ++ event ∷ [];
+          of_items = events-push items so_far.events (asked ask) event so_far.of_items (refl, refl, refl);
+          lines = ap (λ l. output ++ l) is ∙ written-push script event (reply_line ask.name ask.session told) output one so_far.lines;
+          seated = next.seated;
+          broken = ap (λ b. is_broken || b) (says ∙ sym (broken_told ask.name ask.session told)) ∙ broken-push script event (reply_line ask.name ask.session told) is_broken one so_far.broken;
+        }
+    so_far_more exclusive distinct items output old new is_broken says_broken restarted line so_far (again, is, says) =
+        let script = with_opening found opened so_far.events in
+        let choices : Choices schema world header directory T reads image faults t read_is_image bytes before script users new =
+        restart_all schema world header directory T reads image faults t read_is_image bytes before exclusive script users old new so_far.seated again in
+        let chosen : Chosen schema world header directory T reads image faults t read_is_image bytes before script_restart (λ name f o. refl) script users new =
+        choose schema world header directory T reads image faults t read_is_image bytes before script_restart (λ name f o. refl) script users new distinct choices in
+        let event = script_restart chosen.found chosen.opens in
+        record {
+          events = so_far.events ++ event ∷ [];
+          of_items = events-push items so_far.events restarted event so_far.of_items tt;
+          lines = ap (λ l. output ++ l) is ∙ written-push script event restart_line output refl so_far.lines;
+          seated = chosen.seated;
+          broken = ap (λ b. is_broken || b) says ∙ broken-push script event restart_line is_broken refl so_far.broken;
         }

@@ -1,79 +1,133 @@
 -- What a batch writes, and what its lines mean for each of its users.
-use Rattle.std.specs.Prelude.{◌≡◌, ◌⊎◌, ℕ, true, List, [], ◌∷◌, ◌++◌, length, find, bytes_eq, Some, Ok, Err}
-use Rattle.std.specs.List.{flat_map, AllByRecursion}
-use Rattle.cqe_base.specs.Schema.{DatabaseSchema}
+use Rattle.std.specs.Prelude.{◌≡◌, ◌≢◌, ◌⊎◌, ℕ, ◌≤◌, Bool, true, false, List, [], ◌∷◌, ◌++◌, map, Option, Some, None, Ok, Err}
+use Rattle.std.specs.List.{flat_map, list_any, AllByRecursion}
+use Rattle.cqe_base.specs.Schema.{Text, DatabaseSchema}
 use Rattle.cqe_base.specs.Facts.{FactSet}
 use Rattle.cqe_base.specs.Censor.{IsLegal, admitted}
-use Rattle.cqe_base.specs.Hiding.{Hides}
-use Rattle.cqe_base.specs.Run.{Ending, replies, final_history}
-use Rattle.cqe_base.specs.Transcript.{NamedUser, ScriptEvent, script_ask, Line, own_events, own_replies, transcript, line_text}
-use Rattle.case_engine.specs.Case.{IsKeptOrWant}
-use Rattle.batch_engine.specs.BatchLines.{NamedAsk, batch_of}
+use Rattle.cqe_base.specs.Headline.{HidesInScript}
+use Rattle.cqe_base.specs.Run.{standing_sealed, desk_broken, opening, replies, final_history}
+use Rattle.cqe_base.specs.Transcript.{NamedUser, ScriptEvent, script_ask, script_stop, script_restart, script_opening, Line, reply_line, restart_line, own_events, own_replies, state_after, transcript, line_text}
+use Rattle.user_desk.specs.Causes.{Opens}
+use Rattle.user_desk.specs.Lives.{Holds}
+use Rattle.user_desk.specs.declared.standing.DeskError.{DeskError}
+use Rattle.batch_engine.specs.BatchLines.{BatchItem, asked, restarted, batch_of}
+use Rattle.batch_engine.specs.Lives.{RoseBy, is_opened, failures, AreCaused, OpensNone, IsOpening, IsRefusal}
 use Rattle.batch_engine.specs.declared.run.BatchEnd.{BatchEnd}
-use Rattle.batch_engine.specs.declared.run.BatchEnd.TheVariants.{Done, Script as Refused, ReadFault, WriteFault, Memory}
+use Rattle.batch_engine.specs.declared.run.BatchEnd.TheVariants.{Done, Script as Refused, ReadFault, WriteFault, ShelfFault, Memory}
 
--- the events of asks with these endings
-abbrev pub script_events : List NamedAsk → List Ending → List ScriptEvent
-script_events [] endings = []
-script_events (ask ∷ asks) [] = []
-script_events (ask ∷ asks) (ending ∷ endings) = script_ask ask.name ask.session ask.text ending ∷ script_events asks endings
+-- an event is of an item: an ask with some ending, or a restart with some choice for each name
+abbrev pub IsEventOf : BatchItem → ScriptEvent → Type 0
+IsEventOf (asked ask) (script_ask name session text ending) = (name ≡ ask.name) × (session ≡ ask.session) × (text ≡ ask.text)
+IsEventOf restarted (script_restart found opened) = Unit {0}
+IsEventOf item event = ⊥
+
+-- one event for each item
+abbrev pub AreEventsOf : List BatchItem → List ScriptEvent → Type 0
+AreEventsOf [] [] = Unit {0}
+AreEventsOf (item ∷ items) (event ∷ events) = IsEventOf item event × AreEventsOf items events
+AreEventsOf items events = ⊥
 
 -- the bytes of lines, each with its line feed
 abbrev pub line_bytes : List Line → List ℕ
 line_bytes lines = flat_map (λ line. line_text line ++ 10 ∷ []) lines
 
--- what a script means for one user: his replies are those of the run of his own events, from the empty history, whatever others are, ask or are told;
--- his final history is legal, and where he is admitted it hides his secrets
-pub record Serves (schema : DatabaseSchema) (world : FactSet) (users : List NamedUser) (events : List ScriptEvent) (user : NamedUser) : Type 0 where
-  pub private : own_replies user.name (transcript schema world users events) ≡ replies schema world user.profile [] (own_events user.name events)
-  pub legal : IsLegal schema world user.profile (final_history schema world user.profile [] (own_events user.name events))
-  pub hides : admitted schema world user.profile ≡ true → Hides schema world user.profile (final_history schema world user.profile [] (own_events user.name events))
+-- a line says that an append failed
+abbrev pub is_broken_line : Line → Bool
+is_broken_line (reply_line name session (Some desk_broken)) = true
+is_broken_line line = false
 
--- what was written answers these asks: it is the lines of the transcript of a script in which each ask keeps its entry or finds no memory
-pub record Answers (schema : DatabaseSchema) (world : FactSet) (users : List NamedUser) (asks : List NamedAsk) (written : List ℕ) : Type 0 where
-  pub endings : List Ending
-  pub one_each : length endings ≡ length asks
-  pub kept_or_want : AllByRecursion IsKeptOrWant endings
-  pub lines : written ≡ line_bytes (transcript schema world users (script_events asks endings))
-  pub each_user : (user : NamedUser) → find (λ u. bytes_eq u.name user.name) users ≡ Some user → Serves schema world users (script_events asks endings) user
+-- The journals of users by their names, in a call: the bytes that were read of each as the call began, none where there was no disk; the count of its
+-- disk's faults then, and as the call ended; the bytes that are read then, and what a crash may leave.
+pub record Journals : Type 1 where
+  pub bytes : Text → List ℕ
+  pub before : Text → ℕ
+  pub now : Text → ℕ
+  pub reads : Text → List ℕ
+  pub image : Text → List ℕ → Type 0
 
-module _ (schema : DatabaseSchema) (world : FactSet) (users : List NamedUser) where
-  -- what was appended answers all these asks
-  pub record AppendsAll (asks : List NamedAsk) (old new : List ℕ) : Type 0 where
-    pub written : List ℕ
-    pub appended : new ≡ old ++ written
-    pub answers : Answers schema world users asks written
+-- a user before his journal is opened
+abbrev pub unopened : NamedUser → NamedUser
+unopened user = record user { opened = [] }
 
-  -- what was appended begins the lines that answer the first of these asks
-  pub record AppendsSome (asks : List NamedAsk) (old new : List ℕ) : Type 0 where
-    pub front : List NamedAsk
-    pub back : List NamedAsk
-    pub split : asks ≡ front ++ back
-    pub written : List ℕ
-    pub rest : List ℕ
-    pub appended : new ≡ old ++ written
-    pub answers : Answers schema world users front (written ++ rest)
+-- the events of a script, behind the opening of all journals
+abbrev pub with_opening : (Text → Bool) → (Text → Bool) → List ScriptEvent → List ScriptEvent
+with_opening found opened events = script_opening found opened ∷ events
 
-  -- the bytes are a batch, and what was appended answers all its asks
-  abbrev pub Completes : List ℕ → List ℕ → List ℕ → Type 0
-  Completes bytes old new = (asks : List NamedAsk) × (batch_of bytes ≡ Ok asks) × AppendsAll asks old new
+module _ (schema : DatabaseSchema) (world : FactSet) (header : List ℕ) (journals : Journals) where
+  -- What a script means for one user.
+  pub record Serves (users : List NamedUser) (events : List ScriptEvent) (user : NamedUser) : Type 0 where
+    -- his opening history is the legal one that his journal's bytes stand for, and the empty one where they open no desk
+    pub opening_is : IsOpening schema world user.profile header (journals.bytes user.name) user.opened
+    -- his replies are those of the run of his own events, whatever others are, ask or are told
+    pub private : own_replies user.name (transcript schema world users events) ≡ replies schema world user.profile user.opened (own_events user.name events)
+    -- his final history is legal; and where he is admitted, each secret is false in some database that satisfies what he knows and gives him the same lines
+    pub legal : IsLegal schema world user.profile (final_history schema world user.profile user.opened (own_events user.name events))
+    pub hides : admitted schema world user.profile ≡ true → HidesInScript schema users user events world
+    -- an append failed only where an entry was to be added, and a restart found only one that was in flight
+    pub caused : AreCaused schema world user.profile (opening schema world user.profile user.opened) (own_events user.name events)
+    -- bytes that open no desk are refused at each opening and stay; of others each refusal and each append that failed raised the count
+    pub refused : OpensNone schema world user.profile header (journals.bytes user.name) → (list_any is_opened (own_events user.name events) ≡ false) × (journals.reads user.name ≡ journals.bytes user.name)
+    pub counted : Opens schema world user.profile header user.opened (journals.bytes user.name) → RoseBy (failures (own_events user.name events)) (journals.before user.name) (journals.now user.name)
+    -- and unless his last opening was refused, each crash leaves his history, or this and the entry in flight
+    pub stands : (state_after schema world user events).standing ≢ standing_sealed → (c : List ℕ) → journals.image user.name c
+        → Holds schema world user.profile header (state_after schema world user events) c
 
-  -- the bytes are a batch, and what was appended begins such lines
-  abbrev pub Breaks : List ℕ → List ℕ → List ℕ → Type 0
-  Breaks bytes old new = (asks : List NamedAsk) × (batch_of bytes ≡ Ok asks) × AppendsSome asks old new
+  -- what was written answers these items: it is the lines of the transcript of a script in which all journals are opened, each ask has some ending, and each restart finds and opens what it may
+  pub record Answers (policy : List NamedUser) (items : List BatchItem) (written : List ℕ) : Type 0 where
+    pub users : List NamedUser
+    pub of_policy : map unopened users ≡ policy
+    pub found : Text → Bool
+    pub opened : Text → Bool
+    pub events : List ScriptEvent
+    pub of_items : AreEventsOf items events
+    pub lines : written ≡ line_bytes (transcript schema world users (with_opening found opened events))
+    pub each_user : AllByRecursion (Serves users (with_opening found opened events)) users
 
-  -- what each end of a batch says of the bytes that were left before and after, and of the output before and after
-  abbrev pub Ends : BatchEnd → List ℕ → List ℕ → List ℕ → List ℕ → Type 0
-  Ends Done before after old new = (after ≡ []) × Completes before old new
-  Ends (Refused refusal) before after old new = (batch_of before ≡ Err refusal) × (new ≡ old)
-  Ends ReadFault before after old new = new ≡ old
-  Ends WriteFault before after old new = Breaks before old new
-  Ends Memory before after old new = (new ≡ old) ⊎ Breaks before old new
+  -- the first refusal of each user's openings
+  abbrev pub AreRefusals : List ScriptEvent → List NamedUser → List (Option DeskError) → Type 0
+  AreRefusals events [] [] = Unit {0}
+  AreRefusals events (user ∷ users) (refusal ∷ refusals) =
+      IsRefusal schema world user.profile header (journals.bytes user.name) (journals.before user.name) (journals.now user.name) (own_events user.name events) refusal
+      × AreRefusals events users refusals
+  AreRefusals events users refusals = ⊥
 
-  -- how answering these asks ends
-  abbrev pub IsAnswered : List NamedAsk → List ℕ → List ℕ → BatchEnd → Type 0
-  IsAnswered asks old new Done = AppendsAll asks old new
-  IsAnswered asks old new WriteFault = AppendsSome asks old new
-  IsAnswered asks old new Memory = new ≡ old
-  IsAnswered asks old new (Refused refusal) = ⊥
-  IsAnswered asks old new ReadFault = ⊥
+  module _ (policy : List NamedUser) where
+    -- what was appended answers all these items; with the first refusal of each user, and whether some line says that an append failed
+    pub record AppendsAll (items : List BatchItem) (old new : List ℕ) (refusals : List (Option DeskError)) (is_broken : Bool) : Type 0 where
+      pub written : List ℕ
+      pub appended : new ≡ old ++ written
+      pub answers : Answers policy items written
+      pub refused : AreRefusals (with_opening answers.found answers.opened answers.events) answers.users refusals
+      pub broken : is_broken ≡ list_any is_broken_line (transcript schema world answers.users (with_opening answers.found answers.opened answers.events))
+
+    -- what was appended begins the lines that answer the first of these items
+    pub record AppendsSome (items : List BatchItem) (old new : List ℕ) : Type 0 where
+      pub front : List BatchItem
+      pub back : List BatchItem
+      pub split : items ≡ front ++ back
+      pub written : List ℕ
+      pub rest : List ℕ
+      pub appended : new ≡ old ++ written
+      pub answers : Answers policy front (written ++ rest)
+
+    -- the bytes are a batch, and what was appended begins such lines
+    abbrev pub Breaks : List ℕ → List ℕ → List ℕ → Type 0
+    Breaks bytes old new = (items : List BatchItem) × (batch_of bytes ≡ Ok items) × AppendsSome items old new
+
+    -- what each end of a batch says of the bytes that were left before and after, and of the output before and after
+    abbrev pub Ends : BatchEnd → List ℕ → List ℕ → List ℕ → List ℕ → Type 0
+    Ends (Done refusals is_broken) before after old new = (after ≡ []) × (items : List BatchItem) × (batch_of before ≡ Ok items) × AppendsAll items old new refusals.items is_broken
+    Ends (Refused refusal) before after old new = (batch_of before ≡ Err refusal) × (new ≡ old)
+    Ends ReadFault before after old new = new ≡ old
+    Ends WriteFault before after old new = Breaks before old new
+    Ends ShelfFault before after old new = new ≡ old
+    Ends Memory before after old new = (new ≡ old) ⊎ Breaks before old new
+
+-- the end of a batch whose journals weren't opened
+abbrev pub IsUnopened : BatchEnd → Type 0
+IsUnopened (Done refusals is_broken) = ⊥
+IsUnopened (Refused refusal) = Unit {0}
+IsUnopened ReadFault = Unit {0}
+IsUnopened WriteFault = ⊥
+IsUnopened ShelfFault = ⊥
+IsUnopened Memory = ⊥

@@ -3,7 +3,7 @@ use Rattle.std.specs.Prelude.{◌==◌, ℕ, ◌+◌, ◌-◌, ◌*◌, Bool, tr
 use Rattle.std.specs.List.{list_all, list_any, before_first, after_first}
 use Rattle.std.specs.Char.{is_ascii_digit}
 use Rattle.cqe_base.specs.declared.text.ScriptKind.{ScriptKind}
-use Rattle.cqe_base.specs.declared.text.ScriptKind.TheVariants.{NotALine, Unsupported}
+use Rattle.cqe_base.specs.declared.text.ScriptKind.TheVariants.{NotALine}
 use Rattle.cqe_base.specs.declared.text.ScriptError.{ScriptError}
 use Rattle.cqe_base.specs.Schema.{Text, is_schema_name}
 use Rattle.cqe_base.specs.Tokens.{is_blank}
@@ -23,6 +23,13 @@ pub data BatchLine : Type 0 where
   silence : BatchLine
   restarts : BatchLine
   asks : (ask : NamedAsk) → BatchLine
+
+-- what is to be done in a batch
+pub data BatchItem : Type 0 where
+  -- an ask is to be answered
+  asked : (ask : NamedAsk) → BatchItem
+  -- every desk is to be closed and opened again
+  restarted : BatchItem
 
 -- the number that one or two digits write, from 1 to 64 and without a leading zero
 abbrev pub session_number : Text → Option ℕ
@@ -68,17 +75,17 @@ batch_line line =
     else if list_all is_printable line then spoken line
     else None
 
--- the asks with what one more line says; a restart can't be done yet
-abbrev pub with_said : List NamedAsk → Option BatchLine → Result (List NamedAsk) ScriptKind
+-- the items with what one more line says
+abbrev pub with_said : List BatchItem → Option BatchLine → Result (List BatchItem) ScriptKind
 with_said before None = Err NotALine
 with_said before (Some silence) = Ok before
-with_said before (Some restarts) = Err Unsupported
-with_said before (Some (asks ask)) = Ok (before ++ ask ∷ [])
+with_said before (Some restarts) = Ok (before ++ restarted ∷ [])
+with_said before (Some (asks ask)) = Ok (before ++ asked ask ∷ [])
 
--- the asks with one more line
-abbrev pub with_line : List NamedAsk → Text → Result (List NamedAsk) ScriptKind
+-- the items with one more line
+abbrev pub with_line : List BatchItem → Text → Result (List BatchItem) ScriptKind
 with_line before line = with_said before (batch_line line)
 
--- the asks of a batch that bytes are, or the first line that is refused, with its kind
-unfoldable pub batch_of : List ℕ → Result (List NamedAsk) ScriptError
+-- the items of a batch that bytes are, or the first line that is refused, with its kind
+unfoldable pub batch_of : List ℕ → Result (List BatchItem) ScriptError
 batch_of bytes = script_from with_line [] bytes

@@ -1,69 +1,127 @@
--- The users of a batch between two asks.
-use Rattle.std.specs.Prelude.{◌≡◌, Bool, true, false, List, [], ◌∷◌, bytes_eq, Option, Some, None, map, string_bytes}
+-- The users of a batch at their desks, and their disks.
+use Rattle.std.specs.Prelude.{◌≡◌, ℕ, ◌≤◌, Bool, true, false, List, [], ◌∷◌, bytes_eq, Option, Some, None, Result, Ok, Err, map, string_bytes}
 use Rattle.cqe_base.specs.Schema.{Text, DatabaseSchema}
 use Rattle.cqe_base.specs.Facts.{FactSet}
 use Rattle.cqe_base.specs.History.{UserProfile, History, profile_of}
-use Rattle.cqe_base.specs.Censor.{admitted}
-use Rattle.cqe_base.specs.Run.{Reply}
+use Rattle.cqe_base.specs.Run.{Reply, UserState}
 use Rattle.cqe_base.specs.Transcript.{NamedUser}
 use Rattle.cqe_base.specs.declared.user.User.{User}
-use Rattle.user_log.specs.UserLogs.{kept_schema, kept_world, kept_user, kept_history}
-use Rattle.case_engine.specs.Answering.{IsTold}
-use Rattle.batch_engine.specs.declared.member.Member.{Member}
+use Rattle.user_desk.specs.Causes.{IsStanding}
+use Rattle.user_desk.specs.Standings.{is_sealed}
+use Rattle.user_desk.specs.Lives.{Holds, Settles, Restarts}
+use Rattle.user_desk.specs.Desks.{desk_schema, desk_world, desk_user, desk_header, desk_standing, desk_history, desk_disk, state_of, IsIn}
+use Rattle.user_desk.specs.declared.standing.DeskError.{DeskError}
+use Rattle.user_desk.specs.declared.standing.Standing.{Standing}
+use Rattle.user_desk.specs.declared.standing.Standing.TheVariants.{Open, Closed, Sealed}
+use Rattle.batch_engine.specs.declared.seat.Seat.{Seat}
+use Rattle.batch_engine.specs.declared.seat.Returned.{Returned}
 
--- a user of a batch: his name, what he is, whether he is admitted, and his entries
-pub record Seat : Type 0 where
-  pub name : Text
-  pub profile : UserProfile
-  pub is_open : Bool
-  pub entries : History
-
--- the seat of a member in memory
-abbrev pub seat_of : Member → Seat
-seat_of member = record {
-  name = string_bytes member.user.now.name;
-  profile = profile_of member.user.now;
-  is_open = member.is_open;
-  entries = kept_history member.log;
-}
-
--- whether a member has this name
-abbrev pub is_named : Text → Member → Bool
-is_named name member = bytes_eq (string_bytes member.user.now.name) name
-
--- a member's log is of this schema and this world, and of his user
-pub record IsServed (schema : DatabaseSchema) (world : FactSet) (member : Member) : Type 0 where
-  pub schema_is : kept_schema member.log ≡ schema
-  pub world_is : kept_world member.log ≡ world
-  pub user_is : kept_user member.log ≡ profile_of member.user.now
-
--- the seat of a user who has asked nothing
-abbrev pub first_seat : DatabaseSchema → FactSet → User → Seat
-first_seat schema world user = record {
-  name = string_bytes user.name;
-  profile = profile_of user;
-  is_open = admitted schema world (profile_of user);
-  entries = [];
-}
-
--- users as they begin a batch, with no entries
+-- users as they begin a batch, before their journals are opened
 abbrev pub named_user : User → NamedUser
 named_user user = record { name = string_bytes user.name; profile = profile_of user; opened = [] }
 
--- a seat as a user of a transcript
-abbrev pub user_at : Seat → NamedUser
-user_at seat = record { name = seat.name; profile = seat.profile; opened = [] }
+-- why a journal is refused at an opening with this standing
+abbrev pub refusal_of : Standing → Option DeskError
+refusal_of Open = None
+refusal_of (Closed admission) = None
+refusal_of (Sealed why) = Some why
 
--- a seat with other entries
-abbrev pub with_entries : Seat → History → Seat
-with_entries seat entries = record seat { entries = entries }
+-- the first refusal, of those before and the one of this standing
+abbrev pub first_refusal : Option DeskError → Standing → Option DeskError
+first_refusal (Some why) standing = Some why
+first_refusal None standing = refusal_of standing
 
--- an ask of a name is told to the first seat of that name, whose entries it may change, and to nobody else
-pub data Tells (schema : DatabaseSchema) (world : FactSet) (name text : Text) : List Seat → List Seat → Option Reply → Type 0 where
-  nobody : Tells schema world name text [] [] None
-  here : {seat : Seat} {others : List Seat} {entries : History} {told : Reply}
-      → bytes_eq seat.name name ≡ true → IsTold seat.is_open schema world seat.profile seat.entries entries text told
-      → Tells schema world name text (seat ∷ others) (with_entries seat entries ∷ others) (Some told)
-  further : {seat : Seat} {others after : List Seat} {told : Option Reply}
-      → bytes_eq seat.name name ≡ false → Tells schema world name text others after told
-      → Tells schema world name text (seat ∷ others) (seat ∷ after) told
+-- a seat's user
+abbrev pub seat_user : {D : Type 0} {g : _} → Seat D g → User
+seat_user seat = seat.user.now
+
+-- the name of its user
+abbrev pub seat_name : {D : Type 0} {g : _} → Seat D g → Text
+seat_name seat = string_bytes seat.user.now.name
+
+-- the name of its journal on the shelf
+abbrev pub seat_journal : {D : Type 0} {g : _} → Seat D g → Text
+seat_journal seat = string_bytes seat.journal
+
+-- its disk
+abbrev pub seat_disk : {D : Type 0} {g : _} → Seat D g → D
+seat_disk seat = desk_disk seat.desk
+
+-- whether its user has this name
+abbrev pub is_named : {D : Type 0} {g : _} → Text → Seat D g → Bool
+is_named name seat = bytes_eq (seat_name seat) name
+
+-- the disk of an opening, at a desk or handed back
+abbrev pub disk_seated : {D : Type 0} {g : _} → Result (Seat D g) (Returned D) → D
+disk_seated (Ok seat) = seat_disk seat
+disk_seated (Err returned) = returned.disk
+
+-- the name of its journal
+abbrev pub journal_seated : {D : Type 0} {g : _} → Result (Seat D g) (Returned D) → Text
+journal_seated (Ok seat) = seat_journal seat
+journal_seated (Err returned) = string_bytes returned.journal
+
+-- an opening leaves a disk as it was: it reads the same, no crash leaves anything new, and its count didn't fall
+pub record IsLeft {D : Type 0} (reads : D → List ℕ) (image : D → List ℕ → Type 0) (faults : D → ℕ) (old new : D) : Type 0 where
+  pub reads_same : reads new ≡ reads old
+  pub images : (c : List ℕ) → image new c → image old c
+  pub later : faults old ≤ faults new
+
+module _ (schema : DatabaseSchema) (world : FactSet) (header : List ℕ) where
+  -- a seat's desk is of this schema, this world, this header, and of its user
+  pub record IsServed {D : Type 0} {g : _} (seat : Seat D g) : Type 0 where
+    pub schema_is : desk_schema seat.desk ≡ schema
+    pub world_is : desk_world seat.desk ≡ world
+    pub header_is : desk_header seat.desk ≡ header
+    pub user_is : desk_user seat.desk ≡ profile_of (seat_user seat)
+
+  module _ {D : Type 0} (told : Type 0) (reads : D → List ℕ) (image : D → List ℕ → Type 0) (faults : D → ℕ) where
+    -- each image of a seat's disk holds the state that its desk shows, unless its journal was refused
+    abbrev pub HoldsState : {g : _} → Seat D g → Type 0
+    HoldsState seat =
+        told → is_sealed (desk_standing seat.desk) ≡ false → (c : List ℕ) → image (seat_disk seat) c → Holds schema world (profile_of (seat_user seat)) header (state_of seat.desk) c
+
+    -- a seat was opened from this disk, behind an earlier refusal if there was one: its standing has its cause, and it is a restart of each state that the disk holds
+    pub record IsOpenedFrom {g : _} (disk : D) (before : Option DeskError) (seat : Seat D g) : Type 0 where
+      pub served : IsServed seat
+      pub standing : IsStanding schema world (profile_of (seat_user seat)) told header (reads disk) (desk_history seat.desk) (faults disk) (faults (seat_disk seat)) (desk_standing seat.desk)
+      pub restarted : told → (state : UserState) → Holds schema world (profile_of (seat_user seat)) header state (reads disk)
+          → Restarts schema world (profile_of (seat_user seat)) (IsIn seat.desk) state (faults disk) (faults (seat_disk seat))
+      pub refusal : seat.refusal ≡ first_refusal before (desk_standing seat.desk)
+      pub holds : HoldsState seat
+
+    -- a seat's user was told this of a text
+    pub record IsToldAt {g : _} (text : Text) (told_reply : Reply) (old new : Seat D g) : Type 0 where
+      pub user_is : seat_user new ≡ seat_user old
+      pub journal_is : seat_journal new ≡ seat_journal old
+      pub refusal_is : new.refusal ≡ old.refusal
+      pub standing_is : desk_standing new.desk ≡ desk_standing old.desk
+      pub served : IsServed new
+      pub settled : (state : UserState) → IsIn old.desk state
+          → Settles schema world (profile_of (seat_user old)) (IsIn new.desk) state text told_reply (faults (seat_disk old)) (faults (seat_disk new))
+      pub later : faults (seat_disk old) ≤ faults (seat_disk new)
+      pub shut : is_sealed (desk_standing old.desk) ≡ true → seat_disk new ≡ seat_disk old
+      pub holds : HoldsState new
+
+    -- an ask of a name is told to the first seat of that name, and to nobody else
+    pub data Tells {g : _} (name text : Text) : List (Seat D g) → List (Seat D g) → Option Reply → Type 0 where
+      nobody : Tells name text [] [] None
+      here : {old new : Seat D g} {others : List (Seat D g)} {told_reply : Reply}
+          → is_named name old ≡ true → IsToldAt text told_reply old new
+          → Tells name text (old ∷ others) (new ∷ others) (Some told_reply)
+      further : {seat : Seat D g} {others after : List (Seat D g)} {told_reply : Option Reply}
+          → is_named name seat ≡ false → Tells name text others after told_reply
+          → Tells name text (seat ∷ others) (seat ∷ after) told_reply
+
+    -- a seat was closed and opened again
+    pub record IsReopened {g : _} (old new : Seat D g) : Type 0 where
+      pub user_is : seat_user new ≡ seat_user old
+      pub journal_is : seat_journal new ≡ seat_journal old
+      pub opened : IsOpenedFrom (seat_disk old) old.refusal new
+      pub left : IsLeft reads image faults (seat_disk old) (seat_disk new)
+
+    -- all were
+    abbrev pub AreReopened : {g : _} → List (Seat D g) → List (Seat D g) → Type 0
+    AreReopened [] [] = Unit {0}
+    AreReopened (old ∷ olds) (new ∷ news) = IsReopened old new × AreReopened olds news
+    AreReopened olds news = ⊥

@@ -2,6 +2,9 @@ pub mod BatchLines
 pub mod Said
 pub mod Batches
 pub mod BatchOf
-pub mod Crew
+pub mod Lives
 pub mod Batch
+pub mod Crew
+pub mod Shelved
+pub mod Steps
 pub mod ToldTexts

@@ -1,7 +1,7 @@
 -- What a line and an ask in memory say.
 use Rattle.std.specs.Prelude.{◌≡◌, Bool, true, ◌&&◌, nat_le, length}
 use Rattle.batch_engine.specs.BatchLines
-use Rattle.batch_engine.specs.BatchLines.{NamedAsk, silence, restarts, asks}
+use Rattle.batch_engine.specs.BatchLines.{NamedAsk, BatchItem, silence, restarts, asks, asked, restarted}
 use Rattle.batch_engine.specs.declared.line.BatchLine.{BatchLine}
 use Rattle.batch_engine.specs.declared.line.BatchLine.TheVariants.{Silence, Restart, Ask}
 use Rattle.batch_engine.specs.declared.line.LineAsk.{LineAsk}
@@ -25,3 +25,8 @@ abbrev pub IsShortLine : BatchLine → Type 0
 IsShortLine (Ask ask) = is_short_ask (ask_said ask) ≡ true
 IsShortLine Silence = Unit {0}
 IsShortLine Restart = Unit {0}
+
+-- whether an item, where it is an ask, is short
+abbrev pub is_short_item : BatchItem → Bool
+is_short_item (asked ask) = is_short_ask ask
+is_short_item restarted = true

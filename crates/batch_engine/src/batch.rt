@@ -1,9 +1,9 @@
-//! The asks of a batch.
+//! What is to be done in a batch.
 
 ghost use Rattle.std.specs.Prelude.{◌≡◌, true, [], map};
 ghost use Rattle.std.specs.List.{list_all};
-ghost use Rattle.batch_engine.specs.Said.{is_short_ask};
-ghost use Rattle.batch_engine.specs.Batches.{named_ask};
+ghost use Rattle.batch_engine.specs.Said.{is_short_item};
+ghost use Rattle.batch_engine.specs.Batches.{item_in};
 
 use crate::line::{BatchLine, batch_line};
 use cqe_base::text::ScriptKind;
@@ -18,58 +18,70 @@ pub struct BatchAsk {
     pub text: String,
 }
 
-/// The asks of a batch, in order.
+/// What is to be done.
+#[derive(Drop)]
+pub enum BatchItem {
+    /// An ask is to be answered.
+    Ask(BatchAsk),
+    /// Every desk is to be closed and opened again.
+    Restart,
+}
+
+/// The items of a batch, in order.
 #[derive(Drop)]
 pub struct Batch {
-    asks: Vec<BatchAsk>,
-    ghost short: { list_all is_short_ask (map named_ask asks.items) ≡ true },
+    items: Vec<BatchItem>,
+    ghost short: { list_all is_short_item (map item_in items.items) ≡ true },
 }
 
 impl Batch {
-    ghost use Rattle.batch_engine.specs.BatchOf.{asks_of};
+    ghost use Rattle.batch_engine.specs.BatchOf.{items_of};
 
-    /// A batch without asks.
+    /// A batch without items.
     pub fn new(alloc: Global) -> Self
-        ensures { asks_of result ≡ [] }
+        ensures { items_of result ≡ [] }
     {
         Batch {
-            asks: Vec::new(alloc),
+            items: Vec::new(alloc),
         }
     }
 
-    /// The asks, in order.
-    pub fn asks(&self) -> &[BatchAsk]
-        ensures asks { map named_ask result.now ≡ asks_of self.now }
-        ensures short { list_all is_short_ask (map named_ask result.now) ≡ true }
+    /// The items, in order.
+    pub fn items(&self) -> &[BatchItem]
+        ensures items { map item_in result.now ≡ items_of self.now }
+        ensures short { list_all is_short_item (map item_in result.now) ≡ true }
     {
-        self.asks.as_slice()
+        self.items.as_slice()
     }
 }
 
 impl script_lines::Script for Batch {
     ghost use Rattle.std.specs.Prelude.{List};
-    ghost use Rattle.batch_engine.specs.BatchLines.{NamedAsk, with_line};
-    ghost use Rattle.batch_engine.specs.BatchOf.{asks_of};
+    ghost use Rattle.batch_engine.specs.BatchLines.{BatchItem, with_line};
+    ghost use Rattle.batch_engine.specs.BatchOf.{items_of};
 
-    ghost Said = { List NamedAsk };
+    ghost Said = { List BatchItem };
 
-    ghost said = { asks_of };
+    ghost said = { items_of };
 
     ghost step = { with_line };
 
     fn take(&mut self, alloc: Global, line: &[u8]) -> Result<(), LineError> {
         match batch_line(line) {
             Some(BatchLine::Silence) => Ok(()),
-            Some(BatchLine::Restart) => Err(LineError::Refused(ScriptKind::Unsupported)),
+            Some(BatchLine::Restart) => {
+                self.items.push(BatchItem::Restart)?;
+                Ok(())
+            }
             Some(BatchLine::Ask(ask)) => {
                 let name = String::from_str(alloc, ask.name)?;
                 let text = String::from_str(alloc, ask.text)?;
                 let session = ask.session;
-                self.asks.push(BatchAsk {
+                self.items.push(BatchItem::Ask(BatchAsk {
                     name,
                     session,
                     text,
-                })?;
+                }))?;
                 Ok(())
             }
             None => Err(LineError::Refused(ScriptKind::NotALine)),

@@ -1,15 +1,20 @@
-//! The batch: a script of many users and sessions, read whole, checked, and answered line by line.
+//! The batch: a script of many users and sessions over their journals, read whole, checked, and answered line by line.
 //!
-//! `run_batch` reads the script from a source and writes one line for each ask. The script's meaning is `batch_of` of
-//! `specs/BatchLines.antt`; what is written stands in `specs/Batch.antt`: the lines of the transcript, in which each user's
-//! replies are those of the run of his own events, and each admitted user's final history hides. Nothing is written before
-//! the whole script is accepted, and no user's reply depends on another user.
-//! Read `line`, `batch`, `member`, then `run`.
+//! `run_batch` reads the script from a source, takes each user's journal from a shelf and opens it, and writes one line for
+//! each ask and each restart. The script's meaning is `batch_of` of `specs/BatchLines.antt`; what is written, and what it
+//! means for each user, stands in `specs/Batch.antt` over `specs/Lives.antt`: the lines of the transcript, in which each
+//! user's replies are those of the run of his own events, and each admitted user's final history hides. A mark is in the
+//! journal before its line is written, no user's reply depends on another user, and all disks are given back.
+//!
+//! Read `line`, `batch`, `seat`, `crew`, then `run`; proofs begin with `proofs/Courses.antt`, one user over his lives.
 #![tactic(auto)]
 
 mod batch;
+mod crew;
 mod line;
-mod member;
+mod registry;
 mod run;
+mod seat;
 
+pub use registry::Registry;
 pub use run::{BatchEnd, run_batch};

@@ -1,47 +1,66 @@
 //! A batch from its first byte to its last line.
 
-ghost use Rattle.std.specs.Prelude.{◌≡◌, ◌≤◌, ◌++◌, ◌∷◌, [], true, false, map, length, All, option_map, OnOk, OnErr};
-ghost use Rattle.std.specs.List.{list_all};
-ghost use Rattle.outside.specs.Faults.{Rose, HasCause};
-ghost use Rattle.outside.specs.Streams.{AppendsPart};
+ghost use Rattle.std.specs.Prelude.{◌≡◌, ◌≤◌, ◌++◌, ◌∷◌, [], true, false, map, length, All, option_map, IfOk, IfSome, IfNone, OnSome, vec_capacity};
+ghost use Rattle.std.specs.List.{AllByRecursion};
+ghost use Rattle.outside.specs.Faults.{Rose};
 ghost use Rattle.cqe_base.specs.Schema.{has_duplicate};
 ghost use Rattle.cqe_base.specs.History.{profile_of};
 ghost use Rattle.cqe_base.specs.Limits.{KeepsLimits};
-ghost use Rattle.cqe_base.specs.Transcript.{reply_line, line_text, reply_text};
+ghost use Rattle.cqe_base.specs.Transcript.{reply_line, line_text};
+ghost use Rattle.log_journal.specs.Opening.{header_bytes};
 ghost use Rattle.user_log.specs.Replies.{reply_of};
-ghost use Rattle.batch_engine.specs.Said.{is_short_ask};
-ghost use Rattle.batch_engine.specs.Batches.{named_ask};
-ghost use Rattle.batch_engine.specs.Crew.{named_user};
-ghost use Rattle.batch_engine.specs.BatchOf.{asks_of};
+ghost use Rattle.batch_engine.specs.Said.{is_short_ask, is_short_item};
+ghost use Rattle.batch_engine.specs.Batches.{named_ask, item_in};
+ghost use Rattle.batch_engine.specs.Crew.{named_user, seat_user, IsServed};
+ghost use Rattle.batch_engine.specs.Shelved.{journals, journals_on, AllOut, AllIn, NoneOut, NoneFell, AreLater, AreBack, SameBeside};
+ghost use Rattle.batch_engine.specs.BatchOf.{items_of};
 ghost use Rattle.batch_engine.specs.ToldTexts.{told_text};
-ghost use Rattle.batch_engine.specs.Batch.{Ends, IsAnswered};
+ghost use Rattle.batch_engine.specs.Steps.{Carries, is_broken_reply, IsAnswered, HasSeats, IsCut};
+ghost use Rattle.batch_engine.specs.Batch.{Ends, IsUnopened};
+ghost use Rattle.batch_engine.specs.declared.run.BatchEnd.{BatchEnd};
 
-use crate::batch::{Batch, BatchAsk};
-use crate::member::{answer, enroll};
+use crate::batch::{Batch, BatchAsk, BatchItem};
+use crate::crew::{NotOpened, answer, give_back, open_all, reopen_all, room_for};
+use crate::registry::Registry;
+use crate::seat::Seat;
 use case_engine::line_reply;
-use cqe_base::laws::{law_hides, law_legal_grows, law_private, law_runs_legal};
-use cqe_base::schema::Schema;
+use cqe_base::laws::{law_legal_grows, law_private, law_runs_legal, law_scripts_hide};
 use cqe_base::text::ScriptError;
-use cqe_base::user::User;
-use cqe_base::world::World;
 use line_protocol::{LineText, text_of};
-use outside::{Failed, Sink, Source, write_all};
+use log_journal::law_journals_differ;
+use outside::{Disk, Failed, Shelf, Sink, Source, write_all};
 use script_lines::{Reading, read_script};
 use std::alloc::Global;
+use user_desk::DeskError;
+use user_desk::laws::law_openings;
 use user_log::Reply;
 
 /// How a batch ends.
-#[derive(Clone, Copy, Debug, PartialEq, Eq)]
+#[derive(Debug, Drop)]
 pub enum BatchEnd {
-    /// Each ask was answered.
-    Done,
+    /// Each item was answered. Of each user, in order, there is the first refusal of his journal, if one was; and it says
+    /// whether some ask was answered that an append failed.
+    Done(Vec<Option<DeskError>>, bool),
     /// The script is refused. Nothing was written.
     Script(ScriptError),
     /// A read failed. Nothing was written.
     ReadFault,
     /// A write failed.
     WriteFault,
+    /// The shelf failed. Nothing was written.
+    ShelfFault,
     /// Memory was wanting where no reply can say so.
+    Memory,
+}
+
+/// How the items of a batch were answered.
+#[derive(Drop)]
+enum Answered<'w, D: Disk> {
+    /// All were, and it says whether some line is that an append failed.
+    All(Vec<Seat<'w, D>>, bool),
+    /// A write failed.
+    Cut(Vec<Seat<'w, D>>),
+    /// Memory was wanting at a restart. All disks are back.
     Memory,
 }
 
@@ -71,60 +90,135 @@ fn line_of(ask: &BatchAsk, told: Option<Reply>) -> LineText
     line
 }
 
-/// Answers the asks of a batch, each in a line.
-fn answer_all<K: Sink>(
-    alloc: Global,
-    schema: &Schema,
-    world: &World,
-    users: &[User],
-    batch: &Batch,
-    sink: &mut K,
-) -> BatchEnd
-    requires limits { All (λ user. KeepsLimits schema.now (profile_of user)) users.now }
-    requires names { has_duplicate (map (λ user. user.name) (map named_user users.now)) ≡ false }
-    ensures answered { K.told → IsAnswered schema.now world.now (map named_user users.now) (asks_of batch.now) (K.written sink.old) (K.written sink.new) result }
-    ensures no_read { result ≡ BatchEnd.ReadFault → ⊥ }
-    ensures later { K.faults sink.old ≤ K.faults sink.new }
-    ensures cause { result ≡ BatchEnd.WriteFault → Rose (K.faults sink.old) (K.faults sink.new) }
+/// Whether what is told says that an append failed.
+fn is_broken_reply(told: Option<Reply>) -> bool
+    ensures { result ≡ is_broken_reply (option_map reply_of told) }
 {
-    law_hides();
-    law_legal_grows();
-    law_private();
-    law_runs_legal();
-    schema.known();
-    let Ok(mut members) = enroll(alloc, schema, world, users) else {
-        return BatchEnd::Memory;
-    };
-    let asks = batch.asks();
-    for ask in asks {
-        let told = answer(alloc, &mut members, ask.name.as_str(), ask.text.as_str());
-        let line = line_of(ask, told);
-        match write_all(sink, line.bytes()) {
-            Ok(()) => (),
-            Err(Failed) => return BatchEnd::WriteFault,
-        }
+    match told {
+        Some(Reply::Broken) => true,
+        Some(_) => false,
+        None => false,
     }
-    BatchEnd::Done
 }
 
-/// Reads the whole script of a batch from the source, refuses it before the first ask, or answers its asks with one line
-/// each, all users beginning with the empty history.
-pub fn run_batch<S: Source, K: Sink>(
+/// Does what an item says: the seats behind it, its line, and whether that says that an append failed. Where memory is
+/// wanting at a restart, all disks are back.
+fn carry_out<'w, F: Shelf>(
     alloc: Global,
-    schema: &Schema,
-    world: &World,
-    users: &[User],
+    registry: &Registry<'w>,
+    shelf: &mut F,
+    seats: Vec<Seat<'w, F::D>>,
+    item: &BatchItem,
+) -> Option<(Vec<Seat<'w, F::D>>, LineText, bool)>
+    requires limits { AllByRecursion (λ seat. KeepsLimits registry.now.schema.now (profile_of (seat_user seat))) seats.items }
+    requires served { AllByRecursion (IsServed registry.now.schema.now registry.now.world.now (header_bytes registry.now.header.now)) seats.items }
+    requires distinct { has_duplicate (journals seats.items) ≡ false }
+    requires out { AllOut (journals seats.items) (F.is_out shelf.old) }
+    requires later { AreLater F.D.faults (F.disk_faults shelf.old) seats.items }
+    requires short { is_short_item (item_in item.now) ≡ true }
+    ensures carried { IfSome result (λ r. Carries registry.now.schema.now registry.now.world.now (header_bytes registry.now.header.now) F.D.told F.D.reads F.D.image F.D.faults (item_in item.now) seats.entry.items r.0.items r.1 r.2) }
+    ensures untouched { OnSome result (shelf.new ≡ shelf.old) }
+    ensures back { IfNone result (AreBack F.told F.D.reads F.D.image F.D.faults (F.disk shelf.new) (F.disk_faults shelf.new) seats.entry.items) }
+    ensures inside { IfNone result (AllIn (journals seats.entry.items) (F.is_out shelf.new)) }
+    ensures others_out { SameBeside (journals seats.entry.items) (F.is_out shelf.old) (F.is_out shelf.new) }
+    ensures counts { SameBeside (journals seats.entry.items) (F.disk_faults shelf.old) (F.disk_faults shelf.new) }
+    ensures faults { F.faults shelf.new ≡ F.faults shelf.old }
+{
+    match item {
+        BatchItem::Ask(ask) => {
+            let mut seats = seats;
+            let told = answer(alloc, &mut seats, ask.name.as_str(), ask.text.as_str());
+            Some((seats, line_of(ask, told), is_broken_reply(told)))
+        }
+        BatchItem::Restart => {
+            let seats = reopen_all(alloc, registry, shelf, seats)?;
+            Some((seats, LineText::new("* restarted\n"), false))
+        }
+    }
+}
+
+/// Answers the items of a batch, each in a line.
+fn answer_all<'w, F: Shelf, K: Sink>(
+    alloc: Global,
+    registry: &Registry<'w>,
+    shelf: &mut F,
+    seats: Vec<Seat<'w, F::D>>,
+    batch: &Batch,
+    sink: &mut K,
+) -> Answered<'w, F::D>
+    requires limits { AllByRecursion (λ seat. KeepsLimits registry.now.schema.now (profile_of (seat_user seat))) seats.items }
+    requires served { AllByRecursion (IsServed registry.now.schema.now registry.now.world.now (header_bytes registry.now.header.now)) seats.items }
+    requires distinct { has_duplicate (journals seats.items) ≡ false }
+    requires out { AllOut (journals seats.items) (F.is_out shelf.old) }
+    requires later { AreLater F.D.faults (F.disk_faults shelf.old) seats.items }
+    ensures answered { IsAnswered registry.now.schema.now registry.now.world.now (header_bytes registry.now.header.now) F.D.told F.D.reads F.D.image F.D.faults K.told
+        (λ left. AreBack F.told F.D.reads F.D.image F.D.faults (F.disk shelf.new) (F.disk_faults shelf.new) left) (items_of batch.now) seats.entry.items (K.written sink.old) (K.written sink.new) result }
+    ensures untouched { HasSeats result → shelf.new ≡ shelf.old }
+    ensures inside { (HasSeats result → ⊥) → AllIn (journals seats.entry.items) (F.is_out shelf.new) }
+    ensures others_out { SameBeside (journals seats.entry.items) (F.is_out shelf.old) (F.is_out shelf.new) }
+    ensures counts { SameBeside (journals seats.entry.items) (F.disk_faults shelf.old) (F.disk_faults shelf.new) }
+    ensures faults { F.faults shelf.new ≡ F.faults shelf.old }
+    ensures sink_later { K.faults sink.old ≤ K.faults sink.new }
+    ensures cause { IsCut result → Rose (K.faults sink.old) (K.faults sink.new) }
+{
+    let mut seats = seats;
+    let mut is_broken = false;
+    for item in batch.items() {
+        let Some((next, line, says_broken)) = carry_out(alloc, registry, shelf, seats, item) else {
+            return Answered::Memory;
+        };
+        seats = next;
+        is_broken = is_broken || says_broken;
+        match write_all(sink, line.bytes()) {
+            Ok(()) => (),
+            Err(Failed) => return Answered::Cut(seats),
+        }
+    }
+    Answered::All(seats, is_broken)
+}
+
+/// The first refusal of each seat, in a list with the room for them.
+fn refusals_of<D: Disk>(
+    room: Vec<Option<DeskError>>,
+    seats: &[Seat<'_, D>],
+) -> Vec<Option<DeskError>>
+    requires empty { room.items ≡ [] }
+    requires room { length seats.now ≤ vec_capacity room }
+    ensures { result.items ≡ map (λ seat. seat.refusal) seats.now }
+{
+    let mut refusals = room;
+    for seat in seats {
+        refusals.push_reserved(seat.refusal);
+    }
+    refusals
+}
+
+/// Reads the whole script of a batch from the source, refuses it before the first ask, or opens the journals of all users
+/// and answers its asks with one line each. A restart closes every desk and opens it again from its disk. All disks are
+/// given back on every path.
+pub fn run_batch<F: Shelf, S: Source, K: Sink>(
+    alloc: Global,
+    registry: &Registry<'_>,
+    shelf: &mut F,
     source: &mut S,
     sink: &mut K,
 ) -> BatchEnd
-    requires limits { All (λ user. KeepsLimits schema.now (profile_of user)) users.now }
-    requires names { has_duplicate (map (λ user. user.name) (map named_user users.now)) ≡ false }
-    ensures ends { S.told → K.told → Ends schema.now world.now (map named_user users.now) result (S.left source.old) (S.left source.new) (K.written sink.old) (K.written sink.new) }
+    requires limits { All (λ user. KeepsLimits registry.now.schema.now (profile_of user)) registry.now.users.now }
+    requires names { has_duplicate (map (λ user. user.name) (map named_user registry.now.users.now)) ≡ false }
+    requires inside { NoneOut (F.is_out shelf.old) }
+    ensures ends { F.told → S.told → K.told → Ends registry.now.schema.now registry.now.world.now (header_bytes registry.now.header.now)
+        (journals_on F.D.reads F.D.image registry.now.directory.now (F.disk shelf.old) (F.disk shelf.new) (F.disk_faults shelf.old) (F.disk_faults shelf.new))
+        (map named_user registry.now.users.now) result (S.left source.old) (S.left source.new) (K.written sink.old) (K.written sink.new) }
+    ensures inside { NoneOut (F.is_out shelf.new) }
+    ensures counts { NoneFell (F.disk_faults shelf.old) (F.disk_faults shelf.new) }
+    ensures unopened { IsUnopened result → shelf.new ≡ shelf.old }
     ensures held { S.held source.new ≡ S.held source.old }
+    ensures shelf_later { F.faults shelf.old ≤ F.faults shelf.new }
     ensures source_later { S.faults source.old ≤ S.faults source.new }
     ensures sink_later { K.faults sink.old ≤ K.faults sink.new }
     ensures read_cause { result ≡ BatchEnd.ReadFault → Rose (S.faults source.old) (S.faults source.new) }
     ensures write_cause { result ≡ BatchEnd.WriteFault → Rose (K.faults sink.old) (K.faults sink.new) }
+    ensures shelf_cause { result ≡ BatchEnd.ShelfFault → Rose (F.faults shelf.old) (F.faults shelf.new) }
 {
     let batch = match read_script(alloc, source, Batch::new(alloc)) {
         Reading::Whole(batch) => batch,
@@ -132,5 +226,31 @@ pub fn run_batch<S: Source, K: Sink>(
         Reading::Fault => return BatchEnd::ReadFault,
         Reading::Memory => return BatchEnd::Memory,
     };
-    answer_all(alloc, schema, world, users, &batch, sink)
+    law_legal_grows();
+    law_private();
+    law_runs_legal();
+    law_scripts_hide();
+    law_openings();
+    law_journals_differ();
+    registry.schema.known();
+    let Ok(room) = room_for(alloc, registry.users.len()) else {
+        return BatchEnd::Memory;
+    };
+    let seats = match open_all(alloc, registry, shelf) {
+        Ok(seats) => seats,
+        Err(NotOpened::Shelf) => return BatchEnd::ShelfFault,
+        Err(NotOpened::Memory) => return BatchEnd::Memory,
+    };
+    match answer_all(alloc, registry, shelf, seats, &batch, sink) {
+        Answered::All(seats, is_broken) => {
+            let refusals = refusals_of(room, seats.as_slice());
+            give_back(shelf, seats);
+            BatchEnd::Done(refusals, is_broken)
+        }
+        Answered::Cut(seats) => {
+            give_back(shelf, seats);
+            BatchEnd::WriteFault
+        }
+        Answered::Memory => BatchEnd::Memory,
+    }
 }

@@ -1,5 +1,5 @@
 -- Tallies: their sets, one more literal in each of some clauses, and what a tally says of its clause.
-use Rattle.std.proofs.Common.{◌≡◌, ℕ, ◌+◌, ◌<◌, ◌≤◌, Bool, cond, eqb, List, [], ◌∷◌, length, get_or, set, take, map, Some, refl, sym, ap, ◌∙◌, inl, inr, arith, count_by}
+use Rattle.std.proofs.Common.{◌≡◌, ℕ, zero, suc, ◌+◌, ◌<◌, ◌≤◌, Bool, false, cond, eqb, List, [], ◌∷◌, length, get_or, set, take, map, Some, refl, sym, ap, ◌∙◌, inl, inr, arith, count_by}
 use Rattle.std.specs.List.{position_from}
 use Rattle.std.proofs.lemmas.Bool.{cases_eq, eq-eqb, ne_eqb}
 use Rattle.std.proofs.lemmas.List.{map-set, get_or-set_same, get_or-set_other}
@@ -20,6 +20,15 @@ position-flags p xs flags e = ap (position_from (λ b. b) 0) e ∙ position-map 
 -- the flags of a list with one element changed
 pub flags-set : (p : Tally → Bool) (xs : List Tally) (flags flags' : List Bool) (i : ℕ) (t : Tally) (now : Bool) → flags ≡ map p xs → now ≡ p t → flags' ≡ set flags i now → flags' ≡ map p (set xs i t)
 flags-set p xs flags flags' i t now e is is' = is' ∙ ap (set flags i) is ∙ ap (λ fs. set fs i (p t)) e ∙ sym (map-set p xs i t)
+
+map_same : (p : Tally → Bool) (xs : List Tally) (i : ℕ) (t d : Tally) → p (get_or xs i d) ≡ p t → map p (set xs i t) ≡ map p xs
+map_same p [] i t d e = refl
+map_same p (x ∷ xs) zero t d e = ap (λ b. b ∷ map p xs) (sym e)
+map_same p (x ∷ xs) (suc i) t d e = let go = map_same p xs i t d e in λ j. p x ∷ go j
+
+-- the flags of a list with one element changed that isn't flagged before or afterwards
+pub flags-kept : (p : Tally → Bool) (xs : List Tally) (flags : List Bool) (i : ℕ) (old t : Tally) → flags ≡ map p xs → old ≡ get_or xs i old → p old ≡ false → p t ≡ false → flags ≡ map p (set xs i t)
+flags-kept p xs flags i old t e at before after = e ∙ sym (map_same p xs i t old (ap p (sym at) ∙ before ∙ sym after))
 
 raised-once : (c : Count) (n : ℕ) (t : Tally) → raised c 1 (raised c n t) ≡ raised c (n + 1) t
 raised-once Trues n t = ap (λ k. record t { trues = k }) (let x : t.trues + n + 1 ≡ t.trues + (n + 1) = omega arith in x)

@@ -1,10 +1,10 @@
 -- One more entry of a trail whose latest entry is last.
-use Rattle.std.proofs.Common.{◌≡◌, ℕ, suc, Option, subst, arith, map, append_assoc, ◌+◌, ◌-◌, ◌<◌, ◌≤◌, Bool, true, false, cond, eqb, List, [], ◌∷◌, ◌++◌, length, reverse, get_or, take, refl, sym, ap, ◌∙◌}
+use Rattle.std.proofs.Common.{◌≡◌, ℕ, zero, suc, Option, subst, arith, map, append_assoc, ◌+◌, ◌-◌, ◌<◌, ◌≤◌, Bool, true, false, cond, eqb, List, [], ◌∷◌, ◌++◌, length, reverse, get_or, take, refl, sym, ap, ◌∙◌}
 use Rattle.std.specs.List.{range_with_len, position_from, list_all}
 use Rattle.clause_solver.specs.declared.ends.Advance.{Advance}
 use Rattle.clause_solver.specs.PlainStates.{StepIs}
 use Rattle.std.proofs.lemmas.List.{take_more, reverse-append}
-use Rattle.std.proofs.lemmas.Bool.{both_ways, le-leb, lt-ltb}
+use Rattle.std.proofs.lemmas.Bool.{both_ways, le-leb, lt-ltb, le-ltb}
 use Rattle.std.proofs.Math.Numerals.{suc-eq-add-one}
 use Rattle.cqe_base.specs.Literal.{Literal, variable_of}
 use Rattle.cqe_base.specs.Machine.{Assigned, Decided, Because, assigned_literal, level, level_of, cut, current_count, latest_against, resolved_with, analysis, State, is_false, step, conflict_or_unit_step}
@@ -60,6 +60,12 @@ analysis_more cs trail keep n i line line' low more e =
     ap (analysis cs trail keep (n - (i + 1))) e
     ∙ sym (ap (λ b. cond b (analysis cs trail keep (n - (i + 1)) (resolved_with cs (latest_against trail line.clause) line)) line) (lt-ltb keep (current_count trail line.clause) more))
     ∙ sym (ap (λ times. analysis cs trail keep times line) one)
+
+-- few enough literals of the current level are left
+pub analysis_done : (cs : List (List Literal)) (trail : List Assigned) (keep times : ℕ) (line : RefutationLine) → current_count trail line.clause ≤ keep → analysis cs trail keep times line ≡ line
+analysis_done cs trail keep zero line few = refl
+analysis_done cs trail keep (suc times) line few =
+    ap (λ b. cond b (analysis cs trail keep times (resolved_with cs (latest_against trail line.clause) line)) line) (le-ltb keep (current_count trail line.clause) few)
 
 -- the numbers from v to below n begin with v
 pub range_more : (v n : ℕ) → v < n → range_with_len v (n - v) ≡ v ∷ range_with_len (v + 1) (n - (v + 1))

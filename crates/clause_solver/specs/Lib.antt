@@ -8,3 +8,6 @@ pub mod TallySets
 pub mod Indexing
 pub mod IndexedStates
 pub mod NumberSets
+pub mod Costs
+pub mod Marking
+pub mod MarkedFields

@@ -1,12 +1,15 @@
-// The analysis of a conflict with the levels at hand.
+// The analysis of a conflict with the levels and the marks at hand.
 
-ghost use Rattle.std.specs.Prelude.{◌≡◌, ◌<◌, ◌^◌, [], length, not, max, if◌then◌else◌, IfOk};
+ghost use Rattle.std.specs.Prelude.{◌≡◌, ◌<◌, ◌^◌, [], length, not, max, if◌then◌else◌, IfOk, slice_index_or};
 ghost use Rattle.std.specs.List.{filter, find};
-ghost use Rattle.cqe_base.specs.Machine.{is_current, level_of, current_count, highest_level, kept_count, analysis, conflict_line, State};
+ghost use Rattle.cqe_base.specs.Literal.{ClausesBelow};
+ghost use Rattle.cqe_base.specs.Machine.{resolved_with, is_current, level_of, current_count, highest_level, kept_count, analysis, conflict_line, State};
 ghost use Rattle.clause_store.specs.PlainLines.{line_of};
+ghost use Rattle.clause_solver.specs.Marking.{line_with};
 
 use crate::assignment::Assignment;
-use crate::plain::conflict::resolve_with;
+use crate::entry::Entry;
+use crate::marked_clause::MarkedClause;
 use clause_store::clauses::Clauses;
 use clause_store::literal::Lit;
 use clause_store::refutation::Line;
@@ -19,22 +22,58 @@ fn current_count(assignment: &Assignment, clause: &[Lit]) -> usize
     clause.iter().filter(|l| assignment.is_current(**l)).count()
 }
 
+/// The clause of this number, or no literal where there is none.
+fn clause_or_none(clauses: &Clauses, number: usize) -> &[Lit]
+    ensures { result.now ≡ slice_index_or clauses.now number [] }
+{
+    if number < clauses.len() {
+        clauses.clause(number)
+    } else {
+        &[]
+    }
+}
+
+/// Resolves a clause with the cause of a literal, whose number joins the chain; a decision has none.
+fn resolve_with(
+    clauses: &Clauses,
+    latest: Option<Entry>,
+    clause: &mut MarkedClause,
+    chain: &mut Vec<u32>,
+) -> Result<(), AllocError>
+    requires { ClausesBelow clause.old.variables clauses.now }
+    ensures line { IfOk result (λ _. line_with clause.new.clause chain.new.items ≡ resolved_with clauses.now latest (line_with clause.old.clause chain.old.items)) }
+    ensures variables { IfOk result (λ _. clause.new.variables ≡ clause.old.variables) }
+{
+    let Some(entry) = latest else {
+        return Ok(());
+    };
+    if entry.is_decided() {
+        return Ok(());
+    }
+    let number = entry.clause();
+    clause.resolve(entry.literal(), clause_or_none(clauses, number as usize))?;
+    chain.push(number)?;
+    Ok(())
+}
+
 /// Resolves until few enough literals of the current level are left. Each resolution goes back along the trail, so its length bounds their number.
 fn analyse(
-    alloc: Global,
     clauses: &Clauses,
     assignment: &Assignment,
     keep: usize,
-    line: &mut Line,
+    clause: &mut MarkedClause,
+    chain: &mut Vec<u32>,
 ) -> Result<(), AllocError>
-    ensures { IfOk result (λ _. line_of line.new ≡ analysis clauses.now assignment.now.trail keep (length assignment.now.trail) (line_of line.old)) }
+    requires { ClausesBelow clause.old.variables clauses.now }
+    ensures line { IfOk result (λ _. line_with clause.new.clause chain.new.items ≡ analysis clauses.now assignment.now.trail keep (length assignment.now.trail) (line_with clause.old.clause chain.old.items)) }
+    ensures variables { IfOk result (λ _. clause.new.variables ≡ clause.old.variables) }
 {
     for times in 0..assignment.entries().len() {
-        if current_count(assignment, &line.clause) <= keep {
+        if current_count(assignment, clause.literals()) <= keep {
             return Ok(());
         }
-        let latest = assignment.latest_against(&line.clause);
-        resolve_with(alloc, clauses, latest, line)?;
+        let latest = assignment.latest_against(clause.literals());
+        resolve_with(clauses, latest, clause, chain)?;
     }
     Ok(())
 }
@@ -46,29 +85,37 @@ fn kept_count(assignment: &Assignment) -> usize
     if assignment.level() == 0 { 0 } else { 1 }
 }
 
-/// The line that a conflict at a clause gives.
+/// The line that a conflict at a clause gives. The marked clause serves for the resolutions, and is empty before and afterwards.
 pub fn conflict_line(
     alloc: Global,
     clauses: &Clauses,
     assignment: &Assignment,
+    clause: &mut MarkedClause,
     number: usize,
 ) -> Result<Line, AllocError>
     requires number { number < length clauses.now }
     requires fits { number < 2 ^ 32 }
-    ensures { IfOk result (λ line. line_of line ≡ conflict_line (record { clauses = clauses.now; trail = assignment.now.trail; lines = [] }) number) }
+    requires below { ClausesBelow clause.old.variables clauses.now }
+    requires empty { clause.old.clause ≡ [] }
+    ensures line { IfOk result (λ line. line_of line ≡ conflict_line (record { clauses = clauses.now; trail = assignment.now.trail; lines = [] }) number) }
+    ensures same { IfOk result (λ _. clause.new ≡ clause.old) }
 {
-    let clause = Vec::from_slice(alloc, clauses.clause(number))?;
+    clause.append(clauses.clause(number))?;
     let mut chain = Vec::new(alloc);
     chain.push(number as u32)?;
-    let mut line = Line { clause, chain };
     analyse(
-        alloc,
         clauses,
         assignment,
         kept_count(assignment),
-        &mut line,
+        clause,
+        &mut chain,
     )?;
-    Ok(line)
+    let literals = Vec::from_slice(alloc, clause.literals())?;
+    clause.clear();
+    Ok(Line {
+        clause: literals,
+        chain,
+    })
 }
 
 /// The first literal of a clause that is of the current level.

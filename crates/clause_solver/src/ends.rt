@@ -17,3 +17,10 @@ pub enum Found {
     Refuted(Refutation),
     Spent,
 }
+
+/// What a search found, and what it cost: the machine's whole cost, or the budget where that was spent.
+#[derive(Drop)]
+pub struct Searched {
+    pub found: Found,
+    pub cost: u64,
+}

@@ -11,6 +11,7 @@ ghost use Rattle.clause_solver.specs.IndexedStates.{plain_of, IsIndexed};
 
 use crate::assignment::Assignment;
 use crate::entry::Entry;
+use crate::marked_clause::MarkedClause;
 use crate::occurrences::{no_occurrences, note_clause, occurrences_of};
 use crate::tallies::{Count, Tallies, Tally};
 use clause_store::clauses::Clauses;
@@ -26,6 +27,8 @@ pub struct Indexed {
     pub occurrences: Vec<Vec<u32>>,
     pub tallies: Tallies,
     pub lines: Vec<Line>,
+    /// Where a conflict is analysed; it has no literal in between.
+    pub resolvent: MarkedClause,
 }
 
 /// How many literals of a clause are true.
@@ -67,6 +70,7 @@ impl Indexed {
             occurrences: no_occurrences(alloc, variables)?,
             tallies: Tallies::new(alloc),
             lines: Vec::new(alloc),
+            resolvent: MarkedClause::new(alloc, variables)?,
         })
     }
 

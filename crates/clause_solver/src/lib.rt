@@ -1,12 +1,14 @@
 // The search machine.
 //
-// `search` answers the machine's end, a model or a refutation, or Spent exactly where the machine's whole cost is above the budget.
+// `search` answers the machine's end, a model or a refutation, or Spent exactly where the machine's whole cost is above the budget;
+// `search_with_cost` answers it with that cost.
 // It keeps for each literal the clauses in which it stands, for each clause the counts of its true and false literals, and the sets
 // of the falsified and of the unit clauses. That these are those of the trail is `IsIndexed` (specs/IndexedStates.antt).
 // `laws::search_plain` is the plain program of the same contract: it scans the clauses and the trail at each step.
+// A conflict is analysed on one clause with a mark for each literal (`marked_clause`), so a resolution looks at each literal once.
 //
-// Read `entry` and `ends`, then `assignment`, `number_set`, `tallies` and `occurrences`, then `indexed`, `analysis`, `rules` and
-// `run`. `plain` stands alone.
+// Read `entry` and `ends`, then `assignment`, `number_set`, `tallies`, `occurrences` and `marked_clause`, then `indexed`,
+// `analysis`, `rules` and `run`. `plain` stands alone.
 #![tactic(auto)]
 
 mod analysis;
@@ -17,6 +19,7 @@ mod ends;
 mod entry;
 mod indexed;
 pub mod laws;
+mod marked_clause;
 mod number_set;
 mod occurrences;
 mod plain;
@@ -29,5 +32,5 @@ mod tallies;
 mod tests;
 
 pub use conditions::is_searchable;
-pub use ends::Found;
-pub use run::search;
+pub use ends::{Found, Searched};
+pub use run::{search, search_with_cost};

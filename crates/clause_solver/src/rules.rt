@@ -62,7 +62,13 @@ fn conflict_step(alloc: Global, state: &mut Indexed, number: usize) -> Result<Ad
     ensures variables { IfOk result (λ _. state.new.assignment.variables ≡ state.old.assignment.variables) }
     ensures indexed { IfOk result (λ _. IsIndexed state.new) }
 {
-    let line = conflict_line(alloc, &state.clauses, &state.assignment, number)?;
+    let line = conflict_line(
+        alloc,
+        &state.clauses,
+        &state.assignment,
+        &mut state.resolvent,
+        number,
+    )?;
     let cost = line.chain.len() as u64 + line.clause.len() as u64;
     if state.assignment.level() == 0 {
         state.lines.push(line)?;

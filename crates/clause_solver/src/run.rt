@@ -1,11 +1,12 @@
 // The run of the machine within a budget.
-ghost use Rattle.std.specs.Prelude.{◌≡◌, ◌<◌, ◌^◌, ◌+◌, length, IfOk};
+ghost use Rattle.std.specs.Prelude.{◌≡◌, ◌<◌, ◌^◌, ◌+◌, length, IfOk, None};
 ghost use Rattle.cqe_base.specs.Literal.{ClausesBelow, HaveNoRepeat};
 ghost use Rattle.cqe_base.specs.Machine.{end_within_budget, start};
 ghost use Rattle.clause_solver.specs.PlainStates.{found_of};
+ghost use Rattle.clause_solver.specs.Costs.{cost_within_budget};
 ghost use Rattle.clause_solver.specs.IndexedStates.{plain_of, IsIndexed};
 
-use crate::ends::{Advance, Found};
+use crate::ends::{Advance, Found, Searched};
 use crate::indexed::Indexed;
 use crate::rules::step;
 use clause_store::clauses::Clauses;
@@ -28,6 +29,64 @@ fn begin(alloc: Global, clauses: &Clauses, variables: u32) -> Result<Indexed, Al
     Ok(state)
 }
 
+/// A search whose budget is spent.
+fn spent(budget: u64) -> Searched
+    ensures found { found_of result.found ≡ None }
+    ensures cost { result.cost ≡ budget }
+{
+    Searched {
+        found: Found::Spent,
+        cost: budget,
+    }
+}
+
+/// The machine's end with its whole cost, or Spent exactly where that is above the budget, with the budget.
+pub fn search_with_cost(
+    alloc: Global,
+    clauses: &Clauses,
+    variables: u32,
+    budget: u64,
+) -> Result<Searched, AllocError>
+    requires variables { variables < 2 ^ 31 }
+    requires below { ClausesBelow variables clauses.now }
+    requires no_repeat { HaveNoRepeat clauses.now }
+    requires room { length clauses.now + budget < 2 ^ 32 }
+    ensures found { IfOk result (λ searched. found_of searched.found ≡ end_within_budget clauses.now variables budget) }
+    ensures cost { IfOk result (λ searched. searched.cost ≡ cost_within_budget clauses.now variables budget) }
+{
+    let mut state = begin(alloc, clauses, variables)?;
+    let mut left = budget;
+    for steps in 0..budget {
+        match step(alloc, &mut state, variables)? {
+            Advance::Went(cost) => {
+                if left < cost {
+                    return Ok(spent(budget));
+                }
+                left -= cost;
+            }
+            Advance::Refuted(cost) => {
+                if left < cost {
+                    return Ok(spent(budget));
+                }
+                return Ok(Searched {
+                    found: Found::Refuted(Refutation { lines: state.lines }),
+                    cost: budget - left + cost,
+                });
+            }
+            Advance::Satisfied(cost, signs) => {
+                if left < cost {
+                    return Ok(spent(budget));
+                }
+                return Ok(Searched {
+                    found: Found::Model(signs),
+                    cost: budget - left + cost,
+                });
+            }
+        }
+    }
+    Ok(spent(budget))
+}
+
 /// The machine's end, or Spent exactly where its whole cost is above the budget.
 pub fn search(
     alloc: Global,
@@ -41,29 +100,6 @@ pub fn search(
     requires room { length clauses.now + budget < 2 ^ 32 }
     ensures { IfOk result (λ found. found_of found ≡ end_within_budget clauses.now variables budget) }
 {
-    let mut state = begin(alloc, clauses, variables)?;
-    let mut left = budget;
-    for steps in 0..budget {
-        match step(alloc, &mut state, variables)? {
-            Advance::Went(cost) => {
-                if left < cost {
-                    return Ok(Found::Spent);
-                }
-                left -= cost;
-            }
-            Advance::Refuted(cost) => {
-                if left < cost {
-                    return Ok(Found::Spent);
-                }
-                return Ok(Found::Refuted(Refutation { lines: state.lines }));
-            }
-            Advance::Satisfied(cost, signs) => {
-                if left < cost {
-                    return Ok(Found::Spent);
-                }
-                return Ok(Found::Model(signs));
-            }
-        }
-    }
-    Ok(Found::Spent)
+    let searched = search_with_cost(alloc, clauses, variables, budget)?;
+    Ok(searched.found)
 }

@@ -1,6 +1,6 @@
 // How many literals of each clause are true and false, and which clauses are falsified or unit.
 
-ghost use Rattle.std.specs.Prelude.{◌≡◌, ℕ, ◌<◌, ◌≤◌, ◌+◌, ◌-◌, ◌==◌, Bool, [], ◌∷◌, ◌++◌, length, map, slice_set, slice_index_or, count_by, IfOk};
+ghost use Rattle.std.specs.Prelude.{◌≡◌, ℕ, ◌<◌, ◌≤◌, ◌+◌, ◌-◌, ◌==◌, Bool, [], ◌∷◌, ◌++◌, length, map, slice_set, slice_index_or, count_by, IfOk, IsTrue, false};
 ghost use Rattle.std.specs.List.{position_from, All};
 ghost use Rattle.clause_solver.specs.Tallying.{is_falsified, is_unit, counted, raised, lowered, no_tally};
 ghost use Rattle.clause_solver.specs.TallySets.{AreSets};
@@ -36,6 +36,14 @@ impl Tally {
         ensures { result ≡ is_unit self }
     {
         self.trues == 0 && self.falses < self.length && self.falses + 1 == self.length
+    }
+
+    /// Whether more than one literal isn't false.
+    fn is_open(self) -> bool
+        ensures falsified { IsTrue result → is_falsified self ≡ false }
+        ensures unit { IsTrue result → is_unit self ≡ false }
+    {
+        self.length.saturating_sub(self.falses) > 1
     }
 
     /// One more literal of a kind.
@@ -125,6 +133,9 @@ impl Tallies {
     {
         let old = self.tallies[number];
         self.tallies[number] = tally;
+        if old.is_open() && tally.is_open() {
+            return;
+        }
         update(
             &mut self.falsified,
             number,

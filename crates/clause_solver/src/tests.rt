@@ -1,6 +1,6 @@
 // Searches whose ends and whole costs an independent program gave, the shorter ones worked out by hand too.
 
-use crate::{Found, is_searchable, search};
+use crate::{Found, is_searchable, search, search_with_cost};
 use clause_store::clauses::Clauses;
 use clause_store::literal::Lit;
 use clause_store::refutation::{Refutation, Signs};
@@ -170,6 +170,18 @@ fn found(
     })
 }
 
+/// What a search costs.
+fn cost_of(
+    rt: &impl Abort,
+    alloc: Global,
+    clauses: &Clauses,
+    variables: u32,
+    budget: u64,
+) -> Result<u64, Fail> {
+    assert!(rt; is_searchable(clauses, variables, budget));
+    Ok(search_with_cost(alloc, clauses, variables, budget)?.cost)
+}
+
 #[test]
 fn searches_end_at_their_whole_costs(rt: HostRuntime) -> Result<(), Fail> {
     let alloc = rt.alloc();
@@ -179,6 +191,11 @@ fn searches_end_at_their_whole_costs(rt: HostRuntime) -> Result<(), Fail> {
         assert_eq!(rt; ended.as_str(), wanted, "{text} at {cost}");
         let spent = found(&rt, alloc, &given, variables, cost.saturating_sub(1))?;
         assert_eq!(rt; spent.as_str(), "spent", "{text} below {cost}");
+        let whole = cost_of(&rt, alloc, &given, variables, cost.saturating_add(5))?;
+        assert_eq!(rt; whole, cost, "{text}");
+        let below = cost.saturating_sub(1);
+        let all = cost_of(&rt, alloc, &given, variables, below)?;
+        assert_eq!(rt; all, below, "{text} below {cost}");
     }
     Ok(())
 }

@@ -1,123 +1,299 @@
--- Commands whose uses fit the table, and such whose uses don't.
-use Rattle.std.proofs.Common.{◌≡◌, ℕ, Bool, true, false, ◌&&◌, List, [], ◌∷◌, length, map, refl, sym, ap, ◌∙◌, arith}
-use Rattle.std.specs.Prelude.{Option, Some, None, unwrap_or, slice_get, codes, bytes_eq, if◌then◌else◌}
-use Rattle.std.specs.List.{list_all}
+-- What clap answers on all words is their reading.
+use Rattle.std.proofs.Common.{◌≡◌, ◌==◌, Bool, true, false, not, ◌&&◌, ◌||◌, cond, List, [], ◌∷◌, ◌++◌, map, refl, sym, ap, ◌∙◌, true≢false, eqb-true, subst, ⊎_elim}
+use Rattle.std.specs.Prelude.{Option, Some, None, option_map, option_and_then, is_some, find, slice_get, unwrap_or, bytes_eq, codes, if◌then◌else◌}
+use Rattle.std.specs.List.{list_all, list_any}
+use Rattle.std.proofs.Math.Bool.{and-false}
 use Rattle.std.proofs.lemmas.Bool.{and_parts}
 use Rattle.std.proofs.lemmas.Slice.Eq.{bytes_eq-Decides}
-use Rattle.command_words.specs.Uses.{Use, uses_of}
-use Rattle.command_words.specs.Readings.{OptionRow, needed, options_of, values_of, is_well_given, Reading, reading_with, reading_of}
-use Rattle.command_words.specs.Given.{make_known, values_in, are_well_given, batch_with, command_with}
-use Rattle.command_words.proofs.Giving.{known_of, given_of}
+use Rattle.clap.specs.Words.{HasKind, Row, Text, Kinds, fault_of, first_of, kind_of, subcommand_of}
+use Rattle.clap.specs.declared.error.Error.{Error}
+use Rattle.clap.specs.declared.error.kind.ErrorKind.TheVariants.{OutOfMemory}
+use Rattle.clap.specs.Lexer.{has_byte}
+use Rattle.command_words.specs.Uses.{Use, name_and_value, option_of, is_value_word, in_front, uses_of, with_value, followed}
+use Rattle.command_words.specs.Readings.{CommandRow, OptionRow, Reading, command_of, do_fit, file_options, has_no_repeat, is_used, reading_of, reading_with, value_of}
+use Rattle.command_words.specs.Matched.{command_with, files_in, files_with, is_short, program}
+use Rattle.command_words.proofs.Options.{is_complete, needs, none, or_false, row_of_use, rows_of_uses}
+use Rattle.command_words.proofs.Turns.{Named, plain_word, option_word, named, option_at, name_at, value_at}
+use Rattle.command_words.proofs.Walks.{completes, extends, gives, uses_apart, uses_attached}
+use Rattle.command_words.proofs.Entering.{enters, no_command, no_words}
 
--- equal texts by their test
-named : (name text : List ℕ) → bytes_eq name text ≡ true → name ≡ text
-named name text same = (bytes_eq-Decides name text).0 same
+-- the options of which the uses are
+abbrev is_known : List OptionRow → Text → Bool
+is_known options name = list_any (λ (row : OptionRow). bytes_eq row.name name) options
 
--- each option is given as often as it must
-abbrev well_of : List OptionRow → Option (List Use) → Bool
-well_of rows o = list_all (λ (row : OptionRow). is_well_given row.is_needed (given_of row.name o)) rows
+known_is : (options : List OptionRow) (name : Text) → is_some (needs options name) ≡ is_known options name
+known_is [] name = refl
+known_is (row ∷ options) name =
+    elim (bytes_eq row.name name) as (λ t. is_some (option_map (λ (r : OptionRow). r.is_needed) (cond t (Some row) (find (λ (r : OptionRow). bytes_eq r.name name) options))) ≡ (t || is_known options name)) [
+      | true ↦ refl
+      | false ↦ known_is options name
+    ]
 
--- uses that don't fit
-unfit_of : (command : List ℕ) (rows : List OptionRow) (o : Option (List Use)) → (known_of rows o && well_of rows o) ≡ false → ◌≡◌ {A = Option Reading} None (reading_with command (Some rows) o)
-unfit_of command rows None unfit = refl
-unfit_of command rows (Some uses) unfit =
-    elim (known_of rows (Some uses)) as (λ k. (k && well_of rows (Some uses)) ≡ false → ◌≡◌ {A = Option Reading} None (if well_of rows (Some uses) && k then Some (record { command = command; values = map (λ (row : OptionRow). slice_get (values_of row.name uses) 0) rows }) else None)) [
-      | true ↦ λ ill. rw ill refl
-      | false ↦ λ unknown.
-          elim (well_of rows (Some uses)) as (λ w. ◌≡◌ {A = Option Reading} None (if w && false then Some (record { command = command; values = map (λ (row : OptionRow). slice_get (values_of row.name uses) 0) rows }) else None)) [
-            | true ↦ refl
-            | false ↦ refl
+-- no use is of an option that was used before
+abbrev are_fresh : List Use → List Use → Bool
+are_fresh given uses = list_all (λ (u : Use). not (is_used given u.name)) uses
+
+used_push : (given : List Use) (u : Use) (name : Text) → is_used (given ++ u ∷ []) name ≡ (is_used given name || bytes_eq u.name name)
+used_push [] u name = elim (bytes_eq u.name name) as (λ t. (t || false) ≡ t) [ true ↦ refl | false ↦ refl ]
+used_push (g ∷ given) u name =
+    elim (bytes_eq g.name name) as (λ t. (t || is_used (given ++ u ∷ []) name) ≡ ((t || is_used given name) || bytes_eq u.name name)) [
+      | true ↦ refl
+      | false ↦ used_push given u name
+    ]
+
+same_test : (a b : Text) → bytes_eq a b ≡ bytes_eq b a
+same_test a b = go (bytes_eq a b) refl (bytes_eq b a) refl
+  where
+    go : (s : Bool) → bytes_eq a b ≡ s → (t : Bool) → bytes_eq b a ≡ t → bytes_eq a b ≡ bytes_eq b a
+    go true e true f = e ∙ sym f
+    go false e false f = e ∙ sym f
+    go true e false f = absurd (true≢false (sym ((bytes_eq-Decides b a).1 (sym ((bytes_eq-Decides a b).0 e))) ∙ f))
+    go false e true f = absurd (true≢false (sym ((bytes_eq-Decides a b).1 (sym ((bytes_eq-Decides b a).0 f))) ∙ e))
+
+fresh_bits : (a b c d : Bool) → (not (a || b) && (not c && d)) ≡ (not (b || c) && (not a && d))
+fresh_bits true true c d = refl
+fresh_bits true false true d = refl
+fresh_bits true false false d = refl
+fresh_bits false true c d = refl
+fresh_bits false false true d = refl
+fresh_bits false false false d = refl
+
+fresh_push : (given : List Use) (u : Use) (uses : List Use) → are_fresh (given ++ u ∷ []) uses ≡ (not (is_used uses u.name) && are_fresh given uses)
+fresh_push given u [] = refl
+fresh_push given u (v ∷ uses) =
+    (λ i. not (used_push given u v.name i) && fresh_push given u uses i)
+    ∙ ap (λ (t : Bool). not (is_used given v.name || t) && (not (is_used uses u.name) && are_fresh given uses)) (same_test u.name v.name)
+    ∙ fresh_bits (is_used given v.name) (bytes_eq v.name u.name) (is_used uses u.name) (are_fresh given uses)
+
+step_bits : (k f ks ns r fs : Bool) → (k && (f && (ks && (ns && (r && fs))))) ≡ ((k && ks) && ((r && ns) && (f && fs)))
+step_bits false f ks ns r fs = refl
+step_bits true f false ns r fs = and-false f
+step_bits true false true ns r fs = sym (and-false (r && ns))
+step_bits true true true true true fs = refl
+step_bits true true true false true fs = refl
+step_bits true true true ns false fs = and-false ns
+
+-- uses that follow others, in other words
+extends_is : (options : List OptionRow) (given uses : List Use)
+    → extends options given uses ≡ (list_all (λ (u : Use). is_known options u.name) uses && (has_no_repeat uses && are_fresh given uses))
+extends_is options given [] = refl
+extends_is options given (u ∷ uses) =
+    (λ i. known_is options u.name i && (not (is_used given u.name) && extends_is options (given ++ u ∷ []) uses i))
+    ∙ ap (λ (t : Bool). is_known options u.name && (not (is_used given u.name) && (list_all (λ (v : Use). is_known options v.name) uses && (has_no_repeat uses && t)))) (fresh_push given u uses)
+    ∙ step_bits (is_known options u.name) (not (is_used given u.name)) _ (has_no_repeat uses) (not (is_used uses u.name)) (are_fresh given uses)
+
+all_fresh : (uses : List Use) → are_fresh [] uses ≡ true
+all_fresh [] = refl
+all_fresh (u ∷ uses) = all_fresh uses
+
+whole_bits : (ks ns w : Bool) → ((ks && (ns && true)) && w) ≡ (ks && (ns && w))
+whole_bits false ns w = refl
+whole_bits true false w = refl
+whole_bits true true w = refl
+
+-- uses from the start fit by the definition
+fits : (options : List OptionRow) (uses : List Use) → (extends options [] uses && is_complete options uses) ≡ do_fit options uses
+fits options uses =
+    ap (λ (t : Bool). t && is_complete options uses) (extends_is options [] uses ∙ ap (λ (t : Bool). list_all (λ (u : Use). is_known options u.name) uses && (has_no_repeat uses && t)) (all_fresh uses))
+    ∙ whole_bits _ (has_no_repeat uses) (is_complete options uses)
+
+-- a word of a short form is no option, no value and no command
+short_word : (word : Text) → is_short word ≡ true → (◌≡◌ {A = Option (Text × Option Text)} (option_of word) None) × (is_value_word word ≡ false)
+short_word [] e = absurd (cc)
+short_word (a ∷ []) e = absurd (cc)
+short_word (a ∷ b ∷ []) e =
+    let no_option : ◌≡◌ {A = Option (Text × Option Text)} (option_of (a ∷ b ∷ [])) None = rw e (elim (b == 45) as (λ t. ◌≡◌ {A = Option (Text × Option Text)} (option_and_then name_and_value (if t then Some [] else None)) None) [ true ↦ refl | false ↦ refl ]) in
+    (no_option, rw e refl)
+short_word (a ∷ b ∷ c ∷ rest) e =
+    let parts = and_parts (a == 45) (not (b == 45)) e in
+    let second : (b == 45) ≡ false = not_true (b == 45) parts.1 in
+    let no_option : ◌≡◌ {A = Option (Text × Option Text)} (option_of (a ∷ b ∷ c ∷ rest)) None = rw (parts.0, second) refl in
+    (no_option, rw parts.0 refl)
+  where
+    not_true : (b : Bool) → not b ≡ true → b ≡ false
+    not_true true e = absurd (cc)
+    not_true false e = refl
+
+short_command : (word : Text) → is_short word ≡ true → ◌≡◌ {A = Option CommandRow} (command_of word) None
+short_command [] e = absurd (cc)
+short_command (a ∷ []) e = absurd (cc)
+short_command (a ∷ b ∷ []) e =
+    let first : a ≡ 45 = eqb-true a 45 e in
+    rw first refl
+short_command (a ∷ b ∷ c ∷ rest) e =
+    let first : a ≡ 45 = eqb-true a 45 (and_parts (a == 45) (not (b == 45)) e).0 in
+    rw first refl
+
+front_none : (w : Option Use) → ◌≡◌ {A = Option (List Use)} (in_front w None) None
+front_none None = refl
+front_none (Some u) = refl
+
+or_right : (a b : Bool) → (a || b) ≡ true → a ≡ false → b ≡ true
+or_right true b e first = absurd (true≢false first)
+or_right false b e first = e
+
+-- a word before others of which one has a short form
+short_behind : (word next : Text) (rest : List Text) → Named word → list_any is_short (next ∷ rest) ≡ true → ◌≡◌ {A = Option (List Use)} (uses_of (next ∷ rest)) None
+    → (list_any is_short rest ≡ true → ◌≡◌ {A = Option (List Use)} (uses_of rest) None) → ◌≡◌ {A = Option (List Use)} (uses_of (word ∷ next ∷ rest)) None
+unfolding uses_of
+short_behind word next rest (plain_word plain) e attached apart = rw plain.names_none refl
+short_behind word next rest (option_word x xs) e attached apart = by_form (has_byte 61 (x ∷ xs)) refl (is_short next) refl
+  where
+    by_form : (t : Bool) → has_byte 61 (x ∷ xs) ≡ t → (s : Bool) → is_short next ≡ s → ◌≡◌ {A = Option (List Use)} (uses_of (option_at x xs ∷ next ∷ rest)) None
+    by_form true has s short = uses_attached x xs (next ∷ rest) has ∙ ap (in_front (with_value (name_at x xs) (value_at x xs))) attached ∙ front_none _
+    by_form false has true short =
+        let no_value : ◌≡◌ {A = Option Use} (followed (name_at x xs) next) None = rw (short_word next short).1 refl in
+        uses_apart x xs next rest has ∙ ap (λ (w : Option Use). in_front w (uses_of rest)) no_value
+    by_form false has false long = uses_apart x xs next rest has ∙ ap (in_front (followed (name_at x xs) next)) (apart (or_right (is_short next) (list_any is_short rest) e long)) ∙ front_none _
+
+-- words with one of a short form make no uses
+short_uses : (words : List Text) → list_any is_short words ≡ true → ◌≡◌ {A = Option (List Use)} (uses_of words) None
+unfolding uses_of
+short_uses [] e = absurd (cc)
+short_uses (word ∷ []) e = only (is_short word) refl e
+  where
+    only : (t : Bool) → is_short word ≡ t → (t || false) ≡ true → ◌≡◌ {A = Option (List Use)} (uses_of (word ∷ [])) None
+    only true short e = rw (short_word word short).0 refl
+    only false long e = absurd (true≢false (sym e))
+short_uses (word ∷ next ∷ rest) e = first (short_uses (next ∷ rest)) (short_uses rest) (is_short word) refl
+  where
+    first : (list_any is_short (next ∷ rest) ≡ true → ◌≡◌ {A = Option (List Use)} (uses_of (next ∷ rest)) None)
+        → (list_any is_short rest ≡ true → ◌≡◌ {A = Option (List Use)} (uses_of rest) None)
+        → (t : Bool) → is_short word ≡ t → ◌≡◌ {A = Option (List Use)} (uses_of (word ∷ next ∷ rest)) None
+    first attached apart true short = rw (short_word word short).0 refl
+    first attached apart false long =
+        let others : list_any is_short (next ∷ rest) ≡ true = or_right (is_short word) (list_any is_short (next ∷ rest)) e long in
+        short_behind word next rest (named word long) others (attached others) apart
+
+reading_none : (o : Option CommandRow) → ◌≡◌ {A = Option Reading} (reading_with o None) None
+reading_none None = refl
+reading_none (Some row) = refl
+
+-- words with one of a short form have no reading
+pub short_reading : (words : List Text) → list_any is_short words ≡ true → ◌≡◌ {A = Option Reading} (reading_of words) None
+unfolding reading_of
+short_reading [] e = absurd (cc)
+short_reading (word ∷ words) e = first (is_short word) refl
+  where
+    first : (t : Bool) → is_short word ≡ t → ◌≡◌ {A = Option Reading} (reading_of (word ∷ words)) None
+    first true short = ap (λ (o : Option CommandRow). reading_with o (uses_of words)) (short_command word short)
+    first false long = ap (reading_with (command_of word)) (short_uses words (or_right (is_short word) (list_any is_short words) e long)) ∙ reading_none (command_of word)
+
+-- the first value of a row
+value_row : (uses : List Use) (name : Text) → first_of name (rows_of_uses uses) ≡ value_of uses name
+value_row [] name = refl
+value_row (u ∷ uses) name =
+    elim (bytes_eq u.name name) as (λ t. option_and_then (λ (r : Row). slice_get r.values 0) (cond t (Some (row_of_use u)) (find (λ (r : Row). bytes_eq r.id name) (rows_of_uses uses)))
+    ≡ option_map (λ (v : Use). v.value) (cond t (Some u) (find (λ (v : Use). bytes_eq v.name name) uses))) [
+      | true ↦ refl
+      | false ↦ value_row uses name
+    ]
+
+-- an option that is used has a value
+used_value : (uses : List Use) (name : Text) → is_used uses name ≡ true → (value : Text) × (value_of uses name ≡ Some value)
+used_value [] name = λ e. absurd (cc)
+used_value (u ∷ uses) name =
+    elim (bytes_eq u.name name) as (λ t. (t || is_used uses name) ≡ true → (value : Text) × (option_map (λ (v : Use). v.value) (cond t (Some u) (find (λ (v : Use). bytes_eq v.name name) uses)) ≡ Some value)) [
+      | true ↦ λ e. (u.value, refl)
+      | false ↦ λ e. used_value uses name e
+    ]
+
+-- the files of a command are all there
+files_are : (uses : List Use) → is_complete file_options uses ≡ true
+    → files_in (rows_of_uses uses) ≡ Some (value_of uses (codes "policy") ∷ value_of uses (codes "facts") ∷ value_of uses (codes "journals") ∷ [])
+files_are uses whole =
+    let one = and_parts (is_used uses (codes "policy")) _ whole in
+    let two = and_parts (is_used uses (codes "facts")) _ one.1 in
+    let three = and_parts (is_used uses (codes "journals")) _ two.1 in
+    let policy = used_value uses (codes "policy") one.0 in
+    let facts = used_value uses (codes "facts") two.0 in
+    let journals = used_value uses (codes "journals") three.0 in
+    (λ i. files_with (value_row uses (codes "policy") i) (value_row uses (codes "facts") i) (value_row uses (codes "journals") i))
+    ∙ rw (policy.1, facts.1, journals.1) refl
+
+-- a row of the table is one of three
+in_table : (P : CommandRow → Type 0) (word : Text) (row : CommandRow) → command_of word ≡ Some row
+    → P (record { name = codes "case"; options = [] }) → P (record { name = codes "init"; options = file_options }) → P (record { name = codes "batch"; options = file_options }) → P row
+in_table P word row is case init batch =
+    elim (bytes_eq (codes "case") word) as (λ t. cond t (Some (record { name = codes "case"; options = [] }))
+    (cond (bytes_eq (codes "init") word) (Some (record { name = codes "init"; options = file_options })) (cond (bytes_eq (codes "batch") word) (Some (record { name = codes "batch"; options = file_options })) None)) ≡ Some row → P row) [
+      | true ↦ λ e. subst P (same _ e) case
+      | false ↦
+          elim (bytes_eq (codes "init") word) as (λ t.
+          cond t (Some (record { name = codes "init"; options = file_options })) (cond (bytes_eq (codes "batch") word) (Some (record { name = codes "batch"; options = file_options })) None) ≡ Some row → P row) [
+            | true ↦ λ e. subst P (same _ e) init
+            | false ↦
+                elim (bytes_eq (codes "batch") word) as (λ t. cond t (Some (record { name = codes "batch"; options = file_options })) None ≡ Some row → P row) [
+                  | true ↦ λ e. subst P (same _ e) batch
+                  | false ↦ λ e. absurd (cc)
+                ]
           ]
-    ] unfit
+    ] is
+  where
+    same : (first : CommandRow) → Some first ≡ Some row → first ≡ row
+    same first e = ap (λ (o : Option CommandRow). unwrap_or o first) e
 
--- a value that must be there
-needed_value : (values : List (List ℕ)) → is_well_given true values ≡ true → (value : List ℕ) × (slice_get values 0 ≡ Some value)
-needed_value [] none = absurd (cc)
-needed_value (value ∷ []) once = (value, refl)
-needed_value (value ∷ again ∷ rest) twice = absurd (cc)
+-- the reading of a command's row
+abbrev reading_at : CommandRow → List Use → Reading
+reading_at row uses = record { command = row.name; values = map (λ (o : OptionRow). value_of uses o.name) row.options }
 
--- both options of `batch` have a value
-batch_of : (policies facts : List (List ℕ)) → (is_well_given true policies && (is_well_given true facts && true)) ≡ true
-    → batch_with (slice_get policies 0) (slice_get facts 0) ≡ Some (record { command = codes "batch"; values = slice_get policies 0 ∷ slice_get facts 0 ∷ [] })
-batch_of policies facts well =
-    let parts = and_parts (is_well_given true policies) (is_well_given true facts && true) well in
-    let last = and_parts (is_well_given true facts) true parts.1 in
-    let policy = needed_value policies parts.0 in
-    let fact = needed_value facts last.0 in
-    rw (policy.1, fact.1) refl
+-- what is made of the rows of a command is its reading
+command_reading : (word : Text) (row : CommandRow) (uses : List Use) → command_of word ≡ Some row → is_complete row.options uses ≡ true → command_with row.name (rows_of_uses uses) ≡ Some (reading_at row uses)
+command_reading word row uses known =
+    in_table (λ (r : CommandRow). is_complete r.options uses ≡ true → command_with r.name (rows_of_uses uses) ≡ Some (reading_at r uses)) word row known
+    (λ whole. refl)
+    (λ whole. ap (option_map (λ values. record { command = codes "init"; values = values })) (files_are uses whole))
+    (λ whole. ap (option_map (λ values. record { command = codes "batch"; values = values })) (files_are uses whole))
 
--- the reading of rows and values, whatever the command
-abbrev read_rows : List ℕ → List OptionRow → List Use → Option Reading
-read_rows command rows uses = Some (record { command = command; values = map (λ (row : OptionRow). slice_get (values_of row.name uses) 0) rows })
+-- the reading of what was matched
+abbrev pub matched_reading : Option (Text × List Row) → Option Reading
+matched_reading = option_and_then (λ found. command_with found.0 found.1)
 
--- the reading of a command with values
-abbrev with_of : List ℕ → Option (List Use) → Option Reading
-with_of command o =
-    if bytes_eq command (codes "case") then Some (record { command = codes "case"; values = [] })
-    else if bytes_eq command (codes "batch") then batch_with (slice_get (given_of (codes "--policy") o) 0) (slice_get (given_of (codes "--facts") o) 0)
-    else None
-
--- the options of `batch`
-abbrev batch_rows : List OptionRow
-batch_rows = needed (codes "--policy") ∷ needed (codes "--facts") ∷ []
-
--- equal rows of a table
-same_rows : (rows others : List OptionRow) → Some rows ≡ Some others → rows ≡ others
-same_rows rows others same = ap (λ (o : Option (List OptionRow)). unwrap_or o []) same
-
--- the values of the options in the table are those that the command has
-read_of : (command : List ℕ) (rows : List OptionRow) (uses : List Use) → Some rows ≡ options_of command → well_of rows (Some uses) ≡ true → with_of command (Some uses) ≡ read_rows command rows uses
-read_of command rows uses =
-    elim (bytes_eq command (codes "case")) as (λ t. bytes_eq command (codes "case") ≡ t
-    → Some rows ≡ (if t then Some [] else (if bytes_eq command (codes "batch") then Some batch_rows else None)) → well_of rows (Some uses) ≡ true
-    → (if t then Some (record { command = codes "case"; values = [] }) else (if bytes_eq command (codes "batch") then batch_with (slice_get (values_of (codes "--policy") uses) 0) (slice_get (values_of (codes "--facts") uses) 0) else None)) ≡ read_rows command rows uses) [
-      | true ↦ λ same is well.
-          ap (λ (c : List ℕ). read_rows c [] uses) (sym (named command (codes "case") same)) ∙ ap (λ (r : List OptionRow). read_rows command r uses) (sym (same_rows rows [] is))
-      | false ↦ λ other.
-          elim (bytes_eq command (codes "batch")) as (λ t. bytes_eq command (codes "batch") ≡ t
-          → Some rows ≡ (if t then Some batch_rows else None) → well_of rows (Some uses) ≡ true
-          → (if t then batch_with (slice_get (values_of (codes "--policy") uses) 0) (slice_get (values_of (codes "--facts") uses) 0) else None) ≡ read_rows command rows uses) [
-            | true ↦ λ same is well.
-                batch_of (values_of (codes "--policy") uses) (values_of (codes "--facts") uses) (ap (λ (r : List OptionRow). well_of r (Some uses)) (sym (same_rows rows batch_rows is)) ∙ well)
-                ∙ ap (λ (c : List ℕ). read_rows c batch_rows uses) (sym (named command (codes "batch") same))
-                ∙ ap (λ (r : List OptionRow). read_rows command r uses) (sym (same_rows rows batch_rows is))
-            | false ↦ λ neither is well. absurd (cc)
-          ] refl
-    ] refl
-
--- uses that fit
-fit_of : (command : List ℕ) (rows : List OptionRow) (o : Option (List Use)) → Some rows ≡ options_of command → known_of rows o ≡ true → well_of rows o ≡ true
-    → with_of command o ≡ reading_with command (Some rows) o
-fit_of command rows None is known well = absurd (cc)
-fit_of command rows (Some uses) is known well = rw (well, known) (read_of command rows uses is well)
-
--- the reading of a command whose uses fit
-pub fitting : (words : List (List ℕ)) (command : List ℕ) (options : List (List ℕ)) (rows : List OptionRow) → words ≡ command ∷ options → Some rows ≡ options_of command
-    → make_known rows options ≡ true → are_well_given rows options ≡ true → command_with command options ≡ reading_of words
-unfolding reading_of make_known values_in
-fitting words command options rows is table known well =
-    fit_of command rows (uses_of options) table known well
-    ∙ ap (λ (o : Option (List OptionRow)). reading_with command o (uses_of options)) table
-    ∙ ap reading_of (sym is)
-
--- one whose uses don't
-pub unfitting : (words : List (List ℕ)) (command : List ℕ) (options : List (List ℕ)) (rows : List OptionRow) → words ≡ command ∷ options → Some rows ≡ options_of command
-    → (make_known rows options && are_well_given rows options) ≡ false → ◌≡◌ {A = Option Reading} None (reading_of words)
-unfolding reading_of make_known values_in
-unfitting words command options rows is table unfit =
-    unfit_of command rows (uses_of options) unfit
-    ∙ ap (λ (o : Option (List OptionRow)). reading_with command o (uses_of options)) table
-    ∙ ap reading_of (sym is)
-
--- another command
-pub no_command : (words : List (List ℕ)) (command : List ℕ) (options : List (List ℕ)) → words ≡ command ∷ options → None ≡ options_of command → ◌≡◌ {A = Option Reading} None (reading_of words)
+-- words that clap takes
+pub taken : (words : List Text) → list_any is_short words ≡ false → ◌≡◌ {A = Kinds} (fault_of program words) [] → matched_reading (subcommand_of program words) ≡ reading_of words
 unfolding reading_of
-no_command words command options is table =
-    ap (λ (o : Option (List OptionRow)). reading_with command o (uses_of options)) table
-    ∙ ap reading_of (sym is)
+taken [] long free = absurd (true≢false (sym (ap none free) ∙ no_words))
+taken (word ∷ words) long free = by_command (command_of word) refl
+  where
+    by_uses : (row : CommandRow) → command_of word ≡ Some row → (o : Option (List Use)) → uses_of words ≡ o → completes row.options [] o ≡ true → matched_reading (subcommand_of program (word ∷ words)) ≡ reading_of (word ∷ words)
+    by_uses row known None is bad = absurd (cc)
+    by_uses row known (Some uses) is good =
+        let parts = and_parts (extends row.options [] uses) (is_complete row.options uses) good in
+        let rows = (gives row [] words (or_false (is_short word) (list_any is_short words) long).1).ends uses is parts.0 in
+        let fit : do_fit row.options uses ≡ true = sym (fits row.options uses) ∙ good in
+        let reading : reading_with (Some row) (Some uses) ≡ Some (reading_at row uses) = rw fit refl in
+        ap matched_reading ((enters row word words known).matched ∙ ap (λ (r : List Row). Some (row.name, r)) rows)
+        ∙ command_reading word row uses known parts.1
+        ∙ sym reading
+        ∙ (λ i. reading_with (sym known i) (sym is i))
 
--- no words
-pub no_words : {W : Type 0} (text : W → List ℕ) (words : List W) → length words ≡ 0 → ◌≡◌ {A = Option Reading} None (reading_of (map text words))
+    by_command : (o : Option CommandRow) → command_of word ≡ o → matched_reading (subcommand_of program (word ∷ words)) ≡ reading_of (word ∷ words)
+    by_command None unknown =
+        absurd (true≢false (sym (ap none free) ∙ no_command word words (named word (or_false (is_short word) (list_any is_short words) long).0) unknown))
+    by_command (Some row) known =
+        let given = gives row [] words (or_false (is_short word) (list_any is_short words) long).1 in
+        by_uses row known (uses_of words) refl (sym given.passes ∙ sym (enters row word words known).faults ∙ ap none free)
+
+-- words that it refuses
+pub refused : (words : List Text) → list_any is_short words ≡ false → none (fault_of program words) ≡ false → ◌≡◌ {A = Option Reading} (reading_of words) None
 unfolding reading_of
-no_words text [] none = refl
-no_words text (word ∷ words) none = absurd (omega arith)
+refused [] long fails = refl
+refused (word ∷ words) long fails = by_command (command_of word) refl
+  where
+    by_uses : (row : CommandRow) → command_of word ≡ Some row → (o : Option (List Use)) → uses_of words ≡ o → completes row.options [] o ≡ false → ◌≡◌ {A = Option Reading} (reading_of (word ∷ words)) None
+    by_uses row known None is bad = (λ i. reading_with (known i) (is i))
+    by_uses row known (Some uses) is bad =
+        let unfit : do_fit row.options uses ≡ false = sym (fits row.options uses) ∙ bad in
+        let none : ◌≡◌ {A = Option Reading} (reading_with (Some row) (Some uses)) None = rw unfit refl in
+        (λ i. reading_with (known i) (is i)) ∙ none
+
+    by_command : (o : Option CommandRow) → command_of word ≡ o → ◌≡◌ {A = Option Reading} (reading_of (word ∷ words)) None
+    by_command None unknown = ap (λ (o : Option CommandRow). reading_with o (uses_of words)) unknown
+    by_command (Some row) known =
+        let given = gives row [] words (or_false (is_short word) (list_any is_short words) long).1 in
+        by_uses row known (uses_of words) refl (sym given.passes ∙ sym (enters row word words known).faults ∙ fails)
+
+-- an error that isn't want of memory is a fault of the words
+pub fault_there : (kinds : Kinds) (e : Error) → HasKind kinds e → (kind_of e ≡ OutOfMemory → ⊥) → none kinds ≡ false
+fault_there [] e why other = ⊎_elim (λ memory. absurd (other memory)) (λ bad. absurd bad) why
+fault_there (k ∷ kinds) e why other = refl

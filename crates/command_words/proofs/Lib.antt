@@ -1,3 +1,5 @@
-pub mod Taking
-pub mod Giving
+pub mod Options
+pub mod Turns
+pub mod Walks
+pub mod Entering
 pub mod Fitting

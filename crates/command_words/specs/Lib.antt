@@ -1,3 +1,3 @@
 pub mod Uses
 pub mod Readings
-pub mod Given
+pub mod Matched

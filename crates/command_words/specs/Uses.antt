@@ -1,47 +1,63 @@
 -- The uses of options that words make.
-use Rattle.std.specs.Prelude.{ℕ, ◌==◌, Bool, false, not, ◌||◌, List, [], ◌∷◌, length, Option, Some, None, if◌then◌else◌}
+use Rattle.std.specs.Prelude.{ℕ, ◌==◌, Bool, true, false, not, List, [], ◌∷◌, Option, Some, None, option_and_then, if◌then◌else◌}
 use Rattle.std.specs.List.{list_any, before_first, after_first}
-use Rattle.command_words.specs.declared.uses.OptionUse.{OptionUse}
 
--- one use of an option: its name, with its hyphens, and its value
+-- one use of an option: its name, without its hyphens, and its value
 pub record Use : Type 0 where
   pub name : List ℕ
   pub value : List ℕ
 
--- the same of a use in memory
-abbrev pub use_in : OptionUse → Use
-use_in u = record { name = u.name.now; value = u.value.now }
-
--- a word that may be the value of the option before it: it isn't empty, and begins with no hyphen, or is `-` alone
-abbrev pub is_value_word : List ℕ → Bool
-is_value_word [] = false
-is_value_word (b ∷ rest) = not (b == 45) || length rest == 0
+-- what stands behind a hyphen
+abbrev pub behind_hyphen : List ℕ → Option (List ℕ)
+behind_hyphen [] = None
+behind_hyphen (b ∷ rest) = if b == 45 then Some rest else None
 
 -- an equals sign
 abbrev pub is_equals : ℕ → Bool
 is_equals b = b == 61
 
--- a use whose value stands in the same word, and isn't empty
+-- a name, and the value behind the first equals sign, if there is one
+abbrev pub name_and_value : List ℕ → Option (List ℕ × Option (List ℕ))
+name_and_value [] = None
+name_and_value (b ∷ rest) = Some (before_first is_equals (b ∷ rest), if list_any is_equals (b ∷ rest) then Some (after_first is_equals (b ∷ rest)) else None)
+
+-- the option that a word names, `--name` or `--name=value`, with its value, if that stands in the word
+abbrev pub option_of : List ℕ → Option (List ℕ × Option (List ℕ))
+option_of word = option_and_then name_and_value (option_and_then behind_hyphen (behind_hyphen word))
+
+-- a word that may be the value of the option before it: it is one byte, also `-`, or more, of which the first is no hyphen
+abbrev pub is_value_word : List ℕ → Bool
+is_value_word [] = false
+is_value_word (b ∷ []) = true
+is_value_word (b ∷ c ∷ rest) = not (b == 45)
+
+-- a use whose value stands in the word of its option, and isn't empty
 abbrev pub with_value : List ℕ → List ℕ → Option Use
-with_value name value = if length value == 0 then None else Some (record { name = name; value = value })
+with_value name [] = None
+with_value name (b ∷ rest) = Some (record { name = name; value = b ∷ rest })
 
--- the use of a word that has an equals sign: its name stands before the first one, its value behind it
-abbrev pub attached : List ℕ → Option Use
-attached word = with_value (before_first is_equals word) (after_first is_equals word)
-
--- the use of a word with the next word as its value
+-- a use whose value is the next word
 abbrev pub followed : List ℕ → List ℕ → Option Use
-followed word next = if is_value_word next then Some (record { name = word; value = next }) else None
+followed name next = if is_value_word next then Some (record { name = name; value = next }) else None
 
 -- a use in front of others, where all have a reading
 abbrev pub in_front : Option Use → Option (List Use) → Option (List Use)
 in_front (Some u) (Some rest) = Some (u ∷ rest)
 in_front _ _ = None
 
+-- the uses of a last word: its value has to stand in it
+abbrev pub uses_at_end : Option (List ℕ × Option (List ℕ)) → Option (List Use)
+uses_at_end (Some (name, Some value)) = in_front (with_value name value) (Some [])
+uses_at_end _ = None
+
+-- the uses of a word, the next one, and those behind: `attached` are the uses from the next word on, `apart` those behind it
+abbrev pub uses_before : Option (List ℕ × Option (List ℕ)) → List ℕ → Option (List Use) → Option (List Use) → Option (List Use)
+uses_before (Some (name, Some value)) next attached apart = in_front (with_value name value) attached
+uses_before (Some (name, None)) next attached apart = in_front (followed name next) apart
+uses_before None next attached apart = None
+
 -- all uses that the words make, in their order: each is `--name=value`, or `--name` and its value as the next word
 unfoldable pub uses_of : List (List ℕ) → Option (List Use)
 uses_of [] = Some []
-uses_of (word ∷ []) = if list_any is_equals word then in_front (attached word) (Some []) else None
-uses_of (word ∷ next ∷ rest) =
-    if list_any is_equals word then in_front (attached word) (uses_of (next ∷ rest))
-    else in_front (followed word next) (uses_of rest)
+uses_of (word ∷ []) = uses_at_end (option_of word)
+uses_of (word ∷ next ∷ rest) = uses_before (option_of word) next (uses_of (next ∷ rest)) (uses_of rest)

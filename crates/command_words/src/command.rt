@@ -1,55 +1,132 @@
 // The command that the words say.
-ghost use Rattle.std.specs.Prelude.{◌≡◌, true, map, option_map, string_bytes};
-ghost use Rattle.command_words.specs.Readings.{reading_of, reading_in};
-ghost use Rattle.command_words.specs.Given.{make_uses, batch_with, command_with};
+ghost use Rattle.std.specs.Prelude.{◌≡◌, true, map, option_map, option_and_then, string_bytes, IfOk};
+ghost use Rattle.std.specs.List.{list_any};
+ghost use Rattle.clap.specs.Words.{found_of, kind_of, rows_of, subcommand_rows_of};
+ghost use Rattle.command_words.specs.Readings.{reading_of, reading_in, values_of_files};
+ghost use Rattle.command_words.specs.Matched.{is_short, files_with, files_in, command_with};
 
-use crate::given::{do_fit, value_of};
-use crate::table::options_of;
+use crate::program::program;
+use clap::error::ErrorKind;
+use clap::{ArgMatches, Error};
+use std::alloc::{AllocError, Global};
+
+/// The files that a command stands on, by their names.
+#[derive(Clone, Copy, Debug, PartialEq, Eq)]
+pub struct Files<'a> {
+    /// the policy file
+    pub policy: &'a str,
+    /// the facts file
+    pub facts: &'a str,
+    /// the directory of the journals
+    pub journals: &'a str,
+}
 
 /// What the program is to do. The texts are those of the words.
 #[derive(Clone, Copy, Debug, PartialEq, Eq)]
 pub enum Command<'a> {
     /// `case`: a script with one user.
     Case,
-    /// `batch`: a script with many users, over a policy file and a facts file.
-    Batch { policy: &'a str, facts: &'a str },
+    /// `init`: an empty journal for each user of the policy.
+    Init(Files<'a>),
+    /// `batch`: a script with many users and sessions.
+    Batch(Files<'a>),
 }
 
 /// Reads the words behind the program's name.
 ///
 /// The first word is the command. Its options come behind it in any order, each once, as `--name value` or
 /// `--name=value`. Words that begin with a hyphen, but for `-` alone, are values only in the second form, and no value
-/// is empty. There is no help among the words and no short form of a name.
-pub fn read_words(words: &[String]) -> Option<Command<'_>>
-    ensures { option_map reading_in result ≡ reading_of (map string_bytes words.now) }
+/// is empty. There is no help among the words and no short form of a name. An error is want of memory.
+pub fn read_words<'a>(alloc: Global, words: &'a [String]) -> Result<Option<Command<'a>>, AllocError>
+    ensures { IfOk result (λ read. option_map reading_in read ≡ reading_of (map string_bytes words.now)) }
 {
-    let (command, options) = words.split_first()?;
-    let command = command.as_str();
-    let rows = options_of(command)?;
-    if do_fit(rows, options) {
-        command_with(command, options)
-    } else {
-        None
+    if has_short(words) {
+        return Ok(None);
+    }
+    let program = program(alloc)?;
+    match program.try_get_matches_from(words) {
+        Ok(matches) => Ok(command_in(&matches)),
+        Err(error) => {
+            if is_want_of_memory(&error) {
+                Err(AllocError)
+            } else {
+                Ok(None)
+            }
+        }
     }
 }
 
-// The command of this name with the values that words give to its options.
-fn command_with<'a>(command: &str, words: &'a [String]) -> Option<Command<'a>>
-    requires { make_uses (map string_bytes words.now) ≡ true }
-    ensures { option_map reading_in result ≡ command_with command.now (map string_bytes words.now) }
+// Whether one of the words is `--` or has the form `-x`: `clap` takes the first for the end of the options.
+fn has_short(words: &[String]) -> bool
+    ensures { result ≡ list_any is_short (map string_bytes words.now) }
 {
-    match command {
+    match words {
+        [] => false,
+        [word, rest @ ..] => is_short(word.as_str()) || has_short(rest),
+    }
+}
+
+fn is_short(word: &str) -> bool
+    ensures { result ≡ is_short word.now }
+{
+    match word.as_bytes() {
+        [] => false,
+        [_] => false,
+        [first, _] => *first == b'-',
+        [first, second, _, ..] => *first == b'-' && *second != b'-',
+    }
+}
+
+fn is_want_of_memory(error: &Error) -> bool
+    ensures { kind_of error.now ≡ ErrorKind.OutOfMemory → result ≡ true }
+{
+    error.kind() == ErrorKind::OutOfMemory
+}
+
+// The command that was matched, with its values.
+fn command_in<'a>(matches: &ArgMatches<'a>) -> Option<Command<'a>>
+    ensures { option_map reading_in result ≡ option_and_then (λ found. command_with found.0 found.1) (subcommand_rows_of matches.now) }
+{
+    let (name, given) = matches.subcommand()?;
+    command_with(name, given)
+}
+
+// The command of this name with the values that were matched.
+fn command_with<'a>(name: &str, given: &ArgMatches<'a>) -> Option<Command<'a>>
+    ensures { option_map reading_in result ≡ command_with name.now (rows_of (found_of given.now)) }
+{
+    match name {
         "case" => Some(Command::Case),
-        "batch" => batch_with(value_of("--policy", words), value_of("--facts", words)),
+        "init" => Some(Command::Init(files_in(given)?)),
+        "batch" => Some(Command::Batch(files_in(given)?)),
         _ => None,
     }
 }
 
-fn batch_with<'a>(policy: Option<&'a str>, facts: Option<&'a str>) -> Option<Command<'a>>
-    ensures { option_map reading_in result ≡ batch_with (option_map (λ s. s.now) policy.entry) (option_map (λ s. s.now) facts.entry) }
+// The files that were matched.
+fn files_in<'a>(given: &ArgMatches<'a>) -> Option<Files<'a>>
+    ensures { option_map values_of_files result ≡ files_in (rows_of (found_of given.now)) }
 {
-    match (policy, facts) {
-        (Some(policy), Some(facts)) => Some(Command::Batch { policy, facts }),
+    files_with(
+        given.get_str("policy"),
+        given.get_str("facts"),
+        given.get_str("journals"),
+    )
+}
+
+fn files_with<'a>(
+    policy: Option<&'a str>,
+    facts: Option<&'a str>,
+    journals: Option<&'a str>,
+) -> Option<Files<'a>>
+    ensures { option_map values_of_files result ≡ files_with (option_map (λ s. s.now) policy.entry) (option_map (λ s. s.now) facts.entry) (option_map (λ s. s.now) journals.entry) }
+{
+    match (policy, facts, journals) {
+        (Some(policy), Some(facts), Some(journals)) => Some(Files {
+            policy,
+            facts,
+            journals,
+        }),
         _ => None,
     }
 }

@@ -1,18 +1,17 @@
 //! The words of the command line.
 //!
-//! `read_words` reads the words behind the program's name as a `Command`. It gives exactly the reading of a definition:
-//! a table of the commands with their options, the uses of options that the words make, and the test that the uses fit
-//! the table. Every list of words has one reading or none. No memory is taken.
+//! `read_words` reads the words behind the program's name as a `Command`, by `clap`. It gives exactly the reading of a
+//! definition: a table of the commands with their options, the uses of options that the words make, and the test that
+//! the uses fit the table. Every list of words has one reading or none. Only want of memory is an answer of its own.
 //!
-//! Read `specs/Uses.antt` and `specs/Readings.antt`, then `command`, which has the promise, and `table`, to which a
-//! further command is added; `uses` takes one option after the other from the words, and `given` tells what they give.
+//! Read `specs/Uses.antt` and `specs/Readings.antt`, then `command`, which has the promise, and `program`, which tells
+//! `clap` of the commands; `specs/Matched.antt` and `proofs` tie `clap`'s answer to the definition. A further command is
+//! added to the table, to `program`, and to `command`.
 #![tactic(auto)]
 
 mod command;
-mod given;
-mod table;
+mod program;
 #[cfg(test)]
 mod tests;
-mod uses;
 
-pub use command::{Command, read_words};
+pub use command::{Command, Files, read_words};

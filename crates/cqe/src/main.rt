@@ -10,7 +10,7 @@ use std::{env, io};
 const OUT_OF_MEMORY: u8 = 13;
 
 fn main(rt: HostRuntime) -> ExitCode {
-    let mut shelf = FileShelf::new(&rt);
+    let mut shelf = FileShelf::new(rt.alloc(), &rt);
     let mut source = StreamSource::new(rt.stdin());
     let mut sink = StreamSink::new(rt.stdout());
     let mut complaints = StreamSink::new(rt.stderr());

@@ -1,4 +1,5 @@
-//! The batch of the ward over real files: the program's `batch` with the words of the example.
+//! The journals and the batch of the ward over real files: the program's `init` and then its `batch`, with the words of
+//! the example and the journals in the folder in which it runs.
 #![tactic(auto)]
 
 use cqe_top::top;
@@ -7,18 +8,47 @@ use std::alloc::{AllocError, Global};
 use std::process::ExitCode;
 
 /// The words of the example.
-const WORDS: [&str; 5] = ["batch", "--policy", "ward.policy", "--facts", "ward.facts"];
+const INIT: [&str; 7] = [
+    "init",
+    "--policy",
+    "ward.policy",
+    "--facts",
+    "ward.facts",
+    "--journals",
+    ".",
+];
+
+const BATCH: [&str; 7] = [
+    "batch",
+    "--policy",
+    "ward.policy",
+    "--facts",
+    "ward.facts",
+    "--journals",
+    ".",
+];
 
 fn main(rt: HostRuntime) -> ExitCode {
-    let mut shelf = FileShelf::new(&rt);
+    let mut shelf = FileShelf::new(rt.alloc(), &rt);
     let (mut source, mut sink) = (StreamSource::new(rt.stdin()), StreamSink::new(rt.stdout()));
     let mut complaints = StreamSink::new(rt.stderr());
-    let Ok(words) = words(rt.alloc()) else {
+    let (Ok(init), Ok(batch)) = (words(rt.alloc(), &INIT), words(rt.alloc(), &BATCH)) else {
         return ExitCode::from(13);
     };
+    let made = top(
+        rt.alloc(),
+        &init,
+        &mut shelf,
+        &mut source,
+        &mut sink,
+        &mut complaints,
+    );
+    if made != 0 {
+        return ExitCode::from(made);
+    }
     let status = top(
         rt.alloc(),
-        &words,
+        &batch,
         &mut shelf,
         &mut source,
         &mut sink,
@@ -27,10 +57,10 @@ fn main(rt: HostRuntime) -> ExitCode {
     ExitCode::from(status)
 }
 
-fn words(alloc: Global) -> Result<Vec<String>, AllocError> {
+fn words(alloc: Global, texts: &[&str]) -> Result<Vec<String>, AllocError> {
     let mut words = Vec::new(alloc);
-    for word in WORDS {
-        words.push(String::from_str(alloc, word)?)?;
+    for text in texts {
+        words.push(String::from_str(alloc, text)?)?;
     }
     Ok(words)
 }

@@ -2,3 +2,6 @@ mod Digits
 mod Writing
 mod Users
 mod Reaching
+mod Making
+mod Failing
+mod Good

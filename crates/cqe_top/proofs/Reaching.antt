@@ -1,22 +1,30 @@
 -- What the end of a command reaches, from what its parts did.
-use Rattle.std.proofs.Common.{◌≡◌, ◌⊎◌, inl, inr, ℕ, true, false, List, refl, sym, subst, ◌∙◌}
-use Rattle.std.specs.Prelude.{IsOk}
-use Rattle.batch_engine.specs.BatchLines.{batch_of}
+use Rattle.std.proofs.Common.{◌≡◌, inl, inr, ℕ, Bool, true, false, List, Option, refl, subst}
+use Rattle.std.specs.Prelude.{Vec, if◌then◌else◌}
+use Rattle.std.specs.declared.alloc.Global.{Global}
+use Rattle.outside.specs.Shelf.{SameNames}
+use Rattle.cqe_base.specs.Schema.{Text}
 use Rattle.cqe_base.specs.Facts.{FactSet}
 use Rattle.cqe_base.specs.Transcript.{NamedUser}
+use Rattle.cqe_base.specs.declared.user.User.{User}
+use Rattle.user_desk.specs.declared.standing.DeskError.{DeskError}
 use Rattle.policy_files.specs.Policies.{PolicyValue}
+use Rattle.policy_files.specs.Users.{names_of}
+use Rattle.init_engine.specs.Disks as init
 use Rattle.case_engine.specs.Case as case
 use Rattle.case_engine.specs.declared.case.CaseEnd.{CaseEnd}
 use Rattle.case_engine.specs.declared.case.CaseEnd.TheVariants as case_end
 use Rattle.batch_engine.specs.Batch as batch
+use Rattle.batch_engine.specs.Batch.{Journals}
+use Rattle.batch_engine.specs.Shelved.{journals_on}
 use Rattle.batch_engine.specs.declared.run.BatchEnd.{BatchEnd}
 use Rattle.batch_engine.specs.declared.run.BatchEnd.TheVariants as batch_end
 use Rattle.cqe_top.specs.declared.end.CommandEnd.{CommandEnd}
-use Rattle.cqe_top.specs.declared.end.CommandEnd.TheVariants.{Done, Usage, Missing, ShelfFault, Policy, Facts, Script, ReadFault, WriteFault, Memory}
-use Rattle.cqe_top.specs.Files.{FilesSay, no_policy, bad_policy, no_facts, bad_facts, both, new_users}
-use Rattle.cqe_top.specs.Statuses.{status_of, end_of_case, end_of_batch}
-use Rattle.cqe_top.specs.Reaches.{CaseReaches, BatchReaches, Say, IsMissing}
-use Rattle.cqe_top.specs.Refusals.{RefusesFiles, IsFileEnd}
+use Rattle.cqe_top.specs.declared.end.CommandEnd.TheVariants as ends
+use Rattle.cqe_top.specs.Files.{FilesSay, both, new_users}
+use Rattle.cqe_top.specs.Statuses.{end_of_case, end_of_batch, has_refusal}
+use Rattle.cqe_top.specs.Reaches.{CaseReaches, BatchReaches, Completes}
+use Rattle.cqe_top.specs.Refusals.{RefusesFiles}
 
 module _ (before after old new : List ℕ) where
   -- a case
@@ -27,53 +35,50 @@ module _ (before after old new : List ℕ) where
   case_reaches case_end.WriteFault reached = reached
   case_reaches case_end.Memory reached = reached
 
-  -- a batch over files that were read
-  pub batch_reaches : (policy_name facts_name : List ℕ) (files : FilesSay) (policy : PolicyValue) (world : FactSet) (users : List NamedUser) (end : BatchEnd)
-      → files ≡ both policy world → new_users policy ≡ users → batch.Ends policy.schema world users end before after old new
-      → BatchReaches policy_name facts_name files (end_of_batch end) before after old new
-  batch_reaches policy_name facts_name files policy world users end say same reached =
-      by end (subst (λ us. batch.Ends policy.schema world us end before after old new) (sym same) reached)
-    where
-      by : (end : BatchEnd) → batch.Ends policy.schema world (new_users policy) end before after old new → BatchReaches policy_name facts_name files (end_of_batch end) before after old new
-      by batch_end.Done reached = (policy, world, say, reached)
-      by (batch_end.Script refusal) reached = ((policy, world, say, reached.0), reached.1)
-      by batch_end.ReadFault reached = (policy, world, say, reached)
-      by batch_end.WriteFault reached = (policy, world, say, reached)
-      by batch_end.Memory (inl same) = inl same
-      by batch_end.Memory (inr broken) = inr (policy, world, say, broken)
+  module _ (journals : Journals) (policy_name facts_name : List ℕ) (files : FilesSay) (policy : PolicyValue) (world : FactSet) (header : List ℕ) (users : Vec User Global)
+      (say : files ≡ both policy world header) (same : init.names_of users.items ≡ names_of policy.users) where
+    answered : (refusals : Vec (Option DeskError) Global) (is_broken is_refused : Bool) → has_refusal refusals.items ≡ is_refused → Completes journals before after old new refusals.items is_broken policy world header
+        → BatchReaches journals before after old new policy_name facts_name files (if is_refused then ends.Journals users refusals else if is_broken then ends.DiskFault else ends.Done)
+    answered refusals is_broken true refused reached = (policy, world, header, say, (refused, same, is_broken, reached))
+    answered refusals true false refused reached = (policy, world, header, say, (refusals.items, refused, reached))
+    answered refusals false false refused reached = (policy, world, header, say, (refusals.items, refused, reached))
+
+    -- a batch over files that were read
+    pub batch_reaches : (end : BatchEnd) → batch.Ends policy.schema world header journals (new_users policy) end before after old new
+        → BatchReaches journals before after old new policy_name facts_name files (end_of_batch users end)
+    batch_reaches (batch_end.Done refusals is_broken) reached = answered refusals is_broken (has_refusal refusals.items) refl reached
+    batch_reaches (batch_end.Script refusal) reached = ((policy, world, header, say, reached.0), reached.1)
+    batch_reaches batch_end.ReadFault reached = (policy, world, header, say, reached)
+    batch_reaches batch_end.WriteFault reached = (policy, world, header, say, reached)
+    batch_reaches batch_end.ShelfFault reached = reached
+    batch_reaches batch_end.Memory (inl unwritten) = inl unwritten
+    batch_reaches batch_end.Memory (inr broken) = inr (policy, world, header, say, broken)
+
+-- the same, where the shelf's disks were the same before the files were read, and the users of the batch are those of the policy
+pub batch_over : {D : Type 0} (reads : D → List ℕ) (image : D → List ℕ → Type 0) (directory : List ℕ) (disk mid disk' : Text → Option D) (count mid_count count' : Text → ℕ)
+    (before after old new policy_name facts_name : List ℕ) (files : FilesSay) (policy : PolicyValue) (world : FactSet) (header : List ℕ) (users : Vec User Global) (named : List NamedUser) (end : BatchEnd)
+    → SameNames disk mid → SameNames count mid_count → files ≡ both policy world header → init.names_of users.items ≡ names_of policy.users → named ≡ new_users policy
+    → batch.Ends policy.schema world header (journals_on reads image directory mid disk' mid_count count') named end before after old new
+    → BatchReaches (journals_on reads image directory disk disk' count count') before after old new policy_name facts_name files (end_of_batch users end)
+batch_over reads image directory disk mid disk' count mid_count count' before after old new policy_name facts_name files policy world header users named end same_disks same_counts say same are reached =
+    batch_reaches before after old new (journals_on reads image directory disk disk' count count') policy_name facts_name files policy world header users say same end
+    (subst (λ d. batch.Ends policy.schema world header (journals_on reads image directory d disk' count count') (new_users policy) end before after old new) (λ i name. same_disks name i)
+    (subst (λ n. batch.Ends policy.schema world header (journals_on reads image directory mid disk' n count') (new_users policy) end before after old new) (λ i name. same_counts name i)
+    (subst (λ u. batch.Ends policy.schema world header (journals_on reads image directory mid disk' mid_count count') u end before after old new) are reached)))
 
 -- files that weren't read
-pub refused_reaches : (policy_name facts_name : List ℕ) (files : FilesSay) (end : CommandEnd) (before after old : List ℕ) → RefusesFiles policy_name facts_name files end → BatchReaches policy_name facts_name files end before after old old
-refused_reaches policy_name facts_name files Done before after old refused = absurd refused
-refused_reaches policy_name facts_name files Usage before after old refused = absurd refused
-refused_reaches policy_name facts_name files (Missing name) before after old refused = (refused, refl)
-refused_reaches policy_name facts_name files ShelfFault before after old refused = refl
-refused_reaches policy_name facts_name files (Policy why) before after old refused = (refused, refl)
-refused_reaches policy_name facts_name files (Facts why) before after old refused = (refused, refl)
-refused_reaches policy_name facts_name files (Script refusal) before after old refused = absurd refused
-refused_reaches policy_name facts_name files ReadFault before after old refused = absurd refused
-refused_reaches policy_name facts_name files WriteFault before after old refused = absurd refused
-refused_reaches policy_name facts_name files Memory before after old refused = inl refl
-
--- the end of files that weren't read is another one
-pub not_another : (end other : CommandEnd) → IsFileEnd end → end ≡ other → IsFileEnd other
-not_another end other is same = subst IsFileEnd same is
-
--- with files that say both, a script that is one, and no fault, a batch is done or finds no memory
-pub good_end : (policy_name facts_name : List ℕ) (files : FilesSay) (end : CommandEnd) (before after old new : List ℕ)
-    → BatchReaches policy_name facts_name files end before after old new → Say files (λ policy world. IsOk (batch_of before))
-    → (end ≡ ShelfFault → ⊥) → (end ≡ ReadFault → ⊥) → (end ≡ WriteFault → ⊥) → (status_of end ≡ 0) ⊎ (status_of end ≡ 13)
-good_end policy_name facts_name files Done before after old new reached (policy, world, say, good) shelf read write = inl refl
-good_end policy_name facts_name files Memory before after old new reached (policy, world, say, good) shelf read write = inr refl
-good_end policy_name facts_name files Usage before after old new reached (policy, world, say, good) shelf read write = absurd reached
-good_end policy_name facts_name files ShelfFault before after old new reached (policy, world, say, good) shelf read write = absurd (shelf refl)
-good_end policy_name facts_name files ReadFault before after old new reached (policy, world, say, good) shelf read write = absurd (read refl)
-good_end policy_name facts_name files WriteFault before after old new reached (policy, world, say, good) shelf read write = absurd (write refl)
-good_end policy_name facts_name files (Policy why) before after old new reached (policy, world, say, good) shelf read write = let clash : bad_policy why ≡ both policy world = sym reached.0 ∙ say in absurd cc
-good_end policy_name facts_name files (Facts why) before after old new reached (policy, world, say, good) shelf read write = let clash : bad_facts why ≡ both policy world = sym reached.0 ∙ say in absurd cc
-good_end policy_name facts_name files (Missing name) before after old new reached (policy, world, say, good) shelf read write = absurd (by reached.0)
-  where
-    by : IsMissing files policy_name facts_name name.now → ⊥
-    by (inl (none, same)) = let clash : no_policy ≡ both policy world = sym none ∙ say in cc
-    by (inr (none, same)) = let clash : no_facts ≡ both policy world = sym none ∙ say in cc
-good_end policy_name facts_name files (Script refusal) before after old new reached (policy, world, say, good) shelf read write = let clash : false ≡ true = subst IsOk reached.0.3 good in absurd cc
+pub refused_reaches : (journals : Journals) (policy_name facts_name : List ℕ) (files : FilesSay) (end : CommandEnd) (before after old : List ℕ) → RefusesFiles policy_name facts_name files end
+    → BatchReaches journals before after old old policy_name facts_name files end
+refused_reaches journals policy_name facts_name files ends.Done before after old refused = absurd refused
+refused_reaches journals policy_name facts_name files ends.Usage before after old refused = absurd refused
+refused_reaches journals policy_name facts_name files (ends.Missing name) before after old refused = (refused, refl)
+refused_reaches journals policy_name facts_name files ends.ShelfFault before after old refused = refl
+refused_reaches journals policy_name facts_name files (ends.Policy why) before after old refused = (refused, refl)
+refused_reaches journals policy_name facts_name files (ends.Facts why) before after old refused = (refused, refl)
+refused_reaches journals policy_name facts_name files (ends.Script refusal) before after old refused = absurd refused
+refused_reaches journals policy_name facts_name files ends.ReadFault before after old refused = absurd refused
+refused_reaches journals policy_name facts_name files ends.WriteFault before after old refused = absurd refused
+refused_reaches journals policy_name facts_name files (ends.Journal name why) before after old refused = absurd refused
+refused_reaches journals policy_name facts_name files (ends.Journals users refusals) before after old refused = absurd refused
+refused_reaches journals policy_name facts_name files ends.DiskFault before after old refused = absurd refused
+refused_reaches journals policy_name facts_name files ends.Memory before after old refused = inl refl

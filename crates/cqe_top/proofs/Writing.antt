@@ -2,6 +2,7 @@
 use Rattle.std.proofs.Common.{◌≡◌, ◌<◌, ℕ, suc, ◌+◌, List, [], ◌∷◌, ◌++◌, length, take, drop, get_or, refl, sym, ap, subst, ◌∙◌, append_assoc, append-nil, length-append, arith}
 use Rattle.std.specs.Borrow.{Bor}
 use Rattle.std.specs.List.{flat_map}
+use Rattle.std.specs.Prelude.{Result, Ok, Err, OnErr}
 use Rattle.std.proofs.Math.Seq.{split_at, take-append-add}
 use Rattle.std.proofs.lemmas.List.{take-append-le}
 use Rattle.outside.specs.Streams.{AppendsPart}
@@ -42,3 +43,20 @@ place_parts {n} {u} {k} {i} {c} e a b d f h = six_parts n u k i c e ∙ (λ j. (
 -- the parts of the complaint about a missing file
 pub three_parts : (a b c : List ℕ) → a ++ (b ++ (c ++ [])) ≡ (a ++ b) ++ c
 three_parts a b c = ap (λ l. a ++ (b ++ l)) (append-nil c) ∙ sym (append_assoc a b c)
+
+-- the parts of the line of a refused journal, of which two are the cause
+pub journal_parts : {n c m n' c' m' cause : List ℕ} (a s e : List ℕ) → n ≡ n' → c ≡ c' → m ≡ m' → c' ++ m' ≡ cause
+    → a ++ (n ++ (s ++ (c ++ (m ++ (e ++ []))))) ≡ (((a ++ n') ++ s) ++ cause) ++ e
+journal_parts {n} {c} {m} {n'} {c'} {m'} {cause} a s e name first second whole =
+    (λ j. a ++ (name j ++ (s ++ (first j ++ (second j ++ append-nil e j)))))
+    ∙ ap (λ l. a ++ (n' ++ (s ++ l))) (sym (append_assoc c' m' e) ∙ ap (λ l. l ++ e) whole)
+    ∙ sym (append_assoc a n' (s ++ (cause ++ e))) ∙ sym (append_assoc (a ++ n') s (cause ++ e)) ∙ sym (append_assoc ((a ++ n') ++ s) cause e)
+
+-- the sink failed in what stands behind a front that was appended
+pub appends_behind : (front part old before after : List ℕ) → before ≡ old ++ front → AppendsPart before after part → AppendsPart old after (front ++ part)
+appends_behind front part old before after is appended = subst (λ back. AppendsPart old after (front ++ back)) (append-nil part) (appends_inside front part [] old before after is appended)
+
+-- the same under a refusal
+pub behind_refusal : {T E : Type 0} (result : Result T E) (front part old before after : List ℕ) → before ≡ old ++ front → OnErr result (AppendsPart before after part) → OnErr result (AppendsPart old after (front ++ part))
+behind_refusal (Ok value) front part old before after is appended = appended
+behind_refusal (Err why) front part old before after is appended = appends_behind front part old before after is appended

@@ -1,5 +1,5 @@
 -- What is said where a command didn't do all that it does.
-use Rattle.std.specs.Prelude.{◌≡◌, ◌⊎◌, ℕ, List, [], ◌++◌, Option, Some, None, codes, decimal}
+use Rattle.std.specs.Prelude.{◌≡◌, ◌⊎◌, ℕ, List, [], ◌∷◌, ◌++◌, Option, Some, None, codes, decimal, string_bytes}
 use Rattle.cqe_base.specs.Schema.{Text}
 use Rattle.cqe_base.specs.declared.text.ScriptKind.{ScriptKind}
 use Rattle.cqe_base.specs.declared.text.ScriptKind.TheVariants as kinds
@@ -7,6 +7,12 @@ use Rattle.cqe_base.specs.declared.text.ScriptError.{ScriptError}
 use Rattle.cqe_base.specs.declared.text.TextError.{TextError}
 use Rattle.cqe_base.specs.declared.schema.SchemaError.{SchemaError}
 use Rattle.cqe_base.specs.declared.schema.SchemaError.TheVariants as schema_errors
+use Rattle.cqe_base.specs.Transcript.{mark_text}
+use Rattle.cqe_base.specs.declared.user.User.{User}
+use Rattle.log_journal.specs.declared.header.OpenError.{OpenError}
+use Rattle.log_journal.specs.declared.header.OpenError.TheVariants as open_errors
+use Rattle.user_desk.specs.declared.standing.DeskError.{DeskError}
+use Rattle.user_desk.specs.declared.standing.DeskError.TheVariants as desk_errors
 use Rattle.policy_files.specs.declared.error.Place.{Place}
 use Rattle.policy_files.specs.declared.error.PolicyError.{PolicyError}
 use Rattle.policy_files.specs.declared.error.PolicyError.TheVariants as policy_errors
@@ -14,7 +20,7 @@ use Rattle.policy_files.specs.declared.error.FactsError.{FactsError}
 use Rattle.policy_files.specs.declared.error.FactsError.TheVariants as facts_errors
 use Rattle.outside.specs.Streams.{AppendsPart}
 use Rattle.cqe_top.specs.declared.end.CommandEnd.{CommandEnd}
-use Rattle.cqe_top.specs.declared.end.CommandEnd.TheVariants.{Done, Usage, Missing, ShelfFault, Policy, Facts, Script, ReadFault, WriteFault, Memory}
+use Rattle.cqe_top.specs.declared.end.CommandEnd.TheVariants.{Done, Usage, Missing, ShelfFault, Policy, Facts, Script, ReadFault, WriteFault, Journal, Journals, DiskFault, Memory}
 
 -- the number of a script's refusal
 abbrev pub kind_number : ScriptKind → ℕ
@@ -95,6 +101,38 @@ facts_line facts_errors.Memory = 0
 abbrev pub facts_complaint : FactsError → Text
 facts_complaint why = codes "cqe: facts " ++ decimal (facts_number why) ++ codes " " ++ decimal (facts_line why) ++ codes "\n"
 
+-- why a journal isn't opened
+abbrev pub opening_cause : OpenError → Text
+opening_cause open_errors.NotAJournal = codes "not a journal"
+opening_cause open_errors.OtherPolicy = codes "other policy"
+opening_cause (open_errors.Damaged number) = codes "damaged " ++ decimal number
+opening_cause open_errors.DiskFault = codes "disk fault"
+opening_cause open_errors.Memory = codes "out of memory"
+
+-- why a user's journal is refused; a record has a number, counted from 0
+abbrev pub journal_cause : DeskError → Text
+journal_cause (desk_errors.Journal why) = opening_cause why
+journal_cause (desk_errors.Stale number) = codes "stale " ++ decimal number
+journal_cause (desk_errors.Size number) = codes "size " ++ decimal number
+journal_cause (desk_errors.Unlawful number stored computed) =
+    codes "unlawful " ++ decimal number ++ codes " stored " ++ mark_text stored ++ codes " computed " ++ mark_text computed
+journal_cause (desk_errors.NotAdmitted admission) = codes "not admitted"
+
+-- the line of a user whose journal is refused
+abbrev pub journal_line : Text → DeskError → Text
+journal_line name why = codes "cqe: journal " ++ name ++ codes " " ++ journal_cause why ++ codes "\n"
+
+-- the line of a user, if his journal is refused
+abbrev pub refusal_line : Text → Option DeskError → Text
+refusal_line name None = []
+refusal_line name (Some why) = journal_line name why
+
+-- a line for each user whose journal is refused, in the order of the users
+abbrev pub journal_lines : List User → List (Option DeskError) → Text
+journal_lines [] refusals = []
+journal_lines (user ∷ users) [] = []
+journal_lines (user ∷ users) (refusal ∷ refusals) = refusal_line (string_bytes user.name) refusal ++ journal_lines users refusals
+
 -- what is said of an end
 abbrev pub complaint_of : CommandEnd → Text
 complaint_of Done = []
@@ -106,6 +144,9 @@ complaint_of ReadFault = codes "cqe: read fault\n"
 complaint_of WriteFault = codes "cqe: write fault\n"
 complaint_of (Missing name) = codes "cqe: missing " ++ name.now ++ codes "\n"
 complaint_of ShelfFault = codes "cqe: shelf fault\n"
+complaint_of (Journal name why) = journal_line (string_bytes name) (desk_errors.Journal why)
+complaint_of (Journals users refusals) = journal_lines users.items refusals.items
+complaint_of DiskFault = codes "cqe: disk fault\n"
 complaint_of Memory = codes "cqe: out of memory\n"
 
 -- a text was appended, or a part of it where the sink failed

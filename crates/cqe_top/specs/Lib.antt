@@ -4,4 +4,5 @@ pub mod Files
 pub mod Statuses
 pub mod Complaints
 pub mod Reaches
+pub mod Ready
 pub mod Refusals

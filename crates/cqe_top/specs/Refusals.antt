@@ -7,7 +7,7 @@ use Rattle.policy_files.specs.Policies.{PolicyValue}
 use Rattle.cqe_top.specs.Files.{FilesSay, bad_policy, bad_facts}
 use Rattle.cqe_top.specs.Reaches.{IsMissing}
 use Rattle.cqe_top.specs.declared.end.CommandEnd.{CommandEnd}
-use Rattle.cqe_top.specs.declared.end.CommandEnd.TheVariants.{Done, Usage, Missing, ShelfFault, Policy, Facts, Script, ReadFault, WriteFault, Memory}
+use Rattle.cqe_top.specs.declared.end.CommandEnd.TheVariants.{Done, Usage, Missing, ShelfFault, Policy, Facts, Script, ReadFault, WriteFault, Journal, Journals, DiskFault, Memory}
 
 -- why one file wasn't read
 abbrev pub RefusesFile : List ℕ → Option (List ℕ) → CommandEnd → Type 0
@@ -48,4 +48,23 @@ IsFileEnd (Facts why) = Unit {0}
 IsFileEnd (Script refusal) = ⊥
 IsFileEnd ReadFault = ⊥
 IsFileEnd WriteFault = ⊥
+IsFileEnd (Journal name why) = ⊥
+IsFileEnd (Journals users refusals) = ⊥
+IsFileEnd DiskFault = ⊥
 IsFileEnd Memory = Unit {0}
+
+-- an end that the making of journals may have
+abbrev pub IsOfInit : CommandEnd → Type 0
+IsOfInit Done = Unit {0}
+IsOfInit Usage = ⊥
+IsOfInit (Missing name) = Unit {0}
+IsOfInit ShelfFault = Unit {0}
+IsOfInit (Policy why) = Unit {0}
+IsOfInit (Facts why) = Unit {0}
+IsOfInit (Script refusal) = ⊥
+IsOfInit ReadFault = ⊥
+IsOfInit WriteFault = ⊥
+IsOfInit (Journal name why) = Unit {0}
+IsOfInit (Journals users refusals) = ⊥
+IsOfInit DiskFault = Unit {0}
+IsOfInit Memory = Unit {0}

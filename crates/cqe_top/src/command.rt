@@ -1,29 +1,35 @@
 // The top call.
-ghost use Rattle.std.specs.Prelude.{◌≡◌, ◌≤◌, ◌↔◌, ◌⊎◌, List, ℕ, IsOk, IsErr};
+ghost use Rattle.std.specs.Prelude.{◌≡◌, ◌≤◌, ◌⊎◌, List, ℕ, IsOk, IsErr};
 ghost use Rattle.outside.specs.Faults.{Rose};
 ghost use Rattle.case_engine.specs.Script.{script_of};
 ghost use Rattle.batch_engine.specs.BatchLines.{batch_of};
+ghost use Rattle.batch_engine.specs.Shelved.{journals_on, NoneOut, NoneFell};
 ghost use Rattle.cqe_top.specs.declared.end.CommandEnd.{CommandEnd};
-ghost use Rattle.cqe_top.specs.Words.{IsUsage, IsCase, IsBatch};
-ghost use Rattle.cqe_top.specs.Files.{files_say};
-ghost use Rattle.cqe_top.specs.Reaches.{CaseReaches, BatchReaches, Say, Ends};
+ghost use Rattle.cqe_top.specs.Words.{IsUsage, IsCase, IsInit, IsBatch};
+ghost use Rattle.cqe_top.specs.Files.{files_say, Say};
+ghost use Rattle.cqe_top.specs.Ready.{CanBeMade, CanBeOpened};
+ghost use Rattle.cqe_top.specs.Refusals.{IsOfInit};
+ghost use Rattle.cqe_top.specs.Reaches.{CaseReaches, InitReaches, BatchReaches, change_of, Ends};
 ghost use Rattle.cqe_top.specs.Complaints.{complaint_of, Gives};
 
 use crate::complaint::complain;
-use crate::end::{CommandEnd, end_of_batch, end_of_case, status_of};
+use crate::end::{CommandEnd, end_of_batch, end_of_case, end_of_init, status_of};
 use crate::files::read_files;
-use batch_engine::run_batch;
+use batch_engine::{Registry, run_batch};
 use case_engine::run_case;
 use command_words::{Command, read_words};
+use init_engine::run_init;
 use outside::{Shelf, Sink, Source};
-use std::alloc::Global;
+use std::alloc::{AllocError, Global};
 
 /// Does all that the program does, and answers the status with which it ends: 0 done, 2 usage, 3 policy, 4 facts,
-/// 5 script, 6 read, 7 write, 8 missing file, 9 shelf, 13 memory.
+/// 5 script, 6 read, 7 write, 8 missing file, 9 shelf, 10 journal, 11 disk, 13 memory.
 ///
-/// The command `case` reads a script with one user from the source and writes one line for each ask to the sink; `batch`
-/// reads a policy and facts from the shelf and a script of many users from the source. What can't be done is said to the
-/// complaints; where they fail too, nothing else changes.
+/// The command `case` reads a script with one user from the source and writes one line for each ask to the sink. `init`
+/// reads a policy and facts from the shelf and makes an empty journal on the disk of each user, where that is empty.
+/// `batch` reads the same files and a script of many users from the source, over their journals; a user whose journal is
+/// refused doesn't stop the others. What can't be done is said to the complaints; where they fail too, nothing else
+/// changes.
 pub fn top<F: Shelf, S: Source, K: Sink, E: Sink>(
     alloc: Global,
     words: &[String],
@@ -32,18 +38,30 @@ pub fn top<F: Shelf, S: Source, K: Sink, E: Sink>(
     sink: &mut K,
     complaints: &mut E,
 ) -> u8
+    requires inside { NoneOut (F.is_out shelf.old) }
+
     // The status is that of an end, which says what was read and written; and the complaint is of the same end.
     ensures ends { Ends result
         (λ end. S.told → K.told → IsCase words.now → CaseReaches end (S.left source.old) (S.left source.new) (K.written sink.old) (K.written sink.new))
-        (λ end. F.told → S.told → K.told → (policy facts : List ℕ) → IsBatch words.now policy facts
-        → BatchReaches policy facts (files_say (F.file shelf.old policy) (F.file shelf.old facts)) end (S.left source.old) (S.left source.new) (K.written sink.old) (K.written sink.new))
+        (λ end. F.told → (policy facts journals : List ℕ) → IsInit words.now policy facts journals
+        → InitReaches F.told F.D.reads F.D.image journals (change_of (F.disk shelf.old) (F.disk shelf.new) (F.disk_faults shelf.old) (F.disk_faults shelf.new) (F.faults shelf.old) (F.faults shelf.new))
+        policy facts (files_say (F.file shelf.old policy) (F.file shelf.old facts)) end)
+        (λ end. F.told → S.told → K.told → (policy facts journals : List ℕ) → IsBatch words.now policy facts journals
+        → BatchReaches (journals_on F.D.reads F.D.image journals (F.disk shelf.old) (F.disk shelf.new) (F.disk_faults shelf.old) (F.disk_faults shelf.new))
+        (S.left source.old) (S.left source.new) (K.written sink.old) (K.written sink.new) policy facts (files_say (F.file shelf.old policy) (F.file shelf.old facts)) end)
         (λ end. E.told → Gives (complaint_of end) (E.written complaints.old) (E.written complaints.new) (Rose (E.faults complaints.old) (E.faults complaints.new))) }
 
     // Words without a reading, and nothing else, have the status of usage, and then nothing is read or written.
-    ensures usage { (result ≡ 2) ↔ IsUsage words.now }
+    ensures usage { result ≡ 2 → IsUsage words.now }
+    ensures is_usage { IsUsage words.now → (result ≡ 2) ⊎ (result ≡ 13) }
     ensures usage_takes_nothing { result ≡ 2 → shelf.new ≡ shelf.old }
     ensures usage_reads_nothing { result ≡ 2 → source.new ≡ source.old }
     ensures usage_writes_nothing { result ≡ 2 → sink.new ≡ sink.old }
+
+    // A case takes nothing from the shelf, and the making of journals has no input and no output.
+    ensures case_takes_nothing { IsCase words.now → shelf.new ≡ shelf.old }
+    ensures init_reads_nothing { (policy facts journals : List ℕ) → IsInit words.now policy facts journals → source.new ≡ source.old }
+    ensures init_writes_nothing { (policy facts journals : List ℕ) → IsInit words.now policy facts journals → sink.new ≡ sink.old }
 
     // A fault has its cause.
     ensures read_cause { result ≡ 6 → Rose (S.faults source.old) (S.faults source.new) }
@@ -53,11 +71,19 @@ pub fn top<F: Shelf, S: Source, K: Sink, E: Sink>(
     // Without a fault, all that is right is done, or memory was wanting.
     ensures good_case { S.told → K.told → IsCase words.now → IsOk (script_of (S.left source.old))
         → (Rose (S.faults source.old) (S.faults source.new) → ⊥) → (Rose (K.faults sink.old) (K.faults sink.new) → ⊥) → (result ≡ 0) ⊎ (result ≡ 13) }
-    ensures good_batch { F.told → S.told → K.told → (policy facts : List ℕ) → IsBatch words.now policy facts
-        → Say (files_say (F.file shelf.old policy) (F.file shelf.old facts)) (λ policy world. IsOk (batch_of (S.left source.old)))
+    ensures good_init { F.told → (policy facts journals : List ℕ) → IsInit words.now policy facts journals
+        → Say (files_say (F.file shelf.old policy) (F.file shelf.old facts))
+        (CanBeMade (journals_on F.D.reads F.D.image journals (F.disk shelf.old) (F.disk shelf.new) (F.disk_faults shelf.old) (F.disk_faults shelf.new)))
+        → (Rose (F.faults shelf.old) (F.faults shelf.new) → ⊥) → (result ≡ 0) ⊎ (result ≡ 13) }
+    ensures good_batch { F.told → S.told → K.told → (policy facts journals : List ℕ) → IsBatch words.now policy facts journals → IsOk (batch_of (S.left source.old))
+        → Say (files_say (F.file shelf.old policy) (F.file shelf.old facts))
+        (CanBeOpened (journals_on F.D.reads F.D.image journals (F.disk shelf.old) (F.disk shelf.new) (F.disk_faults shelf.old) (F.disk_faults shelf.new)))
         → (Rose (F.faults shelf.old) (F.faults shelf.new) → ⊥) → (Rose (S.faults source.old) (S.faults source.new) → ⊥) → (Rose (K.faults sink.old) (K.faults sink.new) → ⊥)
         → (result ≡ 0) ⊎ (result ≡ 13) }
 
+    // All disks are back, and no count fell.
+    ensures inside { NoneOut (F.is_out shelf.new) }
+    ensures counts { NoneFell (F.disk_faults shelf.old) (F.disk_faults shelf.new) }
     ensures held { S.held source.new ≡ S.held source.old }
     ensures shelf_later { F.faults shelf.old ≤ F.faults shelf.new }
     ensures source_later { S.faults source.old ≤ S.faults source.new }
@@ -77,59 +103,116 @@ fn run<'w, F: Shelf, S: Source, K: Sink>(
     source: &mut S,
     sink: &mut K,
 ) -> CommandEnd<'w>
+    requires inside { NoneOut (F.is_out shelf.old) }
     ensures as_case { S.told → K.told → IsCase words.now → CaseReaches result (S.left source.old) (S.left source.new) (K.written sink.old) (K.written sink.new) }
-    ensures as_batch { F.told → S.told → K.told → (policy facts : List ℕ) → IsBatch words.now policy facts
-        → BatchReaches policy facts (files_say (F.file shelf.old policy) (F.file shelf.old facts)) result (S.left source.old) (S.left source.new) (K.written sink.old) (K.written sink.new) }
-    ensures usage { (result ≡ CommandEnd.Usage) ↔ IsUsage words.now }
+    ensures as_init { F.told → (policy facts journals : List ℕ) → IsInit words.now policy facts journals
+        → InitReaches F.told F.D.reads F.D.image journals (change_of (F.disk shelf.old) (F.disk shelf.new) (F.disk_faults shelf.old) (F.disk_faults shelf.new) (F.faults shelf.old) (F.faults shelf.new))
+        policy facts (files_say (F.file shelf.old policy) (F.file shelf.old facts)) result }
+    ensures as_batch { F.told → S.told → K.told → (policy facts journals : List ℕ) → IsBatch words.now policy facts journals
+        → BatchReaches (journals_on F.D.reads F.D.image journals (F.disk shelf.old) (F.disk shelf.new) (F.disk_faults shelf.old) (F.disk_faults shelf.new))
+        (S.left source.old) (S.left source.new) (K.written sink.old) (K.written sink.new) policy facts (files_say (F.file shelf.old policy) (F.file shelf.old facts)) result }
+    ensures usage { result ≡ CommandEnd.Usage → IsUsage words.now }
+    ensures is_usage { IsUsage words.now → (result ≡ CommandEnd.Usage) ⊎ (result ≡ CommandEnd.Memory) }
     ensures usage_takes_nothing { result ≡ CommandEnd.Usage → shelf.new ≡ shelf.old }
     ensures usage_reads_nothing { result ≡ CommandEnd.Usage → source.new ≡ source.old }
     ensures usage_writes_nothing { result ≡ CommandEnd.Usage → sink.new ≡ sink.old }
+    ensures case_takes_nothing { IsCase words.now → shelf.new ≡ shelf.old }
+    ensures init_reads_nothing { (policy facts journals : List ℕ) → IsInit words.now policy facts journals → source.new ≡ source.old }
+    ensures init_writes_nothing { (policy facts journals : List ℕ) → IsInit words.now policy facts journals → sink.new ≡ sink.old }
     ensures read_cause { result ≡ CommandEnd.ReadFault → Rose (S.faults source.old) (S.faults source.new) }
     ensures write_cause { result ≡ CommandEnd.WriteFault → Rose (K.faults sink.old) (K.faults sink.new) }
     ensures shelf_cause { result ≡ CommandEnd.ShelfFault → Rose (F.faults shelf.old) (F.faults shelf.new) }
+    ensures inside { NoneOut (F.is_out shelf.new) }
+    ensures counts { NoneFell (F.disk_faults shelf.old) (F.disk_faults shelf.new) }
     ensures held { S.held source.new ≡ S.held source.old }
     ensures shelf_later { F.faults shelf.old ≤ F.faults shelf.new }
     ensures source_later { S.faults source.old ≤ S.faults source.new }
     ensures sink_later { K.faults sink.old ≤ K.faults sink.new }
 {
-    match read_words(words) {
-        Some(Command::Case) => end_of_case(run_case(alloc, source, sink)),
-        Some(Command::Batch { policy, facts }) => batch(alloc, policy, facts, shelf, source, sink),
-        None => CommandEnd::Usage,
+    match read_words(alloc, words) {
+        Ok(Some(Command::Case)) => end_of_case(run_case(alloc, source, sink)),
+        Ok(Some(Command::Init(files))) => {
+            init(alloc, files.policy, files.facts, files.journals, shelf)
+        }
+        Ok(Some(Command::Batch(files))) => batch(
+            alloc,
+            files.policy,
+            files.facts,
+            files.journals,
+            shelf,
+            source,
+            sink,
+        ),
+        Ok(None) => CommandEnd::Usage,
+        Err(AllocError) => CommandEnd::Memory,
     }
 }
 
-/// Runs a batch over the policy and the facts of these names.
+/// Makes the journals of the users of a policy, for the files of these names.
+fn init<'w, F: Shelf>(
+    alloc: Global,
+    policy: &'w str,
+    facts: &'w str,
+    journals: &'w str,
+    shelf: &mut F,
+) -> CommandEnd<'w>
+    requires inside { NoneOut (F.is_out shelf.old) }
+    ensures reaches { F.told
+        → InitReaches F.told F.D.reads F.D.image journals.now (change_of (F.disk shelf.old) (F.disk shelf.new) (F.disk_faults shelf.old) (F.disk_faults shelf.new) (F.faults shelf.old) (F.faults shelf.new))
+        policy.now facts.now (files_say (F.file shelf.old policy.now) (F.file shelf.old facts.now)) result }
+    ensures is_of_init { IsOfInit result }
+    ensures shelf_cause { result ≡ CommandEnd.ShelfFault → Rose (F.faults shelf.old) (F.faults shelf.new) }
+    ensures inside { NoneOut (F.is_out shelf.new) }
+    ensures counts { NoneFell (F.disk_faults shelf.old) (F.disk_faults shelf.new) }
+    ensures shelf_later { F.faults shelf.old ≤ F.faults shelf.new }
+{
+    let inputs = match read_files(alloc, shelf, policy, facts) {
+        Ok(inputs) => inputs,
+        Err(end) => return end,
+    };
+    let header = inputs.header;
+    let policy = inputs.policy;
+    let users = policy.users;
+    let end = run_init(alloc, users.as_slice(), &header, journals, shelf);
+    end_of_init(users, end)
+}
+
+/// Runs a batch over the files of these names and the journals in this directory.
 fn batch<'w, F: Shelf, S: Source, K: Sink>(
     alloc: Global,
     policy: &'w str,
     facts: &'w str,
+    journals: &'w str,
     shelf: &mut F,
     source: &mut S,
     sink: &mut K,
 ) -> CommandEnd<'w>
+    requires inside { NoneOut (F.is_out shelf.old) }
     ensures reaches { F.told → S.told → K.told
-        → BatchReaches policy.now facts.now (files_say (F.file shelf.old policy.now) (F.file shelf.old facts.now)) result (S.left source.old) (S.left source.new) (K.written sink.old) (K.written sink.new) }
+        → BatchReaches (journals_on F.D.reads F.D.image journals.now (F.disk shelf.old) (F.disk shelf.new) (F.disk_faults shelf.old) (F.disk_faults shelf.new))
+        (S.left source.old) (S.left source.new) (K.written sink.old) (K.written sink.new) policy.now facts.now (files_say (F.file shelf.old policy.now) (F.file shelf.old facts.now)) result }
     ensures used { result ≡ CommandEnd.Usage → ⊥ }
     ensures read_cause { result ≡ CommandEnd.ReadFault → Rose (S.faults source.old) (S.faults source.new) }
     ensures write_cause { result ≡ CommandEnd.WriteFault → Rose (K.faults sink.old) (K.faults sink.new) }
     ensures shelf_cause { result ≡ CommandEnd.ShelfFault → Rose (F.faults shelf.old) (F.faults shelf.new) }
+    ensures inside { NoneOut (F.is_out shelf.new) }
+    ensures counts { NoneFell (F.disk_faults shelf.old) (F.disk_faults shelf.new) }
     ensures held { S.held source.new ≡ S.held source.old }
     ensures shelf_later { F.faults shelf.old ≤ F.faults shelf.new }
     ensures source_later { S.faults source.old ≤ S.faults source.new }
     ensures sink_later { K.faults sink.old ≤ K.faults sink.new }
 {
-    let files = match read_files(alloc, shelf, policy, facts) {
-        Ok(files) => files,
+    let inputs = match read_files(alloc, shelf, policy, facts) {
+        Ok(inputs) => inputs,
         Err(end) => return end,
     };
-    let users = files.policy.users.as_slice();
-    end_of_batch(run_batch(
-        alloc,
-        &files.policy.schema,
-        &files.world,
-        users,
-        source,
-        sink,
-    ))
+    let registry = Registry {
+        schema: &inputs.policy.schema,
+        world: &inputs.world,
+        users: inputs.policy.users.as_slice(),
+        header: &inputs.header,
+        directory: journals,
+    };
+    let end = run_batch(alloc, &registry, shelf, source, sink);
+    end_of_batch(inputs.policy.users, end)
 }

@@ -1,16 +1,20 @@
 // What is said where a command didn't do all that it does.
 ghost use Rattle.std.specs.Prelude.{◌≡◌, ◌≤◌, ◌++◌, length, codes, decimal, OnOk, OnErr};
+ghost use Rattle.cqe_base.specs.Transcript.{mark_text};
 ghost use Rattle.outside.specs.Faults.{Rose, HasCause};
 ghost use Rattle.outside.specs.Streams.{AppendsPart};
-ghost use Rattle.cqe_top.specs.Complaints.{complaint_of, kind_number, schema_number, place_complaint, script_complaint, policy_complaint, facts_complaint, user_text, index_text, cause_text, Gives};
+ghost use Rattle.cqe_top.specs.Complaints.{complaint_of, kind_number, schema_number, place_complaint, script_complaint, policy_complaint, facts_complaint, user_text, index_text, cause_text, opening_cause, journal_cause, journal_line, refusal_line, journal_lines, Gives};
 ghost use Rattle.cqe_top.specs.Parts.{joined};
 
 use crate::end::CommandEnd;
 use cqe_base::schema::SchemaError;
 use cqe_base::text::{ScriptError, ScriptKind, TextError};
-use line_protocol::LineText;
+use cqe_base::user::{Mark, User};
+use line_protocol::{LineText, Reply, text_of};
+use log_journal::OpenError;
 use outside::{Failed, Sink, write_all};
 use policy_files::{FactsError, Place, PolicyError};
+use user_desk::DeskError;
 
 /// Gives the complaint of an end to a sink. Where that fails nobody is left to be told.
 pub(crate) fn complain<E: Sink>(complaints: &mut E, end: &CommandEnd<'_>)
@@ -37,7 +41,118 @@ fn give<E: Sink>(complaints: &mut E, end: &CommandEnd<'_>) -> Result<(), Failed>
         CommandEnd::Script(refusal) => write_all(complaints, script_complaint(*refusal).bytes()),
         CommandEnd::ReadFault => write_all(complaints, b"cqe: read fault\n"),
         CommandEnd::WriteFault => write_all(complaints, b"cqe: write fault\n"),
+        CommandEnd::Journal(name, why) => {
+            give_journal(complaints, name.as_str(), DeskError::Journal(*why))
+        }
+        CommandEnd::Journals(users, refusals) => {
+            give_journals(complaints, users.as_slice(), refusals.as_slice())
+        }
+        CommandEnd::DiskFault => write_all(complaints, b"cqe: disk fault\n"),
         CommandEnd::Memory => write_all(complaints, b"cqe: out of memory\n"),
+    }
+}
+
+/// Gives a line for each user whose journal is refused, in their order.
+fn give_journals<E: Sink>(
+    complaints: &mut E,
+    users: &[User],
+    refusals: &[Option<DeskError>],
+) -> Result<(), Failed>
+    ensures all { E.told → OnOk result (E.written complaints.new ≡ E.written complaints.old ++ journal_lines users.now refusals.now) }
+    ensures part { E.told → OnErr result (AppendsPart (E.written complaints.old) (E.written complaints.new) (journal_lines users.now refusals.now)) }
+    ensures cause { HasCause (E.faults complaints.old) (E.faults complaints.new) result }
+{
+    let Some((user, users)) = users.split_first() else {
+        return Ok(());
+    };
+    let Some((refusal, refusals)) = refusals.split_first() else {
+        return Ok(());
+    };
+    match give_refusal(complaints, user.name.as_str(), *refusal) {
+        Ok(()) => give_journals(complaints, users, refusals),
+        Err(Failed) => Err(Failed),
+    }
+}
+
+/// Gives the line of a user, if his journal is refused.
+fn give_refusal<E: Sink>(
+    complaints: &mut E,
+    name: &str,
+    refusal: Option<DeskError>,
+) -> Result<(), Failed>
+    ensures all { E.told → OnOk result (E.written complaints.new ≡ E.written complaints.old ++ refusal_line name.now refusal) }
+    ensures part { E.told → OnErr result (AppendsPart (E.written complaints.old) (E.written complaints.new) (refusal_line name.now refusal)) }
+    ensures cause { HasCause (E.faults complaints.old) (E.faults complaints.new) result }
+{
+    match refusal {
+        Some(why) => give_journal(complaints, name, why),
+        None => Ok(()),
+    }
+}
+
+/// Gives the line of a user whose journal is refused.
+fn give_journal<E: Sink>(complaints: &mut E, name: &str, why: DeskError) -> Result<(), Failed>
+    ensures all { E.told → OnOk result (E.written complaints.new ≡ E.written complaints.old ++ journal_line name.now why) }
+    ensures part { E.told → OnErr result (AppendsPart (E.written complaints.old) (E.written complaints.new) (journal_line name.now why)) }
+    ensures cause { HasCause (E.faults complaints.old) (E.faults complaints.new) result }
+{
+    let (cause, marks) = journal_cause(why);
+    write_parts(
+        complaints,
+        &[
+            b"cqe: journal ",
+            name.as_bytes(),
+            b" ",
+            cause.bytes(),
+            marks.bytes(),
+            b"\n",
+        ],
+    )
+}
+
+/// Why a user's journal is refused, in two parts.
+fn journal_cause(why: DeskError) -> (LineText, LineText)
+    ensures { result.0 ++ result.1 ≡ journal_cause why }
+{
+    let nothing = LineText::new("");
+    match why {
+        DeskError::Journal(why) => (opening_cause(why), nothing),
+        DeskError::Stale(number) => (numbered("stale ", number), nothing),
+        DeskError::Size(number) => (numbered("size ", number), nothing),
+        DeskError::Unlawful {
+            number,
+            stored,
+            computed,
+        } => {
+            let mut cause = numbered("unlawful ", number);
+            cause.push(" stored ");
+            (cause, marks(stored, computed))
+        }
+        DeskError::NotAdmitted(_) => (LineText::new("not admitted"), nothing),
+    }
+}
+
+/// The mark that is stored, and the computed one.
+fn marks(stored: Mark, computed: Mark) -> LineText
+    ensures { result ≡ mark_text stored ++ codes " computed " ++ mark_text computed }
+{
+    let mut marks = text_of(&Reply::Mark(stored));
+    let second = text_of(&Reply::Mark(computed));
+    marks.push(" computed ");
+    marks.push_bytes(second.bytes());
+    marks
+}
+
+/// Why a journal isn't opened.
+fn opening_cause(why: OpenError) -> LineText
+    ensures { result ≡ opening_cause why }
+{
+    match why {
+        OpenError::NotAJournal => LineText::new("not a journal"),
+        OpenError::OtherPolicy => LineText::new("other policy"),
+        OpenError::Damaged(number) => numbered("damaged ", number),
+        OpenError::DiskFault => LineText::new("disk fault"),
+        OpenError::Memory => LineText::new("out of memory"),
     }
 }
 

@@ -1,11 +1,16 @@
 // How a command ends.
-ghost use Rattle.std.specs.Prelude.{◌≡◌};
-ghost use Rattle.cqe_top.specs.Statuses.{end_of_case, end_of_batch, status_of};
+ghost use Rattle.std.specs.Prelude.{◌≡◌, ◌<◌, length, string_bytes};
+ghost use Rattle.cqe_top.specs.Statuses.{end_of_case, end_of_answers, end_of_batch, has_refusal, IsAt, IsEndOfInit, InRange, status_of};
+ghost use Rattle.init_engine.specs.Disks.{names_of};
 
 use batch_engine::BatchEnd;
 use case_engine::CaseEnd;
 use cqe_base::text::ScriptError;
+use cqe_base::user::User;
+use init_engine::InitEnd;
+use log_journal::OpenError;
 use policy_files::{FactsError, PolicyError};
+use user_desk::DeskError;
 
 /// How a command ends. What makes up the cause of a complaint is part of it.
 #[derive(Drop)]
@@ -16,7 +21,7 @@ pub enum CommandEnd<'w> {
     Usage,
     /// The file of this name isn't there. Nothing was written.
     Missing(&'w str),
-    /// The shelf failed. Nothing was written.
+    /// The shelf failed. Nothing was written to the output.
     ShelfFault,
     /// The policy is refused. Nothing was written.
     Policy(PolicyError),
@@ -28,6 +33,13 @@ pub enum CommandEnd<'w> {
     ReadFault,
     /// A write failed.
     WriteFault,
+    /// `init` stopped at the user of this name, whose disk isn't empty and isn't opened as a journal.
+    Journal(String, OpenError),
+    /// `batch` answered all items, and journals of these users were refused; each has the first refusal of his, if one was.
+    Journals(Vec<User>, Vec<Option<DeskError>>),
+    /// A call of a disk failed: `init` stopped there, or `batch` answered all items, some of them by it, and no journal
+    /// was refused.
+    DiskFault,
     /// Memory was wanting.
     Memory,
 }
@@ -45,17 +57,65 @@ pub(crate) fn end_of_case<'w>(end: CaseEnd) -> CommandEnd<'w>
     }
 }
 
-/// The end of the command `batch` for the end of its batch.
-pub(crate) fn end_of_batch<'w>(end: BatchEnd) -> CommandEnd<'w>
-    ensures { result ≡ end_of_batch end }
+/// The end of the command `init` for the end of its making of these users' journals.
+pub(crate) fn end_of_init<'w>(users: Vec<User>, end: InitEnd) -> CommandEnd<'w>
+    requires { InRange users.items end }
+    ensures { IsEndOfInit users.items end result }
 {
     match end {
-        BatchEnd::Done => CommandEnd::Done,
+        InitEnd::Done => CommandEnd::Done,
+        InitEnd::Refused { user, why } => CommandEnd::Journal(name_at(users, user), why),
+        InitEnd::DiskFault => CommandEnd::DiskFault,
+        InitEnd::ShelfFault => CommandEnd::ShelfFault,
+        InitEnd::Memory => CommandEnd::Memory,
+    }
+}
+
+/// The name of the user of this number.
+fn name_at(users: Vec<User>, number: usize) -> String
+    requires { number < length users.items }
+    ensures { IsAt (names_of users.items) number (string_bytes result) }
+{
+    let mut users = users;
+    users.remove(number).name
+}
+
+/// The end of the command `batch` for the end of its batch over the journals of these users.
+pub(crate) fn end_of_batch<'w>(users: Vec<User>, end: BatchEnd) -> CommandEnd<'w>
+    ensures { result ≡ end_of_batch users end }
+{
+    match end {
+        BatchEnd::Done(refusals, is_broken) => end_of_answers(users, refusals, is_broken),
         BatchEnd::Script(refusal) => CommandEnd::Script(refusal),
         BatchEnd::ReadFault => CommandEnd::ReadFault,
         BatchEnd::WriteFault => CommandEnd::WriteFault,
+        BatchEnd::ShelfFault => CommandEnd::ShelfFault,
         BatchEnd::Memory => CommandEnd::Memory,
     }
+}
+
+/// The same for a batch that was answered to its end.
+fn end_of_answers<'w>(
+    users: Vec<User>,
+    refusals: Vec<Option<DeskError>>,
+    is_broken: bool,
+) -> CommandEnd<'w>
+    ensures { result ≡ end_of_answers users refusals is_broken }
+{
+    if has_refusal(refusals.as_slice()) {
+        CommandEnd::Journals(users, refusals)
+    } else if is_broken {
+        CommandEnd::DiskFault
+    } else {
+        CommandEnd::Done
+    }
+}
+
+/// Whether one of the refusals is there.
+fn has_refusal(refusals: &[Option<DeskError>]) -> bool
+    ensures { result ≡ has_refusal refusals.now }
+{
+    refusals.iter().any(|refusal| refusal.is_some())
 }
 
 /// The status with which the program ends.
@@ -72,6 +132,8 @@ pub(crate) fn status_of(end: &CommandEnd<'_>) -> u8
         CommandEnd::WriteFault => 7,
         CommandEnd::Missing(_) => 8,
         CommandEnd::ShelfFault => 9,
+        CommandEnd::Journal(..) | CommandEnd::Journals(..) => 10,
+        CommandEnd::DiskFault => 11,
         CommandEnd::Memory => 13,
     }
 }

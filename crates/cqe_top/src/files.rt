@@ -1,12 +1,14 @@
-// The policy file and the facts file of a command.
-ghost use Rattle.std.specs.Prelude.{◌≡◌, ◌≤◌, List, ℕ, false, map, All, Some, Ok, IfOk, IfErr};
+// The policy file and the facts file of a command, and the header that they give to journals.
+ghost use Rattle.std.specs.Prelude.{◌≡◌, ◌≤◌, List, ℕ, false, All, Some, Ok, IfOk, IfErr};
 ghost use Rattle.cqe_base.specs.Schema.{has_duplicate};
 ghost use Rattle.cqe_base.specs.History.{profile_of};
 ghost use Rattle.cqe_base.specs.Limits.{KeepsLimits};
-ghost use Rattle.batch_engine.specs.Crew.{named_user};
+ghost use Rattle.init_engine.specs.Disks.{names_of};
+ghost use Rattle.log_journal.specs.Opening.{header_bytes};
 ghost use Rattle.outside.specs.Faults.{Rose};
+ghost use Rattle.outside.specs.Shelf.{SameNames};
 ghost use Rattle.policy_files.specs.Memory.{policy_value_of};
-ghost use Rattle.cqe_top.specs.Files.{files_say, both};
+ghost use Rattle.cqe_top.specs.Files.{files_say, both, header_for};
 ghost use Rattle.policy_files.specs.Policy.{policy_in};
 ghost use Rattle.policy_files.specs.Facts.{facts_of};
 ghost use Rattle.cqe_top.specs.Refusals.{RefusesFiles, RefusesFile, RefusesPolicy, RefusesFacts, IsFileEnd};
@@ -15,15 +17,18 @@ ghost use Rattle.cqe_top.specs.declared.end.CommandEnd.{CommandEnd};
 use crate::end::CommandEnd;
 use cqe_base::schema::Schema;
 use cqe_base::world::World;
+use log_journal::Header;
 use outside::{Shelf, ShelfError};
 use policy_files::{FactsError, Policy, PolicyError, read_facts, read_policy};
+use sha2::{Digest, Sha256};
 use std::alloc::Global;
 
-/// A policy, and a database of its schema.
+/// A policy, a database of its schema, and the header of the journals that belong to their files.
 #[derive(Drop)]
-pub struct Files {
+pub(crate) struct Inputs {
     pub policy: Policy,
     pub world: World,
+    pub header: Header,
 }
 
 /// Reads both files: the policy file first, then the facts file.
@@ -32,20 +37,39 @@ pub(crate) fn read_files<'w, F: Shelf>(
     shelf: &mut F,
     policy: &'w str,
     facts: &'w str,
-) -> Result<Files, CommandEnd<'w>>
-    ensures read { F.told → IfOk result (λ files. files_say (F.file shelf.old policy.now) (F.file shelf.old facts.now) ≡ both (policy_value_of files.policy) files.world) }
-    ensures limits { IfOk result (λ files. All (λ user. KeepsLimits files.policy.schema (profile_of user)) files.policy.users.items) }
-    ensures names { IfOk result (λ files. has_duplicate (map (λ user. user.name) (map named_user files.policy.users.items)) ≡ false) }
+) -> Result<Inputs, CommandEnd<'w>>
+    ensures read { F.told → IfOk result (λ inputs. files_say (F.file shelf.old policy.now) (F.file shelf.old facts.now) ≡ both (policy_value_of inputs.policy) inputs.world (header_bytes inputs.header)) }
+    ensures limits { IfOk result (λ inputs. All (λ user. KeepsLimits inputs.policy.schema (profile_of user)) inputs.policy.users.items) }
+    ensures names { IfOk result (λ inputs. has_duplicate (names_of inputs.policy.users.items) ≡ false) }
     ensures ends { IfErr result IsFileEnd }
     ensures refused { IfErr result (λ end. F.told → RefusesFiles policy.now facts.now (files_say (F.file shelf.old policy.now) (F.file shelf.old facts.now)) end) }
+    ensures disks { SameNames (F.disk shelf.old) (F.disk shelf.new) }
+    ensures out { SameNames (F.is_out shelf.old) (F.is_out shelf.new) }
+    ensures counts { SameNames (F.disk_faults shelf.old) (F.disk_faults shelf.new) }
+    ensures files { (other : List ℕ) → F.file shelf.new other ≡ F.file shelf.old other }
     ensures later { F.faults shelf.old ≤ F.faults shelf.new }
     ensures cause { IfErr result (λ end. end ≡ CommandEnd.ShelfFault → Rose (F.faults shelf.old) (F.faults shelf.new)) }
 {
-    let bytes = read_file(alloc, shelf, policy)?;
-    let policy = policy_of(alloc, &bytes)?;
-    let bytes = read_file(alloc, shelf, facts)?;
-    let world = world_of(alloc, &policy.schema, &bytes)?;
-    Ok(Files { policy, world })
+    let policy_bytes = read_file(alloc, shelf, policy)?;
+    let policy = policy_of(alloc, &policy_bytes)?;
+    let facts_bytes = read_file(alloc, shelf, facts)?;
+    let world = world_of(alloc, &policy.schema, &facts_bytes)?;
+    let header = header_for(&policy_bytes, &facts_bytes);
+    Ok(Inputs {
+        policy,
+        world,
+        header,
+    })
+}
+
+/// The header of the journals that belong to files with these bytes.
+fn header_for(policy: &[u8], facts: &[u8]) -> Header
+    ensures { header_bytes result ≡ header_for policy.now facts.now }
+{
+    Header {
+        policy: Sha256::digest(policy),
+        facts: Sha256::digest(facts),
+    }
 }
 
 /// Reads one file whole.
@@ -58,6 +82,9 @@ fn read_file<'w, F: Shelf>(
     ensures refused { IfErr result (λ end. F.told → RefusesFile name.now (F.file shelf.old name.now) end) }
     ensures ends { IfErr result IsFileEnd }
     ensures files { (other : List ℕ) → F.file shelf.new other ≡ F.file shelf.old other }
+    ensures disks { SameNames (F.disk shelf.old) (F.disk shelf.new) }
+    ensures out { SameNames (F.is_out shelf.old) (F.is_out shelf.new) }
+    ensures counts { SameNames (F.disk_faults shelf.old) (F.disk_faults shelf.new) }
     ensures later { F.faults shelf.old ≤ F.faults shelf.new }
     ensures cause { IfErr result (λ end. end ≡ CommandEnd.ShelfFault → Rose (F.faults shelf.old) (F.faults shelf.new)) }
 {
@@ -73,7 +100,7 @@ fn read_file<'w, F: Shelf>(
 fn policy_of<'w>(alloc: Global, bytes: &[u8]) -> Result<Policy, CommandEnd<'w>>
     ensures read { IfOk result (λ policy. policy_in bytes.now ≡ Ok (policy_value_of policy)) }
     ensures limits { IfOk result (λ policy. All (λ user. KeepsLimits policy.schema (profile_of user)) policy.users.items) }
-    ensures names { IfOk result (λ policy. has_duplicate (map (λ user. user.name) (map named_user policy.users.items)) ≡ false) }
+    ensures names { IfOk result (λ policy. has_duplicate (names_of policy.users.items) ≡ false) }
     ensures refused { IfErr result (RefusesPolicy (policy_in bytes.now)) }
     ensures ends { IfErr result IsFileEnd }
 {

@@ -1,5 +1,8 @@
 //! Whole runs of the program over objects in memory.
 
+ghost use Rattle.std.specs.Prelude.{◌≡◌, List, ℕ, false};
+ghost use Rattle.outside.specs.MemoryShelves.{is_disk_out};
+
 use crate::top;
 use outside::{MemoryShelf, MemorySink, MemorySource, Pieces, Plan};
 use std::alloc::{AllocError, Global};
@@ -7,6 +10,8 @@ use std::process::Abort;
 
 mod batch;
 mod case;
+mod lives;
+mod ward;
 
 // What the program did.
 #[derive(Drop)]
@@ -17,33 +22,52 @@ struct Run {
     complaints: MemorySink,
 }
 
+// Calls the program over a shelf that has all its disks, and has them all again.
+fn run_over(
+    alloc: Global,
+    words: &[&str],
+    shelf: &mut MemoryShelf,
+    source: MemorySource,
+    sink: MemorySink,
+    complaints: MemorySink,
+) -> Result<Run, AllocError>
+    requires { (name : List ℕ) → is_disk_out shelf.old name ≡ false }
+    ensures { (name : List ℕ) → is_disk_out shelf.new name ≡ false }
+{
+    let (mut source, mut sink, mut complaints) = (source, sink, complaints);
+    let mut texts = Vec::new(alloc);
+    for word in words {
+        texts.push(String::from_str(alloc, word)?)?;
+    }
+    let status = top(
+        alloc,
+        &texts,
+        shelf,
+        &mut source,
+        &mut sink,
+        &mut complaints,
+    );
+    Ok(Run {
+        status,
+        source,
+        sink,
+        complaints,
+    })
+}
+
 impl Run {
+    /// The program over a shelf that nobody asks for afterwards.
     fn new(
         alloc: Global,
         words: &[&str],
         mut shelf: MemoryShelf,
-        mut source: MemorySource,
-        mut sink: MemorySink,
-        mut complaints: MemorySink,
-    ) -> Result<Run, AllocError> {
-        let mut texts = Vec::new(alloc);
-        for word in words {
-            texts.push(String::from_str(alloc, word)?)?;
-        }
-        let status = top(
-            alloc,
-            &texts,
-            &mut shelf,
-            &mut source,
-            &mut sink,
-            &mut complaints,
-        );
-        Ok(Run {
-            status,
-            source,
-            sink,
-            complaints,
-        })
+        source: MemorySource,
+        sink: MemorySink,
+        complaints: MemorySink,
+    ) -> Result<Run, AllocError>
+        requires { (name : List ℕ) → is_disk_out shelf name ≡ false }
+    {
+        run_over(alloc, words, &mut shelf, source, sink, complaints)
     }
 
     /// A case whose script has these parts.

@@ -3,7 +3,8 @@ use Rattle.std.specs.Prelude.{◌≡◌, ◌⊎◌, ℕ, List, [], ◌++◌, Opt
 use Rattle.cqe_base.specs.Machine.{End as MachineEnd, Model, Refuted as MachineRefuted, end_within_budget}
 use Rattle.outside.specs.Streams.{AppendsPart}
 use Rattle.dimacs_text.specs.Dimacs.{Cnf, cnf_in}
-use Rattle.dimacs_text.specs.Printed.{end_text}
+use Rattle.clause_solver.specs.Costs.{cost_within_budget}
+use Rattle.dimacs_text.specs.Printed.{cost_text, end_text}
 use Rattle.dimacs_text.specs.declared.refusal.Kind.{Kind}
 use Rattle.dimacs_text.specs.declared.refusal.Kind.TheVariants.{NotALine, TooLong, TooMany, Order, Limit, Variable, Surplus, Missing}
 use Rattle.dimacs_text.specs.declared.refusal.Refusal.{Refusal}
@@ -16,24 +17,32 @@ use Rattle.dimacs_text.specs.declared.ending.Ending.TheVariants.{Answered, Refus
 abbrev pub end_of : Cnf → Option MachineEnd
 end_of cnf = end_within_budget cnf.clauses cnf.variables cnf.budget
 
+-- the machine's whole cost on the clauses, or their budget where that is less
+abbrev pub cost_of : Cnf → ℕ
+cost_of cnf = cost_within_budget cnf.clauses cnf.variables cnf.budget
+
+-- what is printed of clauses: the cost of their search, and the machine's end on them
+abbrev pub answer_text : Cnf → List ℕ
+answer_text cnf = cost_text (cost_of cnf) ++ end_text cnf (end_of cnf)
+
 -- what the end of the machine, or a spent budget, says of the clauses
 abbrev pub verdict_of : Option MachineEnd → Verdict
 verdict_of None = Unknown
 verdict_of (Some (Model signs)) = Satisfiable
 verdict_of (Some (MachineRefuted lines)) = Unsatisfiable
 
--- the bytes are clauses, the verdict is that of the machine's end on them, and its text was appended
+-- the bytes are clauses, the verdict is that of the machine's end on them, and their answer was appended
 pub record Answers (bytes : List ℕ) (verdict : Verdict) (old new : List ℕ) : Type 0 where
   pub cnf : Cnf
   pub read : cnf_in bytes ≡ Ok cnf
   pub verdict_is : verdict ≡ verdict_of (end_of cnf)
-  pub appended : new ≡ old ++ end_text cnf (end_of cnf)
+  pub appended : new ≡ old ++ answer_text cnf
 
--- the bytes are clauses, and a part of the text of the machine's end on them was appended
+-- the bytes are clauses, and a part of their answer was appended
 pub record Breaks (bytes old new : List ℕ) : Type 0 where
   pub cnf : Cnf
   pub read : cnf_in bytes ≡ Ok cnf
-  pub appended : AppendsPart old new (end_text cnf (end_of cnf))
+  pub appended : AppendsPart old new (answer_text cnf)
 
 -- what an ending says of the bytes that were left before and after, and of the output before and after
 abbrev pub Ends : Ending → List ℕ → List ℕ → List ℕ → List ℕ → Type 0

@@ -45,6 +45,10 @@ lrat_text number (line ∷ lines) = lrat_line number line ++ lrat_text (number +
 abbrev pub refutation_text : Cnf → List RefutationLine → Text
 refutation_text cnf lines = codes "s UNSATISFIABLE\n" ++ (if cnf.lrat then lrat_text (length cnf.clauses + 1) lines else [])
 
+-- what a search cost
+abbrev pub cost_text : ℕ → Text
+cost_text cost = codes "c cost " ++ decimal cost ++ codes "\n"
+
 -- what is printed of an end, or where the budget was spent
 abbrev pub end_text : Cnf → Option End → Text
 end_text cnf None = codes "s UNKNOWN\n"

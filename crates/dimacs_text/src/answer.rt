@@ -2,12 +2,11 @@
 ghost use Rattle.std.specs.Prelude.{◌≡◌, ◌≤◌, IfOk, string_bytes};
 ghost use Rattle.outside.specs.Faults.{Rose};
 ghost use Rattle.clause_solver.specs.PlainStates.{found_of};
-ghost use Rattle.dimacs_text.specs.Printed.{end_text};
-ghost use Rattle.dimacs_text.specs.Ends.{end_of, verdict_of, Ends, complaint_of, Gives};
+ghost use Rattle.dimacs_text.specs.Ends.{end_of, answer_text, verdict_of, Ends, complaint_of, Gives};
 
 use crate::cnf::Cnf;
 use crate::ending::{Ending, Verdict, complain};
-use crate::printed::end_text;
+use crate::printed::answer_text;
 use crate::reading::{Reading, read_cnf};
 use clause_solver::Found;
 use outside::{Failed, Sink, Source, write_all};
@@ -58,14 +57,14 @@ fn answer<S: Source, K: Sink>(alloc: Global, source: &mut S, sink: &mut K) -> En
     }
 }
 
-// Searches clauses within their budget: the verdict, and the text of the machine's end.
+// Searches clauses within their budget: the verdict, and the text of the answer.
 fn searched(alloc: Global, cnf: &Cnf) -> Result<(Verdict, String), AllocError>
     ensures verdict { IfOk result (λ answer. answer.0 ≡ verdict_of (end_of cnf.now)) }
-    ensures text { IfOk result (λ answer. string_bytes answer.1 ≡ end_text cnf.now (end_of cnf.now)) }
+    ensures text { IfOk result (λ answer. string_bytes answer.1 ≡ answer_text cnf.now) }
 {
-    let found = cnf.search(alloc)?;
-    let text = end_text(alloc, cnf, &found)?;
-    Ok((verdict_of(&found), text))
+    let searched = cnf.search(alloc)?;
+    let text = answer_text(alloc, cnf, &searched)?;
+    Ok((verdict_of(&searched.found), text))
 }
 
 fn verdict_of(found: &Found) -> Verdict

@@ -1,9 +1,9 @@
 //! Clauses that can be searched, with what is to be done with them.
 ghost use Rattle.std.specs.Prelude.{◌≡◌, ◌≤◌, length, IfOk};
 ghost use Rattle.clause_solver.specs.PlainStates.{found_of};
-ghost use Rattle.cqe_base.specs.Machine.{end_within_budget};
+ghost use Rattle.dimacs_text.specs.Ends.{end_of, cost_of};
 
-use clause_solver::{Found, search};
+use clause_solver::{Searched, search_with_cost};
 use clause_store::clauses::Clauses;
 use std::alloc::{AllocError, Global};
 use std::marker::Model;
@@ -60,10 +60,11 @@ impl Cnf {
         self.lrat
     }
 
-    /// The machine's end on the clauses within the budget.
-    pub fn search(&self, alloc: Global) -> Result<Found, AllocError>
-        ensures { IfOk result (λ found. found_of found ≡ end_within_budget self.now.clauses self.now.variables self.now.budget) }
+    /// The machine's end on the clauses within the budget, with its whole cost, or with the budget where that was spent.
+    pub fn search(&self, alloc: Global) -> Result<Searched, AllocError>
+        ensures found { IfOk result (λ searched. found_of searched.found ≡ end_of self.now) }
+        ensures cost { IfOk result (λ searched. searched.cost ≡ cost_of self.now) }
     {
-        search(alloc, &self.clauses, self.variables, self.budget)
+        search_with_cost(alloc, &self.clauses, self.variables, self.budget)
     }
 }

@@ -2,10 +2,10 @@
 ghost use Rattle.std.specs.Prelude.{◌≡◌, ◌<◌, ◌≤◌, ◌+◌, ◌^◌, ◌++◌, length, reverse, OnOk, IfOk, codes, decimal, string_bytes, map};
 ghost use Rattle.clause_store.specs.PlainLines.{line_of, lines_of};
 ghost use Rattle.clause_solver.specs.PlainStates.{found_of};
-ghost use Rattle.dimacs_text.specs.Printed.{literal_text, clause_text, value_text, values_text, hints_text, lrat_line, lrat_text, refutation_text, end_text};
+ghost use Rattle.dimacs_text.specs.Printed.{literal_text, clause_text, value_text, values_text, hints_text, lrat_line, lrat_text, refutation_text, cost_text, end_text};
 
 use crate::cnf::Cnf;
-use clause_solver::Found;
+use clause_solver::{Found, Searched};
 use clause_store::literal::Lit;
 use clause_store::refutation::{Line, Refutation, Signs};
 use std::alloc::{AllocError, Global};
@@ -72,31 +72,48 @@ fn push_lines(text: &mut String, first: usize, lines: &[Line]) -> Result<(), All
     Ok(())
 }
 
-/// The text of what a search found.
-pub fn end_text(alloc: Global, cnf: &Cnf, found: &Found) -> Result<String, AllocError>
-    ensures { IfOk result (λ text. string_bytes text ≡ end_text cnf.now (found_of found.now)) }
+/// Appends what a search cost.
+fn push_cost(text: &mut String, cost: u64) -> Result<(), AllocError>
+    ensures { OnOk result (string_bytes text.new ≡ string_bytes text.old ++ cost_text cost) }
+{
+    write!(text, "c cost {cost}\n")
+}
+
+/// The text of what a search found and cost.
+pub fn answer_text(alloc: Global, cnf: &Cnf, searched: &Searched) -> Result<String, AllocError>
+    ensures { IfOk result (λ text. string_bytes text ≡ cost_text searched.now.cost ++ end_text cnf.now (found_of searched.now.found)) }
+{
+    let mut text = String::new(alloc);
+    push_cost(&mut text, searched.cost)?;
+    push_end(&mut text, cnf, &searched.found)?;
+    Ok(text)
+}
+
+/// Appends what a search found.
+fn push_end(text: &mut String, cnf: &Cnf, found: &Found) -> Result<(), AllocError>
+    ensures { OnOk result (string_bytes text.new ≡ string_bytes text.old ++ end_text cnf.now (found_of found.now)) }
 {
     match found {
-        Found::Model(signs) => model_text(alloc, signs),
-        Found::Refuted(refutation) => refutation_text(alloc, cnf, refutation),
-        Found::Spent => String::from_str(alloc, "s UNKNOWN\n"),
+        Found::Model(signs) => push_model(text, signs),
+        Found::Refuted(refutation) => push_refutation(text, cnf, refutation),
+        Found::Spent => text.push_str("s UNKNOWN\n"),
     }
 }
 
-fn model_text(alloc: Global, signs: &Signs) -> Result<String, AllocError>
-    ensures { IfOk result (λ text. string_bytes text ≡ codes "s SATISFIABLE\nv " ++ values_text 0 signs.now.values.items) }
+fn push_model(text: &mut String, signs: &Signs) -> Result<(), AllocError>
+    ensures { OnOk result (string_bytes text.new ≡ string_bytes text.old ++ (codes "s SATISFIABLE\nv " ++ values_text 0 signs.now.values.items)) }
 {
-    let mut text = String::from_str(alloc, "s SATISFIABLE\nv ")?;
-    push_values(&mut text, &signs.values)?;
-    Ok(text)
+    text.push_str("s SATISFIABLE\nv ")?;
+    push_values(text, &signs.values)?;
+    Ok(())
 }
 
-fn refutation_text(alloc: Global, cnf: &Cnf, refutation: &Refutation) -> Result<String, AllocError>
-    ensures { IfOk result (λ text. string_bytes text ≡ refutation_text cnf.now (lines_of refutation.now)) }
+fn push_refutation(text: &mut String, cnf: &Cnf, refutation: &Refutation) -> Result<(), AllocError>
+    ensures { OnOk result (string_bytes text.new ≡ string_bytes text.old ++ refutation_text cnf.now (lines_of refutation.now)) }
 {
-    let mut text = String::from_str(alloc, "s UNSATISFIABLE\n")?;
+    text.push_str("s UNSATISFIABLE\n")?;
     if cnf.lrat() {
-        push_lines(&mut text, cnf.clauses().len() + 1, &refutation.lines)?;
+        push_lines(text, cnf.clauses().len() + 1, &refutation.lines)?;
     }
-    Ok(text)
+    Ok(())
 }

@@ -8,79 +8,79 @@ use std::test::Fail;
 /// Files, with the status and the output.
 const ANSWERED: [(&str, u8, &str); 16] = [
     // nothing to decide
-    ("p cnf 0 0\n", 10, "s SATISFIABLE\nv 0\n"),
-    ("p cnf 3 0", 10, "s SATISFIABLE\nv -1 -2 -3 0\n"),
-    ("p cnf 1 1\n0\n", 20, "s UNSATISFIABLE\n"),
+    ("p cnf 0 0\n", 10, "c cost 1\ns SATISFIABLE\nv 0\n"),
+    ("p cnf 3 0", 10, "c cost 4\ns SATISFIABLE\nv -1 -2 -3 0\n"),
+    ("p cnf 1 1\n0\n", 20, "c cost 1\ns UNSATISFIABLE\n"),
     // a model, its variables in order
     (
         "p cnf 3 2\n1 2 0\n-2 -3 0\n",
         10,
-        "s SATISFIABLE\nv -1 2 -3 0\n",
+        "c cost 4\ns SATISFIABLE\nv -1 2 -3 0\n",
     ),
     // numbers go on over lines, and lines may hold several clauses
     (
         "p cnf 3 3\n1\n2 0 -1\n 0 3 0",
         10,
-        "s SATISFIABLE\nv -1 2 3 0\n",
+        "c cost 4\ns SATISFIABLE\nv -1 2 3 0\n",
     ),
     (
         "p\tcnf  2 2\r\n\r\n1 -2 0\r\n \t2 0\r\n",
         10,
-        "s SATISFIABLE\nv 1 2 0\n",
+        "c cost 3\ns SATISFIABLE\nv 1 2 0\n",
     ),
     // a second copy of a literal is dropped, both literals of a variable stay
     (
         "c lrat\np cnf 1 2\n1 1 1 0\n-1 -1 0\n",
         20,
-        "s UNSATISFIABLE\n3 0 1 2 0\n",
+        "c cost 3\ns UNSATISFIABLE\n3 0 1 2 0\n",
     ),
     (
         "p cnf 2 2\n1 -1 0\n2 -2 1 2 0\n",
         10,
-        "s SATISFIABLE\nv -1 -2 0\n",
+        "c cost 3\ns SATISFIABLE\nv -1 -2 0\n",
     ),
     // a refutation without its lines, and with them
     (
         "p cnf 2 4\n1 2 0\n1 -2 0\n-1 2 0\n-1 -2 0\n",
         20,
-        "s UNSATISFIABLE\n",
+        "c cost 9\ns UNSATISFIABLE\n",
     ),
     (
         "c lrat\np cnf 2 4\n1 2 0\n1 -2 0\n-1 2 0\n-1 -2 0\n",
         20,
-        "s UNSATISFIABLE\n5 1 0 1 2 0\n6 0 5 3 4 0\n",
+        "c cost 9\ns UNSATISFIABLE\n5 1 0 1 2 0\n6 0 5 3 4 0\n",
     ),
     (
         "p cnf 3 3\n2 0\n-2 3 0\n-3 -2 0\nc lrat\n",
         20,
-        "s UNSATISFIABLE\n4 0 1 2 3 0\n",
+        "c cost 5\ns UNSATISFIABLE\n4 0 1 2 3 0\n",
     ),
     // the two probes of a worked example at their whole costs, and at one less
     (
         "c budget 11\np cnf 8 13\n1 0\n4 2 0\n4 -3 0\n-4 -2 3 0\n7 5 0\n7 -6 0\n-7 -5 6 0\n-8 4 0\n-8 7 0\n8 -4 -7 0\n8 0\n2 0\n-3 0\n",
         20,
-        "s UNSATISFIABLE\n",
+        "c cost 11\ns UNSATISFIABLE\n",
     ),
     (
         "c budget 10\np cnf 8 13\n1 0\n4 2 0\n4 -3 0\n-4 -2 3 0\n7 5 0\n7 -6 0\n-7 -5 6 0\n-8 4 0\n-8 7 0\n8 -4 -7 0\n8 0\n2 0\n-3 0\n",
         0,
-        "s UNKNOWN\n",
+        "c cost 10\ns UNKNOWN\n",
     ),
     (
         "c budget 9\np cnf 8 13\n1 0\n4 2 0\n4 -3 0\n-4 -2 3 0\n7 5 0\n7 -6 0\n-7 -5 6 0\n-8 4 0\n-8 7 0\n8 -4 -7 0\n8 0\n-2 0\n-3 0\n",
         10,
-        "s SATISFIABLE\nv 1 -2 -3 4 -5 -6 7 8 0\n",
+        "c cost 9\ns SATISFIABLE\nv 1 -2 -3 4 -5 -6 7 8 0\n",
     ),
     (
         "c budget 8\np cnf 8 13\n1 0\n4 2 0\n4 -3 0\n-4 -2 3 0\n7 5 0\n7 -6 0\n-7 -5 6 0\n-8 4 0\n-8 7 0\n8 -4 -7 0\n8 0\n-2 0\n-3 0\n",
         0,
-        "s UNKNOWN\n",
+        "c cost 8\ns UNKNOWN\n",
     ),
     // comments that say nothing, leading zeros
     (
         "c\nc budget\nc budget of 2026 is due\nc lrat please\ncnf files are fun\nclrat\np cnf 01 01\n-01 00\n",
         10,
-        "s SATISFIABLE\nv -1 0\n",
+        "c cost 2\ns SATISFIABLE\nv -1 0\n",
     ),
 ];
 
@@ -186,7 +186,7 @@ fn long_files_are_refused(rt: HostRuntime) -> Result<(), Fail> {
         file.push(b'c')?;
     }
     let source = MemorySource::new(file.clone()?);
-    let wanted = (10, "s SATISFIABLE\nv 0\n", "");
+    let wanted = (10, "c cost 1\ns SATISFIABLE\nv 0\n", "");
     check(&rt, alloc, source, MemorySink::new(alloc), wanted);
     file.push(b'c')?;
     let wanted = (5, "", "dimacs: refused 2 2\n");
@@ -202,7 +202,7 @@ fn long_files_are_refused(rt: HostRuntime) -> Result<(), Fail> {
         file.push(b'\n')?;
     }
     let source = MemorySource::new(file.clone()?);
-    let wanted = (10, "s SATISFIABLE\nv 0\n", "");
+    let wanted = (10, "c cost 1\ns SATISFIABLE\nv 0\n", "");
     check(&rt, alloc, source, MemorySink::new(alloc), wanted);
     file.push(b'\n')?;
     let wanted = (5, "", "dimacs: refused 3 1000001\n");
@@ -228,8 +228,8 @@ fn faults_are_told(rt: HostRuntime) -> Result<(), Fail> {
     }
     for (call, output) in [
         (0, ""),
-        (2, "s UNSATISF"),
-        (5, "s UNSATISFIABLE\n3 0 1 2 0"),
+        (2, "c cost 3\ns"),
+        (6, "c cost 3\ns UNSATISFIABLE\n3 0 1"),
     ] {
         let plan = Plan::At(vec![in alloc; call]?);
         let sink = MemorySink::with_plan(alloc, Pieces::UpTo(5), plan);

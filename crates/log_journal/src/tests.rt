@@ -1,6 +1,6 @@
 ghost use Rattle.std.specs.Prelude.{◌≤◌};
 
-use crate::{AppendError, Header, Journal, OpenError, format, open};
+use crate::{AppendError, Header, Journal, OpenError, format, journal_name, open};
 use outside::{MemoryDisk, Operation, Plan};
 use std::alloc::Global;
 use std::test::Fail;
@@ -270,5 +270,12 @@ fn a_journal_crosses_threads(rt: HostRuntime) -> Result<(), Fail> {
         MemoryDisk::new(alloc, with_header(alloc, &FROM_THE_GATE)?)?,
     )?;
     crosses_threads(&journal);
+    Ok(())
+}
+
+#[test]
+fn a_journal_has_the_name_of_its_user(rt: HostRuntime) -> Result<(), Fail> {
+    let name = journal_name(rt.alloc(), "/var/cqe", "eve")?;
+    assert_eq!(rt; name.as_str(), "/var/cqe/eve.log");
     Ok(())
 }

@@ -7,3 +7,6 @@ pub mod RecordLaws
 pub mod MemoryDisk
 pub mod MemoryFiles
 pub mod MemoryShelves
+pub mod Shelf
+pub mod Places
+pub mod MemoryDisks

@@ -1,4 +1,5 @@
-//! What lies outside of the program: sources, sinks, disks and shelves of files, each a trait with an object in memory that meets it.
+//! What lies outside of the program: sources, sinks, disks, and shelves of files and disks, each a trait with an object
+//! in memory that meets it.
 //!
 //! A call answers `Failed` only where the count of faults of its object rose, and code that is generic over a trait
 //! can't raise a count. What an object gives or holds is told over memory and isn't told over a real stream or file.
@@ -10,9 +11,11 @@ mod disk;
 #[cfg(test)]
 mod disk_tests;
 mod fault;
+mod gate;
 mod memory_disk;
 mod memory_shelf;
 mod memory_stream;
+mod places;
 mod plan;
 mod shelf;
 #[cfg(test)]
@@ -24,9 +27,11 @@ mod write;
 
 pub use disk::Disk;
 pub use fault::Failed;
+pub use gate::{Gate, OpenGate, Point};
 pub use memory_disk::{Call, MemoryDisk, Operation};
 pub use memory_shelf::{MemoryFile, MemoryShelf};
 pub use memory_stream::{MemorySink, MemorySource};
+pub use places::Places;
 pub use plan::{Pieces, Plan};
 pub use shelf::{Shelf, ShelfError};
 pub use stream::{Sink, Source};

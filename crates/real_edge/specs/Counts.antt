@@ -1,8 +1,11 @@
 -- The counts of faults of what is real.
-use Rattle.std.specs.Prelude.{ℕ}
+use Rattle.std.specs.Prelude.{ℕ, Bool, List}
+use Rattle.outside.specs.Places.{at_name}
 use Rattle.real_edge.specs.declared.streams.StreamSource.{StreamSource}
 use Rattle.real_edge.specs.declared.streams.StreamSink.{StreamSink}
+use Rattle.real_edge.specs.declared.disks.FileDisk.{FileDisk}
 use Rattle.real_edge.specs.declared.files.FileShelf.{FileShelf}
+use Rattle.real_edge.specs.Kept.{out_kept, faults_kept}
 
 -- how often a reader failed
 abbrev pub source_faults : {R : Type 0} → StreamSource R → ℕ
@@ -12,6 +15,18 @@ source_faults source = source.faults
 abbrev pub sink_faults : {W : Type 0} → StreamSink W → ℕ
 sink_faults sink = sink.faults
 
+-- how often an open file failed
+abbrev pub disk_faults : {F : Type 0} → FileDisk F → ℕ
+disk_faults disk = disk.faults
+
 -- how often a file system failed
 abbrev pub shelf_faults : {R : Type 0} → FileShelf R → ℕ
 shelf_faults shelf = shelf.faults
+
+-- the file of this name was taken as a disk and isn't back
+abbrev pub is_file_out : {R : Type 0} → FileShelf R → List ℕ → Bool
+is_file_out shelf name = out_kept (at_name shelf.disks name)
+
+-- how often the disk of a name failed
+abbrev pub file_faults : {R : Type 0} → FileShelf R → List ℕ → ℕ
+file_faults shelf name = faults_kept (at_name shelf.disks name)

@@ -1,29 +1,48 @@
 // The files of the system as a shelf. Clauses aren't told what they hold.
-ghost use Rattle.std.specs.Prelude.{◌≡◌, ◌≢◌, ◌≤◌, None, IfOk, IfErr, IfSome};
+ghost use Rattle.std.specs.Prelude.{◌≡◌, ◌≢◌, ◌≤◌, List, ℕ, Some, None, true, false, IfOk, IfErr, IfSome};
 ghost use Rattle.outside.specs.Faults.{Rose};
+ghost use Rattle.outside.specs.Places.{at_name};
+ghost use Rattle.outside.specs.Shelf.{SameNames, SameOthers};
+ghost use Rattle.real_edge.specs.Kept.{faults_kept};
 ghost use Rattle.real_edge.specs.Refusals.{opening_refusal, reading_refusal};
 
-use outside::{Shelf, ShelfError};
-use std::alloc::Global;
-use std::fs;
+use crate::FileDisk;
+use outside::{Places, Shelf, ShelfError};
+use std::alloc::{AllocError, Global};
+use std::fs::{self, OpenOptions};
 use std::io::{ErrorKind, Read};
 use std::rt::Files;
 
-/// The files that a runtime reaches, each by its path. A call that fails is counted and isn't tried again.
+// What a shelf keeps of a disk that it gave.
+#[derive(Drop)]
+struct Kept {
+    is_out: bool,
+    faults: u64,
+}
+
+/// The files that a runtime reaches, each by its path, also as a disk. A call that fails is counted and isn't tried
+/// again. A disk that comes back is closed, and only its count is kept.
 #[derive(Drop)]
 pub struct FileShelf<'r, R> {
     runtime: &'r R,
+    disks: Places<Kept>,
     faults: u64,
 }
 
 impl<'r, R> FileShelf<'r, R> {
-    ghost use Rattle.real_edge.specs.Counts.{shelf_faults};
+    ghost use Rattle.real_edge.specs.Counts.{shelf_faults, is_file_out, file_faults};
 
-    /// A shelf that hasn't failed.
-    pub fn new(runtime: &'r R) -> Self
-        ensures { shelf_faults result ≡ 0 }
+    /// A shelf that hasn't failed and has given no disk.
+    pub fn new(alloc: Global, runtime: &'r R) -> Self
+        ensures faultless { shelf_faults result ≡ 0 }
+        ensures none_out { (name : List ℕ) → is_file_out result name ≡ false }
+        ensures counts { (name : List ℕ) → file_faults result name ≡ 0 }
     {
-        FileShelf { runtime, faults: 0 }
+        FileShelf {
+            runtime,
+            disks: Places::new(alloc),
+            faults: 0,
+        }
     }
 
     /// How often it failed.
@@ -32,33 +51,94 @@ impl<'r, R> FileShelf<'r, R> {
     {
         self.faults
     }
-
-    // Counts a refusal that is a failure.
-    fn count(&mut self, refusal: ShelfError)
-        ensures later { shelf_faults self.old ≤ shelf_faults self.new }
-        ensures cause { refusal ≡ ShelfError.Failed → Rose (shelf_faults self.old) (shelf_faults self.new) }
-    {
-        if refusal == ShelfError::Failed {
-            self.faults = self.faults.saturating_add(1);
-        }
-    }
 }
 
 impl<R: Files> Shelf for FileShelf<'_, R> {
+    ghost use Rattle.real_edge.specs.Counts.{shelf_faults, is_file_out, file_faults};
+
+    type D = FileDisk<R::File>;
+
     ghost told = { ⊥ };
 
     ghost file = { λ shelf name. None };
 
-    ghost faults = { λ shelf. shelf.faults };
+    ghost disk = { λ shelf name. None };
+
+    ghost is_out = { is_file_out };
+
+    ghost disk_faults = { file_faults };
+
+    ghost faults = { shelf_faults };
+
+    ghost tells_disks = { λ told. told };
 
     fn read_file(&mut self, alloc: Global, name: &str) -> Result<Vec<u8>, ShelfError> {
         match bytes_of(self.runtime, alloc, name) {
             Ok(bytes) => Ok(bytes),
             Err(refusal) => {
-                self.count(refusal);
+                count(refusal, &mut self.faults);
                 Err(refusal)
             }
         }
+    }
+
+    fn take_disk(&mut self, alloc: Global, name: &str) -> Result<FileDisk<R::File>, ShelfError> {
+        match open_disk(self.runtime, name) {
+            Ok(file) => {
+                let faults = keep_place(alloc, &mut self.disks, name)?;
+                Ok(FileDisk::new(file, faults))
+            }
+            Err(refusal) => {
+                count(refusal, &mut self.faults);
+                Err(refusal)
+            }
+        }
+    }
+
+    fn give_disk(&mut self, name: &str, taken: FileDisk<R::File>) {
+        let (is_out, faults) = (false, taken.faults());
+        let _out = self.disks.replace(name, Kept { is_out, faults });
+    }
+}
+
+// Counts a refusal that is a failure.
+fn count(refusal: ShelfError, faults: &mut u64)
+    ensures later { faults.old ≤ faults.new }
+    ensures cause { refusal ≡ ShelfError.Failed → Rose faults.old faults.new }
+{
+    if refusal == ShelfError::Failed {
+        *faults = faults.saturating_add(1);
+    }
+}
+
+// Keeps the place of a disk that is given, and answers its count of faults.
+fn keep_place(alloc: Global, disks: &mut Places<Kept>, name: &str) -> Result<u64, ShelfError>
+    ensures count { IfOk result (λ faults. faults ≡ faults_kept (at_name disks.old name.now)) }
+    ensures place { IfOk result (λ faults. at_name disks.new name.now ≡ Some (record { is_out = true; faults = faults })) }
+    ensures others { SameOthers name.now (at_name disks.old) (at_name disks.new) }
+    ensures refused { IfErr result (λ refusal. (refusal ≡ ShelfError.Memory) × SameNames (at_name disks.old) (at_name disks.new)) }
+{
+    let faults = match disks.get(name) {
+        Some(kept) => kept.faults,
+        None => 0,
+    };
+    let is_out = true;
+    match disks.set(alloc, name, Kept { is_out, faults }) {
+        Ok(()) => Ok(faults),
+        Err(AllocError) => Err(ShelfError::Memory),
+    }
+}
+
+// The file of a path, for reading and writing. It is made where there is none, so that what can't be found is its
+// directory, and that is a failure.
+fn open_disk<R: Files>(runtime: &R, path: &str) -> Result<R::File, ShelfError>
+    ensures { IfErr result (λ refusal. refusal ≢ ShelfError.Missing) }
+{
+    let mut options = OpenOptions::new();
+    options.read(true).write(true).create(true);
+    match options.open(runtime, path) {
+        Ok(file) => Ok(file),
+        Err(error) => Err(reading_refusal(error.kind())),
     }
 }
 
@@ -91,7 +171,7 @@ fn opening_refusal(kind: ErrorKind) -> ShelfError
     }
 }
 
-// Why an opened file wasn't read.
+// Why an opened file wasn't read, or a disk wasn't opened.
 fn reading_refusal(kind: ErrorKind) -> ShelfError
     ensures { result ≡ reading_refusal kind }
 {

@@ -1,6 +1,6 @@
 use crate::files::read_whole;
-use crate::{FileShelf, StreamSink, StreamSource};
-use outside::{Failed, Shelf, ShelfError, Sink, Source};
+use crate::{FileDisk, FileShelf, StreamSink, StreamSource};
+use outside::{Disk, Failed, Shelf, ShelfError, Sink, Source};
 use std::fs;
 use std::io::{self, Read, Write};
 use std::test::Fail;
@@ -73,7 +73,7 @@ fn the_shelf_reads_files_of_the_system(rt: HostRuntime) -> Result<(), Fail> {
     let alloc = rt.alloc();
     let name = "real_edge_file";
     fs::write(&rt, name, b"version = 1\n\xff".as_slice())?;
-    let mut shelf = FileShelf::new(&rt);
+    let mut shelf = FileShelf::new(alloc, &rt);
     let read = shelf.read_file(alloc, name);
     fs::remove_file(&rt, name)?;
     assert_eq!(rt;
@@ -94,4 +94,46 @@ fn the_shelf_reads_files_of_the_system(rt: HostRuntime) -> Result<(), Fail> {
         assert_eq!(rt; shelf.faults(), faults, "{path}");
     }
     Ok(())
+}
+
+#[test]
+fn the_shelf_gives_files_of_the_system_as_disks(rt: HostRuntime) -> Result<(), Fail> {
+    let alloc = rt.alloc();
+    let name = "real_edge_disk.log";
+    let mut shelf = FileShelf::new(alloc, &rt);
+    let mut disk = shelf.take_disk(alloc, name)?;
+    assert_eq!(rt; disk.length(), Ok(0));
+    assert_eq!(rt; disk.write_at(0, b"CQEJRNL1"), Ok(()));
+    assert_eq!(rt; disk.write_at(6, b"L2\0"), Ok(()));
+    assert_eq!(rt; disk.sync(), Ok(()));
+    shelf.give_disk(name, disk);
+    assert_eq!(rt; fs::read(&rt, name)?.as_slice(), b"CQEJRNL2\0".as_slice());
+    let mut disk = shelf.take_disk(alloc, name)?;
+    assert_eq!(rt; disk.length(), Ok(9));
+    let mut piece = [7; 4];
+    assert_eq!(rt; disk.read_at(6, &mut piece), Ok(3));
+    assert_eq!(rt; piece, [b'L', b'2', 0, 7]);
+    assert_eq!(rt; disk.read_at(20, &mut piece), Ok(0));
+    assert_eq!(rt; disk.read_at(u64::MAX, &mut piece), Err(Failed));
+    shelf.give_disk(name, disk);
+    let disk = shelf.take_disk(alloc, name)?;
+    assert_eq!(rt; disk.faults(), 1);
+    shelf.give_disk(name, disk);
+    fs::remove_file(&rt, name)?;
+    assert_eq!(rt; shelf.faults(), 0);
+    Ok(())
+}
+
+#[test]
+fn a_file_that_cannot_be_opened_is_a_fault(rt: HostRuntime) {
+    let alloc = rt.alloc();
+    for path in ["no_such_directory/eve.log", ".", "a\0b"] {
+        let mut shelf = FileShelf::new(alloc, &rt);
+        assert_eq!(rt;
+            shelf.take_disk(alloc, path).err(),
+            Some(ShelfError::Failed),
+            "{path}"
+        );
+        assert_eq!(rt; shelf.faults(), 1, "{path}");
+    }
 }

@@ -55,6 +55,10 @@ module _ {V I F : Type 0} where
   abbrev pub IsOf : Pass I F → Turnstile V I F → Type 0
   IsOf p t = p.badge.table_id ≡ t.table.shared.table_id
 
+  -- the value as it was put under the turnstile
+  abbrev pub first_value : Turnstile V I F → V
+  first_value t = t.table.shared.key.value
+
 module _ {V I F : Type 0} {G : Ghosts V I F} where
   -- the turn is at this turnstile
   abbrev pub IsAt : Turn V I F G → Turnstile V I F → Type 0

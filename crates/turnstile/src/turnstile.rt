@@ -46,7 +46,7 @@ impl<V: Recorded> Turnstile<V> {
     ghost use Rattle.turnstile.specs.declared.pass.PassError.TheVariants.{TooMany};
     ghost use Rattle.turnstile.specs.History.{IsPrefix, AddsAtMostOne, AddsAlike, IsOpening, Interleaves, IsRising, entries_with, turn_entries};
     ghost use Rattle.turnstile.specs.Views.{opening_view, turn_view, outside_view, remaining_view, split_off_view, view_of_both, DrewEachOnce};
-    ghost use Rattle.turnstile.specs.Passes.{IsReady, IsAway, IsOf, IsAt, view_of, seen, tickets, mine, fixed, shares, turns, ticket_of, view_in, entries_before, mine_before};
+    ghost use Rattle.turnstile.specs.Passes.{IsReady, IsAway, IsOf, first_value, IsAt, view_of, seen, tickets, mine, fixed, shares, turns, ticket_of, view_in, entries_before, mine_before};
 
     /// Puts a value under a turnstile. The pass has all 65 shares and 65 * 2^57 turns. For want of memory the value comes back.
     pub fn new(alloc: Global, value: V) -> Result<(Turnstile<V>, Pass<V::Item, V::Fixed>), V>
@@ -54,6 +54,7 @@ impl<V: Recorded> Turnstile<V> {
         ensures place { IfOk result (λ t. IsOf t.1 t.0 × IsReady t.1) }
         ensures view { IfOk result (λ t. view_of t.1 ≡ opening_view (V.entries value) (V.fixed value)) }
         ensures mine { IfOk result (λ t. mine t.1 ≡ []) }
+        ensures first { IfOk result (λ t. first_value t.0 ≡ value) }
         ensures err { IfErr result (λ v. v ≡ value) }
     {
         let about = Snapshot::of(&value);

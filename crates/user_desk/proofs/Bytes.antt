@@ -1,7 +1,7 @@
 -- Which entries bytes stand for.
 use Rattle.std.proofs.Common.{◌≡◌, ◌⊎◌, ℕ, ◌+◌, ◌≤◌, List, [], ◌∷◌, ◌++◌, length, map, take, refl, sym, ap, ◌∙◌, subst, inl, inr, ⊎_elim, arith, length-append}
 use Rattle.std.specs.Prelude.{Some}
-use Rattle.std.proofs.lemmas.List.{length-map, map-append, length-take, take_at, take_all}
+use Rattle.std.proofs.lemmas.List.{length-map, map-append, length-take, take_at, take_all, take-append-le}
 use Rattle.cqe_base.specs.Schema.{DatabaseSchema}
 use Rattle.cqe_base.specs.History.{AnsweredQuery, History}
 use Rattle.log_journal.specs.Records.{Recorded, records, IsJournal, Adds, KeepsOrAdds}
@@ -83,6 +83,18 @@ module _ (schema : DatabaseSchema) (header : List ℕ) where
   count_within least entries bytes within =
       let count = as_many schema (records bytes) (take (length (records bytes)) entries) within.are in
       omega (arith, length-take (length (records bytes)) entries)
+
+  -- a beginning of these entries is one of these and more
+  pub within_longer : (least : ℕ) (entries rest : History) (bytes : List ℕ) → StandsWithin schema header least entries bytes → StandsWithin schema header least (entries ++ rest) bytes
+  within_longer least entries rest bytes within = record {
+    journal = within.journal;
+    enough = within.enough;
+    are = within.are ∙ ap (λ l. map Some l) (sym (take-append-le (length (records bytes)) entries rest (count_within least entries bytes within)));
+  }
+
+  -- it has at least so many, so also at least fewer
+  pub within_least : (fewer least : ℕ) (entries : History) (bytes : List ℕ) → fewer ≤ least → StandsWithin schema header least entries bytes → StandsWithin schema header fewer entries bytes
+  within_least fewer least entries bytes le within = record { journal = within.journal; enough = omega (arith, le, within.enough); are = within.are }
 
   -- a beginning that leaves nothing out
   pub within_exact : (entries : History) (bytes : List ℕ) → StandsWithin schema header (length entries) entries bytes → StandsFor schema header entries bytes

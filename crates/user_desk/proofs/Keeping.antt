@@ -20,6 +20,12 @@ use Rattle.user_desk.specs.declared.standing.DeskError.TheVariants.{Journal}
 use Rattle.user_desk.proofs.Bytes.{within_more}
 use Rattle.user_desk.proofs.Restarting.{opens_served}
 
+-- an open desk isn't sealed
+pub open_not_sealed : (standing : Standing) → is_open standing ≡ true → is_sealed standing ≡ false
+open_not_sealed Open is = refl
+open_not_sealed (Closed admission) is = absurd cc
+open_not_sealed (Sealed why) is = absurd cc
+
 module _ (schema : DatabaseSchema) (world : FactSet) (user : UserProfile) where
   admits_open : (told : Type 0) (header : List ℕ) (bytes : List ℕ) (entries : History) (before now : ℕ) (standing : Standing) → IsStanding schema world user told header bytes entries before now standing
       → is_open standing ≡ true → admitted schema world user ≡ true

@@ -5,3 +5,5 @@ pub mod Restarting
 pub mod Keeping
 pub mod Taking
 pub mod Recording
+pub mod Since
+pub mod Deciding

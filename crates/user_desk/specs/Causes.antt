@@ -1,5 +1,5 @@
 -- Which bytes open a desk, and why other bytes are refused.
-use Rattle.std.specs.Prelude.{◌≡◌, ◌≢◌, ℕ, Bool, true, false, ◌||◌, List, [], ◌∷◌, ◌++◌, length, map, Some, Ok, Err}
+use Rattle.std.specs.Prelude.{◌≡◌, ◌≢◌, ◌⊎◌, ℕ, Bool, true, false, ◌||◌, List, [], ◌∷◌, ◌++◌, length, map, Some, Ok, Err}
 use Rattle.cqe_base.specs.Schema.{DatabaseSchema}
 use Rattle.cqe_base.specs.Facts.{FactSet}
 use Rattle.cqe_base.specs.Formula.{Formula}
@@ -11,6 +11,7 @@ use Rattle.cqe_base.specs.Run.{is_full, is_too_large}
 use Rattle.outside.specs.Faults.{Rose}
 use Rattle.log_journal.specs.Records.{Recorded, records, IsJournal}
 use Rattle.log_journal.specs.Opening as journal
+use Rattle.log_journal.specs.declared.header.Header.{Header}
 use Rattle.log_journal.specs.declared.header.OpenError.TheVariants.{DiskFault, Memory}
 use Rattle.censors.specs.Admitting.{admission_of}
 use Rattle.user_desk.specs.Entries.{mark_of, entry_of, StandsFor}
@@ -82,3 +83,21 @@ module _ (schema : DatabaseSchema) (world : FactSet) (user : UserProfile) where
   IsReplay all entries (Closed admission) = (admitted schema world user ≡ false) × (admission ≡ admission_of schema world user) × (entries ≡ []) × (all ≡ [])
   IsReplay all entries (Sealed (NotAdmitted admission)) = (entries ≡ []) × (admitted schema world user ≡ false) × (admission ≡ admission_of schema world user) × (all ≢ [])
   IsReplay all entries (Sealed why) = (entries ≡ []) × (admitted schema world user ≡ true) × RefusesRecords all why
+
+-- whatever bytes a disk has, they open a desk with some entries, or with none
+abbrev pub OpensOrNot : Type 0
+OpensOrNot =
+    (schema : DatabaseSchema) (world : FactSet) (user : UserProfile) (header bytes : List ℕ)
+    → ((entries : History) × Opens schema world user header entries bytes) ⊎ ((entries : History) → Opens schema world user header entries bytes → ⊥)
+
+-- the entries that bytes open a desk with are one list
+abbrev pub OpensOnce : Type 0
+OpensOnce =
+    (schema : DatabaseSchema) (world : FactSet) (user : UserProfile) (header : List ℕ) (first second : History) (bytes : List ℕ)
+    → Opens schema world user header first bytes → Opens schema world user header second bytes → first ≡ second
+
+-- bytes that open a desk show no reason to refuse them
+abbrev pub OpensUnrefused : Type 0
+OpensUnrefused =
+    (schema : DatabaseSchema) (world : FactSet) (user : UserProfile) (header : Header) (bytes : List ℕ) (entries : History) (why : DeskError)
+    → Opens schema world user (journal.header_bytes header) entries bytes → Refuses schema world user (journal.header_bytes header) bytes why → ⊥

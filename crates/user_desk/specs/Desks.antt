@@ -1,5 +1,5 @@
 -- What a desk is to its callers.
-use Rattle.std.specs.Prelude.{◌≡◌, ℕ, Bool, List, Option, option_map, is_some, Result, Ok, Err}
+use Rattle.std.specs.Prelude.{◌≡◌, ℕ, Bool, List, take, Option, option_map, is_some, Result, Ok, Err}
 use Rattle.cqe_base.specs.Schema.{DatabaseSchema}
 use Rattle.cqe_base.specs.Facts.{FactSet}
 use Rattle.cqe_base.specs.History.{UserProfile, AnsweredQuery, History, answered_query_of}
@@ -8,7 +8,7 @@ use Rattle.log_journal.specs.Opening.{header_bytes}
 use Rattle.log_journal.specs.declared.header.Refused.{Refused}
 use Rattle.user_log.specs.UserLogs.{kept_schema, kept_world, kept_user, kept_history}
 use Rattle.user_desk.specs.Standings.{standing_of}
-use Rattle.user_desk.specs.Stores.{stored_disk}
+use Rattle.user_desk.specs.Stored.{stored_disk, opened_disk}
 use Rattle.user_desk.specs.Lives.{shown, IsState}
 use Rattle.user_desk.specs.declared.standing.Standing.{Standing}
 use Rattle.user_desk.specs.declared.desk.Desk.{Desk}
@@ -41,6 +41,18 @@ desk_history desk = kept_history desk.log
 abbrev pub desk_disk : {D : Type 0} {g : _} → Desk D g → D
 desk_disk desk = stored_disk desk.store
 
+-- how many entries it had at its opening
+abbrev pub opening_count : {D : Type 0} {g : _} → Desk D g → ℕ
+opening_count desk = desk.opened
+
+-- the entries that it had at its opening
+abbrev pub opening_history : {D : Type 0} {g : _} → Desk D g → History
+opening_history desk = take (opening_count desk) (desk_history desk)
+
+-- its disk as it was at its opening
+abbrev pub opening_disk : {D : Type 0} {g : _} → Desk D g → D
+opening_disk desk = opened_disk desk.store
+
 -- the entry whose append failed, if one did
 abbrev pub entry_in_flight : {D : Type 0} {g : _} → Desk D g → Option AnsweredQuery
 entry_in_flight desk = option_map answered_query_of desk.in_flight
@@ -64,6 +76,12 @@ pub record IsOfSame {D : Type 0} {g : _} (old new : Desk D g) : Type 0 where
   pub user : desk_user new ≡ desk_user old
   pub header : desk_header new ≡ desk_header old
   pub standing : desk_standing new ≡ desk_standing old
+
+-- two desks had the same entries and the same disk at their openings
+pub record IsOfOneOpening {D : Type 0} {g : _} (old new : Desk D g) : Type 0 where
+  pub count : opening_count new ≡ opening_count old
+  pub entries : opening_history new ≡ opening_history old
+  pub disk : opening_disk new ≡ opening_disk old
 
 -- the disk after an opening, in the desk or handed back
 abbrev pub disk_opened : {D E : Type 0} {g : _} → Result (Desk D g) (Refused D E) → D

@@ -2,7 +2,8 @@ pub mod Entries
 pub mod Causes
 pub mod Standings
 pub mod Kept
-pub mod Stores
+pub mod Stored
+pub mod Mediums
 pub mod Lives
 pub mod Desks
 pub mod Replays

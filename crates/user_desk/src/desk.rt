@@ -1,23 +1,23 @@
 // A desk between its opening and its close.
-ghost use Rattle.std.specs.Prelude.{◌≡◌, ◌≤◌, ◌++◌, ◌∷◌, [], true, false, List, ℕ, length, map, option_map, None, IfSome, IfNone, ◌↔◌, IsTrue};
+ghost use Rattle.std.specs.Prelude.{◌≡◌, ◌≤◌, ◌++◌, ◌∷◌, [], true, false, List, ℕ, length, map, option_map, option_to_list, None, IfSome, IfNone, ◌↔◌, IsTrue};
 ghost use Rattle.outside.specs.Disk.{Elapses};
 ghost use Rattle.outside.specs.Faults.{Rose};
 ghost use Rattle.cqe_base.specs.Formula.{formula_of};
-ghost use Rattle.cqe_base.specs.History.{answered_query_of};
+ghost use Rattle.cqe_base.specs.History.{answered_query_of, profile_of};
 ghost use Rattle.cqe_base.specs.Limits.{KeepsLimits, KeepsSizes};
 ghost use Rattle.cqe_base.specs.Censor.{IsLegal, admitted};
 ghost use Rattle.cqe_base.specs.Run.{UserState, after_event, stop};
 ghost use Rattle.log_journal.specs.Opening.{header_bytes};
 ghost use Rattle.user_log.specs.UserLogs.{kept_schema, kept_world, kept_user, kept_history};
-ghost use Rattle.user_desk.specs.Kept.{IsKept, IsKept-prop};
-ghost use Rattle.user_desk.specs.Stores.{stored_disk, has_journal, has_failed};
+ghost use Rattle.user_desk.specs.Kept.{IsKept, IsKept-prop, StandsSince, StandsSince-prop};
+ghost use Rattle.user_desk.specs.Stored.{stored_disk, opened_disk, has_journal, has_failed};
 ghost use Rattle.user_desk.specs.Standings.{is_open, is_sealed};
 
 use crate::kinds::kind_of;
 use crate::standing::Standing;
 use crate::store::Store;
 use cqe_base::sentence::Sentence;
-use cqe_base::user::{Entry, Mark};
+use cqe_base::user::{Entry, Mark, User};
 use log_journal::Header;
 use outside::Disk;
 use std::alloc::Global;
@@ -32,16 +32,26 @@ pub struct Desk<'w, D: Disk> {
     pub(crate) store: Store<D>,
     /// The entry whose append failed at the disk.
     pub(crate) in_flight: Option<Entry>,
+    /// How many entries there were at the opening.
+    pub(crate) opened: usize,
     ghost kept: { IsKept D.told (D.image (stored_disk store)) (kept_schema log) (kept_world log) (kept_user log) (header_bytes header) standing (kept_history log) (option_map answered_query_of in_flight) (has_journal store) (has_failed store) } by { IsKept-prop _ _ _ _ _ _ _ _ _ _ _ },
+    ghost since: { StandsSince D.told (D.image_since (stored_disk store) (D.moment (opened_disk store))) (kept_schema log) (header_bytes header) standing opened (kept_history log) (option_map answered_query_of in_flight) (has_journal store) } by { StandsSince-prop _ _ _ _ _ _ _ _ _ },
 }
 
 impl<'w, D: Disk> Desk<'w, D> {
     ghost use Rattle.user_log.specs.Asked.{IsAnswer};
     ghost use Rattle.user_log.specs.Replies.{reply_of};
-    ghost use Rattle.user_desk.specs.Entries.{StandsFor};
+    ghost use Rattle.user_desk.specs.Entries.{StandsFor, StandsWithin};
     ghost use Rattle.user_desk.specs.Lives.{Holds, Settles, AnswersAll, AddsNone};
-    ghost use Rattle.user_desk.specs.Desks.{desk_schema, desk_world, desk_user, desk_header, desk_standing, desk_history, desk_disk, entry_in_flight, is_broken_desk, state_of, IsIn, IsOfSame};
+    ghost use Rattle.user_desk.specs.Desks.{desk_schema, desk_world, desk_user, desk_header, desk_standing, desk_history, desk_disk, entry_in_flight, is_broken_desk, state_of, opening_count, opening_disk, IsIn, IsOfSame, IsOfOneOpening};
     ghost use Rattle.user_desk.specs.Replying.{IsCode};
+
+    /// The user whose desk it is.
+    pub fn user(&self) -> &'w User
+        ensures { profile_of result.now ≡ desk_user self.now }
+    {
+        self.log.user()
+    }
 
     /// Whether the user is served, and else why not.
     pub fn standing(&self) -> &Standing
@@ -65,7 +75,8 @@ impl<'w, D: Disk> Desk<'w, D> {
     }
 
     /// What is known of a desk: its entries are legal and within the limits, each image of its disk stands for its state,
-    /// or where no append failed for its entries, and only of a user who is admitted are there any. It computes nothing.
+    /// or where no append failed for its entries, and only of a user who is admitted are there any; and what it keeps of
+    /// its opening. It computes nothing.
     pub fn known(&self)
         ensures limits { KeepsLimits (desk_schema self.now) (desk_user self.now) }
         ensures sizes { KeepsSizes (desk_schema self.now) (desk_user self.now) (desk_history self.now) }
@@ -77,8 +88,22 @@ impl<'w, D: Disk> Desk<'w, D> {
         ensures admits { is_open (desk_standing self.now) ≡ true → admitted (desk_schema self.now) (desk_world self.now) (desk_user self.now) ≡ true }
         ensures none { is_open (desk_standing self.now) ≡ false → desk_history self.now ≡ [] }
         ensures idle { is_open (desk_standing self.now) ≡ false → is_broken_desk self.now ≡ false }
+
+        // Since the opening each image stands for a beginning of the entries, with the one in flight, that has the entries at
+        // the opening; where the journal was refused the disk is as it was.
+        ensures begins { opening_count self.now ≤ length (desk_history self.now) }
+        ensures since { D.told → is_sealed (desk_standing self.now) ≡ false → (c : List ℕ) → D.image_since (desk_disk self.now) (D.moment (opening_disk self.now)) c
+            → StandsWithin (desk_schema self.now) (desk_header self.now) (opening_count self.now) (desk_history self.now ++ option_to_list (entry_in_flight self.now)) c }
+        ensures refused { is_sealed (desk_standing self.now) ≡ true → desk_disk self.now ≡ opening_disk self.now }
+        ensures rests { is_sealed (desk_standing self.now) ≡ true → (c : List ℕ) → D.image_since (desk_disk self.now) (D.moment (opening_disk self.now)) c → D.image (opening_disk self.now) c }
+
+        // The clock has gone on since, the count of faults hasn't fallen, and it rose where an append failed.
+        ensures time { Elapses (D.moment (opening_disk self.now)) (D.moment (desk_disk self.now)) (D.image_since (opening_disk self.now)) (D.image_since (desk_disk self.now)) }
+        ensures count { D.faults (opening_disk self.now) ≤ D.faults (desk_disk self.now) }
+        ensures cause { is_broken_desk self.now ≡ true → Rose (D.faults (opening_disk self.now)) (D.faults (desk_disk self.now)) }
     {
         self.log.known();
+        self.store.known();
     }
 
     /// The reply to a text by the entries so far. A mark comes once its entry is on the disk, and adds it; want of memory
@@ -86,6 +111,7 @@ impl<'w, D: Disk> Desk<'w, D> {
     pub fn settle(&mut self, alloc: Global, text: &str) -> Reply
         requires { length text.now ≤ 4096 }
         ensures same { IsOfSame self.old self.new }
+        ensures opening { IsOfOneOpening self.old self.new }
 
         // It is an ask of the run, with its reply and its ending.
         ensures settled { (state : UserState) → IsIn self.old state
@@ -133,6 +159,7 @@ impl<'w, D: Disk> Desk<'w, D> {
         requires whole { entry_in_flight self.old ≡ None }
         requires answer { IsAnswer (desk_schema self.old) (desk_world self.old) (desk_user self.old) (desk_history self.old) text.now (formula_of query) mark }
         ensures same { IsOfSame self.old self.new }
+        ensures opening { IsOfOneOpening self.old self.new }
         ensures settled { Settles (desk_schema self.old) (desk_world self.old) (desk_user self.old) (λ state. state ≡ state_of self.new) (state_of self.old) text.now (reply_of result)
             (D.faults (desk_disk self.old)) (D.faults (desk_disk self.new)) }
         ensures broken { (result ≡ Reply.Broken) ↔ IsTrue (is_broken_desk self.new) }
@@ -143,6 +170,7 @@ impl<'w, D: Disk> Desk<'w, D> {
         ensures time { Elapses (D.moment (desk_disk self.old)) (D.moment (desk_disk self.new)) (D.image_since (desk_disk self.old)) (D.image_since (desk_disk self.new)) }
     {
         self.log.known();
+        self.store.known();
         let Ok(prepared) = self.log.prepare(alloc, text, query, mark) else {
             return Reply::Memory;
         };

@@ -1,25 +1,28 @@
 // How a desk is opened.
-ghost use Rattle.std.specs.Prelude.{◌≡◌, ◌≢◌, ◌≤◌, false, List, [], ℕ, IfOk};
+ghost use Rattle.std.specs.Prelude.{◌≡◌, ◌≢◌, ◌≤◌, true, false, List, [], ℕ, IfOk};
 ghost use Rattle.outside.specs.Disk.{Only, Elapses};
 ghost use Rattle.cqe_base.specs.History.{profile_of};
 ghost use Rattle.cqe_base.specs.Limits.{KeepsLimits};
 ghost use Rattle.cqe_base.specs.Run.{UserState};
 ghost use Rattle.log_journal.specs.Opening.{header_bytes};
+ghost use Rattle.log_journal.specs.Journal.{disk_of, is_broken};
 ghost use Rattle.user_log.specs.UserLogs.{kept_history};
 ghost use Rattle.user_desk.specs.Replays.{IsLogOf};
 ghost use Rattle.user_desk.specs.Causes.{Opens, IsStanding};
 ghost use Rattle.user_desk.specs.Standings.{is_sealed};
+ghost use Rattle.user_desk.specs.Mediums.{medium_disk, is_journal, is_failed};
 ghost use Rattle.user_desk.specs.Lives.{Holds, Restarts};
-ghost use Rattle.user_desk.specs.Desks.{desk_schema, desk_world, desk_user, desk_header, desk_standing, desk_history, desk_disk, is_broken_desk, IsIn, disk_opened};
+ghost use Rattle.user_desk.specs.Desks.{desk_schema, desk_world, desk_user, desk_header, desk_standing, desk_history, desk_disk, is_broken_desk, opening_history, opening_disk, IsIn, disk_opened};
 
 use crate::Desk;
+use crate::medium::Medium;
 use crate::replay::replay;
 use crate::standing::{DeskError, Standing};
 use crate::store::Store;
 use cqe_base::schema::Schema;
 use cqe_base::user::User;
 use cqe_base::world::World;
-use log_journal::{Header, OpenError, Refused, open};
+use log_journal::{Header, Journal, OpenError, Refused, open};
 use outside::Disk;
 use std::alloc::{AllocError, Global};
 use user_log::UserLog;
@@ -47,6 +50,8 @@ pub fn open_desk<'w, D: Disk>(
         (D.faults disk) (D.faults (desk_disk desk)) (desk_standing desk)) }
     ensures sound { D.told → IfOk result (λ desk. is_sealed (desk_standing desk) ≡ false → Opens schema.now world.now (profile_of user.now) (header_bytes header.now) (desk_history desk) (D.reads disk)) }
     ensures whole { IfOk result (λ desk. is_broken_desk desk ≡ false) }
+    // The opening is the moment at which it answers.
+    ensures opening { IfOk result (λ desk. (opening_history desk ≡ desk_history desk) × (opening_disk desk ≡ desk_disk desk)) }
 
     // It is a restart of each state that the bytes hold, which is refused only for a fault of the disk.
     ensures restarted { D.told → IfOk result (λ desk. (state : UserState) → Holds schema.now world.now (profile_of user.now) (header_bytes header.now) state (D.reads disk)
@@ -63,12 +68,14 @@ pub fn open_desk<'w, D: Disk>(
         Ok((journal, records)) => match replay(alloc, schema, world, user, &records) {
             Ok((log, standing)) => {
                 log.known();
+                let opened = log.entries().len();
                 Ok(Desk {
                     log,
                     header: *header,
                     standing,
-                    store: Store::Journal(journal),
+                    store: Store::new(kept_medium(journal, standing)),
                     in_flight: None,
+                    opened,
                 })
             }
             Err(why) => Err(Refused {
@@ -79,12 +86,14 @@ pub fn open_desk<'w, D: Disk>(
         Err(refused) => match refused_journal(alloc, schema, world, user, refused.why) {
             Ok((log, standing)) => {
                 log.known();
+                let opened = log.entries().len();
                 Ok(Desk {
                     log,
                     header: *header,
                     standing,
-                    store: Store::Disk(refused.disk),
+                    store: Store::new(Medium::Disk(refused.disk)),
                     in_flight: None,
+                    opened,
                 })
             }
             Err(why) => Err(Refused {
@@ -92,6 +101,20 @@ pub fn open_desk<'w, D: Disk>(
                 why,
             }),
         },
+    }
+}
+
+// A desk that is sealed keeps the disk alone, and another one its journal.
+fn kept_medium<D: Disk>(journal: Journal<D>, standing: Standing) -> Medium<D>
+    requires { is_broken journal ≡ false }
+    ensures disk { medium_disk result ≡ disk_of journal }
+    ensures served { is_sealed standing ≡ false → is_journal result ≡ true }
+    ensures sealed { is_sealed standing ≡ true → is_journal result ≡ false }
+    ensures whole { is_failed result ≡ false }
+{
+    match standing {
+        Standing::Sealed(_) => Medium::Disk(journal.close()),
+        _ => Medium::Journal(journal),
     }
 }
 

@@ -1,23 +1,55 @@
-// Where a desk keeps its disk: under a journal, or as it is where the journal was refused.
+// Where a desk keeps its disk, and what that disk was at the desk's opening.
 ghost use Rattle.std.specs.Prelude.{◌≡◌, ◌≤◌, List, ℕ, true, false, length, OnOk, OnErr};
-ghost use Rattle.outside.specs.Disk.{Only, Elapses};
+ghost use Rattle.outside.specs.Disk.{Elapses};
 ghost use Rattle.outside.specs.Faults.{Rose};
 ghost use Rattle.log_journal.specs.Records.{Adds, KeepsOrAdds};
 
-use log_journal::Journal;
+use crate::medium::Medium;
 use outside::{Disk, Failed};
 use std::alloc::AllocError;
+use std::marker::Model;
+use std::snapshot::Snapshot;
 
+/// The disk of a desk, with its journal, since the desk was opened.
 #[derive(Drop)]
-pub(crate) enum Store<D: Disk> {
-    /// The journal, to which entries are appended.
-    Journal(Journal<D>),
-    /// The disk of a journal that was refused.
-    Disk(D),
+pub(crate) struct Store<D: Disk> {
+    medium: Medium<D>,
+    opened: Snapshot<Medium<D>>,
+}
+
+impl<D: Disk> Model for Store<D> {
+    ghost use Rattle.user_desk.specs.Stored.{Stored, GoesOn};
+    ghost use Rattle.user_desk.specs.Mediums.{stored_in};
+
+    ghost Value = { Stored D };
+
+    ghost view = { λ s. stored_in s.medium s.opened.value };
+
+    ghost invariant = { λ s. GoesOn D.moment D.image_since D.faults (stored_in s.medium s.opened.value) };
 }
 
 impl<D: Disk> Store<D> {
-    ghost use Rattle.user_desk.specs.Stores.{stored_disk, has_journal, has_failed, HasRoomFor};
+    ghost use Rattle.user_desk.specs.Stored.{stored_disk, opened_disk, has_journal, has_failed, HasRoomFor, GoesOn};
+    ghost use Rattle.user_desk.specs.Mediums.{medium_disk, is_journal, is_failed};
+
+    /// Keeps a disk as it is at the opening of a desk.
+    pub(crate) fn new(medium: Medium<D>) -> Store<D>
+        requires { is_failed medium ≡ false }
+        ensures disk { stored_disk result ≡ medium_disk medium }
+        ensures opened { opened_disk result ≡ medium_disk medium }
+        ensures journal { has_journal result ≡ is_journal medium }
+        ensures whole { has_failed result ≡ false }
+    {
+        let opened = Snapshot::of(&medium);
+        Store { medium, opened }
+    }
+
+    /// What is known of the disk since the opening. It computes nothing.
+    pub(crate) fn known(&self)
+        ensures { GoesOn D.moment D.image_since D.faults self.now }
+    {
+        let _medium = &self.medium;
+    }
 
     /// Takes the room for a record of a text of this length.
     pub(crate) fn reserve(&mut self, length: usize) -> Result<(), AllocError>
@@ -27,11 +59,9 @@ impl<D: Disk> Store<D> {
         ensures journal { has_journal self.new ≡ true }
         ensures disk { stored_disk self.new ≡ stored_disk self.old }
         ensures failed { has_failed self.new ≡ has_failed self.old }
+        ensures opened { opened_disk self.new ≡ opened_disk self.old }
     {
-        match self {
-            Store::Journal(journal) => journal.reserve(length as u32),
-            Store::Disk(_) => unreachable!(),
-        }
+        self.medium.reserve(length)
     }
 
     /// Appends a record of this kind and text. It takes no memory.
@@ -51,23 +81,15 @@ impl<D: Disk> Store<D> {
         ensures failed { OnErr result (has_failed self.new ≡ true) }
         ensures count { D.faults (stored_disk self.old) ≤ D.faults (stored_disk self.new) }
         ensures cause { OnErr result (Rose (D.faults (stored_disk self.old)) (D.faults (stored_disk self.new))) }
+        ensures opened { opened_disk self.new ≡ opened_disk self.old }
     {
-        match self {
-            Store::Journal(journal) => match journal.append(kind, text) {
-                Ok(()) => Ok(()),
-                Err(_) => Err(Failed),
-            },
-            Store::Disk(_) => unreachable!(),
-        }
+        self.medium.append(kind, text)
     }
 
     /// Gives the disk back.
     pub(crate) fn close(self) -> D
         ensures { result ≡ stored_disk self }
     {
-        match self {
-            Store::Journal(journal) => journal.close(),
-            Store::Disk(disk) => disk,
-        }
+        self.medium.close()
     }
 }

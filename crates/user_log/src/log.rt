@@ -84,6 +84,13 @@ impl<'w> UserLog<'w> {
         })
     }
 
+    /// The user.
+    pub fn user(&self) -> &'w User
+        ensures { profile_of result.now ≡ kept_user self.now }
+    {
+        self.user
+    }
+
     /// The entries, oldest first.
     pub fn entries(&self) -> &[Entry]
         ensures { map answered_query_of result.now ≡ kept_history self.now }

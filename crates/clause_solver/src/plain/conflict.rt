@@ -65,7 +65,7 @@ fn latest_against(trail: &[Entry], clause: &[Lit]) -> Option<Entry>
 }
 
 /// Resolves a line's clause with the cause of a literal; a decision has none.
-pub fn resolve_with(
+fn resolve_with(
     alloc: Global,
     clauses: &Clauses,
     latest: Option<Entry>,

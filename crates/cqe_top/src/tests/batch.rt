@@ -1,73 +1,7 @@
+use super::ward::{BATCH, FACTS, INIT, JOURNALS, POLICY, batch, shelf_of, ward};
 use super::{Run, joined};
 use outside::{MemoryShelf, MemorySink, MemorySource, Plan};
-use std::alloc::{AllocError, Global};
 use std::test::Fail;
-
-// Two persons, and six users: one is lied to, one refused, one both; and three of whom each knows too much.
-const POLICY: &str = "version = 1\n
-[domains]
-person = [\"ann\", \"bob\"]\n
-[relations]
-drug = [\"person\"]
-hiv = [\"person\"]\n
-[[users]]
-name = \"eve\"
-method = \"lying\"
-know = [\"forall x: person . drug(x) -> hiv(x)\"]
-secrets = [\"hiv(ann)\"]
-token = \"ba7816bf8f01cfea414140de5dae2223b00361a396177a9cb410ff61f20015ad\"\n
-[[users]]
-name = \"ron\"
-method = \"refusal\"
-know = [\"forall x: person . drug(x) -> hiv(x)\"]
-secrets = [\"hiv(ann)\"]\n
-[[users]]
-name = \"kim\"
-method = \"combined\"
-know = [\"forall x: person . drug(x) -> hiv(x)\"]
-secrets = [\"hiv(ann)\", \"hiv(bob)\"]\n
-[[users]]
-name = \"lou\"
-method = \"lying\"
-know = [\"hiv(ann) or hiv(bob)\"]
-secrets = [\"hiv(ann)\", \"hiv(bob)\"]\n
-[[users]]
-name = \"max\"
-method = \"combined\"
-know = [\"hiv(ann) or hiv(bob)\"]
-secrets = [\"hiv(ann)\", \"hiv(bob)\"]\n
-[[users]]
-name = \"tom\"
-method = \"refusal\"
-know = [\"hiv(bob)\"]
-secrets = [\"hiv(ann)\"]
-";
-
-// Ann takes the drug and has hiv.
-const FACTS: &str = "hiv(ann)\ndrug(ann)\n";
-
-const WORDS: [&str; 5] = ["batch", "--policy", "p", "--facts", "f"];
-
-// A shelf with these two files.
-fn shelf_of(alloc: Global, policy: &str, facts: &str) -> Result<MemoryShelf, AllocError> {
-    let mut shelf = MemoryShelf::new(alloc);
-    shelf.put(alloc, "p", policy.as_bytes())?;
-    shelf.put(alloc, "f", facts.as_bytes())?;
-    Ok(shelf)
-}
-
-// A batch on this shelf.
-fn batch(alloc: Global, shelf: MemoryShelf, script: &str) -> Result<Run, AllocError> {
-    let source = MemorySource::new(joined(alloc, &[script])?);
-    Run::new(
-        alloc,
-        &WORDS,
-        shelf,
-        source,
-        MemorySink::new(alloc),
-        MemorySink::new(alloc),
-    )
-}
 
 #[test]
 fn each_user_is_answered_by_his_own_log(rt: HostRuntime) -> Result<(), Fail> {
@@ -98,7 +32,8 @@ fn each_user_is_answered_by_his_own_log(rt: HostRuntime) -> Result<(), Fail> {
         ("", ""),
     ];
     for (script, output) in rows {
-        let run = batch(alloc, shelf_of(alloc, POLICY, FACTS)?, script)?;
+        let mut shelf = ward(alloc)?;
+        let run = batch(alloc, &mut shelf, script)?;
         run.check(&rt, 0, output, "", script);
     }
     Ok(())
@@ -126,13 +61,18 @@ fn a_batch_is_refused_before_its_first_ask(rt: HostRuntime) -> Result<(), Fail> 
         ("eve 1 ask \u{1}", "1 1"),
         ("*restart", "1 1"),
         ("* restart now", "1 1"),
-        ("eve 1 ask true\n* restart\nhello", "9 2"),
+        ("eve 1 ask true\n* restart\nhello", "1 3"),
+        ("* restart\n*  restart", "1 2"),
         ("hello\n* restart", "1 1"),
     ];
     for (script, refusal) in rows {
         let complaint = format!(in alloc; "cqe: script {refusal}\n")?;
-        let run = batch(alloc, shelf_of(alloc, POLICY, FACTS)?, script)?;
+        let mut shelf = shelf_of(alloc, POLICY.as_bytes(), FACTS.as_bytes())?;
+        let run = batch(alloc, &mut shelf, script)?;
         run.check(&rt, 5, "", &complaint, script);
+        for name in JOURNALS {
+            assert!(rt; shelf.disk(name).is_none(), "{name}");
+        }
     }
     Ok(())
 }
@@ -205,11 +145,18 @@ fn each_refused_file_has_its_place(rt: HostRuntime) -> Result<(), Fail> {
         ),
     ];
     for (policy, facts, status, complaint) in rows {
-        let mut shelf = MemoryShelf::new(alloc);
-        shelf.put(alloc, "p", &policy)?;
-        shelf.put(alloc, "f", facts.as_bytes())?;
-        let run = batch(alloc, shelf, "hello")?;
-        run.check(&rt, status, "", complaint, complaint);
+        for words in [INIT, BATCH] {
+            let shelf = shelf_of(alloc, &policy, facts.as_bytes())?;
+            let run = Run::new(
+                alloc,
+                &words,
+                shelf,
+                MemorySource::new(joined(alloc, &["hello"])?),
+                MemorySink::new(alloc),
+                MemorySink::new(alloc),
+            )?;
+            run.check(&rt, status, "", complaint, complaint);
+        }
     }
     Ok(())
 }
@@ -217,28 +164,55 @@ fn each_refused_file_has_its_place(rt: HostRuntime) -> Result<(), Fail> {
 #[test]
 fn a_file_may_be_missing(rt: HostRuntime) -> Result<(), Fail> {
     let alloc = rt.alloc();
-    let none = batch(alloc, MemoryShelf::new(alloc), "hello")?;
-    none.check(&rt, 8, "", "cqe: missing p\n", "no file");
-    let mut shelf = MemoryShelf::new(alloc);
-    shelf.put(alloc, "p", POLICY.as_bytes())?;
-    let policy_alone = batch(alloc, shelf, "hello")?;
-    policy_alone.check(&rt, 8, "", "cqe: missing f\n", "the policy alone");
-    let mut shelf = MemoryShelf::new(alloc);
-    shelf.put(alloc, "p", b"version = 2")?;
-    let wrong_policy = batch(alloc, shelf, "hello")?;
-    wrong_policy.check(&rt, 3, "", "cqe: policy 9\n", "a wrong policy alone");
+    for words in [INIT, BATCH] {
+        for (put, bytes, status, complaint) in [
+            ("other", POLICY, 8, "cqe: missing p\n"),
+            ("p", POLICY, 8, "cqe: missing f\n"),
+            ("p", "version = 2", 3, "cqe: policy 9\n"),
+        ] {
+            let mut shelf = MemoryShelf::new(alloc);
+            shelf.put(alloc, put, bytes.as_bytes())?;
+            let run = Run::new(
+                alloc,
+                &words,
+                shelf,
+                MemorySource::new(joined(alloc, &["hello"])?),
+                MemorySink::new(alloc),
+                MemorySink::new(alloc),
+            )?;
+            run.check(&rt, status, "", complaint, complaint);
+        }
+    }
     Ok(())
 }
 
+// The calls are the reading of both files, and then the taking of six disks.
 #[test]
-fn a_shelf_may_fail_at_either_file(rt: HostRuntime) -> Result<(), Fail> {
+fn a_shelf_may_fail_at_any_call(rt: HostRuntime) -> Result<(), Fail> {
     let alloc = rt.alloc();
-    for call in 0..2 {
-        let mut shelf = MemoryShelf::with_plan(alloc, Plan::At(vec![in alloc; call]?));
-        shelf.put(alloc, "p", POLICY.as_bytes())?;
-        shelf.put(alloc, "f", FACTS.as_bytes())?;
-        let run = batch(alloc, shelf, "eve 1 ask true\n")?;
-        run.check(&rt, 9, "", "cqe: shelf fault\n", "a failing shelf");
+    for call in 0..9 {
+        for words in [INIT, BATCH] {
+            let mut shelf = MemoryShelf::with_plan(alloc, Plan::At(vec![in alloc; call]?));
+            shelf.put(alloc, "p", POLICY.as_bytes())?;
+            shelf.put(alloc, "f", FACTS.as_bytes())?;
+            let run = Run::new(
+                alloc,
+                &words,
+                shelf,
+                MemorySource::new(Vec::new(alloc)),
+                MemorySink::new(alloc),
+                MemorySink::new(alloc),
+            )?;
+            let (status, complaint) = match (call, words[0]) {
+                (8, "init") => (0, ""),
+                (8, _) => (
+                    10,
+                    "cqe: journal eve not a journal\ncqe: journal ron not a journal\ncqe: journal kim not a journal\ncqe: journal lou not a journal\ncqe: journal max not a journal\ncqe: journal tom not a journal\n",
+                ),
+                _ => (9, "cqe: shelf fault\n"),
+            };
+            run.check(&rt, status, "", complaint, words[0]);
+        }
     }
     Ok(())
 }
@@ -248,8 +222,8 @@ fn what_a_failing_sink_took_begins_the_lines(rt: HostRuntime) -> Result<(), Fail
     let alloc = rt.alloc();
     let source = MemorySource::new(joined(alloc, &["eve 1 ask drug(ann)\neve 1 ask hiv(bob)\n"])?);
     let sink = MemorySink::with_plan(alloc, outside::Pieces::Whole, Plan::From(1));
-    let shelf = shelf_of(alloc, POLICY, FACTS)?;
-    let run = Run::new(alloc, &WORDS, shelf, source, sink, MemorySink::new(alloc))?;
+    let shelf = ward(alloc)?;
+    let run = Run::new(alloc, &BATCH, shelf, source, sink, MemorySink::new(alloc))?;
     run.check(
         &rt,
         7,

@@ -277,10 +277,12 @@ fn the_entry_behind_the_last_is_refused(rt: HostRuntime) -> Result<(), Fail> {
 #[test]
 fn other_words_have_no_reading(rt: HostRuntime) -> Result<(), Fail> {
     let alloc = rt.alloc();
-    let readings: [&[&str]; 6] = [
+    let readings: [&[&str]; 8] = [
         &[],
         &["case", "extra"],
         &["batch", "--policy", "p"],
+        &["batch", "--policy", "p", "--facts", "f"],
+        &["init", "--policy", "p", "--facts", "f", "--journals"],
         &["Case"],
         &[""],
         &["--help"],

@@ -1,60 +1,124 @@
-use Rattle.std.proofs.Common.{◌≡◌, ◌≤◌, ◌++◌, ◌∷◌, ◌∙◌, [], map, take, drop, length, refl, sym, ap, subst, arith}
-use Rattle.std.specs.Prelude.{option_map}
-use Rattle.user_log.specs.Replies.{reply_of}
-use Rattle.batch_engine.specs.Batches.{named_ask}
-use Rattle.batch_engine.specs.BatchOf.{asks_of}
-use Rattle.batch_engine.specs.Crew.{seat_of, named_user}
-use Rattle.batch_engine.proofs.Shorts.{short_ask, short_at}
-use Rattle.batch_engine.proofs.Closing.{Told, told_nothing, told_more, answered_all, answered_some}
-use Rattle.batch_engine.proofs.Items.{item_short, item_next, item_split, all_items, take_all, tells_item}
+use Rattle.std.proofs.Common.{◌≡◌, ◌≤◌, ◌++◌, ◌∷◌, ◌+◌, ℕ, List, [], Bool, true, false, ◌||◌, length, take, drop, map, refl, sym, ap, subst, ◌∙◌, arith}
+use Rattle.cqe_base.specs.Schema.{has_duplicate}
+use Rattle.outside.specs.Streams.{AppendsPart}
+use Rattle.log_journal.specs.Opening.{header_bytes}
+use Rattle.batch_engine.specs.Batches.{item_in}
+use Rattle.batch_engine.specs.BatchOf.{items_of}
+use Rattle.batch_engine.specs.Shelved.{journals, SameBeside, AllOut, AllIn, AreLater}
+use Rattle.batch_engine.proofs.Courses.{rose_wide}
+use Rattle.batch_engine.specs.Steps.{RunsAll}
+use Rattle.batch_engine.proofs.Running.{item_short, items_more, items_split, take_all, Stay, stay_run, runs_first, runs_more, runs_stopped, runs_cut}
+use Rattle.batch_engine.proofs.run.answer_all.Goals.{then-is_broken, else-is_broken}
 use Rattle.batch_engine.proofs.run.answer_all.Goals as goal
 
-pub loop-ask-init : goal.loop-ask-init
-loop-ask-init g c = record {
-  so_far = λ told. told_nothing c.args.schema.now c.args.world.now c.args.users.now (g.K.Sink.written c.args.sink.now) (map seat_of c.in-Ok.members.items) c.in-Ok.ensures.seats;
-  served = c.in-Ok.ensures.served;
-  later = omega arith;
-}
+pub loop-item-init : goal.loop-item-init
+loop-item-init g c =
+    record { so_far = runs_first c.args.registry.now.schema.now c.args.registry.now.world.now (header_bytes c.args.registry.now.header.now) g.F.D.Disk.told g.F.D.Disk.reads g.F.D.Disk.image g.F.D.Disk.faults g.K.Sink.told c.args.seats.items (g.K.Sink.written c.args.sink.now); same = refl; later = omega arith }
 
-pub answer-told-requires : goal.answer-told-requires
-answer-told-requires g c =
-    let short = item_short c.asks-asks.result.now c.loop-ask.ask-index c.ask-item.result c.loop-ask-test.true c.ask-item.is c.asks-asks.ensures.short in
-    omega (arith, (short_ask (named_ask c.ask-item.result) short).2, ap length c.as_str-in-loop-ask.ensures.value)
+pub carry_out-requires-clause-limits : goal.carry_out-requires-clause-limits
+carry_out-requires-clause-limits g c =
+    let so_far = c.loop-item.invariant.so_far in
+    let stay : Stay c.args.registry.now.schema.now c.args.registry.now.world.now (header_bytes c.args.registry.now.header.now) g.F.D.Disk.told g.F.D.Disk.reads g.F.D.Disk.image g.F.D.Disk.faults c.args.seats.items c.loop-item.seats.items = stay_run c.args.registry.now.schema.now c.args.registry.now.world.now (header_bytes c.args.registry.now.header.now) g.F.D.Disk.told g.F.D.Disk.reads g.F.D.Disk.image g.F.D.Disk.faults _ c.args.seats.items c.loop-item.seats.items so_far.output c.loop-item.is_broken so_far.runs in
+    let same = c.loop-item.invariant.same in
+    stay.limits c.requires.limits
 
-pub line_of-line-requires : goal.line_of-line-requires
-line_of-line-requires g c = item_short c.asks-asks.result.now c.loop-ask.ask-index c.ask-item.result c.loop-ask-test.true c.ask-item.is c.asks-asks.ensures.short
+pub carry_out-requires-clause-served : goal.carry_out-requires-clause-served
+carry_out-requires-clause-served g c =
+    let so_far = c.loop-item.invariant.so_far in
+    let stay : Stay c.args.registry.now.schema.now c.args.registry.now.world.now (header_bytes c.args.registry.now.header.now) g.F.D.Disk.told g.F.D.Disk.reads g.F.D.Disk.image g.F.D.Disk.faults c.args.seats.items c.loop-item.seats.items = stay_run c.args.registry.now.schema.now c.args.registry.now.world.now (header_bytes c.args.registry.now.header.now) g.F.D.Disk.told g.F.D.Disk.reads g.F.D.Disk.image g.F.D.Disk.faults _ c.args.seats.items c.loop-item.seats.items so_far.output c.loop-item.is_broken so_far.runs in
+    let same = c.loop-item.invariant.same in
+    stay.served c.requires.served
+
+pub carry_out-requires-clause-distinct : goal.carry_out-requires-clause-distinct
+carry_out-requires-clause-distinct g c =
+    let so_far = c.loop-item.invariant.so_far in
+    let stay : Stay c.args.registry.now.schema.now c.args.registry.now.world.now (header_bytes c.args.registry.now.header.now) g.F.D.Disk.told g.F.D.Disk.reads g.F.D.Disk.image g.F.D.Disk.faults c.args.seats.items c.loop-item.seats.items = stay_run c.args.registry.now.schema.now c.args.registry.now.world.now (header_bytes c.args.registry.now.header.now) g.F.D.Disk.told g.F.D.Disk.reads g.F.D.Disk.image g.F.D.Disk.faults _ c.args.seats.items c.loop-item.seats.items so_far.output c.loop-item.is_broken so_far.runs in
+    let same = c.loop-item.invariant.same in
+    ap has_duplicate stay.names ∙ c.requires.distinct
+
+pub carry_out-requires-clause-out : goal.carry_out-requires-clause-out
+carry_out-requires-clause-out g c =
+    let so_far = c.loop-item.invariant.so_far in
+    let stay : Stay c.args.registry.now.schema.now c.args.registry.now.world.now (header_bytes c.args.registry.now.header.now) g.F.D.Disk.told g.F.D.Disk.reads g.F.D.Disk.image g.F.D.Disk.faults c.args.seats.items c.loop-item.seats.items = stay_run c.args.registry.now.schema.now c.args.registry.now.world.now (header_bytes c.args.registry.now.header.now) g.F.D.Disk.told g.F.D.Disk.reads g.F.D.Disk.image g.F.D.Disk.faults _ c.args.seats.items c.loop-item.seats.items so_far.output c.loop-item.is_broken so_far.runs in
+    let same = c.loop-item.invariant.same in
+    subst (λ s. AllOut (journals c.loop-item.seats.items) (g.F.Shelf.is_out s)) (sym same) (subst (λ ns. AllOut ns (g.F.Shelf.is_out c.args.shelf.now)) (sym stay.names) c.requires.out)
+
+pub carry_out-requires-clause-later : goal.carry_out-requires-clause-later
+carry_out-requires-clause-later g c =
+    let so_far = c.loop-item.invariant.so_far in
+    let stay : Stay c.args.registry.now.schema.now c.args.registry.now.world.now (header_bytes c.args.registry.now.header.now) g.F.D.Disk.told g.F.D.Disk.reads g.F.D.Disk.image g.F.D.Disk.faults c.args.seats.items c.loop-item.seats.items = stay_run c.args.registry.now.schema.now c.args.registry.now.world.now (header_bytes c.args.registry.now.header.now) g.F.D.Disk.told g.F.D.Disk.reads g.F.D.Disk.image g.F.D.Disk.faults _ c.args.seats.items c.loop-item.seats.items so_far.output c.loop-item.is_broken so_far.runs in
+    let same = c.loop-item.invariant.same in
+    stay.later (g.F.Shelf.disk_faults c.loop-item.shelf) (subst (λ s. AreLater g.F.D.Disk.faults (g.F.Shelf.disk_faults s) c.args.seats.items) (sym same) c.requires.later)
+
+pub carry_out-requires-clause-short : goal.carry_out-requires-clause-short
+carry_out-requires-clause-short g c =
+    let items = c.items-item-items.result.now in
+    let i = c.loop-item.item-index in
+    item_short items i c.item-item.result c.loop-item-test.true c.item-item.is c.items-item-items.ensures.short
+
+pub returns-in_default-clause-answered : goal.returns-in_default-clause-answered
+returns-in_default-clause-answered g c =
+    let so_far = c.loop-item.invariant.so_far in
+    let stay : Stay c.args.registry.now.schema.now c.args.registry.now.world.now (header_bytes c.args.registry.now.header.now) g.F.D.Disk.told g.F.D.Disk.reads g.F.D.Disk.image g.F.D.Disk.faults c.args.seats.items c.loop-item.seats.items = stay_run c.args.registry.now.schema.now c.args.registry.now.world.now (header_bytes c.args.registry.now.header.now) g.F.D.Disk.told g.F.D.Disk.reads g.F.D.Disk.image g.F.D.Disk.faults _ c.args.seats.items c.loop-item.seats.items so_far.output c.loop-item.is_broken so_far.runs in
+    let same = c.loop-item.invariant.same in
+    let items = c.items-item-items.result.now in
+    let i = c.loop-item.item-index in
+    (c.loop-item.seats.items, runs_stopped c.args.registry.now.schema.now c.args.registry.now.world.now (header_bytes c.args.registry.now.header.now) g.F.D.Disk.told g.F.D.Disk.reads g.F.D.Disk.image g.F.D.Disk.faults g.K.Sink.told (items_of c.args.batch.now) (map item_in (take i items)) (map item_in (drop i items)) c.args.seats.items c.loop-item.seats.items c.loop-item.is_broken _ _ (sym c.items-item-items.ensures.items ∙ items_split items i) so_far, c.in_default.ensures.back)
+
+pub returns-in_default-clause-inside : goal.returns-in_default-clause-inside
+returns-in_default-clause-inside g c =
+    let so_far = c.loop-item.invariant.so_far in
+    let stay : Stay c.args.registry.now.schema.now c.args.registry.now.world.now (header_bytes c.args.registry.now.header.now) g.F.D.Disk.told g.F.D.Disk.reads g.F.D.Disk.image g.F.D.Disk.faults c.args.seats.items c.loop-item.seats.items = stay_run c.args.registry.now.schema.now c.args.registry.now.world.now (header_bytes c.args.registry.now.header.now) g.F.D.Disk.told g.F.D.Disk.reads g.F.D.Disk.image g.F.D.Disk.faults _ c.args.seats.items c.loop-item.seats.items so_far.output c.loop-item.is_broken so_far.runs in
+    let same = c.loop-item.invariant.same in
+    λ not. subst (λ ns. AllIn ns (g.F.Shelf.is_out c.carry_out.new.shelf)) stay.names c.in_default.ensures.inside
+
+pub returns-in_default-clause-others_out : goal.returns-in_default-clause-others_out
+returns-in_default-clause-others_out g c =
+    let so_far = c.loop-item.invariant.so_far in
+    let stay : Stay c.args.registry.now.schema.now c.args.registry.now.world.now (header_bytes c.args.registry.now.header.now) g.F.D.Disk.told g.F.D.Disk.reads g.F.D.Disk.image g.F.D.Disk.faults c.args.seats.items c.loop-item.seats.items = stay_run c.args.registry.now.schema.now c.args.registry.now.world.now (header_bytes c.args.registry.now.header.now) g.F.D.Disk.told g.F.D.Disk.reads g.F.D.Disk.image g.F.D.Disk.faults _ c.args.seats.items c.loop-item.seats.items so_far.output c.loop-item.is_broken so_far.runs in
+    let same = c.loop-item.invariant.same in
+    subst (λ ns. SameBeside ns (g.F.Shelf.is_out c.args.shelf.now) (g.F.Shelf.is_out c.carry_out.new.shelf)) stay.names (subst (λ s. SameBeside (journals c.loop-item.seats.items) (g.F.Shelf.is_out s) (g.F.Shelf.is_out c.carry_out.new.shelf)) same c.in_default.ensures.others_out)
+
+pub returns-in_default-clause-counts : goal.returns-in_default-clause-counts
+returns-in_default-clause-counts g c =
+    let so_far = c.loop-item.invariant.so_far in
+    let stay : Stay c.args.registry.now.schema.now c.args.registry.now.world.now (header_bytes c.args.registry.now.header.now) g.F.D.Disk.told g.F.D.Disk.reads g.F.D.Disk.image g.F.D.Disk.faults c.args.seats.items c.loop-item.seats.items = stay_run c.args.registry.now.schema.now c.args.registry.now.world.now (header_bytes c.args.registry.now.header.now) g.F.D.Disk.told g.F.D.Disk.reads g.F.D.Disk.image g.F.D.Disk.faults _ c.args.seats.items c.loop-item.seats.items so_far.output c.loop-item.is_broken so_far.runs in
+    let same = c.loop-item.invariant.same in
+    subst (λ ns. SameBeside ns (g.F.Shelf.disk_faults c.args.shelf.now) (g.F.Shelf.disk_faults c.carry_out.new.shelf)) stay.names (subst (λ s. SameBeside (journals c.loop-item.seats.items) (g.F.Shelf.disk_faults s) (g.F.Shelf.disk_faults c.carry_out.new.shelf)) same c.in_default.ensures.counts)
 
 pub returns-in-Err-clause-answered : goal.returns-in-Err-clause-answered
-returns-in-Err-clause-answered g c = λ told.
-    let part = c.in-Err.ensures.part told in
-    let asks = c.asks-asks.result.now in
-    answered_some c.args.schema.now c.args.world.now c.args.users.now c.law_legal_grows.ensures.empty c.law_runs_legal.ensures c.law_hides.ensures c.law_private.ensures c.known.ensures c.requires.limits
-    (map named_ask (take c.loop-ask.ask-index asks)) (item_split asks c.loop-ask.ask-index) (asks_of c.args.batch.now) part.0 (g.K.Sink.written c.args.sink.now) (g.K.Sink.written c.loop-ask.sink)
-    (g.K.Sink.written c.write_all.new.sink) c.bytes.result.now (map seat_of c.loop-ask.members.items) (map seat_of c.answer-told.new.members.items) (named_ask c.ask-item.result) (option_map reply_of c.answer-told.result)
-    c.requires.names (c.loop-ask.invariant.so_far told)
-    (tells_item c.args.schema.now c.args.world.now _ _ _ c.as_str.ensures.value c.as_str-in-loop-ask.ensures.value (c.answer-told.ensures.told c.args.schema.now c.args.world.now c.loop-ask.invariant.served))
-    (c.bytes.ensures ∙ c.line_of-line.ensures) part.2
-    (sym c.asks-asks.ensures.asks ∙ item_next asks c.loop-ask.ask-index c.ask-item.result c.loop-ask-test.true c.ask-item.is)
+returns-in-Err-clause-answered g c =
+    let so_far = c.loop-item.invariant.so_far in
+    let stay : Stay c.args.registry.now.schema.now c.args.registry.now.world.now (header_bytes c.args.registry.now.header.now) g.F.D.Disk.told g.F.D.Disk.reads g.F.D.Disk.image g.F.D.Disk.faults c.args.seats.items c.loop-item.seats.items = stay_run c.args.registry.now.schema.now c.args.registry.now.world.now (header_bytes c.args.registry.now.header.now) g.F.D.Disk.told g.F.D.Disk.reads g.F.D.Disk.image g.F.D.Disk.faults _ c.args.seats.items c.loop-item.seats.items so_far.output c.loop-item.is_broken so_far.runs in
+    let same = c.loop-item.invariant.same in
+    let items = c.items-item-items.result.now in
+    let i = c.loop-item.item-index in
+    let next = items_more items i c.item-item.result c.loop-item-test.true c.item-item.is in
+    runs_cut c.args.registry.now.schema.now c.args.registry.now.world.now (header_bytes c.args.registry.now.header.now) g.F.D.Disk.told g.F.D.Disk.reads g.F.D.Disk.image g.F.D.Disk.faults g.K.Sink.told (items_of c.args.batch.now) (map item_in (take i items)) (map item_in (drop (i + 1) items)) (item_in c.item-item.result) c.args.seats.items c.loop-item.seats.items c.in-Some.next.items c.loop-item.is_broken c.in-Some.says_broken _ _ _ c.in-Some.line (sym c.items-item-items.ensures.items ∙ items_split items (i + 1) ∙ ap (λ l. l ++ map item_in (drop (i + 1) items)) next) so_far c.in-Some.ensures.carried (λ told. subst (AppendsPart (g.K.Sink.written c.loop-item.sink) (g.K.Sink.written c.write_all.new.sink)) c.bytes.ensures (c.in-Err.ensures.part told))
 
-pub loop-ask-preserved : goal.loop-ask-preserved
-loop-ask-preserved g c =
-    let asks = c.asks-asks.result.now in
+pub returns-in-Err-clause-cause : goal.returns-in-Err-clause-cause
+returns-in-Err-clause-cause g c =
+    λ u. rose_wide (g.K.Sink.faults c.args.sink.now) (g.K.Sink.faults c.loop-item.sink) (g.K.Sink.faults c.write_all.new.sink) (g.K.Sink.faults c.write_all.new.sink) c.loop-item.invariant.later (omega arith) (c.in-Err.ensures.cause.failed refl)
+
+pub loop-item-preserved : goal.loop-item-preserved
+loop-item-preserved g c =
+    let so_far = c.loop-item.invariant.so_far in
+    let stay : Stay c.args.registry.now.schema.now c.args.registry.now.world.now (header_bytes c.args.registry.now.header.now) g.F.D.Disk.told g.F.D.Disk.reads g.F.D.Disk.image g.F.D.Disk.faults c.args.seats.items c.loop-item.seats.items = stay_run c.args.registry.now.schema.now c.args.registry.now.world.now (header_bytes c.args.registry.now.header.now) g.F.D.Disk.told g.F.D.Disk.reads g.F.D.Disk.image g.F.D.Disk.faults _ c.args.seats.items c.loop-item.seats.items so_far.output c.loop-item.is_broken so_far.runs in
+    let same = c.loop-item.invariant.same in
+    let items = c.items-item-items.result.now in
+    let i = c.loop-item.item-index in
+    let next = items_more items i c.item-item.result c.loop-item-test.true c.item-item.is in
+    let joined : c.if-is_broken.is_broken ≡ (c.loop-item.is_broken || c.in-Some.says_broken) = elim c.if-is_broken.branch [ then-is_broken w ↦ w.is_broken-is ∙ w.if-is_broken.true ∙ sym (ap (λ b. b || c.in-Some.says_broken) w.if-is_broken.true) | else-is_broken w ↦ w.is_broken-is ∙ sym (ap (λ b. b || c.in-Some.says_broken) w.if-is_broken.false) ] in
+    let before = c.loop-item.invariant.later in
+    let on = c.in-Ok.ensures.cause.later in
     record {
-      so_far = λ told.
-          subst (λ done. Told c.args.schema.now c.args.world.now c.args.users.now done (g.K.Sink.written c.args.sink.now) (g.K.Sink.written c.write_all.new.sink) (map seat_of c.answer-told.new.members.items))
-          (sym (all_items asks c.loop-ask.ask-index c.ask-item.result c.loop-ask-test.true c.ask-item.is))
-          (told_more c.args.schema.now c.args.world.now c.args.users.now (map named_ask (take c.loop-ask.ask-index asks)) (g.K.Sink.written c.args.sink.now) (g.K.Sink.written c.loop-ask.sink)
-          (g.K.Sink.written c.write_all.new.sink) c.bytes.result.now (map seat_of c.loop-ask.members.items) (map seat_of c.answer-told.new.members.items) (named_ask c.ask-item.result) (option_map reply_of c.answer-told.result)
-          c.requires.names (c.loop-ask.invariant.so_far told)
-          (tells_item c.args.schema.now c.args.world.now _ _ _ c.as_str.ensures.value c.as_str-in-loop-ask.ensures.value (c.answer-told.ensures.told c.args.schema.now c.args.world.now c.loop-ask.invariant.served))
-          (c.bytes.ensures ∙ c.line_of-line.ensures) (c.in-Ok-write_all.ensures.all told));
-      served = c.answer-told.ensures.served c.args.schema.now c.args.world.now c.loop-ask.invariant.served;
-      later = omega (arith, c.loop-ask.invariant.later, c.in-Ok-write_all.ensures.cause.later);
+      so_far = subst (λ done. RunsAll c.args.registry.now.schema.now c.args.registry.now.world.now (header_bytes c.args.registry.now.header.now) g.F.D.Disk.told g.F.D.Disk.reads g.F.D.Disk.image g.F.D.Disk.faults g.K.Sink.told done c.args.seats.items c.in-Some.next.items c.if-is_broken.is_broken (g.K.Sink.written c.args.sink.now) (g.K.Sink.written c.write_all.new.sink)) (sym next) (runs_more c.args.registry.now.schema.now c.args.registry.now.world.now (header_bytes c.args.registry.now.header.now) g.F.D.Disk.told g.F.D.Disk.reads g.F.D.Disk.image g.F.D.Disk.faults g.K.Sink.told (map item_in (take i items)) (item_in c.item-item.result) c.args.seats.items c.loop-item.seats.items c.in-Some.next.items c.loop-item.is_broken c.in-Some.says_broken c.if-is_broken.is_broken _ _ _ c.in-Some.line joined so_far c.in-Some.ensures.carried (λ told. c.in-Ok.ensures.all told ∙ ap (λ l. g.K.Sink.written c.loop-item.sink ++ l) c.bytes.ensures));
+      same = c.in-Some.ensures.untouched ∙ same;
+      later = omega (arith, before, on);
     }
 
 pub returns-clause-answered : goal.returns-clause-answered
-returns-clause-answered g c = λ told.
-    answered_all c.args.schema.now c.args.world.now c.args.users.now c.law_legal_grows.ensures.empty c.law_runs_legal.ensures c.law_hides.ensures c.law_private.ensures c.known.ensures c.requires.limits
-    (asks_of c.args.batch.now) (g.K.Sink.written c.args.sink.now) (g.K.Sink.written c.loop-ask.sink) (map seat_of c.loop-ask.members.items)
-    (subst (λ done. Told c.args.schema.now c.args.world.now c.args.users.now done (g.K.Sink.written c.args.sink.now) (g.K.Sink.written c.loop-ask.sink) (map seat_of c.loop-ask.members.items))
-    (ap (map named_ask) (take_all c.asks-asks.result.now c.loop-ask.ask-index (omega (arith, c.loop-ask-test.false))) ∙ c.asks-asks.ensures.asks) (c.loop-ask.invariant.so_far told))
+returns-clause-answered g c =
+    let items = c.items-item-items.result.now in
+    let i = c.loop-item.item-index in
+    subst (λ done. RunsAll c.args.registry.now.schema.now c.args.registry.now.world.now (header_bytes c.args.registry.now.header.now) g.F.D.Disk.told g.F.D.Disk.reads g.F.D.Disk.image g.F.D.Disk.faults g.K.Sink.told done c.args.seats.items c.loop-item.seats.items c.loop-item.is_broken (g.K.Sink.written c.args.sink.now) (g.K.Sink.written c.loop-item.sink)) (ap (map item_in) (take_all items i (omega (arith, c.loop-item-test.false))) ∙ c.items-item-items.ensures.items) c.loop-item.invariant.so_far

@@ -1,14 +1,14 @@
-use Rattle.std.proofs.Common.{◌≡◌, ◌≤◌, take, map}
-use Rattle.std.specs.List.{AllByRecursion}
-use Rattle.batch_engine.specs.Batches.{named_ask}
-use Rattle.batch_engine.specs.Crew.{seat_of, IsServed}
-use Rattle.batch_engine.proofs.Closing.{Told}
+use Rattle.std.proofs.Common.{◌≡◌, ◌≤◌, ◌++◌, ℕ, List, take, map}
+use Rattle.log_journal.specs.Opening.{header_bytes}
+use Rattle.batch_engine.specs.Batches.{item_in}
+use Rattle.batch_engine.specs.Steps.{RunsAll}
 use Rattle.batch_engine.proofs.run.answer_all.Given as goal
 
--- the asks so far were answered with what was written
-abbrev pub invariant-loop-ask : goal.invariant-loop-ask
-invariant-loop-ask g l = record {
-  so_far : g.K.Sink.told → Told l.schema l.world l.users (map named_ask (take l.ask-index l.asks)) (g.K.Sink.written l.fn.sink) (g.K.Sink.written l.sink) (map seat_of l.members.items);
-  served : AllByRecursion (IsServed l.schema l.world) l.members.items;
+-- the items so far were carried out, and their lines written
+abbrev pub invariant-loop-item : goal.invariant-loop-item
+invariant-loop-item g l = record {
+  so_far : RunsAll l.registry.schema.now l.registry.world.now (header_bytes l.registry.header.now) g.F.D.Disk.told g.F.D.Disk.reads g.F.D.Disk.image g.F.D.Disk.faults
+      g.K.Sink.told (map item_in (take l.item-index l.item-items)) l.fn.seats.items l.seats.items l.is_broken (g.K.Sink.written l.fn.sink) (g.K.Sink.written l.sink);
+  same : l.shelf ≡ l.fn.shelf;
   later : g.K.Sink.faults l.fn.sink ≤ g.K.Sink.faults l.sink;
 }

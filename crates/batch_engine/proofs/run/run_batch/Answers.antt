@@ -1,15 +1,156 @@
-use Rattle.std.proofs.Common.{sym, ◌∙◌, refl}
-use Rattle.batch_engine.proofs.Beginning.{batch_begins, batch_ends}
+use Rattle.std.proofs.Common.{◌≡◌, ◌≤◌, ◌⊎◌, inl, inr, ℕ, List, [], ◌++◌, Bool, false, length, map, refl, sym, ap, subst, ◌∙◌, arith}
+use Rattle.std.specs.Prelude.{Ok}
+use Rattle.std.specs.List.{AllByRecursion}
+use Rattle.cqe_base.specs.Schema.{has_duplicate}
+use Rattle.cqe_base.specs.History.{UserProfile, profile_of}
+use Rattle.cqe_base.specs.Limits.{KeepsLimits}
+use Rattle.log_journal.specs.Opening.{header_bytes}
+use Rattle.batch_engine.specs.BatchOf.{items_of}
+use Rattle.batch_engine.specs.Batch.{AppendsAll}
+use Rattle.batch_engine.specs.Crew.{named_user}
+use Rattle.batch_engine.specs.Shelved.{journals, journals_on, SameBeside, AllOut, AreLater, AreOut}
+use Rattle.batch_engine.proofs.Running.{Stay, stay_run}
+use Rattle.batch_engine.proofs.Opening.{seats_distinct, seats_later, seats_served, seats_limits, same_length, length-journals, all_out, none_out, none_fell}
+use Rattle.batch_engine.proofs.Ending.{batch_begins, all_of, finish_all, finish_some}
 use Rattle.batch_engine.proofs.run.run_batch.Goals as goal
 
 pub returns-in-Refused-clause-ends : goal.returns-in-Refused-clause-ends
-returns-in-Refused-clause-ends g c = λ source_told. λ sink_told.
-    (sym (batch_begins _ _ c.new.ensures) ∙ c.in-Refused.ensures.reads source_told, refl)
+returns-in-Refused-clause-ends g c =
+    λ shelf_told source_told sink_told. (sym (batch_begins _ _ c.new.ensures) ∙ c.in-Refused.ensures.reads source_told, refl)
+
+pub answer_all-requires-clause-limits : goal.answer_all-requires-clause-limits
+answer_all-requires-clause-limits g c =
+    seats_limits c.args.registry.now.directory.now c.args.registry.now.schema.now c.args.registry.now.world.now (header_bytes c.args.registry.now.header.now) g.F.Shelf.told g.F.D.Disk.told g.F.D.Disk.reads g.F.D.Disk.image g.F.D.Disk.faults (g.F.Shelf.disk c.args.shelf.now) (g.F.Shelf.disk_faults c.args.shelf.now) c.args.registry.now.users.now c.in-Ok-open_all.seats.items c.in-Ok-open_all.ensures.opened (all_of _ c.args.registry.now.users.now c.requires.limits)
+
+pub answer_all-requires-clause-served : goal.answer_all-requires-clause-served
+answer_all-requires-clause-served g c =
+    seats_served c.args.registry.now.directory.now c.args.registry.now.schema.now c.args.registry.now.world.now (header_bytes c.args.registry.now.header.now) g.F.Shelf.told g.F.D.Disk.told g.F.D.Disk.reads g.F.D.Disk.image g.F.D.Disk.faults (g.F.Shelf.disk c.args.shelf.now) (g.F.Shelf.disk_faults c.args.shelf.now) c.args.registry.now.users.now c.in-Ok-open_all.seats.items c.in-Ok-open_all.ensures.opened
+
+pub answer_all-requires-clause-distinct : goal.answer_all-requires-clause-distinct
+answer_all-requires-clause-distinct g c =
+    seats_distinct c.args.registry.now.directory.now c.args.registry.now.schema.now c.args.registry.now.world.now (header_bytes c.args.registry.now.header.now) g.F.Shelf.told g.F.D.Disk.told g.F.D.Disk.reads g.F.D.Disk.image g.F.D.Disk.faults (g.F.Shelf.disk c.args.shelf.now) (g.F.Shelf.disk_faults c.args.shelf.now) c.law_journals_differ.ensures c.args.registry.now.users.now c.in-Ok-open_all.seats.items c.in-Ok-open_all.ensures.opened c.requires.names
+
+pub answer_all-requires-clause-later : goal.answer_all-requires-clause-later
+answer_all-requires-clause-later g c =
+    seats_later c.args.registry.now.directory.now c.args.registry.now.schema.now c.args.registry.now.world.now (header_bytes c.args.registry.now.header.now) g.F.Shelf.told g.F.D.Disk.told g.F.D.Disk.reads g.F.D.Disk.image g.F.D.Disk.faults (g.F.Shelf.disk c.args.shelf.now) (g.F.Shelf.disk_faults c.args.shelf.now) (g.F.Shelf.disk_faults c.open_all.new.shelf) c.args.registry.now.users.now c.in-Ok-open_all.seats.items c.in-Ok-open_all.ensures.counts c.in-Ok-open_all.ensures.opened
+
+pub refusals_of-refusals-requires-clause-room : goal.refusals_of-refusals-requires-clause-room
+refusals_of-refusals-requires-clause-room g c =
+    let all = c.in-All.ensures.answered in
+    let stay : Stay c.args.registry.now.schema.now c.args.registry.now.world.now (header_bytes c.args.registry.now.header.now) g.F.D.Disk.told g.F.D.Disk.reads g.F.D.Disk.image g.F.D.Disk.faults c.in-Ok-open_all.seats.items c.in-All.seats.items = stay_run c.args.registry.now.schema.now c.args.registry.now.world.now (header_bytes c.args.registry.now.header.now) g.F.D.Disk.told g.F.D.Disk.reads g.F.D.Disk.image g.F.D.Disk.faults _ c.in-Ok-open_all.seats.items c.in-All.seats.items all.output c.in-All.is_broken all.runs in
+    let same = c.in-All.ensures.untouched tt in
+    let room = c.in-Ok.ensures.room in
+    let count = same_length c.args.registry.now.directory.now c.args.registry.now.schema.now c.args.registry.now.world.now (header_bytes c.args.registry.now.header.now) g.F.Shelf.told g.F.D.Disk.told g.F.D.Disk.reads g.F.D.Disk.image g.F.D.Disk.faults (g.F.Shelf.disk c.args.shelf.now) (g.F.Shelf.disk_faults c.args.shelf.now) c.args.registry.now.users.now c.in-Ok-open_all.seats.items c.in-Ok-open_all.ensures.opened in
+    let names = ap length stay.names in
+    let whole = length-journals c.in-All.seats.items in
+    let first = length-journals c.in-Ok-open_all.seats.items in
+    let read = ap length c.as_slice.ensures.value in
+    omega (arith, room, count, names, whole, first, read)
+
+pub give_back-requires-clause-distinct : goal.give_back-requires-clause-distinct
+give_back-requires-clause-distinct g c =
+    let all = c.in-All.ensures.answered in
+    let stay : Stay c.args.registry.now.schema.now c.args.registry.now.world.now (header_bytes c.args.registry.now.header.now) g.F.D.Disk.told g.F.D.Disk.reads g.F.D.Disk.image g.F.D.Disk.faults c.in-Ok-open_all.seats.items c.in-All.seats.items = stay_run c.args.registry.now.schema.now c.args.registry.now.world.now (header_bytes c.args.registry.now.header.now) g.F.D.Disk.told g.F.D.Disk.reads g.F.D.Disk.image g.F.D.Disk.faults _ c.in-Ok-open_all.seats.items c.in-All.seats.items all.output c.in-All.is_broken all.runs in
+    let same = c.in-All.ensures.untouched tt in
+    ap has_duplicate stay.names ∙ seats_distinct c.args.registry.now.directory.now c.args.registry.now.schema.now c.args.registry.now.world.now (header_bytes c.args.registry.now.header.now) g.F.Shelf.told g.F.D.Disk.told g.F.D.Disk.reads g.F.D.Disk.image g.F.D.Disk.faults (g.F.Shelf.disk c.args.shelf.now) (g.F.Shelf.disk_faults c.args.shelf.now) c.law_journals_differ.ensures c.args.registry.now.users.now c.in-Ok-open_all.seats.items c.in-Ok-open_all.ensures.opened c.requires.names
+
+pub give_back-requires-clause-out : goal.give_back-requires-clause-out
+give_back-requires-clause-out g c =
+    let all = c.in-All.ensures.answered in
+    let stay : Stay c.args.registry.now.schema.now c.args.registry.now.world.now (header_bytes c.args.registry.now.header.now) g.F.D.Disk.told g.F.D.Disk.reads g.F.D.Disk.image g.F.D.Disk.faults c.in-Ok-open_all.seats.items c.in-All.seats.items = stay_run c.args.registry.now.schema.now c.args.registry.now.world.now (header_bytes c.args.registry.now.header.now) g.F.D.Disk.told g.F.D.Disk.reads g.F.D.Disk.image g.F.D.Disk.faults _ c.in-Ok-open_all.seats.items c.in-All.seats.items all.output c.in-All.is_broken all.runs in
+    let same = c.in-All.ensures.untouched tt in
+    subst (λ s. AllOut (journals c.in-All.seats.items) (g.F.Shelf.is_out s)) (sym same) (subst (λ ns. AllOut ns (g.F.Shelf.is_out c.open_all.new.shelf)) (sym stay.names) (all_out c.args.registry.now.directory.now c.args.registry.now.schema.now c.args.registry.now.world.now (header_bytes c.args.registry.now.header.now) g.F.Shelf.told g.F.D.Disk.told g.F.D.Disk.reads g.F.D.Disk.image g.F.D.Disk.faults (g.F.Shelf.disk c.args.shelf.now) (g.F.Shelf.disk_faults c.args.shelf.now) c.in-Ok-open_all.seats.items (g.F.Shelf.is_out c.open_all.new.shelf) c.in-Ok-open_all.ensures.out))
+
+pub give_back-requires-clause-later : goal.give_back-requires-clause-later
+give_back-requires-clause-later g c =
+    let all = c.in-All.ensures.answered in
+    let stay : Stay c.args.registry.now.schema.now c.args.registry.now.world.now (header_bytes c.args.registry.now.header.now) g.F.D.Disk.told g.F.D.Disk.reads g.F.D.Disk.image g.F.D.Disk.faults c.in-Ok-open_all.seats.items c.in-All.seats.items = stay_run c.args.registry.now.schema.now c.args.registry.now.world.now (header_bytes c.args.registry.now.header.now) g.F.D.Disk.told g.F.D.Disk.reads g.F.D.Disk.image g.F.D.Disk.faults _ c.in-Ok-open_all.seats.items c.in-All.seats.items all.output c.in-All.is_broken all.runs in
+    let same = c.in-All.ensures.untouched tt in
+    subst (λ s. AreLater g.F.D.Disk.faults (g.F.Shelf.disk_faults s) c.in-All.seats.items) (sym same) (stay.later (g.F.Shelf.disk_faults c.open_all.new.shelf) (seats_later c.args.registry.now.directory.now c.args.registry.now.schema.now c.args.registry.now.world.now (header_bytes c.args.registry.now.header.now) g.F.Shelf.told g.F.D.Disk.told g.F.D.Disk.reads g.F.D.Disk.image g.F.D.Disk.faults (g.F.Shelf.disk c.args.shelf.now) (g.F.Shelf.disk_faults c.args.shelf.now) (g.F.Shelf.disk_faults c.open_all.new.shelf) c.args.registry.now.users.now c.in-Ok-open_all.seats.items c.in-Ok-open_all.ensures.counts c.in-Ok-open_all.ensures.opened))
+
+pub give_back-requires-in-Cut-clause-distinct : goal.give_back-requires-in-Cut-clause-distinct
+give_back-requires-in-Cut-clause-distinct g c =
+    let all = c.in-Cut.ensures.answered in
+    let stay : Stay c.args.registry.now.schema.now c.args.registry.now.world.now (header_bytes c.args.registry.now.header.now) g.F.D.Disk.told g.F.D.Disk.reads g.F.D.Disk.image g.F.D.Disk.faults c.in-Ok-open_all.seats.items c.in-Cut.seats.items = stay_run c.args.registry.now.schema.now c.args.registry.now.world.now (header_bytes c.args.registry.now.header.now) g.F.D.Disk.told g.F.D.Disk.reads g.F.D.Disk.image g.F.D.Disk.faults _ c.in-Ok-open_all.seats.items c.in-Cut.seats.items (all.output ++ all.line) all.is_broken all.runs in
+    let same = c.in-Cut.ensures.untouched tt in
+    ap has_duplicate stay.names ∙ seats_distinct c.args.registry.now.directory.now c.args.registry.now.schema.now c.args.registry.now.world.now (header_bytes c.args.registry.now.header.now) g.F.Shelf.told g.F.D.Disk.told g.F.D.Disk.reads g.F.D.Disk.image g.F.D.Disk.faults (g.F.Shelf.disk c.args.shelf.now) (g.F.Shelf.disk_faults c.args.shelf.now) c.law_journals_differ.ensures c.args.registry.now.users.now c.in-Ok-open_all.seats.items c.in-Ok-open_all.ensures.opened c.requires.names
+
+pub give_back-requires-in-Cut-clause-out : goal.give_back-requires-in-Cut-clause-out
+give_back-requires-in-Cut-clause-out g c =
+    let all = c.in-Cut.ensures.answered in
+    let stay : Stay c.args.registry.now.schema.now c.args.registry.now.world.now (header_bytes c.args.registry.now.header.now) g.F.D.Disk.told g.F.D.Disk.reads g.F.D.Disk.image g.F.D.Disk.faults c.in-Ok-open_all.seats.items c.in-Cut.seats.items = stay_run c.args.registry.now.schema.now c.args.registry.now.world.now (header_bytes c.args.registry.now.header.now) g.F.D.Disk.told g.F.D.Disk.reads g.F.D.Disk.image g.F.D.Disk.faults _ c.in-Ok-open_all.seats.items c.in-Cut.seats.items (all.output ++ all.line) all.is_broken all.runs in
+    let same = c.in-Cut.ensures.untouched tt in
+    subst (λ s. AllOut (journals c.in-Cut.seats.items) (g.F.Shelf.is_out s)) (sym same) (subst (λ ns. AllOut ns (g.F.Shelf.is_out c.open_all.new.shelf)) (sym stay.names) (all_out c.args.registry.now.directory.now c.args.registry.now.schema.now c.args.registry.now.world.now (header_bytes c.args.registry.now.header.now) g.F.Shelf.told g.F.D.Disk.told g.F.D.Disk.reads g.F.D.Disk.image g.F.D.Disk.faults (g.F.Shelf.disk c.args.shelf.now) (g.F.Shelf.disk_faults c.args.shelf.now) c.in-Ok-open_all.seats.items (g.F.Shelf.is_out c.open_all.new.shelf) c.in-Ok-open_all.ensures.out))
+
+pub give_back-requires-in-Cut-clause-later : goal.give_back-requires-in-Cut-clause-later
+give_back-requires-in-Cut-clause-later g c =
+    let all = c.in-Cut.ensures.answered in
+    let stay : Stay c.args.registry.now.schema.now c.args.registry.now.world.now (header_bytes c.args.registry.now.header.now) g.F.D.Disk.told g.F.D.Disk.reads g.F.D.Disk.image g.F.D.Disk.faults c.in-Ok-open_all.seats.items c.in-Cut.seats.items = stay_run c.args.registry.now.schema.now c.args.registry.now.world.now (header_bytes c.args.registry.now.header.now) g.F.D.Disk.told g.F.D.Disk.reads g.F.D.Disk.image g.F.D.Disk.faults _ c.in-Ok-open_all.seats.items c.in-Cut.seats.items (all.output ++ all.line) all.is_broken all.runs in
+    let same = c.in-Cut.ensures.untouched tt in
+    subst (λ s. AreLater g.F.D.Disk.faults (g.F.Shelf.disk_faults s) c.in-Cut.seats.items) (sym same) (stay.later (g.F.Shelf.disk_faults c.open_all.new.shelf) (seats_later c.args.registry.now.directory.now c.args.registry.now.schema.now c.args.registry.now.world.now (header_bytes c.args.registry.now.header.now) g.F.Shelf.told g.F.D.Disk.told g.F.D.Disk.reads g.F.D.Disk.image g.F.D.Disk.faults (g.F.Shelf.disk c.args.shelf.now) (g.F.Shelf.disk_faults c.args.shelf.now) (g.F.Shelf.disk_faults c.open_all.new.shelf) c.args.registry.now.users.now c.in-Ok-open_all.seats.items c.in-Ok-open_all.ensures.counts c.in-Ok-open_all.ensures.opened))
+
+pub returns-in-All-clause-ends : goal.returns-in-All-clause-ends
+returns-in-All-clause-ends g c =
+    λ shelf_told source_told sink_told.
+    let reads = c.in-Whole.ensures.reads source_told in
+    let is = sym (batch_begins _ _ c.new.ensures) ∙ reads.0 in
+    (reads.1, items_of c.in-Whole.batch, is, subst (λ l. AppendsAll c.args.registry.now.schema.now c.args.registry.now.world.now (header_bytes c.args.registry.now.header.now) (journals_on g.F.D.Disk.reads g.F.D.Disk.image c.args.registry.now.directory.now (g.F.Shelf.disk c.args.shelf.now) (g.F.Shelf.disk c.give_back.new.shelf) (g.F.Shelf.disk_faults c.args.shelf.now) (g.F.Shelf.disk_faults c.give_back.new.shelf)) (map named_user c.args.registry.now.users.now) (items_of c.in-Whole.batch) (g.K.Sink.written c.args.sink.now) (g.K.Sink.written c.answer_all.new.sink) l c.in-All.is_broken) (sym (c.refusals_of-refusals.ensures ∙ ap (map (λ x. x.refusal)) c.as_slice.ensures.value)) (finish_all c.args.registry.now.schema.now c.args.registry.now.world.now (header_bytes c.args.registry.now.header.now) c.args.registry.now.directory.now g.F.D.Disk.told g.F.Shelf.told (g.met.F.Shelf.tells_disks shelf_told) shelf_told g.F.D.Disk.reads g.F.D.Disk.image g.F.D.Disk.faults g.met.F.D.Disk.read_is_image (g.F.Shelf.disk c.args.shelf.now) (g.F.Shelf.disk c.give_back.new.shelf) (g.F.Shelf.disk_faults c.args.shelf.now) (g.F.Shelf.disk_faults c.give_back.new.shelf) (λ (user : UserProfile) entries bytes why. c.law_openings.ensures.unrefused c.args.registry.now.schema.now c.args.registry.now.world.now user c.args.registry.now.header.now bytes entries why) (λ (user : UserProfile) bytes. c.law_openings.ensures.decided c.args.registry.now.schema.now c.args.registry.now.world.now user (header_bytes c.args.registry.now.header.now) bytes) c.law_legal_grows.ensures.empty c.law_runs_legal.ensures c.law_scripts_hide.ensures c.law_private.ensures c.known.ensures c.args.registry.now.users.now c.requires.limits c.requires.names c.in-Ok-open_all.seats.items c.in-Ok-open_all.ensures.opened g.K.Sink.told sink_told (items_of c.in-Whole.batch) c.in-All.seats.items c.in-All.is_broken _ _ c.in-All.ensures.answered c.give_back.ensures.back))
+
+pub returns-in-All-clause-inside : goal.returns-in-All-clause-inside
+returns-in-All-clause-inside g c =
+    let all = c.in-All.ensures.answered in
+    let stay : Stay c.args.registry.now.schema.now c.args.registry.now.world.now (header_bytes c.args.registry.now.header.now) g.F.D.Disk.told g.F.D.Disk.reads g.F.D.Disk.image g.F.D.Disk.faults c.in-Ok-open_all.seats.items c.in-All.seats.items = stay_run c.args.registry.now.schema.now c.args.registry.now.world.now (header_bytes c.args.registry.now.header.now) g.F.D.Disk.told g.F.D.Disk.reads g.F.D.Disk.image g.F.D.Disk.faults _ c.in-Ok-open_all.seats.items c.in-All.seats.items all.output c.in-All.is_broken all.runs in
+    let same = c.in-All.ensures.untouched tt in
+    none_out c.args.registry.now.directory.now c.args.registry.now.schema.now c.args.registry.now.world.now (header_bytes c.args.registry.now.header.now) g.F.Shelf.told g.F.D.Disk.told g.F.D.Disk.reads g.F.D.Disk.image g.F.D.Disk.faults (g.F.Shelf.disk c.args.shelf.now) (g.F.Shelf.disk_faults c.args.shelf.now) c.in-All.seats.items (g.F.Shelf.is_out c.open_all.new.shelf) (g.F.Shelf.is_out c.give_back.new.shelf) (subst (λ ns. AreOut ns (g.F.Shelf.is_out c.open_all.new.shelf)) (sym stay.names) c.in-Ok-open_all.ensures.out) c.give_back.ensures.inside (subst (λ s. SameBeside (journals c.in-All.seats.items) (g.F.Shelf.is_out s) (g.F.Shelf.is_out c.give_back.new.shelf)) same c.give_back.ensures.others_out)
+
+pub returns-in-All-clause-counts : goal.returns-in-All-clause-counts
+returns-in-All-clause-counts g c =
+    let all = c.in-All.ensures.answered in
+    let stay : Stay c.args.registry.now.schema.now c.args.registry.now.world.now (header_bytes c.args.registry.now.header.now) g.F.D.Disk.told g.F.D.Disk.reads g.F.D.Disk.image g.F.D.Disk.faults c.in-Ok-open_all.seats.items c.in-All.seats.items = stay_run c.args.registry.now.schema.now c.args.registry.now.world.now (header_bytes c.args.registry.now.header.now) g.F.D.Disk.told g.F.D.Disk.reads g.F.D.Disk.image g.F.D.Disk.faults _ c.in-Ok-open_all.seats.items c.in-All.seats.items all.output c.in-All.is_broken all.runs in
+    let same = c.in-All.ensures.untouched tt in
+    λ name.
+    let first = c.in-Ok-open_all.ensures.counts name in
+    let third = none_fell c.args.registry.now.directory.now c.args.registry.now.schema.now c.args.registry.now.world.now (header_bytes c.args.registry.now.header.now) g.F.Shelf.told g.F.D.Disk.told g.F.D.Disk.reads g.F.D.Disk.image g.F.D.Disk.faults (g.F.Shelf.disk c.args.shelf.now) (g.F.Shelf.disk_faults c.args.shelf.now) (g.F.Shelf.disk_faults c.open_all.new.shelf) (g.F.Shelf.disk_faults c.give_back.new.shelf) c.in-All.seats.items (stay.later (g.F.Shelf.disk_faults c.open_all.new.shelf) (seats_later c.args.registry.now.directory.now c.args.registry.now.schema.now c.args.registry.now.world.now (header_bytes c.args.registry.now.header.now) g.F.Shelf.told g.F.D.Disk.told g.F.D.Disk.reads g.F.D.Disk.image g.F.D.Disk.faults (g.F.Shelf.disk c.args.shelf.now) (g.F.Shelf.disk_faults c.args.shelf.now) (g.F.Shelf.disk_faults c.open_all.new.shelf) c.args.registry.now.users.now c.in-Ok-open_all.seats.items c.in-Ok-open_all.ensures.counts c.in-Ok-open_all.ensures.opened)) (g.F.Shelf.disk c.give_back.new.shelf) c.give_back.ensures.back (subst (λ s. SameBeside (journals c.in-All.seats.items) (g.F.Shelf.disk_faults s) (g.F.Shelf.disk_faults c.give_back.new.shelf)) same c.give_back.ensures.counts) name in
+    omega (arith, first, third)
+
+pub returns-in-Cut-clause-ends : goal.returns-in-Cut-clause-ends
+returns-in-Cut-clause-ends g c =
+    λ shelf_told source_told sink_told.
+    let reads = c.in-Whole.ensures.reads source_told in
+    let is = sym (batch_begins _ _ c.new.ensures) ∙ reads.0 in
+    (items_of c.in-Whole.batch, is, finish_some c.args.registry.now.schema.now c.args.registry.now.world.now (header_bytes c.args.registry.now.header.now) c.args.registry.now.directory.now g.F.D.Disk.told g.F.Shelf.told (g.met.F.Shelf.tells_disks shelf_told) shelf_told g.F.D.Disk.reads g.F.D.Disk.image g.F.D.Disk.faults g.met.F.D.Disk.read_is_image (g.F.Shelf.disk c.args.shelf.now) (g.F.Shelf.disk c.give_back-in-Cut.new.shelf) (g.F.Shelf.disk_faults c.args.shelf.now) (g.F.Shelf.disk_faults c.give_back-in-Cut.new.shelf) (λ (user : UserProfile) entries bytes why. c.law_openings.ensures.unrefused c.args.registry.now.schema.now c.args.registry.now.world.now user c.args.registry.now.header.now bytes entries why) (λ (user : UserProfile) bytes. c.law_openings.ensures.decided c.args.registry.now.schema.now c.args.registry.now.world.now user (header_bytes c.args.registry.now.header.now) bytes) c.law_legal_grows.ensures.empty c.law_runs_legal.ensures c.law_scripts_hide.ensures c.law_private.ensures c.known.ensures c.args.registry.now.users.now c.requires.limits c.requires.names c.in-Ok-open_all.seats.items c.in-Ok-open_all.ensures.opened g.K.Sink.told sink_told (items_of c.in-Whole.batch) c.in-Cut.seats.items _ _ c.in-Cut.ensures.answered c.give_back-in-Cut.ensures.back)
+
+pub returns-in-Cut-clause-inside : goal.returns-in-Cut-clause-inside
+returns-in-Cut-clause-inside g c =
+    let all = c.in-Cut.ensures.answered in
+    let stay : Stay c.args.registry.now.schema.now c.args.registry.now.world.now (header_bytes c.args.registry.now.header.now) g.F.D.Disk.told g.F.D.Disk.reads g.F.D.Disk.image g.F.D.Disk.faults c.in-Ok-open_all.seats.items c.in-Cut.seats.items = stay_run c.args.registry.now.schema.now c.args.registry.now.world.now (header_bytes c.args.registry.now.header.now) g.F.D.Disk.told g.F.D.Disk.reads g.F.D.Disk.image g.F.D.Disk.faults _ c.in-Ok-open_all.seats.items c.in-Cut.seats.items (all.output ++ all.line) all.is_broken all.runs in
+    let same = c.in-Cut.ensures.untouched tt in
+    none_out c.args.registry.now.directory.now c.args.registry.now.schema.now c.args.registry.now.world.now (header_bytes c.args.registry.now.header.now) g.F.Shelf.told g.F.D.Disk.told g.F.D.Disk.reads g.F.D.Disk.image g.F.D.Disk.faults (g.F.Shelf.disk c.args.shelf.now) (g.F.Shelf.disk_faults c.args.shelf.now) c.in-Cut.seats.items (g.F.Shelf.is_out c.open_all.new.shelf) (g.F.Shelf.is_out c.give_back-in-Cut.new.shelf) (subst (λ ns. AreOut ns (g.F.Shelf.is_out c.open_all.new.shelf)) (sym stay.names) c.in-Ok-open_all.ensures.out) c.give_back-in-Cut.ensures.inside (subst (λ s. SameBeside (journals c.in-Cut.seats.items) (g.F.Shelf.is_out s) (g.F.Shelf.is_out c.give_back-in-Cut.new.shelf)) same c.give_back-in-Cut.ensures.others_out)
+
+pub returns-in-Cut-clause-counts : goal.returns-in-Cut-clause-counts
+returns-in-Cut-clause-counts g c =
+    let all = c.in-Cut.ensures.answered in
+    let stay : Stay c.args.registry.now.schema.now c.args.registry.now.world.now (header_bytes c.args.registry.now.header.now) g.F.D.Disk.told g.F.D.Disk.reads g.F.D.Disk.image g.F.D.Disk.faults c.in-Ok-open_all.seats.items c.in-Cut.seats.items = stay_run c.args.registry.now.schema.now c.args.registry.now.world.now (header_bytes c.args.registry.now.header.now) g.F.D.Disk.told g.F.D.Disk.reads g.F.D.Disk.image g.F.D.Disk.faults _ c.in-Ok-open_all.seats.items c.in-Cut.seats.items (all.output ++ all.line) all.is_broken all.runs in
+    let same = c.in-Cut.ensures.untouched tt in
+    λ name.
+    let first = c.in-Ok-open_all.ensures.counts name in
+    let third = none_fell c.args.registry.now.directory.now c.args.registry.now.schema.now c.args.registry.now.world.now (header_bytes c.args.registry.now.header.now) g.F.Shelf.told g.F.D.Disk.told g.F.D.Disk.reads g.F.D.Disk.image g.F.D.Disk.faults (g.F.Shelf.disk c.args.shelf.now) (g.F.Shelf.disk_faults c.args.shelf.now) (g.F.Shelf.disk_faults c.open_all.new.shelf) (g.F.Shelf.disk_faults c.give_back-in-Cut.new.shelf) c.in-Cut.seats.items (stay.later (g.F.Shelf.disk_faults c.open_all.new.shelf) (seats_later c.args.registry.now.directory.now c.args.registry.now.schema.now c.args.registry.now.world.now (header_bytes c.args.registry.now.header.now) g.F.Shelf.told g.F.D.Disk.told g.F.D.Disk.reads g.F.D.Disk.image g.F.D.Disk.faults (g.F.Shelf.disk c.args.shelf.now) (g.F.Shelf.disk_faults c.args.shelf.now) (g.F.Shelf.disk_faults c.open_all.new.shelf) c.args.registry.now.users.now c.in-Ok-open_all.seats.items c.in-Ok-open_all.ensures.counts c.in-Ok-open_all.ensures.opened)) (g.F.Shelf.disk c.give_back-in-Cut.new.shelf) c.give_back-in-Cut.ensures.back (subst (λ s. SameBeside (journals c.in-Cut.seats.items) (g.F.Shelf.disk_faults s) (g.F.Shelf.disk_faults c.give_back-in-Cut.new.shelf)) same c.give_back-in-Cut.ensures.counts) name in
+    omega (arith, first, third)
 
 pub returns-clause-ends : goal.returns-clause-ends
-returns-clause-ends g c = λ source_told. λ sink_told.
+returns-clause-ends g c =
+    λ shelf_told source_told sink_told.
     let reads = c.in-Whole.ensures.reads source_told in
-    batch_ends _ _ _ _ _ (sym (batch_begins _ _ c.new.ensures) ∙ reads.0) _ reads.1 _ _ _ (c.answer_all.ensures.answered sink_told)
+    let is = sym (batch_begins _ _ c.new.ensures) ∙ reads.0 in
+    let left = c.in-Memory-answer_all.ensures.answered in
+    inr (items_of c.in-Whole.batch, is, finish_some c.args.registry.now.schema.now c.args.registry.now.world.now (header_bytes c.args.registry.now.header.now) c.args.registry.now.directory.now g.F.D.Disk.told g.F.Shelf.told (g.met.F.Shelf.tells_disks shelf_told) shelf_told g.F.D.Disk.reads g.F.D.Disk.image g.F.D.Disk.faults g.met.F.D.Disk.read_is_image (g.F.Shelf.disk c.args.shelf.now) (g.F.Shelf.disk c.answer_all.new.shelf) (g.F.Shelf.disk_faults c.args.shelf.now) (g.F.Shelf.disk_faults c.answer_all.new.shelf) (λ (user : UserProfile) entries bytes why. c.law_openings.ensures.unrefused c.args.registry.now.schema.now c.args.registry.now.world.now user c.args.registry.now.header.now bytes entries why) (λ (user : UserProfile) bytes. c.law_openings.ensures.decided c.args.registry.now.schema.now c.args.registry.now.world.now user (header_bytes c.args.registry.now.header.now) bytes) c.law_legal_grows.ensures.empty c.law_runs_legal.ensures c.law_scripts_hide.ensures c.law_private.ensures c.known.ensures c.args.registry.now.users.now c.requires.limits c.requires.names c.in-Ok-open_all.seats.items c.in-Ok-open_all.ensures.opened g.K.Sink.told sink_told (items_of c.in-Whole.batch) left.0 _ _ left.1 left.2)
 
-pub returns-clause-read_cause : goal.returns-clause-read_cause
-returns-clause-read_cause g c = λ is. absurd (c.answer_all.ensures.no_read is)
+pub returns-clause-counts : goal.returns-clause-counts
+returns-clause-counts g c =
+    λ name.
+    let left = c.in-Memory-answer_all.ensures.answered in
+    let some = left.1 in
+    let stay : Stay c.args.registry.now.schema.now c.args.registry.now.world.now (header_bytes c.args.registry.now.header.now) g.F.D.Disk.told g.F.D.Disk.reads g.F.D.Disk.image g.F.D.Disk.faults c.in-Ok-open_all.seats.items left.0 = stay_run c.args.registry.now.schema.now c.args.registry.now.world.now (header_bytes c.args.registry.now.header.now) g.F.D.Disk.told g.F.D.Disk.reads g.F.D.Disk.image g.F.D.Disk.faults _ c.in-Ok-open_all.seats.items left.0 (some.output ++ some.line) some.is_broken some.runs in
+    let first = c.in-Ok-open_all.ensures.counts name in
+    let third = none_fell c.args.registry.now.directory.now c.args.registry.now.schema.now c.args.registry.now.world.now (header_bytes c.args.registry.now.header.now) g.F.Shelf.told g.F.D.Disk.told g.F.D.Disk.reads g.F.D.Disk.image g.F.D.Disk.faults (g.F.Shelf.disk c.args.shelf.now) (g.F.Shelf.disk_faults c.args.shelf.now) (g.F.Shelf.disk_faults c.open_all.new.shelf) (g.F.Shelf.disk_faults c.answer_all.new.shelf) left.0 (stay.later (g.F.Shelf.disk_faults c.open_all.new.shelf) (seats_later c.args.registry.now.directory.now c.args.registry.now.schema.now c.args.registry.now.world.now (header_bytes c.args.registry.now.header.now) g.F.Shelf.told g.F.D.Disk.told g.F.D.Disk.reads g.F.D.Disk.image g.F.D.Disk.faults (g.F.Shelf.disk c.args.shelf.now) (g.F.Shelf.disk_faults c.args.shelf.now) (g.F.Shelf.disk_faults c.open_all.new.shelf) c.args.registry.now.users.now c.in-Ok-open_all.seats.items c.in-Ok-open_all.ensures.counts c.in-Ok-open_all.ensures.opened)) (g.F.Shelf.disk c.answer_all.new.shelf) left.2 (subst (λ ns. SameBeside ns (g.F.Shelf.disk_faults c.open_all.new.shelf) (g.F.Shelf.disk_faults c.answer_all.new.shelf)) (sym stay.names) c.in-Memory-answer_all.ensures.counts) name in
+    omega (arith, first, third)

@@ -6,4 +6,4 @@ use Rattle.clause_solver.proofs.rules.conflict_step.Goals as goal
 pub learn-requires-clause-below : goal.learn-requires-clause-below
 learn-requires-clause-below c =
     let s = c.args.state.now in
-    conflict_below s.assignment.variables (record { clauses = s.clauses; trail = s.assignment.trail; lines = [] }) c.args.number (line_of c.in_ok-line.line) c.in_ok-line.ensures c.requires.indexed.index.below
+    conflict_below s.assignment.variables (record { clauses = s.clauses; trail = s.assignment.trail; lines = [] }) c.args.number (line_of c.in_ok-line.line) c.in_ok-line.ensures.line c.requires.indexed.index.below

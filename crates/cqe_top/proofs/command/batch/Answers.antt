@@ -1,27 +1,29 @@
-use Rattle.std.proofs.Common.{map, ap, sym, subst, ◌∙◌}
+use Rattle.std.proofs.Common.{sym, ap, subst, ◌∙◌, map}
+use Rattle.cqe_base.specs.Schema.{has_duplicate}
+use Rattle.log_journal.specs.Opening.{header_bytes}
 use Rattle.batch_engine.specs.Crew.{named_user}
+use Rattle.batch_engine.specs.Shelved.{journals_on}
 use Rattle.policy_files.specs.Memory.{policy_value_of}
-use Rattle.cqe_top.specs.declared.end.CommandEnd.TheVariants.{Usage, ReadFault, WriteFault}
 use Rattle.cqe_top.specs.Files.{files_say}
 use Rattle.cqe_top.specs.Reaches.{BatchReaches}
-use Rattle.cqe_top.proofs.Users.{new_users_are}
-use Rattle.cqe_top.proofs.Reaching.{batch_reaches, refused_reaches, not_another}
+use Rattle.cqe_top.proofs.Users.{names_are, batch_names_are, new_users_are}
+use Rattle.cqe_top.proofs.Reaching.{batch_over}
 use Rattle.cqe_top.proofs.command.batch.Goals as goal
 
-pub returns-in-Err-clause-used : goal.returns-in-Err-clause-used
-returns-in-Err-clause-used g c = λ is. not_another _ Usage c.in-Err.ensures.ends is
-
-pub returns-in-Err-clause-read_cause : goal.returns-in-Err-clause-read_cause
-returns-in-Err-clause-read_cause g c = λ is. absurd (not_another _ ReadFault c.in-Err.ensures.ends is)
-
-pub returns-in-Err-clause-write_cause : goal.returns-in-Err-clause-write_cause
-returns-in-Err-clause-write_cause g c = λ is. absurd (not_another _ WriteFault c.in-Err.ensures.ends is)
-
-pub returns-in-Err-clause-reaches : goal.returns-in-Err-clause-reaches
-returns-in-Err-clause-reaches g c = λ shelf_told source_told sink_told. refused_reaches _ _ _ _ _ _ _ (c.in-Err.ensures.refused shelf_told)
+pub run_batch-end-requires-clause-names : goal.run_batch-end-requires-clause-names
+run_batch-end-requires-clause-names g c =
+    ap has_duplicate (ap (λ users. map (λ user. user.name) (map named_user users)) c.as_slice.ensures.value ∙ batch_names_are c.in-Ok.inputs.policy.users.items) ∙ c.in-Ok.ensures.names
 
 pub returns-clause-reaches : goal.returns-clause-reaches
 returns-clause-reaches g c = λ shelf_told source_told sink_told.
-    subst (λ end. BatchReaches c.args.policy.now c.args.facts.now (files_say (g.F.Shelf.file c.args.shelf.now c.args.policy.now) (g.F.Shelf.file c.args.shelf.now c.args.facts.now)) end
-    (g.S.Source.left c.args.source.now) (g.S.Source.left c.run_batch.new.source) (g.K.Sink.written c.args.sink.now) (g.K.Sink.written c.run_batch.new.sink)) (sym c.end_of_batch.ensures)
-    (batch_reaches _ _ _ _ _ _ _ (policy_value_of c.in-Ok.files.policy) c.in-Ok.files.world _ _ (c.in-Ok.ensures.read shelf_told) (new_users_are c.in-Ok.files.policy ∙ ap (map named_user) (sym c.as_slice-users.ensures.value)) (c.run_batch.ensures.ends source_told sink_told))
+    subst (BatchReaches (journals_on g.F.D.Disk.reads g.F.D.Disk.image c.args.journals.now (g.F.Shelf.disk c.args.shelf.now) (g.F.Shelf.disk c.run_batch-end.new.shelf)
+    (g.F.Shelf.disk_faults c.args.shelf.now) (g.F.Shelf.disk_faults c.run_batch-end.new.shelf))
+    (g.S.Source.left c.args.source.now) (g.S.Source.left c.run_batch-end.new.source) (g.K.Sink.written c.args.sink.now) (g.K.Sink.written c.run_batch-end.new.sink) c.args.policy.now c.args.facts.now
+    (files_say (g.F.Shelf.file c.args.shelf.now c.args.policy.now) (g.F.Shelf.file c.args.shelf.now c.args.facts.now))) (sym c.end_of_batch.ensures)
+    (batch_over g.F.D.Disk.reads g.F.D.Disk.image c.args.journals.now (g.F.Shelf.disk c.args.shelf.now) (g.F.Shelf.disk c.read_files.new.shelf) (g.F.Shelf.disk c.run_batch-end.new.shelf)
+    (g.F.Shelf.disk_faults c.args.shelf.now) (g.F.Shelf.disk_faults c.read_files.new.shelf) (g.F.Shelf.disk_faults c.run_batch-end.new.shelf)
+    (g.S.Source.left c.args.source.now) (g.S.Source.left c.run_batch-end.new.source) (g.K.Sink.written c.args.sink.now) (g.K.Sink.written c.run_batch-end.new.sink) c.args.policy.now c.args.facts.now
+    (files_say (g.F.Shelf.file c.args.shelf.now c.args.policy.now) (g.F.Shelf.file c.args.shelf.now c.args.facts.now))
+    (policy_value_of c.in-Ok.inputs.policy) c.in-Ok.inputs.world (header_bytes c.in-Ok.inputs.header) c.in-Ok.inputs.policy.users (map named_user c.as_slice.result.now) c.run_batch-end.result
+    c.in-Ok.ensures.disks c.in-Ok.ensures.counts (c.in-Ok.ensures.read shelf_told) (names_are c.in-Ok.inputs.policy.users.items)
+    (sym (new_users_are c.in-Ok.inputs.policy ∙ ap (map named_user) (sym c.as_slice.ensures.value))) (c.run_batch-end.ensures.ends shelf_told source_told sink_told))

@@ -1,9 +1,22 @@
 use Rattle.std.proofs.Common.{◌≡◌, ◌⊎◌, ℕ, sym, subst}
-use Rattle.cqe_top.proofs.Reaching.{good_end}
+use Rattle.batch_engine.specs.Shelved.{journals_on}
+use Rattle.cqe_top.specs.Files.{files_say}
+use Rattle.cqe_top.proofs.Good.{good_init, good_batch}
 use Rattle.cqe_top.proofs.command.top.Goals as goal
 
-pub returns-clause-good_batch : goal.returns-clause-good_batch
-returns-clause-good_batch g c = λ shelf_told source_told sink_told policy facts is say shelf read write.
+pub returns-clause-good_init : goal.returns-clause-good_init
+returns-clause-good_init g c = λ told policy facts journals is says shelf.
     subst (λ (status : ℕ). (status ≡ 0) ⊎ (status ≡ 13)) (sym c.status_of.ensures)
-    (good_end policy facts _ c.run-end.result _ _ _ _ (c.run-end.ensures.as_batch shelf_told source_told sink_told policy facts is) say
+    (good_init g.F.Shelf.told g.F.D.Disk.reads g.F.D.Disk.image journals (g.F.Shelf.disk c.args.shelf.now) (g.F.Shelf.disk c.run-end.new.shelf)
+    (g.F.Shelf.disk_faults c.args.shelf.now) (g.F.Shelf.disk_faults c.run-end.new.shelf) (g.F.Shelf.faults c.args.shelf.now) (g.F.Shelf.faults c.run-end.new.shelf) policy facts
+    (files_say (g.F.Shelf.file c.args.shelf.now policy) (g.F.Shelf.file c.args.shelf.now facts)) c.run-end.result told (c.run-end.ensures.as_init told policy facts journals is) says
+    (λ fault. shelf (c.run-end.ensures.shelf_cause fault)))
+
+pub returns-clause-good_batch : goal.returns-clause-good_batch
+returns-clause-good_batch g c = λ shelf_told source_told sink_told policy facts journals is script says shelf read write.
+    subst (λ (status : ℕ). (status ≡ 0) ⊎ (status ≡ 13)) (sym c.status_of.ensures)
+    (good_batch (journals_on g.F.D.Disk.reads g.F.D.Disk.image journals (g.F.Shelf.disk c.args.shelf.now) (g.F.Shelf.disk c.run-end.new.shelf) (g.F.Shelf.disk_faults c.args.shelf.now) (g.F.Shelf.disk_faults c.run-end.new.shelf))
+    (g.S.Source.left c.args.source.now) (g.S.Source.left c.run-end.new.source) (g.K.Sink.written c.args.sink.now) (g.K.Sink.written c.run-end.new.sink) policy facts
+    (files_say (g.F.Shelf.file c.args.shelf.now policy) (g.F.Shelf.file c.args.shelf.now facts)) c.run-end.result
+    (c.run-end.ensures.as_batch shelf_told source_told sink_told policy facts journals is) script says
     (λ fault. shelf (c.run-end.ensures.shelf_cause fault)) (λ fault. read (c.run-end.ensures.read_cause fault)) (λ fault. write (c.run-end.ensures.write_cause fault)))

@@ -1,7 +1,7 @@
 use Rattle.std.proofs.Common.{◌≡◌, ◌++◌, sym, ap, subst, ◌∙◌}
 use Rattle.std.specs.Prelude.{OnOk, OnErr, codes}
 use Rattle.outside.specs.Streams.{AppendsPart}
-use Rattle.cqe_top.specs.Complaints.{complaint_of}
+use Rattle.cqe_top.specs.Complaints.{complaint_of, journal_lines}
 use Rattle.cqe_top.proofs.Writing.{three_parts}
 use Rattle.cqe_top.proofs.complaint.give.Goals as goal
 
@@ -36,3 +36,20 @@ pub returns-in-Memory-clause-part : goal.returns-in-Memory-clause-part
 returns-in-Memory-clause-part g c = λ told.
     subst (λ end. OnErr c.write_all-in-Memory.result (AppendsPart (g.E.Sink.written c.args.complaints.now) (g.E.Sink.written c.write_all-in-Memory.new.sink) (complaint_of end))) (sym c.in-Memory.is)
     (c.write_all-in-Memory.ensures.part told)
+
+pub returns-in-DiskFault-clause-all : goal.returns-in-DiskFault-clause-all
+returns-in-DiskFault-clause-all g c = λ told.
+    subst (λ end. OnOk c.write_all-in-DiskFault.result (g.E.Sink.written c.write_all-in-DiskFault.new.sink ≡ g.E.Sink.written c.args.complaints.now ++ complaint_of end)) (sym c.in-DiskFault.is)
+    (c.write_all-in-DiskFault.ensures.all told)
+
+pub returns-in-DiskFault-clause-part : goal.returns-in-DiskFault-clause-part
+returns-in-DiskFault-clause-part g c = λ told.
+    subst (λ end. OnErr c.write_all-in-DiskFault.result (AppendsPart (g.E.Sink.written c.args.complaints.now) (g.E.Sink.written c.write_all-in-DiskFault.new.sink) (complaint_of end))) (sym c.in-DiskFault.is)
+    (c.write_all-in-DiskFault.ensures.part told)
+
+pub returns-in-Journals-clause-part : goal.returns-in-Journals-clause-part
+returns-in-Journals-clause-part g c = λ told.
+    subst (λ text. OnErr c.give_journals.result (AppendsPart (g.E.Sink.written c.args.complaints.now) (g.E.Sink.written c.give_journals.new.complaints) text))
+    (ap (λ users. journal_lines users c.as_slice-in-Journals.result.now) c.as_slice.ensures.value
+    ∙ ap (journal_lines c.in-Journals.users.items) c.as_slice-in-Journals.ensures.value ∙ ap complaint_of (sym c.in-Journals.is))
+    (c.give_journals.ensures.part told)

@@ -42,4 +42,5 @@ returns-clause-indexed c =
       index = subst (λ (a : Assigning). IsIndexOf a.variables a.trail s.clauses c.raise-2.new.self.tallies.items (lists d)) (sym c.in_ok-push.ensures)
           (index_push s.assignment.variables s.assignment.trail c.args.entry s.clauses (lists d) c.occurrences_of.result.now c.occurrences_of-2.result.now c.requires.below c.requires.free (trues d) (falses (goal.at.returns-clause-indexed c).After-occurrences_of-2) s.tallies.tallies.items c.requires.indexed.index c.raise.new.self.tallies.items c.raise.ensures.length c.raise.ensures.raised c.raise-2.new.self.tallies.items c.raise-2.ensures.length c.raise-2.ensures.raised);
       sets = c.raise-2.ensures.sets;
+      idle = c.requires.indexed.idle ∙ ap (λ (a : Assigning). record { variables = a.variables; clause = [] }) (sym c.in_ok-push.ensures);
     }

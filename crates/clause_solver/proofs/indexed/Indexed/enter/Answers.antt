@@ -20,4 +20,5 @@ returns-clause-indexed c =
           ∙ c.in_ok-note_clause.ensures.noted l (let e = ap length c.deref_mut.ensures.value in let f = length-map old.occurrences.items (λ v. v.items) in omega arith)
           ∙ ap (λ xs. get_or (map (λ v. v.items) xs) (code_of l) [] ++ replicate (count_by (same_literal l) c.args.clause.now) c.len-number.result) c.deref_mut.ensures.value);
       sets = c.in_ok-push-2.ensures.sets;
+      idle = c.requires.indexed.idle;
     }

@@ -18,4 +18,5 @@ returns-in-Some-clause-indexed c =
           (c.occurrences_of-in-Some.ensures ∙ (λ i. get_or (map (λ v. v.items) (c.deref-in-Some.ensures.value i)) (code_of ((c.opposite.ensures ∙ ap opposite c.literal-literal.ensures) i)) []))
           s.tallies.tallies.items c.lower.new.self.tallies.items c.lower-in-Some.new.self.tallies.items h c.lower.ensures.length c.lower-in-Some.ensures.length c.lower.ensures.lowered c.lower-in-Some.ensures.lowered;
       sets = c.lower-in-Some.ensures.sets;
+      idle = c.requires.indexed.idle ∙ ap (λ (b : Assigning). record { variables = b.variables; clause = [] }) c.in-Some.ensures.some;
     }

@@ -1,17 +1,19 @@
-use Rattle.std.proofs.Common.{◌++◌, ◌∷◌, [], ℕ, List, length, refl, ap, sym, ◌∙◌, subst}
+use Rattle.std.proofs.Common.{◌++◌, ◌∷◌, [], ℕ, List, length, take, refl, ap, sym, ◌∙◌, subst}
 use Rattle.std.specs.Prelude.{Option, Some, is_some}
+use Rattle.std.proofs.lemmas.List.{take-append-le}
 use Rattle.outside.specs.Faults.{Rose}
 use Rattle.cqe_base.specs.Formula.{formula_of}
 use Rattle.cqe_base.specs.History.{AnsweredQuery, History}
-use Rattle.log_journal.specs.Records.{Recorded}
+use Rattle.log_journal.specs.Records.{Recorded, KeepsOrAdds}
 use Rattle.user_log.specs.Prepared.{prepared_entry}
 use Rattle.user_log.specs.UserLogs.{kept_schema, kept_world, kept_user, kept_history}
 use Rattle.user_desk.specs.Standings.{is_sealed, standing_of}
-use Rattle.user_desk.specs.Stores.{stored_disk}
+use Rattle.user_desk.specs.Stored.{stored_disk, opened_disk}
 use Rattle.user_desk.specs.Lives.{shown}
 use Rattle.user_desk.specs.Desks.{state_of}
 use Rattle.user_desk.proofs.Asking.{failure_settles}
 use Rattle.user_desk.proofs.Recording.{still_holds, record_of_answer, legal_back, sizes_back, growing, kept_added, kept_flying, moment_holds}
+use Rattle.user_desk.proofs.Since.{split_moments, since_added, since_flying}
 use Rattle.user_desk.proofs.desk.Desk.record.Goals as goal
 
 pub returns-then-is_err-clause-moments : goal.returns-then-is_err-clause-moments
@@ -38,6 +40,11 @@ invariant_of-self-in-Ok-append g c =
     record {
       kept = kept_added _ _ _ _ _ _ _ _ _ entry next bytes grows _ _ _ _ _ _ _ (again.schema ∙ same.schema) (again.world ∙ same.world) (again.user ∙ same.user) grown
           c.append.ensures.journal c.in-Ok-append.ensures.whole c.in-Ok-append.ensures.added;
+      since = since_added g.D.Disk.told (λ i. g.D.Disk.image (stored_disk desk.store) i) _ _ _ _ _ _ _ entry next bytes grows
+          (λ i. g.D.Disk.image_since (stored_disk desk.store) (g.D.Disk.moment (opened_disk desk.store)) i) (λ i. g.D.Disk.image_since (stored_disk c.append.new.self) (g.D.Disk.moment (opened_disk c.append.new.self)) i) desk.opened _ desk.since
+          (λ told. split_moments g.D.Disk.moment g.D.Disk.image_since (opened_disk desk.store) (opened_disk c.append.new.self) (stored_disk desk.store) (stored_disk store) (stored_disk c.append.new.self) (λ i. KeepsOrAdds bytes next i)
+          c.reserve.ensures.disk (c.append.ensures.opened ∙ c.reserve.ensures.opened) c.known-2.ensures.time.later c.append.ensures.time (c.append.ensures.moments told))
+          _ _ _ (again.schema ∙ same.schema) grown;
     }
 
 pub invariant_of-self-in-Err : goal.invariant_of-self-in-Err
@@ -56,6 +63,11 @@ invariant_of-self-in-Err g c =
     record {
       kept = kept_flying _ _ _ _ _ _ _ _ _ entry next bytes grows _ _ _ _ _ _ _ _ same.schema same.world same.user c.in-Ok.ensures.unchanged (c.into_entry.ensures ∙ c.in-Ok.ensures.entry)
           c.append.ensures.journal c.in-Err.ensures.failed c.in-Err.ensures.either;
+      since = since_flying g.D.Disk.told (λ i. g.D.Disk.image (stored_disk desk.store) i) _ _ _ _ _ _ _ entry next bytes grows
+          (λ i. g.D.Disk.image_since (stored_disk desk.store) (g.D.Disk.moment (opened_disk desk.store)) i) (λ i. g.D.Disk.image_since (stored_disk c.append.new.self) (g.D.Disk.moment (opened_disk c.append.new.self)) i) desk.opened _ desk.since
+          (λ told. split_moments g.D.Disk.moment g.D.Disk.image_since (opened_disk desk.store) (opened_disk c.append.new.self) (stored_disk desk.store) (stored_disk store) (stored_disk c.append.new.self) (λ i. KeepsOrAdds bytes next i)
+          c.reserve.ensures.disk (c.append.ensures.opened ∙ c.reserve.ensures.opened) c.known-2.ensures.time.later c.append.ensures.time (c.append.ensures.moments told))
+          _ _ _ _ same.schema c.in-Ok.ensures.unchanged (c.into_entry.ensures ∙ c.in-Ok.ensures.entry);
     }
 
 pub returns-in-Ok-append-clause-moments : goal.returns-in-Ok-append-clause-moments
@@ -100,3 +112,21 @@ returns-in-Err-clause-moments g c told c' here =
     let grows = growing _ _ _ _ _ _ _ _ _ _ _ entry next bytes desk.kept c.requires.opened c.requires.whole c.known.ensures.legal c.known.ensures.sizes legal sizes read is in
     let since = subst (λ d. g.D.Disk.image_since (stored_disk c.append.new.self) (g.D.Disk.moment d) c') (sym c.reserve.ensures.disk) here in
     moment_holds _ _ _ _ _ _ _ _ _ entry next bytes grows c.args.text.now (formula_of c.args.query) c.args.mark c.requires.answer refl told c' (c.append.ensures.moments told c' since)
+
+pub returns-in-Ok-append-clause-opening : goal.returns-in-Ok-append-clause-opening
+returns-in-Ok-append-clause-opening g c =
+    let desk = c.args.self.now in
+    let entry : AnsweredQuery = record { query = formula_of c.args.query; mark = c.args.mark; length = length c.args.text.now } in
+    let grown = c.commit.ensures.added ∙ ap (λ (h : History). h ++ prepared_entry c.in-Ok.prepared ∷ []) c.in-Ok.ensures.unchanged ∙ ap (λ e. kept_history desk.log ++ e ∷ []) c.in-Ok.ensures.entry in
+    record {
+      count = refl;
+      entries = ap (λ (h : History). take desk.opened h) grown ∙ take-append-le desk.opened (kept_history desk.log) (entry ∷ []) desk.since.begins;
+      disk = c.append.ensures.opened ∙ c.reserve.ensures.opened;
+    }
+
+pub returns-in-Err-clause-opening : goal.returns-in-Err-clause-opening
+returns-in-Err-clause-opening g c = record {
+  count = refl;
+  entries = ap (λ (h : History). take c.args.self.now.opened h) c.in-Ok.ensures.unchanged;
+  disk = c.append.ensures.opened ∙ c.reserve.ensures.opened;
+}

@@ -1,4 +1,4 @@
-use Rattle.user_desk.specs.Stores.{stored_disk}
+use Rattle.user_desk.specs.Stored.{stored_disk}
 use Rattle.user_desk.proofs.Recording.{still_holds, code_holds}
 use Rattle.user_desk.proofs.desk.Desk.settle.Goals as goal
 

@@ -1,15 +1,21 @@
+use Rattle.std.proofs.Common.{List, ℕ, subst}
+use Rattle.std.specs.Prelude.{OnOk, OnErr}
+use Rattle.log_journal.specs.Records.{Adds, KeepsOrAdds}
+use Rattle.user_desk.specs.Stored.{Stored, stored_disk}
+use Rattle.user_desk.specs.Mediums.{medium_disk}
 use Rattle.user_desk.proofs.store.Store.append.Goals as goal
 
-pub returns-in-Ok-clause-added : goal.returns-in-Ok-clause-added
-returns-in-Ok-clause-added g c = rw c.in-Journal.is (λ told. c.in-Ok.ensures.kept told)
+pub returns-clause-added : goal.returns-clause-added
+returns-clause-added g c =
+    subst (λ (s : Stored g.row.D.Denot). g.D.Disk.told → OnOk c.append.result ((i : List ℕ) → g.D.Disk.image (medium_disk c.append.new.self) i → Adds (g.D.Disk.reads (stored_disk s)) (c.args.kind, c.args.text.now) i)) c.self.view_is
+    c.append.ensures.added
 
-pub returns-in-Ok-clause-moments : goal.returns-in-Ok-clause-moments
-returns-in-Ok-clause-moments g c = rw c.in-Journal.is (λ told. c.append.ensures.moments told (rw c.in-Journal.is at c.requires.whole))
+pub returns-clause-either : goal.returns-clause-either
+returns-clause-either g c =
+    subst (λ (s : Stored g.row.D.Denot). g.D.Disk.told → OnErr c.append.result ((i : List ℕ) → g.D.Disk.image (medium_disk c.append.new.self) i → KeepsOrAdds (g.D.Disk.reads (stored_disk s)) (c.args.kind, c.args.text.now) i)) c.self.view_is
+    c.append.ensures.either
 
-pub returns-in-Err-clause-either : goal.returns-in-Err-clause-either
-returns-in-Err-clause-either g c =
-    rw c.in-Journal.is
-    (λ told c' here. c.append.ensures.moments told (rw c.in-Journal.is at c.requires.whole) c' (g.met.D.Disk.counts_now _ _ c' c.append.ensures.time.later here))
-
-pub returns-in-Err-clause-moments : goal.returns-in-Err-clause-moments
-returns-in-Err-clause-moments g c = rw c.in-Journal.is (λ told. c.append.ensures.moments told (rw c.in-Journal.is at c.requires.whole))
+pub returns-clause-moments : goal.returns-clause-moments
+returns-clause-moments g c =
+    subst (λ (s : Stored g.row.D.Denot). g.D.Disk.told → (i : List ℕ) → g.D.Disk.image_since (medium_disk c.append.new.self) (g.D.Disk.moment (stored_disk s)) i → KeepsOrAdds (g.D.Disk.reads (stored_disk s)) (c.args.kind, c.args.text.now) i) c.self.view_is
+    c.append.ensures.moments

@@ -1,0 +1,45 @@
+-- An audit as a JSON value, and what is written.
+use Rattle.std.specs.Prelude.{Bool, List, [], ◌∷◌, ◌++◌, map, Option, Some, None, codes, if◌then◌else◌}
+use Rattle.std.specs.List.{flat_map}
+use Rattle.serde_json.specs.Data.{Data, null, string, array, object, member, no_members}
+use Rattle.serde_json.specs.View.{items_of}
+use Rattle.serde_json.specs.Written.{compact_text}
+use Rattle.cqe_base.specs.declared.user.Mark.{Mark}
+use Rattle.cqe_base.specs.Schema.{Text}
+use Rattle.cqe_base.specs.Transcript.{mark_text}
+use Rattle.audit_text.specs.Said.{AuditSaid}
+use Rattle.audit_text.specs.Text.{text_lines}
+
+-- an array of these values
+abbrev pub list_of : List Data → Data
+list_of values = array (items_of values)
+
+-- an entry: its mark and its query
+abbrev pub entry_data : Mark × Text → Data
+entry_data entry = object (member (codes "mark") (string (mark_text entry.0)) (member (codes "query") (string entry.1) no_members))
+
+-- the facts of a world, and null where there is no world
+abbrev pub world_data : Option (List Text) → Data
+world_data None = null
+world_data (Some facts) = list_of (map string facts)
+
+-- a secret and its world
+abbrev pub secret_data : Text × Option (List Text) → Data
+secret_data secret = object (member (codes "secret") (string secret.0) (member (codes "world") (world_data secret.1) no_members))
+
+-- the whole, its keys in the order of their bytes
+abbrev pub audit_data : AuditSaid → Data
+audit_data said = object
+    (member (codes "entries") (list_of (map entry_data said.entries))
+    (member (codes "method") (string said.method)
+    (member (codes "name") (string said.name)
+    (member (codes "secrets") (list_of (map secret_data said.secrets))
+    (member (codes "standing") (string said.standing) no_members)))))
+
+-- the lines of an audit: in JSON one, and else those of the text
+abbrev pub lines_of : Bool → AuditSaid → List Text
+lines_of json said = if json then (compact_text (audit_data said) ++ codes "\n") ∷ [] else text_lines said
+
+-- the bytes of an audit
+abbrev pub audit_text : Bool → AuditSaid → Text
+audit_text json said = flat_map (λ line. line) (lines_of json said)

@@ -1,0 +1,4 @@
+pub mod Said
+pub mod Text
+pub mod Json
+pub mod Rows

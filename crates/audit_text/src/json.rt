@@ -1,0 +1,106 @@
+// An audit as JSON.
+ghost use Rattle.std.specs.Prelude.{◌≡◌, ◌∷◌, [], ◌++◌, map, option_map, codes, string_bytes, false, IfOk};
+ghost use Rattle.serde_json.specs.Data.{string};
+ghost use Rattle.serde_json.specs.View.{view};
+ghost use Rattle.serde_json.specs.Written.{compact_text, has_float};
+ghost use Rattle.audit_text.specs.Json.{list_of, entry_data, secret_data, world_data, audit_data};
+ghost use Rattle.audit_text.specs.Rows.{entry_in, secret_in, said_in};
+
+use crate::lines::mark_word;
+use crate::report::{EntryRow, Report, SecretRow};
+use serde_json::{Value, json};
+use std::alloc::{AllocError, Global};
+
+/// The one line of the JSON form.
+pub(crate) fn json_lines(alloc: Global, report: &Report<'_>) -> Result<Vec<String>, AllocError>
+    ensures { IfOk result (λ lines. map string_bytes lines.items ≡ (compact_text (audit_data (said_in report.now)) ++ codes "\n") ∷ []) }
+{
+    let value = audit_value(alloc, report)?;
+    let line = value_line(alloc, &value)?;
+    alone(alloc, line)
+}
+
+// A value as a line.
+fn value_line(alloc: Global, value: &Value) -> Result<String, AllocError>
+    requires { has_float (view value.now) ≡ false }
+    ensures { IfOk result (λ line. string_bytes line ≡ compact_text (view value.now) ++ codes "\n") }
+{
+    let mut line = value.to_string(alloc)?;
+    line.push_str("\n")?;
+    Ok(line)
+}
+
+// One line.
+fn alone(alloc: Global, line: String) -> Result<Vec<String>, AllocError>
+    ensures { IfOk result (λ lines. map string_bytes lines.items ≡ string_bytes line ∷ []) }
+{
+    let mut lines = Vec::new(alloc);
+    lines.push(line)?;
+    Ok(lines)
+}
+
+fn audit_value(alloc: Global, report: &Report<'_>) -> Result<Value, AllocError>
+    ensures { IfOk result (λ value. view value ≡ audit_data (said_in report.now)) }
+{
+    let entries = entries_value(alloc, &report.entries)?;
+    let secrets = secrets_value(alloc, &report.secrets)?;
+    json!(in alloc; {
+        "name": report.name,
+        "method": report.method,
+        "standing": report.standing,
+        "entries": entries,
+        "secrets": secrets
+    })
+}
+
+fn entries_value(alloc: Global, rows: &[EntryRow]) -> Result<Value, AllocError>
+    ensures { IfOk result (λ value. view value ≡ list_of (map entry_data (map entry_in rows.now))) }
+{
+    let mut values = Vec::new(alloc);
+    for row in rows {
+        values.push(entry_value(alloc, row)?)?;
+    }
+    Ok(Value::Array(values))
+}
+
+fn entry_value(alloc: Global, row: &EntryRow) -> Result<Value, AllocError>
+    ensures { IfOk result (λ value. view value ≡ entry_data (entry_in row.now)) }
+{
+    json!(in alloc; {"mark": mark_word(row.mark), "query": row.query.as_str()})
+}
+
+fn secrets_value(alloc: Global, rows: &[SecretRow]) -> Result<Value, AllocError>
+    ensures { IfOk result (λ value. view value ≡ list_of (map secret_data (map secret_in rows.now))) }
+{
+    let mut values = Vec::new(alloc);
+    for row in rows {
+        values.push(secret_value(alloc, row)?)?;
+    }
+    Ok(Value::Array(values))
+}
+
+fn secret_value(alloc: Global, row: &SecretRow) -> Result<Value, AllocError>
+    ensures { IfOk result (λ value. view value ≡ secret_data (secret_in row.now)) }
+{
+    let world = world_value(alloc, &row.world)?;
+    json!(in alloc; {"secret": row.secret.as_str(), "world": world})
+}
+
+fn world_value(alloc: Global, world: &Option<Vec<String>>) -> Result<Value, AllocError>
+    ensures { IfOk result (λ value. view value ≡ world_data (option_map (λ facts. map string_bytes facts.items) world.now)) }
+{
+    match world {
+        None => Ok(Value::Null),
+        Some(facts) => texts_value(alloc, facts),
+    }
+}
+
+fn texts_value(alloc: Global, texts: &[String]) -> Result<Value, AllocError>
+    ensures { IfOk result (λ value. view value ≡ list_of (map string (map string_bytes texts.now))) }
+{
+    let mut values = Vec::new(alloc);
+    for text in texts {
+        values.push(Value::try_from_str(alloc, text)?)?;
+    }
+    Ok(Value::Array(values))
+}

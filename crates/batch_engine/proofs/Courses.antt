@@ -1,0 +1,438 @@
+-- One user over asks and openings: what his journal shows of his run.
+use Rattle.std.proofs.Common.{◌≡◌, ◌⊎◌, inl, inr, ℕ, ◌+◌, ◌^◌, ◌≤◌, ◌<◌, Bool, true, false, List, [], ◌∷◌, ◌++◌, refl, sym, ap, subst, ◌∙◌, append-nil, ⊎_elim, arith}
+use Rattle.std.specs.Prelude.{Option, Some, None, is_some, ◌||◌, option_to_list, sum_by, Result, Ok, Err, if◌then◌else◌}
+use Rattle.std.specs.List.{list_any}
+use Rattle.outside.specs.Faults.{Rose}
+use Rattle.cqe_base.specs.Schema.{DatabaseSchema, Text}
+use Rattle.cqe_base.specs.Facts.{FactSet}
+use Rattle.cqe_base.specs.Formula.{Formula}
+use Rattle.cqe_base.specs.Reading.{Refusal, reading}
+use Rattle.cqe_base.specs.History.{UserProfile, AnsweredQuery, History}
+use Rattle.cqe_base.specs.Censor.{admitted}
+use Rattle.cqe_base.specs.Run
+use Rattle.cqe_base.specs.Run.{Reply, Ending, want, kept, failed, Event, ask, restart, UserState, opening, after_event, after_events, reply_to_ask, entry_at, standing_sealed}
+use Rattle.log_journal.specs.declared.header.OpenError.TheVariants as journal_error
+use Rattle.user_desk.specs.Causes.{Opens, IsSealedBy, IsStanding, Refuses}
+use Rattle.user_desk.specs.Lives.{Holds, Settles, Restarts, IsState, shown}
+use Rattle.user_desk.specs.Standings.{is_sealed, standing_of}
+use Rattle.user_desk.specs.declared.standing.DeskError.{DeskError}
+use Rattle.user_desk.specs.declared.standing.DeskError.TheVariants.{Journal, Stale, Unlawful, Size, NotAdmitted}
+use Rattle.user_desk.specs.declared.standing.Standing.{Standing}
+use Rattle.user_desk.specs.declared.standing.Standing.TheVariants.{Open, Closed, Sealed}
+use Rattle.batch_engine.specs.Crew.{first_refusal}
+use Rattle.batch_engine.specs.Lives.{RoseBy, is_opened, is_refused, failures_in, failures, IsCaused, AreCaused, OpensNone, IsOpening, IsRefusal}
+
+-- ---- counts and lists
+
+pub rose_more : (n before now later : ℕ) → RoseBy n before now → now ≤ later → RoseBy n before later
+rose_more n before now later (inl some) on = inl (omega (arith, some, on))
+rose_more n before now later (inr full) on = inr (omega (arith, full, on))
+
+-- a count that rose within a longer time rose in it
+pub rose_wide : (first before now last : ℕ) → first ≤ before → now ≤ last → Rose before now → Rose first last
+rose_wide first before now last on more (inl some) = inl (omega (arith, some, on, more))
+rose_wide first before now last on more (inr full) = inr (omega (arith, full, more))
+
+rose_again : (n before now later : ℕ) → RoseBy n before now → now ≤ later → Rose now later → RoseBy (n + 1) before later
+rose_again n before now later (inl some) on (inl once) = inl (omega (arith, some, once))
+rose_again n before now later (inl some) on (inr full) = inr full
+rose_again n before now later (inr full) on rose = inr (omega (arith, full, on))
+
+failures-push : (events : List Event) (event : Event) → failures (events ++ event ∷ []) ≡ failures events + failures_in event
+failures-push [] event = let turned : failures_in event + 0 ≡ 0 + failures_in event = omega arith in turned
+failures-push (e ∷ events) event =
+    let again : failures_in e + (failures events + failures_in event) ≡ (failures_in e + failures events) + failures_in event = omega arith in
+    ap (λ n. failures_in e + n) (failures-push events event) ∙ again
+
+pub any-push : {X : Type 0} (test : X → Bool) (xs : List X) (x : X) → list_any test (xs ++ x ∷ []) ≡ (list_any test xs || test x)
+any-push test [] x = by (test x)
+  where
+    by : (b : Bool) → (b || false) ≡ (false || b)
+    by true = refl
+    by false = refl
+any-push test (y ∷ xs) x = ap (λ b. test y || b) (any-push test xs x) ∙ sym (or_assoc (test y) (list_any test xs) (test x))
+  where
+    or_assoc : (a b c : Bool) → ((a || b) || c) ≡ (a || (b || c))
+    or_assoc true b c = refl
+    or_assoc false b c = refl
+
+or_true : (a b : Bool) → a ≡ true → (a || b) ≡ true
+or_true a b e = ap (λ x. x || b) e
+
+module _ (schema : DatabaseSchema) (world : FactSet) (user : UserProfile) where
+  after-push : (state : UserState) (events : List Event) (event : Event) → after_events schema world user state (events ++ event ∷ []) ≡ after_event schema world user (after_events schema world user state events) event
+  after-push state [] event = refl
+  after-push state (e ∷ events) event = after-push (after_event schema world user state e) events event
+
+  caused-push : (state : UserState) (events : List Event) (event : Event) → AreCaused schema world user state events → IsCaused schema world user (after_events schema world user state events) event
+      → AreCaused schema world user state (events ++ event ∷ [])
+  caused-push state [] event all last = (last, tt)
+  caused-push state (e ∷ events) event all last = (all.0, caused-push (after_event schema world user state e) events event all.1 last)
+
+  -- ---- one ask
+
+  -- an ask with an ending that has its cause
+  record Once (is_now : UserState → Type 0) (state : UserState) (text : Text) (told : Reply) (before now : ℕ) : Type 0 where
+    ending : Ending
+    caused : IsCaused schema world user state (ask text ending)
+    after : is_now (after_event schema world user state (ask text ending))
+    reply : told ≡ reply_to_ask schema world user state text ending
+    risen : (n start : ℕ) → RoseBy n start before → RoseBy (n + failures_in (ask text ending)) start now
+
+  once : (is_now : UserState → Type 0) (state : UserState) (text : Text) (told : Reply) (before now : ℕ) → before ≤ now → Settles schema world user is_now state text told before now → Once is_now state text told before now
+  once is_now state text told before now later settled = by settled.ending settled.after settled.reply settled.cause
+    where
+      same : (n start : ℕ) → RoseBy n start before → RoseBy (n + 0) start now
+      same n start rose = subst (λ m. RoseBy m start now) (omega arith) (rose_more n start before now rose later)
+
+      unadded : (entry : Option AnsweredQuery) → entry ≡ None → record state { entries = state.entries ++ option_to_list entry } ≡ state
+      unadded entry none = ap (λ e. record state { entries = state.entries ++ option_to_list e }) none ∙ ap (λ es. record state { entries = es }) (append-nil state.entries)
+
+      by_entry : (entry : Option AnsweredQuery) → entry_at schema world user state text ≡ entry → is_now (after_event schema world user state (ask text failed))
+          → told ≡ reply_to_ask schema world user state text failed → Rose before now → Once is_now state text told before now
+      by_entry (Some entry) is after reply rose = record {
+        ending = failed;
+        caused = ap is_some is;
+        after = after;
+        reply = reply;
+        risen = λ n start so. rose_again n start before now so later rose;
+      }
+      by_entry None is after reply rose = record {
+        ending = kept;
+        caused = tt;
+        after = subst is_now (ap (λ e. Run.after_failure schema world user state e) is ∙ sym (unadded (entry_at schema world user state text) is)) after;
+        reply = reply ∙ ap (λ e. Run.reply_at_failure schema world user (Run.reply_at schema world user state text) e) is;
+        risen = same;
+      }
+
+      by : (ending : Ending) → is_now (after_event schema world user state (ask text ending)) → told ≡ reply_to_ask schema world user state text ending → (ending ≡ failed → Rose before now) → Once is_now state text told before now
+      by want after reply cause = record { ending = want; caused = tt; after = after; reply = reply; risen = same }
+      by kept after reply cause = record { ending = kept; caused = tt; after = after; reply = reply; risen = same }
+      by failed after reply cause = by_entry (entry_at schema world user state text) refl after reply (cause refl)
+
+  -- bytes that open a desk show no reason to refuse them
+  abbrev pub IsExclusive : List ℕ → Type 0
+  IsExclusive header = (entries : History) (c : List ℕ) (why : DeskError) → Opens schema world user header entries c → Refuses schema world user header c why → ⊥
+
+  module _ (header bytes : List ℕ) (before : ℕ) where
+    -- the bytes opened a desk with this history, and the journal holds the state that the events made of it, at a count that rose for each failure; or they open none, are still there, and no opening held
+    abbrev pub Fits : History → List Event → List ℕ → ℕ → Type 0
+    Fits opened events reads now =
+        (Opens schema world user header opened bytes × Holds schema world user header (after_events schema world user (opening schema world user opened) events) reads × RoseBy (failures events) before now)
+        ⊎ (OpensNone schema world user header bytes × (opened ≡ []) × (reads ≡ bytes) × (list_any is_opened events ≡ false))
+
+    -- the course of a user's run, by what his journal reads, its count of faults and his first refusal
+    pub record Course (opened : History) (events : List Event) (reads : List ℕ) (now : ℕ) (refusal : Option DeskError) : Type 0 where
+      pub later : before ≤ now
+      pub caused : AreCaused schema world user (opening schema world user opened) events
+      pub fits : Fits opened events reads now
+      pub refused : IsRefusal schema world user header bytes before now events refusal
+
+    -- his run at a desk
+    pub record IsRunning (opened : History) (events : List Event) (standing : Standing) (state : UserState) (image : List ℕ → Type 0) (reads : List ℕ) (now : ℕ) (refusal : Option DeskError) : Type 0 where
+      pub is_in : IsState standing state (after_events schema world user (opening schema world user opened) events)
+      pub course : Course opened events reads now refusal
+      pub shut : OpensNone schema world user header bytes → is_sealed standing ≡ true
+      pub images : is_sealed standing ≡ false → (c : List ℕ) → image c → Holds schema world user header (after_events schema world user (opening schema world user opened) events) c
+
+    -- ---- what goes on
+
+    sealed_on : (now later : ℕ) → now ≤ later → (why : DeskError) → IsSealedBy schema world user (Unit {0}) header bytes before now why → IsSealedBy schema world user (Unit {0}) header bytes before later why
+    sealed_on now later on (Journal journal_error.Memory) is = is
+    sealed_on now later on (Journal journal_error.DiskFault) is = rose_on is
+      where
+        rose_on : Rose before now → Rose before later
+        rose_on (inl some) = inl (omega (arith, some, on))
+        rose_on (inr full) = inr (omega (arith, full, on))
+    sealed_on now later on (Journal journal_error.NotAJournal) is = is
+    sealed_on now later on (Journal journal_error.OtherPolicy) is = is
+    sealed_on now later on (Journal (journal_error.Damaged number)) is = is
+    sealed_on now later on (Stale number) is = is
+    sealed_on now later on (Unlawful number stored computed) is = is
+    sealed_on now later on (Size number) is = is
+    sealed_on now later on (NotAdmitted admission) is = is
+
+    -- a refusal is still the first behind an event that is none
+    refusal_on : (now later : ℕ) → now ≤ later → (events : List Event) (event : Event) → is_refused event ≡ false → (refusal : Option DeskError)
+        → IsRefusal schema world user header bytes before now events refusal → IsRefusal schema world user header bytes before later (events ++ event ∷ []) refusal
+    refusal_on now later on events event isnt None none = any-push is_refused events event ∙ ap (λ b. b || is_refused event) none ∙ isnt
+    refusal_on now later on events event isnt (Some why) is = (any-push is_refused events event ∙ or_true (list_any is_refused events) (is_refused event) is.0, sealed_on now later on why is.1)
+
+    -- the course at a later count
+    pub course_on : (opened : History) (events : List Event) (reads reads' : List ℕ) (now later : ℕ) (refusal : Option DeskError) → reads' ≡ reads → now ≤ later → Course opened events reads now refusal
+        → Course opened events reads' later refusal
+    course_on opened events reads reads' now later refusal same on course = record {
+      later = omega (arith, course.later, on);
+      caused = course.caused;
+      fits = fits_on course.fits;
+      refused = refused_on refusal course.refused;
+    }
+      where
+        fits_on : Fits opened events reads now → Fits opened events reads' later
+        fits_on (inl (opens, holds, rose)) = inl (opens, subst (Holds schema world user header (after_events schema world user (opening schema world user opened) events)) (sym same) holds, rose_more (failures events) before now later rose on)
+        fits_on (inr (none, empty, is, never)) = inr (none, empty, same ∙ is, never)
+
+        refused_on : (r : Option DeskError) → IsRefusal schema world user header bytes before now events r → IsRefusal schema world user header bytes before later events r
+        refused_on None none = none
+        refused_on (Some why) is = (is.0, sealed_on now later on why is.1)
+
+    -- ---- an ask
+
+    -- a state whose journal was refused adds nothing
+    pub adds_none : (state : UserState) (text : Text) → state.standing ≡ standing_sealed → entry_at schema world user state text ≡ None
+    adds_none state text sealed =
+        ap (λ s. Run.entry_added text (reading schema text) (Run.reply schema world user state.entries s state.broken text)) sealed ∙ by (reading schema text)
+      where
+        by : (read : Result Formula Refusal) → Run.entry_added text read Run.desk_sealed ≡ None
+        by (Ok query) = refl
+        by (Err why) = refl
+
+    sealed_still : (state : UserState) (text : Text) (ending : Ending) → state.standing ≡ standing_sealed → after_event schema world user state (ask text ending) ≡ state
+    sealed_still state text want sealed = refl
+    sealed_still state text kept sealed =
+        ap (λ e. record state { entries = state.entries ++ option_to_list e }) (adds_none state text sealed) ∙ ap (λ es. record state { entries = es }) (append-nil state.entries)
+    sealed_still state text failed sealed = ap (λ e. Run.after_failure schema world user state e) (adds_none state text sealed)
+
+    -- the state of a desk that isn't sealed is the one that it shows
+    shown_is : (standing : Standing) (desk_state state : UserState) → is_sealed standing ≡ false → IsState standing desk_state state → state ≡ desk_state
+    shown_is Open desk_state state served is = is
+    shown_is (Closed admission) desk_state state served is = is
+    shown_is (Sealed why) desk_state state served is = absurd cc
+
+    sealed_is : (standing : Standing) (desk_state state : UserState) → is_sealed standing ≡ true → IsState standing desk_state state → state.standing ≡ standing_sealed
+    sealed_is Open desk_state state sealed is = absurd cc
+    sealed_is (Closed admission) desk_state state sealed is = absurd cc
+    sealed_is (Sealed why) desk_state state sealed is = is
+
+    none_refused : (text : Text) (ending : Ending) → is_refused (ask text ending) ≡ false
+    none_refused text ending = refl
+
+    -- an ask of the user at his desk, with some ending
+    pub record Asked (opened : History) (events : List Event) (standing : Standing) (state : UserState) (image : List ℕ → Type 0) (reads : List ℕ) (now : ℕ) (refusal : Option DeskError) (text : Text) (told : Reply) : Type 0 where
+      pub ending : Ending
+      pub reply : told ≡ reply_to_ask schema world user (after_events schema world user (opening schema world user opened) events) text ending
+      pub running : IsRunning opened (events ++ ask text ending ∷ []) standing state image reads now refusal
+
+    pub ask_step : (opened : History) (events : List Event) (standing : Standing) (old new : UserState) (image image' : List ℕ → Type 0) (reads reads' : List ℕ) (now later : ℕ) (refusal : Option DeskError) (text : Text) (told : Reply)
+        → IsRunning opened events standing old image reads now refusal
+        → ((state : UserState) → IsState standing old state → Settles schema world user (IsState standing new) state text told now later)
+        → now ≤ later → (is_sealed standing ≡ true → reads' ≡ reads)
+        → (is_sealed standing ≡ false → (c : List ℕ) → image' c → Holds schema world user header new c) → image' reads'
+        → Asked opened events standing new image' reads' later refusal text told
+    ask_step opened events standing old new image image' reads reads' now later refusal text told running settles on still holds here =
+        let state = after_events schema world user (opening schema world user opened) events in
+        let one : Once (IsState standing new) state text told now later = once (IsState standing new) state text told now later on (settles state running.is_in) in
+        let event : Event = ask text one.ending in
+        let next = after_event schema world user state event in
+        let pushed : after_events schema world user (opening schema world user opened) (events ++ event ∷ []) ≡ next = after-push (opening schema world user opened) events event in
+        record {
+          ending = one.ending;
+          reply = one.reply;
+          running = record {
+            is_in = subst (IsState standing new) (sym pushed) one.after;
+            course = record {
+              later = omega (arith, running.course.later, on);
+              caused = caused-push (opening schema world user opened) events event running.course.caused one.caused;
+              fits = fits_on one event next pushed running.course.fits;
+              refused = refusal_on now later on events event (none_refused text one.ending) refusal running.course.refused;
+            };
+            shut = running.shut;
+            images = λ served c at. subst (λ s. Holds schema world user header s c) (sym (pushed ∙ shown_is standing new next served one.after)) (holds served c at);
+          };
+        }
+      where
+        holds_on : (ending : Ending) → IsState standing new (after_event schema world user (after_events schema world user (opening schema world user opened) events) (ask text ending))
+            → Holds schema world user header (after_events schema world user (opening schema world user opened) events) reads → (b : Bool) → is_sealed standing ≡ b
+            → Holds schema world user header (after_event schema world user (after_events schema world user (opening schema world user opened) events) (ask text ending)) reads'
+        holds_on ending after was true is =
+            subst (λ s. Holds schema world user header s reads') (sym (sealed_still (after_events schema world user (opening schema world user opened) events) text ending (sealed_is standing old _ is running.is_in)))
+            (subst (Holds schema world user header (after_events schema world user (opening schema world user opened) events)) (sym (still is)) was)
+        holds_on ending after was false is = subst (λ s. Holds schema world user header s reads') (sym (shown_is standing new _ is after)) (holds is reads' here)
+
+        fits_on : (one : Once (IsState standing new) (after_events schema world user (opening schema world user opened) events) text told now later) (event : Event) (next : UserState)
+            → after_events schema world user (opening schema world user opened) (events ++ ask text one.ending ∷ []) ≡ after_event schema world user (after_events schema world user (opening schema world user opened) events) (ask text one.ending)
+            → Fits opened events reads now → Fits opened (events ++ ask text one.ending ∷ []) reads' later
+        fits_on one event next pushed (inl (opens, was, rose)) = inl (
+          opens,
+          subst (λ s. Holds schema world user header s reads') (sym pushed) (holds_on one.ending one.after was (is_sealed standing) refl),
+          subst (λ n. RoseBy n before later) (sym (failures-push events (ask text one.ending))) (one.risen (failures events) before rose),
+        )
+        fits_on one event next pushed (inr (none, empty, is, never)) = inr (
+          none,
+          empty,
+          still (running.shut none) ∙ is,
+          any-push is_opened events (ask text one.ending) ∙ ap (λ b. b || false) never,
+        )
+
+    -- ---- an opening
+
+    opened_false : (event : Event) → is_opened event ≡ false → (events : List Event) → list_any is_opened events ≡ false → list_any is_opened (events ++ event ∷ []) ≡ false
+    opened_false event isnt events never = any-push is_opened events event ∙ ap (λ b. b || is_opened event) never ∙ isnt
+
+    -- the choices of an opening
+    pub record Restarted (opened : History) (events : List Event) (standing : Standing) (state : UserState) (image : List ℕ → Type 0) (reads : List ℕ) (now : ℕ) (refusal : Option DeskError) : Type 0 where
+      pub found : Bool
+      pub opens : Bool
+      pub running : IsRunning opened (events ++ restart found opens ∷ []) standing state image reads now refusal
+
+    -- of bytes that open a desk only a fault of the disk is a reason
+    faulty : IsExclusive header → (entries : History) (c : List ℕ) → Opens schema world user header entries c → (T : Type 0) → T → (start now later : ℕ) → before ≤ start → start ≤ now → now ≤ later → (why : DeskError)
+        → IsSealedBy schema world user T header c now later why → IsSealedBy schema world user (Unit {0}) header bytes before later why
+    faulty exclusive entries c opens T t start now later a b on (Journal journal_error.Memory) is = is
+    faulty exclusive entries c opens T t start now later a b on (Journal journal_error.DiskFault) (inl some) = inl (omega (arith, some, a, b))
+    faulty exclusive entries c opens T t start now later a b on (Journal journal_error.DiskFault) (inr full) = inr full
+    faulty exclusive entries c opens T t start now later a b on (Journal journal_error.NotAJournal) is = absurd (exclusive entries c (Journal journal_error.NotAJournal) opens (is t))
+    faulty exclusive entries c opens T t start now later a b on (Journal journal_error.OtherPolicy) is = absurd (exclusive entries c (Journal journal_error.OtherPolicy) opens (is t))
+    faulty exclusive entries c opens T t start now later a b on (Journal (journal_error.Damaged number)) is = absurd (exclusive entries c (Journal (journal_error.Damaged number)) opens (is t))
+    faulty exclusive entries c opens T t start now later a b on (Stale number) is = absurd (exclusive entries c (Stale number) opens (is t))
+    faulty exclusive entries c opens T t start now later a b on (Unlawful number stored computed) is = absurd (exclusive entries c (Unlawful number stored computed) opens (is t))
+    faulty exclusive entries c opens T t start now later a b on (Size number) is = absurd (exclusive entries c (Size number) opens (is t))
+    faulty exclusive entries c opens T t start now later a b on (NotAdmitted admission) is = absurd (exclusive entries c (NotAdmitted admission) opens (is t))
+
+    -- the bytes are still those at the beginning
+    shown_by : (T : Type 0) → T → (c : List ℕ) → c ≡ bytes → (now later : ℕ) → before ≤ now → now ≤ later → (why : DeskError)
+        → IsSealedBy schema world user T header c now later why → IsSealedBy schema world user (Unit {0}) header bytes before later why
+    shown_by T t c same now later a on (Journal journal_error.Memory) is = is
+    shown_by T t c same now later a on (Journal journal_error.DiskFault) (inl some) = inl (omega (arith, some, a))
+    shown_by T t c same now later a on (Journal journal_error.DiskFault) (inr full) = inr full
+    shown_by T t c same now later a on (Journal journal_error.NotAJournal) is = λ u. subst (λ b. Refuses schema world user header b (Journal journal_error.NotAJournal)) same (is t)
+    shown_by T t c same now later a on (Journal journal_error.OtherPolicy) is = λ u. subst (λ b. Refuses schema world user header b (Journal journal_error.OtherPolicy)) same (is t)
+    shown_by T t c same now later a on (Journal (journal_error.Damaged number)) is = λ u. subst (λ b. Refuses schema world user header b (Journal (journal_error.Damaged number))) same (is t)
+    shown_by T t c same now later a on (Stale number) is = λ u. subst (λ b. Refuses schema world user header b (Stale number)) same (is t)
+    shown_by T t c same now later a on (Unlawful number stored computed) is = λ u. subst (λ b. Refuses schema world user header b (Unlawful number stored computed)) same (is t)
+    shown_by T t c same now later a on (Size number) is = λ u. subst (λ b. Refuses schema world user header b (Size number)) same (is t)
+    shown_by T t c same now later a on (NotAdmitted admission) is = λ u. subst (λ b. Refuses schema world user header b (NotAdmitted admission)) same (is t)
+
+    -- the first refusal behind an opening with this standing
+    refusal_next : (now later : ℕ) → now ≤ later → (events : List Event) (found opens : Bool) (standing : Standing) → (is_sealed standing ≡ true → opens ≡ false) → (is_sealed standing ≡ false → opens ≡ true)
+        → ((why : DeskError) → standing ≡ Sealed why → IsSealedBy schema world user (Unit {0}) header bytes before later why)
+        → (refusal : Option DeskError) → IsRefusal schema world user header bytes before now events refusal
+        → IsRefusal schema world user header bytes before later (events ++ restart found opens ∷ []) (first_refusal refusal standing)
+    refusal_next now later on events found opens standing shut held cause (Some why) is =
+        (any-push is_refused events (restart found opens) ∙ or_true (list_any is_refused events) (is_refused (restart found opens)) is.0, sealed_on now later on why is.1)
+    refusal_next now later on events found opens Open shut held cause None none =
+        any-push is_refused events (restart found opens) ∙ ap (λ b. b || is_refused (restart found opens)) none ∙ ap (λ b. is_refused (restart found b)) (held refl)
+    refusal_next now later on events found opens (Closed admission) shut held cause None none =
+        any-push is_refused events (restart found opens) ∙ ap (λ b. b || is_refused (restart found opens)) none ∙ ap (λ b. is_refused (restart found b)) (held refl)
+    refusal_next now later on events found opens (Sealed why) shut held cause None none = (
+      any-push is_refused events (restart found opens) ∙ ap (λ b. b || is_refused (restart found opens)) none ∙ ap (λ b. is_refused (restart found b)) (shut refl),
+      cause why refl,
+    )
+
+    -- an opening that holds isn't of a sealed desk, and one that is refused is
+    opens_shut : (standing : Standing) (desk_state state : UserState) (found opens : Bool) → IsState standing desk_state (after_event schema world user state (restart found opens)) → is_sealed standing ≡ true → opens ≡ false
+    opens_shut standing desk_state state found false is sealed = refl
+    opens_shut standing desk_state state found true is sealed = absurd (never (admitted schema world user) (sealed_is standing desk_state (after_event schema world user state (restart found true)) sealed is))
+      where
+        never : (b : Bool) → (if b then Run.standing_open else Run.standing_closed) ≡ standing_sealed → ⊥
+        never true e = cc
+        never false e = cc
+
+    opens_held : (standing : Standing) (shown_standing : Run.Standing) (entries : History) (pending : Option AnsweredQuery) (state : UserState) (found opens : Bool) → shown_standing ≡ standing_of standing
+        → IsState standing (record { entries = entries; standing = shown_standing; broken = is_some pending; pending = pending }) (after_event schema world user state (restart found opens)) → is_sealed standing ≡ false → opens ≡ true
+    opens_held standing shown_standing entries pending state found true same is served = refl
+    opens_held Open shown_standing entries pending state found false same is served = let e : standing_sealed ≡ Run.standing_open = ap (λ s. s.standing) is ∙ same in absurd cc
+    opens_held (Closed admission) shown_standing entries pending state found false same is served = let e : standing_sealed ≡ Run.standing_closed = ap (λ s. s.standing) is ∙ same in absurd cc
+    opens_held (Sealed why) shown_standing entries pending state found false same is served = absurd cc
+
+    risen_by : (standing : Standing) (events : List Event) (found opens : Bool) (now later : ℕ) → now ≤ later → (opens ≡ false → Rose now later) → RoseBy (failures events) before now → RoseBy (failures (events ++ restart found opens ∷ [])) before later
+    risen_by standing events found true now later on cause rose = subst (λ n. RoseBy n before later) (omega arith ∙ sym (failures-push events (restart found true))) (rose_more (failures events) before now later rose on)
+    risen_by standing events found false now later on cause rose = subst (λ n. RoseBy n before later) (sym (failures-push events (restart found false))) (rose_again (failures events) before now later rose on (cause refl))
+
+    -- the state behind an opening that was refused is held where the state before it was
+    refused_holds : (state : UserState) (found : Bool) (c : List ℕ) → Holds schema world user header state c → Holds schema world user header (after_event schema world user state (restart found false)) c
+    refused_holds state found c holds = record { found = holds.found; sought = holds.sought; opens = by holds.found holds.opens }
+      where
+        by : (b : Bool) → Opens schema world user header (Run.entries_found schema world user state b) c → Opens schema world user header (Run.entries_found schema world user (record state { standing = standing_sealed }) b) c
+        by true opens = opens
+        by false opens = opens
+
+    -- what is known of an opening with this standing and these entries
+    pub record Known (T : Type 0) (entries : History) (pending : Option AnsweredQuery) (standing : Standing) (image : List ℕ → Type 0) (reads : List ℕ) (now later : ℕ) : Type 0 where
+      pub standing_is : IsStanding schema world user T header reads entries now later standing
+      pub restarted : (state : UserState) → Holds schema world user header state reads → Restarts schema world user (IsState standing (shown entries (standing_of standing) pending)) state now later
+      pub on : now ≤ later
+      pub holds : is_sealed standing ≡ false → (c : List ℕ) → image c → Holds schema world user header (shown entries (standing_of standing) pending) c
+      pub here : image reads
+
+    -- an opening of bytes that open no desk is refused
+    shut_by : (T : Type 0) → T → (entries : History) (standing : Standing) (reads : List ℕ) (now later : ℕ) → OpensNone schema world user header bytes → reads ≡ bytes
+        → IsStanding schema world user T header reads entries now later standing → is_sealed standing ≡ true
+    shut_by T t entries Open reads now later none same is = absurd (none entries (subst (Opens schema world user header entries) same (is.1 t)))
+    shut_by T t entries (Closed admission) reads now later none same is = absurd (none entries (subst (Opens schema world user header entries) same (is.3 t)))
+    shut_by T t entries (Sealed why) reads now later none same is = refl
+
+    why_sealed : (T : Type 0) (entries : History) (standing : Standing) (reads : List ℕ) (now later : ℕ) (why : DeskError) → standing ≡ Sealed why → IsStanding schema world user T header reads entries now later standing
+        → IsSealedBy schema world user T header reads now later why
+    why_sealed T entries standing reads now later why same is = (subst (IsStanding schema world user T header reads entries now later) same is).1
+
+    pub open_step : IsExclusive header → (T : Type 0) → T → (opened : History) (events : List Event) (reads : List ℕ) (now later : ℕ) (refusal : Option DeskError) (entries : History) (pending : Option AnsweredQuery) (standing : Standing)
+        (image : List ℕ → Type 0)
+        → Course opened events reads now refusal → Known T entries pending standing image reads now later
+        → Restarted opened events standing (shown entries (standing_of standing) pending) image reads later (first_refusal refusal standing)
+    open_step exclusive T t opened events reads now later refusal entries pending standing image course known = by course.fits
+      where
+        state : UserState
+        state = after_events schema world user (opening schema world user opened) events
+
+        desk_state : UserState
+        desk_state = shown entries (standing_of standing) pending
+
+        by_seal : (found opens : Bool) → IsState standing desk_state (after_event schema world user state (restart found opens)) → Holds schema world user header state reads → (b : Bool) → is_sealed standing ≡ b
+            → Holds schema world user header (after_event schema world user state (restart found opens)) reads
+        by_seal found opens is was true sealed =
+            subst (λ o. Holds schema world user header (after_event schema world user state (restart found o)) reads) (sym (opens_shut standing desk_state state found opens is sealed)) (refused_holds state found reads was)
+        by_seal found opens is was false served = subst (λ s. Holds schema world user header s reads) (sym (shown_is standing desk_state _ served is)) (known.holds served reads known.here)
+
+        by : Fits opened events reads now → Restarted opened events standing desk_state image reads later (first_refusal refusal standing)
+        by (inl (opens, was, rose)) =
+            let again : Restarts schema world user (IsState standing desk_state) state now later = known.restarted state was in
+            let event : Event = restart again.found again.opened in
+            let next = after_event schema world user state event in
+            let pushed : after_events schema world user (opening schema world user opened) (events ++ event ∷ []) ≡ next = after-push (opening schema world user opened) events event in
+            record {
+              found = again.found;
+              opens = again.opened;
+              running = record {
+                is_in = subst (IsState standing desk_state) (sym pushed) again.after;
+                course = record {
+                  later = omega (arith, course.later, known.on);
+                  caused = caused-push (opening schema world user opened) events event course.caused again.sought;
+                  fits = inl (
+                    opens,
+                    subst (λ s. Holds schema world user header s reads) (sym pushed) (by_seal again.found again.opened again.after was (is_sealed standing) refl),
+                    risen_by standing events again.found again.opened now later known.on again.cause rose,
+                  );
+                  refused = refusal_next now later known.on events again.found again.opened standing (opens_shut standing desk_state state again.found again.opened again.after)
+                      (opens_held standing (standing_of standing) entries pending state again.found again.opened refl again.after)
+                      (λ why same. faulty exclusive _ reads was.opens T t now now later course.later (omega arith) known.on why (why_sealed T entries standing reads now later why same known.standing_is)) refusal course.refused;
+                };
+                shut = λ none. absurd (none opened opens);
+                images = λ served c at. subst (λ s. Holds schema world user header s c) (sym (pushed ∙ shown_is standing desk_state next served again.after)) (known.holds served c at);
+              };
+            }
+        by (inr (none, empty, same, never)) =
+            let sealed : is_sealed standing ≡ true = shut_by T t entries standing reads now later none same known.standing_is in
+            let event : Event = restart false false in
+            let pushed : after_events schema world user (opening schema world user opened) (events ++ event ∷ []) ≡ after_event schema world user state event = after-push (opening schema world user opened) events event in
+            record {
+              found = false;
+              opens = false;
+              running = record {
+                is_in = subst (IsState standing desk_state) (sym pushed) (in_seal standing sealed);
+                course = record {
+                  later = omega (arith, course.later, known.on);
+                  caused = caused-push (opening schema world user opened) events event course.caused (λ e. absurd cc);
+                  fits = inr (none, empty, same, opened_false event refl events never);
+                  refused = refusal_next now later known.on events false false standing (λ s. refl) (λ served. let e : true ≡ false = sym sealed ∙ served in absurd cc)
+                      (λ why is. shown_by T t reads same now later course.later known.on why (why_sealed T entries standing reads now later why is known.standing_is)) refusal course.refused;
+                };
+                shut = λ n. sealed;
+                images = λ served c at. let e : true ≡ false = sym sealed ∙ served in absurd cc;
+              };
+            }
+          where
+            in_seal : (s : Standing) → is_sealed s ≡ true → IsState s desk_state (after_event schema world user state (restart false false))
+            in_seal Open e = absurd cc
+            in_seal (Closed admission) e = absurd cc
+            in_seal (Sealed why) e = refl

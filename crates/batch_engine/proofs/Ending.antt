@@ -1,0 +1,98 @@
+-- A batch from its opening to the disks that are back.
+use Rattle.std.proofs.Common.{◌≡◌, ◌⊎◌, inl, inr, ℕ, Bool, false, true, List, [], ◌∷◌, ◌++◌, take, map, refl, sym, ap, subst, ◌∙◌}
+use Rattle.std.specs.Prelude.{Option, Some, None, All, Ok, Result, string_bytes}
+use Rattle.std.specs.List.{AllByRecursion}
+use Rattle.std.proofs.lemmas.List.Elements.{All-head, All-tail}
+use Rattle.script_lines.specs.Scripts.{script_from}
+use Rattle.cqe_base.specs.Schema.{Text, DatabaseSchema, is_valid_schema, has_duplicate}
+use Rattle.cqe_base.specs.Facts.{FactSet}
+use Rattle.cqe_base.specs.History.{UserProfile, History, profile_of}
+use Rattle.cqe_base.specs.Limits.{KeepsLimits}
+use Rattle.cqe_base.specs.Censor.{EmptyHistoryIsLegal}
+use Rattle.cqe_base.specs.Headline.{RunsStayLegal, ScriptsHide}
+use Rattle.cqe_base.specs.Transcript.{NamedUser, script_opening, TranscriptIsPrivate}
+use Rattle.cqe_base.specs.declared.user.User.{User}
+use Rattle.user_desk.specs.Causes.{Opens}
+use Rattle.log_journal.specs.Opening.{header_bytes}
+use Rattle.log_journal.specs.declared.header.Header.{Header}
+use Rattle.batch_engine.specs.BatchLines.{BatchItem, with_line, batch_of}
+use Rattle.batch_engine.specs.Lives.{OpensNone, IsOpening}
+use Rattle.batch_engine.specs.Batch.{AppendsAll, AppendsSome, unopened}
+use Rattle.batch_engine.specs.Crew.{named_user}
+use Rattle.batch_engine.specs.Shelved.{journals_on, AreBack, AreSeatsOf}
+use Rattle.batch_engine.specs.Steps.{Runs, nothing, more, RunsAll, RunsSome}
+use Rattle.batch_engine.specs.declared.seat.Seat.{Seat}
+use Rattle.batch_engine.proofs.Courses.{IsExclusive}
+use Rattle.batch_engine.proofs.Seating.{names, AreSeated, AreBegun, begin_all, Chosen, choose}
+use Rattle.batch_engine.proofs.Telling.{SoFar, so_far_first, so_far_more}
+use Rattle.batch_engine.proofs.Closing.{bytes_of, count_of, names_unopened, limits_named, answered_all, answered_some}
+
+-- what is read from a batch without items is the batch of the bytes
+pub batch_begins : (start : List BatchItem) (bytes : List ℕ) → start ≡ [] → script_from with_line start bytes ≡ batch_of bytes
+unfolding batch_of
+batch_begins start bytes is = ap (λ s. script_from with_line s bytes) is
+
+-- a fact of each user
+pub all_of : {X : Type 0} (P : X → Type 0) (xs : List X) → All P xs → AllByRecursion P xs
+all_of P [] all = tt
+all_of P (x ∷ xs) all = (All-head P x xs all, all_of P xs (All-tail P x xs all))
+
+module _ (schema : DatabaseSchema) (world : FactSet) (header directory : List ℕ) {D : Type 0} {g : _} (T S : Type 0) (t : T) (s : S) (reads : D → List ℕ) (image : D → List ℕ → Type 0) (faults : D → ℕ)
+    (read_is_image : (d : D) → T → image d (reads d)) (disk disk' : Text → Option D) (count count' : Text → ℕ)
+    (exclusive : (user : UserProfile) → IsExclusive schema world user header)
+    (decided : (user : UserProfile) (c : List ℕ) → ((entries : History) × Opens schema world user header entries c) ⊎ OpensNone schema world user header c)
+    (empty : EmptyHistoryIsLegal) (runs_legal : RunsStayLegal) (hide : ScriptsHide) (alone : TranscriptIsPrivate) (valid : is_valid_schema schema ≡ true)
+    (users : List User) (limits : All (λ u. KeepsLimits schema (profile_of u)) users) (distinct : has_duplicate (map (λ user. user.name) (map named_user users)) ≡ false)
+    (seats : List (Seat D g)) (seats_are : AreSeatsOf S reads image faults T schema world header directory disk count users seats) where
+  -- the users with their opening histories, at their desks behind the opening of all journals
+  record Start : Type 0 where
+    named : List NamedUser
+    of_policy : map unopened named ≡ map named_user users
+    openings : AllByRecursion (λ (u : NamedUser). IsOpening schema world u.profile header (bytes_of reads directory disk u.name) u.opened) named
+    differ : has_duplicate (names named) ≡ false
+    found : Text → Bool
+    opened : Text → Bool
+    seated : AreSeated schema world header directory T reads image faults t read_is_image (bytes_of reads directory disk) (count_of directory count) (script_opening found opened ∷ []) named seats
+
+  start : Start
+  start =
+      let begun : AreBegun schema world header directory T reads image faults t read_is_image (bytes_of reads directory disk) (count_of directory count) exclusive S s disk count (λ n. refl) (λ n. refl) decided users seats =
+      begin_all schema world header directory T reads image faults t read_is_image (bytes_of reads directory disk) (count_of directory count) exclusive S s disk count (λ n. refl) (λ n. refl) decided users seats seats_are in
+      let differ : has_duplicate (names begun.begun) ≡ false = ap has_duplicate (sym (names_unopened begun.begun) ∙ ap names begun.of_policy) ∙ distinct in
+      let chosen : Chosen schema world header directory T reads image faults t read_is_image (bytes_of reads directory disk) (count_of directory count) script_opening (λ name f o. refl) [] begun.begun seats =
+      choose schema world header directory T reads image faults t read_is_image (bytes_of reads directory disk) (count_of directory count) script_opening (λ name f o. refl) [] begun.begun seats differ begun.choices in
+      record {
+        named = begun.begun;
+        of_policy = begun.of_policy;
+        openings = begun.openings;
+        differ = differ;
+        found = chosen.found;
+        opened = chosen.opens;
+        seated = chosen.seated;
+      }
+
+  so_far_run : (st : Start) (items : List BatchItem) (new : List (Seat D g)) (output : List ℕ) (is_broken : Bool) → Runs schema world header T reads image faults items seats output new is_broken
+      → SoFar schema world st.named header directory T reads image faults t read_is_image (bytes_of reads directory disk) (count_of directory count) st.found st.opened items output new is_broken
+  so_far_run st items new output is_broken (nothing same) =
+      so_far_first schema world st.named header directory T reads image faults t read_is_image (bytes_of reads directory disk) (count_of directory count) st.found st.opened seats st.seated
+  so_far_run st items new output is_broken (more first old mid last before line was says item runs carried) =
+      so_far_more schema world st.named header directory T reads image faults t read_is_image (bytes_of reads directory disk) (count_of directory count) st.found st.opened exclusive st.differ first before mid last was says item line
+      (so_far_run st first mid before was runs) carried
+
+  -- all items were answered
+  pub finish_all : (wrote : Type 0) → wrote → (items : List BatchItem) (new : List (Seat D g)) (is_broken : Bool) (before after : List ℕ) → RunsAll schema world header T reads image faults wrote items seats new is_broken before after
+      → AreBack S reads image faults disk' count' new → AppendsAll schema world header (journals_on reads image directory disk disk' count count') (map named_user users) items before after (map (λ (x : Seat D g). x.refusal) new) is_broken
+  finish_all wrote w items new is_broken before after all back =
+      let st = start in
+      answered_all schema world st.named header directory T S s reads image faults t read_is_image disk disk' count count' empty runs_legal hide alone valid (map named_user users) st.of_policy st.differ
+      (limits_named schema users st.named st.of_policy limits) st.openings st.found st.opened items before after new is_broken (all.output, all.appended w, so_far_run st items new all.output is_broken all.runs) back
+
+  -- the first items were
+  pub finish_some : (wrote : Type 0) → wrote → (items : List BatchItem) (new : List (Seat D g)) (before after : List ℕ) → RunsSome schema world header T reads image faults wrote items seats new before after
+      → AreBack S reads image faults disk' count' new → AppendsSome schema world header (journals_on reads image directory disk disk' count count') (map named_user users) items before after
+  finish_some wrote w items new before after some back =
+      let st = start in
+      let part = some.appended w in
+      answered_some schema world st.named header directory T S s reads image faults t read_is_image disk disk' count count' empty runs_legal hide alone valid (map named_user users) st.of_policy st.differ
+      (limits_named schema users st.named st.of_policy limits) st.openings st.found st.opened some.front some.back items part.0 before (before ++ some.output) after some.line new some.is_broken some.output refl
+      (so_far_run st some.front new (some.output ++ some.line) some.is_broken some.runs) back part.1 some.split

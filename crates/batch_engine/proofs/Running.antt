@@ -1,0 +1,160 @@
+-- The items of a batch, carried out one after the other: what stays of the seats.
+use Rattle.std.proofs.Common.{◌≡◌, ℕ, zero, suc, ◌≤◌, ◌<◌, ◌+◌, Bool, true, false, List, [], ◌∷◌, ◌++◌, length, take, drop, get_or, map, refl, sym, ap, subst, ◌∙◌, append-nil, append_assoc, arith}
+use Rattle.std.specs.Prelude.{Option, Some, None, ◌&&◌, ◌||◌}
+use Rattle.std.specs.List.{list_all, AllByRecursion}
+use Rattle.std.proofs.lemmas.List.{take-append-drop, take_more}
+use Rattle.cqe_base.specs.Schema.{Text, DatabaseSchema, has_duplicate}
+use Rattle.cqe_base.specs.Facts.{FactSet}
+use Rattle.cqe_base.specs.History.{profile_of}
+use Rattle.cqe_base.specs.Limits.{KeepsLimits}
+use Rattle.cqe_base.specs.Run.{Reply}
+use Rattle.batch_engine.specs.BatchLines.{BatchItem, asked, restarted}
+use Rattle.batch_engine.specs.Said.{is_short_item}
+use Rattle.batch_engine.specs.Batches.{item_in}
+use Rattle.batch_engine.specs.Crew.{seat_user, seat_journal, seat_disk, IsServed, IsToldAt, IsReopened, AreReopened, Tells, nobody, here, further}
+use Rattle.batch_engine.specs.Shelved.{journals, AreLater}
+use Rattle.outside.specs.Streams.{AppendsPart}
+use Rattle.batch_engine.specs.Steps.{Carries, Runs, nothing, more, RunsAll, RunsSome}
+use Rattle.batch_engine.specs.declared.seat.Seat.{Seat}
+use Rattle.batch_engine.specs.declared.batch.BatchItem as memory
+use Rattle.batch_engine.proofs.Shelving.{map-append}
+
+both : (a b : Bool) → (a && b) ≡ true → (a ≡ true) × (b ≡ true)
+both true b e = (refl, e)
+both false b e = absurd cc
+
+-- ---- items
+
+pub item_short : (items : List memory.BatchItem) (i : ℕ) (item : memory.BatchItem) → i < length items → item ≡ get_or items i item → list_all is_short_item (map item_in items) ≡ true → is_short_item (item_in item) ≡ true
+item_short items i item low is short = ap (λ a. is_short_item (item_in a)) is ∙ short_at items i item low short
+  where
+    short_at : (all : List memory.BatchItem) (n : ℕ) (d : memory.BatchItem) → n < length all → list_all is_short_item (map item_in all) ≡ true → is_short_item (item_in (get_or all n d)) ≡ true
+    short_at [] n d small all_short = absurd (omega (arith, small))
+    short_at (x ∷ all) zero d small all_short = (both _ _ all_short).0
+    short_at (x ∷ all) (suc n) d small all_short = short_at all n d (omega (arith, small)) (both _ _ all_short).1
+
+-- the first of a list with one more, as something of each
+pub map_more : {X Y : Type 0} (f : X → Y) (xs : List X) (i : ℕ) (x : X) → i < length xs → x ≡ get_or xs i x → map f (take (i + 1) xs) ≡ map f (take i xs) ++ f x ∷ []
+map_more f xs i x low is = ap (map f) (take_more xs i x low ∙ ap (λ a. take i xs ++ a ∷ []) (sym is)) ∙ map-append f (take i xs) (x ∷ [])
+
+pub items_more : (items : List memory.BatchItem) (i : ℕ) (item : memory.BatchItem) → i < length items → item ≡ get_or items i item → map item_in (take (i + 1) items) ≡ map item_in (take i items) ++ item_in item ∷ []
+items_more items i item low is = map_more item_in items i item low is
+
+pub items_split : (items : List memory.BatchItem) (n : ℕ) → map item_in items ≡ map item_in (take n items) ++ map item_in (drop n items)
+items_split items n = ap (map item_in) (sym (take-append-drop n items)) ∙ map-append item_in (take n items) (drop n items)
+
+pub take_all : {X : Type 0} (xs : List X) (n : ℕ) → length xs ≤ n → take n xs ≡ xs
+take_all [] zero all = refl
+take_all [] (suc n) all = refl
+take_all (x ∷ xs) zero all = absurd (omega (arith, all))
+take_all (x ∷ xs) (suc n) all = ap (λ l. x ∷ l) (take_all xs n (omega (arith, all)))
+
+module _ (schema : DatabaseSchema) (world : FactSet) (header : List ℕ) {D : Type 0} {g : _} (told : Type 0) (reads : D → List ℕ) (image : D → List ℕ → Type 0) (faults : D → ℕ) where
+  abbrev pub Limits : List (Seat D g) → Type 0
+  Limits seats = AllByRecursion (λ (s : Seat D g). KeepsLimits schema (profile_of (seat_user s))) seats
+
+  -- what stays of the seats: their journals, and with their users their limits; and their counts didn't fall
+  pub record Stay (old new : List (Seat D g)) : Type 0 where
+    pub names : journals new ≡ journals old
+    pub limits : Limits old → Limits new
+    pub served : AllByRecursion (IsServed schema world header) old → AllByRecursion (IsServed schema world header) new
+    pub later : (count : Text → ℕ) → AreLater faults count old → AreLater faults count new
+
+  stay : (seats : List (Seat D g)) → Stay seats seats
+  stay seats = record { names = refl; limits = λ l. l; served = λ s. s; later = λ count l. l }
+
+  stay_on : (a b c : List (Seat D g)) → Stay a b → Stay b c → Stay a c
+  stay_on a b c first second = record {
+    names = second.names ∙ first.names;
+    limits = λ l. second.limits (first.limits l);
+    served = λ s. second.served (first.served s);
+    later = λ count l. second.later count (first.later count l);
+  }
+
+  later_at : (count : Text → ℕ) (old new : Seat D g) → seat_journal new ≡ seat_journal old → faults (seat_disk old) ≤ faults (seat_disk new) → count (seat_journal old) ≤ faults (seat_disk old) → count (seat_journal new) ≤ faults (seat_disk new)
+  later_at count old new named on first = subst (λ j. count j ≤ faults (seat_disk new)) (sym named) (omega (arith, first, on))
+
+  limit_at : (old new : Seat D g) → seat_user new ≡ seat_user old → KeepsLimits schema (profile_of (seat_user old)) → KeepsLimits schema (profile_of (seat_user new))
+  limit_at old new is keeps = subst (λ u. KeepsLimits schema (profile_of u)) (sym is) keeps
+
+  stay_told : (name text : Text) (old new : List (Seat D g)) (reply : Option Reply) → Tells schema world header told reads image faults name text old new reply → Stay old new
+  stay_told name text old new reply nobody = stay []
+  stay_told name text old new reply (here {old = first} {new = next} {others} is answer) = record {
+    names = ap (λ j. j ∷ journals others) answer.journal_is;
+    limits = λ l. (limit_at first next answer.user_is l.0, l.1);
+    served = λ s. (answer.served, s.1);
+    later = λ count l. (later_at count first next answer.journal_is answer.later l.0, l.1);
+  }
+  stay_told name text old new reply (further {seat} {others} {after} {told_reply} other rest) =
+      let tail : Stay others after = stay_told name text others after told_reply rest in
+      record {
+        names = ap (λ js. seat_journal seat ∷ js) tail.names;
+        limits = λ l. (l.0, tail.limits l.1);
+        served = λ s. (s.0, tail.served s.1);
+        later = λ count l. (l.0, tail.later count l.1);
+      }
+
+  stay_reopened : (old new : List (Seat D g)) → AreReopened schema world header told reads image faults old new → Stay old new
+  stay_reopened [] [] are = stay []
+  stay_reopened [] (n ∷ new) are = absurd are
+  stay_reopened (o ∷ old) [] are = absurd are
+  stay_reopened (o ∷ old) (n ∷ new) are =
+      let tail : Stay old new = stay_reopened old new are.1 in
+      record {
+        names = ap (λ j. j ∷ journals new) are.0.journal_is ∙ ap (λ js. seat_journal o ∷ js) tail.names;
+        limits = λ l. (limit_at o n are.0.user_is l.0, tail.limits l.1);
+        served = λ s. (are.0.opened.served, tail.served s.1);
+        later = λ count l. (later_at count o n are.0.journal_is are.0.left.later l.0, tail.later count l.1);
+      }
+
+  stay_carried : (item : BatchItem) (old new : List (Seat D g)) (line : List ℕ) (is_broken : Bool) → Carries schema world header told reads image faults item old new line is_broken → Stay old new
+  stay_carried (asked ask) old new line is_broken carried = stay_told ask.name ask.text old new carried.0 carried.1
+  stay_carried restarted old new line is_broken carried = stay_reopened old new carried.0
+
+  pub stay_run : (items : List BatchItem) (old new : List (Seat D g)) (output : List ℕ) (is_broken : Bool) → Runs schema world header told reads image faults items old output new is_broken → Stay old new
+  stay_run items old new output is_broken (nothing seats) = stay seats
+  stay_run items old new output is_broken (more first old' mid new' before line was says item runs carried) =
+      stay_on old' mid new' (stay_run first old' mid before was runs) (stay_carried item mid new' line says carried)
+
+  -- ---- one more item
+
+  pub runs_first : (wrote : Type 0) (seats : List (Seat D g)) (before : List ℕ) → RunsAll schema world header told reads image faults wrote [] seats seats false before before
+  runs_first wrote seats before = record { output = []; appended = λ w. sym (append-nil before); runs = nothing seats }
+
+  pub runs_more : (wrote : Type 0) (items : List BatchItem) (item : BatchItem) (old mid new : List (Seat D g)) (is_broken says now : Bool) (before after last line : List ℕ) → now ≡ (is_broken || says)
+      → RunsAll schema world header told reads image faults wrote items old mid is_broken before after → Carries schema world header told reads image faults item mid new line says → (wrote → last ≡ after ++ line)
+      → RunsAll schema world header told reads image faults wrote (items ++ item ∷ []) old new now before last
+  runs_more wrote items item old mid new is_broken says now before after last line joined so_far carried appended = record {
+    output = so_far.output ++ line;
+    appended = λ w. appended w ∙ ap (λ l. l ++ line) (so_far.appended w) ∙ append_assoc before so_far.output line;
+    runs = subst (λ b. Runs schema world header told reads image faults (items ++ item ∷ []) old (so_far.output ++ line) new b) (sym joined) (more items old mid new so_far.output line is_broken says item so_far.runs carried);
+  }
+
+  -- memory was wanting at the next item
+  pub runs_stopped : (wrote : Type 0) (items front back : List BatchItem) (old new : List (Seat D g)) (is_broken : Bool) (before after : List ℕ) → items ≡ front ++ back
+      → RunsAll schema world header told reads image faults wrote front old new is_broken before after → RunsSome schema world header told reads image faults wrote items old new before after
+  runs_stopped wrote items front back old new is_broken before after split so_far = record {
+    front = front;
+    back = back;
+    split = split;
+    output = so_far.output;
+    line = [];
+    is_broken = is_broken;
+    runs = subst (λ o. Runs schema world header told reads image faults front old o new is_broken) (sym (append-nil so_far.output)) so_far.runs;
+    appended = λ w. (0, so_far.appended w ∙ sym (append-nil (before ++ so_far.output)));
+  }
+
+  -- of the line of the next item a part was written
+  pub runs_cut : (wrote : Type 0) (items front back : List BatchItem) (item : BatchItem) (old mid new : List (Seat D g)) (is_broken says : Bool) (before after last line : List ℕ) → items ≡ (front ++ item ∷ []) ++ back
+      → RunsAll schema world header told reads image faults wrote front old mid is_broken before after → Carries schema world header told reads image faults item mid new line says → (wrote → AppendsPart after last line)
+      → RunsSome schema world header told reads image faults wrote items old new before last
+  runs_cut wrote items front back item old mid new is_broken says before after last line split so_far carried part = record {
+    front = front ++ item ∷ [];
+    back = back;
+    split = split;
+    output = so_far.output;
+    line = line;
+    is_broken = is_broken || says;
+    runs = more front old mid new so_far.output line is_broken says item so_far.runs carried;
+    appended = λ w. ((part w).0, (part w).2 ∙ ap (λ l. l ++ take (part w).0 line) (so_far.appended w));
+  }

@@ -1,0 +1,355 @@
+-- The users of a batch at their desks, item by item.
+use Rattle.std.proofs.Common.{◌≡◌, ◌⊎◌, inl, inr, ℕ, ◌≤◌, ◌+◌, Bool, true, false, List, [], ◌∷◌, ◌++◌, map, refl, sym, ap, subst, ◌∙◌, append_assoc, append-nil, arith}
+use Rattle.std.specs.Prelude.{Option, Some, None, ◌||◌, find, bytes_eq, is_some, if◌then◌else◌, string_bytes}
+use Rattle.std.specs.List.{list_any, flat_map, AllByRecursion}
+use Rattle.std.specs.Cmp.Lexicographic.{same_text}
+use Rattle.cqe_base.specs.Schema.{Text, DatabaseSchema, has_duplicate}
+use Rattle.cqe_base.specs.Facts.{FactSet}
+use Rattle.cqe_base.specs.History.{UserProfile, History, profile_of}
+use Rattle.cqe_base.specs.Run
+use Rattle.cqe_base.specs.declared.user.User.{User}
+use Rattle.cqe_base.specs.Run.{Reply, Ending, Event, ask, restart, UserState, opening, after_event, after_events, reply_to_ask}
+use Rattle.cqe_base.specs.Transcript.{NamedUser, ScriptEvent, script_ask, script_restart, script_opening, own_event, own_events, state_after, told_after}
+use Rattle.outside.specs.Shelf.{IsTaken}
+use Rattle.user_desk.specs.Causes.{Opens, Refuses, IsStanding}
+use Rattle.user_desk.specs.Lives.{Holds, Settles, Restarts, IsState}
+use Rattle.user_desk.specs.Standings.{is_sealed}
+use Rattle.user_desk.specs.Desks.{desk_standing, desk_history, entry_in_flight, state_of, IsIn}
+use Rattle.user_desk.specs.declared.standing.DeskError.{DeskError}
+use Rattle.log_journal.specs.Names.{journal_name}
+use Rattle.batch_engine.specs.Lives.{OpensNone, IsOpening}
+use Rattle.batch_engine.specs.Batch.{unopened}
+use Rattle.batch_engine.specs.Shelved.{bytes_on, IsSeatOf, AreSeatsOf}
+use Rattle.batch_engine.specs.Crew.{named_user, first_refusal, seat_user, seat_name, seat_journal, seat_disk, is_named, IsLeft, IsServed, IsOpenedFrom, IsToldAt, IsReopened, AreReopened, Tells, nobody, here, further}
+use Rattle.batch_engine.specs.declared.seat.Seat.{Seat}
+use Rattle.batch_engine.proofs.Courses.{Course, course_on, IsRunning, Asked, ask_step, Restarted, IsExclusive, Known, open_step}
+
+-- ---- lists and texts
+
+pub flat_map-append : {X A : Type 0} (f : X → List A) (xs ys : List X) → flat_map f (xs ++ ys) ≡ flat_map f xs ++ flat_map f ys
+flat_map-append f [] ys = refl
+flat_map-append f (x ∷ xs) ys = ap (λ zs. f x ++ zs) (flat_map-append f xs ys) ∙ sym (append_assoc (f x) (flat_map f xs) (flat_map f ys))
+
+pub own-push : (name : Text) (script : List ScriptEvent) (event : ScriptEvent) → own_events name (script ++ event ∷ []) ≡ own_events name script ++ own_event name event
+own-push name script event = flat_map-append (own_event name) script (event ∷ []) ∙ ap (λ es. own_events name script ++ es) (append-nil (own_event name event))
+
+pub left_false : (a b : Bool) → (a || b) ≡ false → a ≡ false
+left_false true b e = e
+left_false false b e = refl
+
+pub right_false : (a b : Bool) → (a || b) ≡ false → b ≡ false
+right_false true b e = absurd cc
+right_false false b e = e
+
+-- a text is equal to itself
+pub text_is : (a : Text) → bytes_eq a a ≡ true
+text_is [] = refl
+text_is (x ∷ a) = let rest = text_is a in grind (arith, rest)
+
+-- two texts are compared alike from both sides
+pub other_text : (a b : Text) → bytes_eq a b ≡ false → bytes_eq b a ≡ false
+other_text a b differ = by (bytes_eq b a) refl
+  where
+    by : (t : Bool) → bytes_eq b a ≡ t → t ≡ false
+    by false e = refl
+    by true e = sym e ∙ (λ i. bytes_eq (same_text b a (sym e) i) (sym (same_text b a (sym e)) i)) ∙ differ
+
+abbrev pub names : List NamedUser → List Text
+names users = map (λ u. u.name) users
+
+-- the choices of one name before those of others
+abbrev with_name : Text → Bool → (Text → Bool) → Text → Bool
+with_name name chosen others asked = if bytes_eq name asked then chosen else others asked
+
+module _ (event : (Text → Bool) → (Text → Bool) → ScriptEvent) (own : (name : Text) (found opens : Text → Bool) → own_event name (event found opens) ≡ restart (found name) (opens name) ∷ []) where
+  own-opening : (name : Text) (script : List ScriptEvent) (found opens : Text → Bool) (f o : Bool) → found name ≡ f → opens name ≡ o → own_events name (script ++ event found opens ∷ []) ≡ own_events name script ++ restart f o ∷ []
+  own-opening name script found opens f o is_found is_open =
+      own-push name script (event found opens) ∙ ap (λ es. own_events name script ++ es) (own name found opens)
+      ∙ ap (λ b. own_events name script ++ restart b (opens name) ∷ []) is_found ∙ ap (λ b. own_events name script ++ restart f b ∷ []) is_open
+
+-- what a disk that was taken reads
+pub taken_reads : {D : Type 0} (reads : D → List ℕ) (image : D → List ℕ → Type 0) (held : Option D) (taken : D) → IsTaken reads image held taken → reads taken ≡ bytes_on reads held
+taken_reads reads image None taken is = is.0
+taken_reads reads image (Some one) taken is = ap reads is
+
+-- the course of a user whose journal wasn't opened yet
+module _ (schema : DatabaseSchema) (world : FactSet) (header : List ℕ) (bytes : Text → List ℕ) (before : Text → ℕ) where
+  first_course : (user : UserProfile) (name : Text) (opened : History) (now : ℕ) (c : List ℕ) → now ≡ before name → c ≡ bytes name → IsOpening schema world user header (bytes name) opened
+      → Course schema world user header (bytes name) (before name) opened [] c now None
+  first_course user name opened now c counted same (inl opens) = record {
+    later = omega (arith, counted);
+    caused = tt;
+    fits = inl (opens, record { found = false; sought = λ e. absurd cc; opens = subst (Opens schema world user header opened) (sym same) opens }, inl (omega (arith, counted)));
+    refused = refl;
+  }
+  first_course user name opened now c counted same (inr (none, empty)) = record { later = omega (arith, counted); caused = tt; fits = inr (none, empty, same, refl); refused = refl }
+
+module _ (schema : DatabaseSchema) (world : FactSet) (header directory : List ℕ) {D : Type 0} {g : _} (T : Type 0) (reads : D → List ℕ) (image : D → List ℕ → Type 0) (faults : D → ℕ) (t : T) (read_is_image : (d : D) → T → image d (reads d))
+    (bytes : Text → List ℕ) (before : Text → ℕ) where
+  -- a user sits at his desk behind these events of his
+  pub record IsSeated (user : NamedUser) (events : List Event) (seat : Seat D g) : Type 0 where
+    pub name_is : seat_name seat ≡ user.name
+    pub profile_is : profile_of (seat_user seat) ≡ user.profile
+    pub journal_is : seat_journal seat ≡ journal_name directory user.name
+    pub served : IsServed schema world header seat
+    pub running : IsRunning schema world user.profile header (bytes user.name) (before user.name) user.opened events (desk_standing seat.desk) (state_of seat.desk) (image (seat_disk seat)) (reads (seat_disk seat)) (faults (seat_disk seat)) seat.refusal
+
+  -- all do, behind the events of a script
+  abbrev pub AreSeated : List ScriptEvent → List NamedUser → List (Seat D g) → Type 0
+  AreSeated script [] [] = Unit {0}
+  AreSeated script (user ∷ users) (seat ∷ seats) = IsSeated user (own_events user.name script) seat × AreSeated script users seats
+  AreSeated script users seats = ⊥
+
+  -- ---- an ask
+
+  record AskedAt (user : NamedUser) (events : List Event) (seat : Seat D g) (text : Text) (told : Reply) : Type 0 where
+    ending : Ending
+    reply : told ≡ reply_to_ask schema world user.profile (after_events schema world user.profile (opening schema world user.profile user.opened) events) text ending
+    seated : IsSeated user (events ++ ask text ending ∷ []) seat
+
+  ask_at : (user : NamedUser) (events : List Event) (old new : Seat D g) (text : Text) (told : Reply) → IsSeated user events old → IsToldAt schema world header T reads image faults text told old new → AskedAt user events new text told
+  ask_at user events old new text told seated answer =
+      let standing = desk_standing old.desk in
+      let same = answer.standing_is in
+      let profile : profile_of (seat_user old) ≡ user.profile = seated.profile_is in
+      let asked : Asked schema world user.profile header (bytes user.name) (before user.name) user.opened events standing (state_of new.desk) (image (seat_disk new)) (reads (seat_disk new)) (faults (seat_disk new)) old.refusal text told =
+      ask_step schema world user.profile header (bytes user.name) (before user.name) user.opened events standing (state_of old.desk) (state_of new.desk) (image (seat_disk old)) (image (seat_disk new)) (reads (seat_disk old)) (reads (seat_disk new))
+      (faults (seat_disk old)) (faults (seat_disk new)) old.refusal text told seated.running
+      (λ state is. subst (λ s. Settles schema world user.profile (IsState s (state_of new.desk)) state text told (faults (seat_disk old)) (faults (seat_disk new))) same
+      (subst (λ p. Settles schema world p (IsIn new.desk) state text told (faults (seat_disk old)) (faults (seat_disk new))) profile (answer.settled state is)))
+      answer.later (λ sealed. ap reads (answer.shut sealed))
+      (λ served c at. subst (λ p. Holds schema world p header (state_of new.desk) c) (ap profile_of answer.user_is ∙ profile) (answer.holds t (ap is_sealed same ∙ served) c at))
+      (read_is_image (seat_disk new) t) in
+      record {
+        ending = asked.ending;
+        reply = asked.reply;
+        seated = record {
+          name_is = ap (λ (u : User). string_bytes u.name) answer.user_is ∙ seated.name_is;
+          profile_is = ap profile_of answer.user_is ∙ profile;
+          journal_is = answer.journal_is ∙ seated.journal_is;
+          served = answer.served;
+          running = subst (λ r. IsRunning schema world user.profile header (bytes user.name) (before user.name) user.opened (events ++ ask text asked.ending ∷ []) (desk_standing new.desk) (state_of new.desk) (image (seat_disk new)) (reads (seat_disk new)) (faults (seat_disk new)) r) (sym answer.refusal_is)
+              (subst (λ s. IsRunning schema world user.profile header (bytes user.name) (before user.name) user.opened (events ++ ask text asked.ending ∷ []) s (state_of new.desk) (image (seat_disk new)) (reads (seat_disk new)) (faults (seat_disk new)) old.refusal) (sym same) asked.running);
+        };
+      }
+
+  -- an ask of another name changes nothing
+  unnamed : (script : List ScriptEvent) (name : Text) (session : ℕ) (text : Text) (ending : Ending) (user : NamedUser) (seat : Seat D g) → bytes_eq name user.name ≡ false → IsSeated user (own_events user.name script) seat
+      → IsSeated user (own_events user.name (script ++ script_ask name session text ending ∷ [])) seat
+  unnamed script name session text ending user seat other seated =
+      subst (λ es. IsSeated user es seat)
+      (sym (own-push user.name script (script_ask name session text ending) ∙ ap (λ b. own_events user.name script ++ (if b then ask text ending ∷ [] else [])) other ∙ append-nil (own_events user.name script))) seated
+
+  all_unnamed : (script : List ScriptEvent) (name : Text) (session : ℕ) (text : Text) (ending : Ending) (users : List NamedUser) (seats : List (Seat D g)) → list_any (bytes_eq name) (names users) ≡ false
+      → AreSeated script users seats → AreSeated (script ++ script_ask name session text ending ∷ []) users seats
+  all_unnamed script name session text ending [] [] none seated = tt
+  all_unnamed script name session text ending [] (seat ∷ seats) none seated = absurd seated
+  all_unnamed script name session text ending (user ∷ users) [] none seated = absurd seated
+  all_unnamed script name session text ending (user ∷ users) (seat ∷ seats) none seated =
+      (unnamed script name session text ending user seat (left_false _ _ none) seated.0, all_unnamed script name session text ending users seats (right_false _ _ none) seated.1)
+
+  -- an ask with some ending: what is told, and the seats behind it
+  pub record Next (script : List ScriptEvent) (name : Text) (session : ℕ) (text : Text) (users : List NamedUser) (new : List (Seat D g)) (told : Option Reply) : Type 0 where
+    pub ending : Ending
+    pub replied : told_after schema world script text ending (find (λ u. bytes_eq u.name name) users) ≡ told
+    pub seated : AreSeated (script ++ script_ask name session text ending ∷ []) users new
+
+  told_here : (script : List ScriptEvent) (name : Text) (session : ℕ) (text : Text) (user : NamedUser) (users : List NamedUser) (old new : Seat D g) (others : List (Seat D g)) (told : Reply)
+      → is_named name old ≡ true → IsToldAt schema world header T reads image faults text told old new → list_any (bytes_eq user.name) (names users) ≡ false → IsSeated user (own_events user.name script) old → AreSeated script users others
+      → Next script name session text (user ∷ users) (new ∷ others) (Some told)
+  told_here script name session text user users old new others told is answer distinct seated rest =
+      let one : AskedAt user (own_events user.name script) new text told = ask_at user (own_events user.name script) old new text told seated answer in
+      let named : bytes_eq user.name name ≡ true = ap (λ n. bytes_eq n name) (sym seated.name_is) ∙ is in
+      let same : user.name ≡ name = same_text user.name name (sym named) in
+      let asked_by : bytes_eq name user.name ≡ true = ap (λ n. bytes_eq n user.name) (sym same) ∙ text_is user.name in
+      record {
+        ending = one.ending;
+        replied = ap (λ b. told_after schema world script text one.ending (if b then Some user else find (λ u. bytes_eq u.name name) users)) named ∙ ap Some (sym one.reply);
+        seated = (
+          subst (λ es. IsSeated user es new) (sym (own-push user.name script (script_ask name session text one.ending) ∙ ap (λ b. own_events user.name script ++ (if b then ask text one.ending ∷ [] else [])) asked_by)) one.seated,
+          all_unnamed script name session text one.ending users others (ap (λ n. list_any (bytes_eq n) (names users)) (sym same) ∙ distinct) rest,
+        );
+      }
+
+  pub told_next : (script : List ScriptEvent) (name : Text) (session : ℕ) (text : Text) (users : List NamedUser) (old new : List (Seat D g)) (told : Option Reply)
+      → has_duplicate (names users) ≡ false → AreSeated script users old → Tells schema world header T reads image faults name text old new told → Next script name session text users new told
+  told_next script name session text [] old new told distinct seated nobody = record { ending = Run.kept; replied = refl; seated = tt }
+  told_next script name session text (user ∷ users) old new told distinct seated nobody = absurd seated
+  told_next script name session text [] old new told distinct seated (here is answer) = absurd seated
+  told_next script name session text (user ∷ users) old new told distinct seated (here {old = first} {new = next} {others} {told_reply = reply} is answer) =
+      told_here script name session text user users first next others reply is answer (left_false _ _ distinct) seated.0 seated.1
+  told_next script name session text [] old new told distinct seated (further other more) = absurd seated
+  told_next script name session text (user ∷ users) old new told distinct seated (further {seat} {others} {after} {told_reply = reply} other more) =
+      let rest : Next script name session text users after reply = told_next script name session text users others after reply (right_false _ _ distinct) seated.1 more in
+      let differs : bytes_eq user.name name ≡ false = ap (λ n. bytes_eq n name) (sym seated.0.name_is) ∙ other in
+      record {
+        ending = rest.ending;
+        replied = ap (λ b. told_after schema world script text rest.ending (if b then Some user else find (λ u. bytes_eq u.name name) users)) differs ∙ rest.replied;
+        seated = (unnamed script name session text rest.ending user seat (other_text user.name name differs) seated.0, rest.seated);
+      }
+
+  -- ---- openings
+
+  -- the choices of a user's opening
+  abbrev pub Choice : NamedUser → List Event → Seat D g → Type 0
+  Choice user events seat = (found : Bool) × (opens : Bool) × IsSeated user (events ++ restart found opens ∷ []) seat
+
+  abbrev pub Choices : List ScriptEvent → List NamedUser → List (Seat D g) → Type 0
+  Choices script [] [] = Unit {0}
+  Choices script (user ∷ users) (seat ∷ seats) = Choice user (own_events user.name script) seat × Choices script users seats
+  Choices script users seats = ⊥
+
+  module _ (event : (Text → Bool) → (Text → Bool) → ScriptEvent) (own : (name : Text) (found opens : Text → Bool) → own_event name (event found opens) ≡ restart (found name) (opens name) ∷ []) where
+    -- one event for all of them
+    pub record Chosen (script : List ScriptEvent) (users : List NamedUser) (seats : List (Seat D g)) : Type 0 where
+      pub found : Text → Bool
+      pub opens : Text → Bool
+      pub seated : AreSeated (script ++ event found opens ∷ []) users seats
+
+    others_seated : (script : List ScriptEvent) (name : Text) (f o : Bool) (found opens : Text → Bool) (users : List NamedUser) (seats : List (Seat D g)) → list_any (bytes_eq name) (names users) ≡ false
+        → AreSeated (script ++ event found opens ∷ []) users seats → AreSeated (script ++ event (with_name name f found) (with_name name o opens) ∷ []) users seats
+    others_seated script name f o found opens [] [] none seated = tt
+    others_seated script name f o found opens [] (seat ∷ seats) none seated = absurd seated
+    others_seated script name f o found opens (user ∷ users) [] none seated = absurd seated
+    others_seated script name f o found opens (user ∷ users) (seat ∷ seats) none seated = (
+      subst (λ es. IsSeated user es seat)
+          (own-opening event own user.name script found opens (found user.name) (opens user.name) refl refl
+          ∙ sym (own-opening event own user.name script (with_name name f found) (with_name name o opens) (found user.name) (opens user.name)
+          (ap (λ b. if b then f else found user.name) (left_false (bytes_eq name user.name) (list_any (bytes_eq name) (names users)) none)) (ap (λ b. if b then o else opens user.name) (left_false (bytes_eq name user.name) (list_any (bytes_eq name) (names users)) none)))) seated.0,
+      others_seated script name f o found opens users seats (right_false (bytes_eq name user.name) (list_any (bytes_eq name) (names users)) none) seated.1,
+    )
+
+    pub choose : (script : List ScriptEvent) (users : List NamedUser) (seats : List (Seat D g)) → has_duplicate (names users) ≡ false → Choices script users seats → Chosen script users seats
+    choose script [] [] distinct choices = record { found = λ n. false; opens = λ n. false; seated = tt }
+    choose script [] (seat ∷ seats) distinct choices = absurd choices
+    choose script (user ∷ users) [] distinct choices = absurd choices
+    choose script (user ∷ users) (seat ∷ seats) distinct ((f, o, seated), choices) =
+        let rest : Chosen script users seats = choose script users seats (right_false (list_any (bytes_eq user.name) (names users)) (has_duplicate (names users)) distinct) choices in
+        let found = with_name user.name f rest.found in
+        let opens = with_name user.name o rest.opens in
+        record {
+          found = found;
+          opens = opens;
+          seated = (
+            subst (λ es. IsSeated user es seat)
+                (sym (own-opening event own user.name script found opens f o (ap (λ b. if b then f else rest.found user.name) (text_is user.name)) (ap (λ b. if b then o else rest.opens user.name) (text_is user.name)))) seated,
+            others_seated script user.name f o rest.found rest.opens users seats (left_false (list_any (bytes_eq user.name) (names users)) (has_duplicate (names users)) distinct) rest.seated,
+          );
+        }
+
+  -- ---- closing and opening again
+
+  module _ (exclusive : (user : UserProfile) → IsExclusive schema world user header) where
+    restart_at : (user : NamedUser) (events : List Event) (old new : Seat D g) → IsSeated user events old → IsReopened schema world header T reads image faults old new → Choice user events new
+    restart_at user events old new seated again =
+        let profile : profile_of (seat_user new) ≡ user.profile = ap profile_of again.user_is ∙ seated.profile_is in
+        let opened = again.opened in
+        let step : Restarted schema world user.profile header (bytes user.name) (before user.name) user.opened events (desk_standing new.desk) (state_of new.desk) (image (seat_disk new)) (reads (seat_disk new)) (faults (seat_disk new)) (first_refusal old.refusal (desk_standing new.desk)) =
+        open_step schema world user.profile header (bytes user.name) (before user.name) (exclusive user.profile) T t user.opened events (reads (seat_disk new)) (faults (seat_disk old)) (faults (seat_disk new)) old.refusal
+        (desk_history new.desk) (entry_in_flight new.desk) (desk_standing new.desk) (image (seat_disk new))
+        (course_on schema world user.profile header (bytes user.name) (before user.name) user.opened events (reads (seat_disk old)) (reads (seat_disk new)) (faults (seat_disk old)) (faults (seat_disk old)) old.refusal again.left.reads_same (omega arith) seated.running.course)
+        (record {
+          standing_is = subst (λ r. IsStanding schema world user.profile T header r (desk_history new.desk) (faults (seat_disk old)) (faults (seat_disk new)) (desk_standing new.desk)) (sym again.left.reads_same)
+              (subst (λ p. IsStanding schema world p T header (reads (seat_disk old)) (desk_history new.desk) (faults (seat_disk old)) (faults (seat_disk new)) (desk_standing new.desk)) profile opened.standing);
+          restarted = λ state holds. subst (λ p. Restarts schema world p (IsIn new.desk) state (faults (seat_disk old)) (faults (seat_disk new))) profile
+              (opened.restarted t state (subst (Holds schema world (profile_of (seat_user new)) header state) again.left.reads_same (subst (λ p. Holds schema world p header state (reads (seat_disk new))) (sym profile) holds)));
+          on = again.left.later;
+          holds = λ served c at. subst (λ p. Holds schema world p header (state_of new.desk) c) profile (opened.holds t served c at);
+          here = read_is_image (seat_disk new) t;
+        }) in (
+          step.found,
+          step.opens,
+          record {
+            name_is = ap (λ (u : User). string_bytes u.name) again.user_is ∙ seated.name_is;
+            profile_is = profile;
+            journal_is = again.journal_is ∙ seated.journal_is;
+            served = opened.served;
+            running = subst (IsRunning schema world user.profile header (bytes user.name) (before user.name) user.opened (events ++ restart step.found step.opens ∷ []) (desk_standing new.desk) (state_of new.desk) (image (seat_disk new)) (reads (seat_disk new)) (faults (seat_disk new))) (sym opened.refusal) step.running;
+          },
+        )
+
+    -- every desk was closed and opened again
+    pub restart_all : (script : List ScriptEvent) (users : List NamedUser) (olds news : List (Seat D g)) → AreSeated script users olds → AreReopened schema world header T reads image faults olds news → Choices script users news
+    restart_all script [] [] [] seated again = tt
+    restart_all script [] [] (new ∷ news) seated again = absurd again
+    restart_all script [] (old ∷ olds) news seated again = absurd seated
+    restart_all script (user ∷ users) [] news seated again = absurd seated
+    restart_all script (user ∷ users) (old ∷ olds) [] seated again = absurd again
+    restart_all script (user ∷ users) (old ∷ olds) (new ∷ news) seated again =
+        (restart_at user (own_events user.name script) old new seated.0 again.0, restart_all script users olds news seated.1 again.1)
+
+    -- ---- the first opening
+
+    module _ (S : Type 0) (s : S) (disk : Text → Option D) (count : Text → ℕ) (bytes_are : (name : Text) → bytes name ≡ bytes_on reads (disk (journal_name directory name))) (counts_are : (name : Text) → before name ≡ count (journal_name directory name)) where
+      -- a user with the history with which his journal is opened
+      pub record Begun (user : User) (seat : Seat D g) : Type 0 where
+        pub opened : History
+        pub opening : IsOpening schema world (profile_of user) header (bytes (string_bytes user.name)) opened
+        pub choice : Choice (record { name = string_bytes user.name; profile = profile_of user; opened = opened }) [] seat
+
+      begin_with : (user : User) (seat : Seat D g) (opened : History) → IsOpening schema world (profile_of user) header (bytes (string_bytes user.name)) opened
+          → IsSeatOf S reads image faults T schema world header directory disk count user seat → Begun user seat
+      begin_with user seat opened opening is =
+          let name = string_bytes user.name in
+          let profile : profile_of (seat_user seat) ≡ profile_of user = ap profile_of is.user_is in
+          let from = is.opened in
+          let same : reads (seat_disk seat) ≡ reads is.taken = is.left.reads_same in
+          let read : reads (seat_disk seat) ≡ bytes name = same ∙ taken_reads reads image (disk (seat_journal seat)) is.taken (is.from s) ∙ ap (λ j. bytes_on reads (disk j)) is.journal_is ∙ sym (bytes_are name) in
+          let counted : faults is.taken ≡ before name = is.counted ∙ ap count is.journal_is ∙ sym (counts_are name) in
+          let step : Restarted schema world (profile_of user) header (bytes name) (before name) opened [] (desk_standing seat.desk) (state_of seat.desk) (image (seat_disk seat)) (reads (seat_disk seat)) (faults (seat_disk seat)) (first_refusal None (desk_standing seat.desk)) =
+          open_step schema world (profile_of user) header (bytes name) (before name) (exclusive (profile_of user)) T t opened [] (reads (seat_disk seat)) (faults is.taken) (faults (seat_disk seat)) None
+          (desk_history seat.desk) (entry_in_flight seat.desk) (desk_standing seat.desk) (image (seat_disk seat))
+          (first_course schema world header bytes before (profile_of user) name opened (faults is.taken) (reads (seat_disk seat)) counted read opening)
+          (record {
+            standing_is = subst (λ r. IsStanding schema world (profile_of user) T header r (desk_history seat.desk) (faults is.taken) (faults (seat_disk seat)) (desk_standing seat.desk)) (sym same)
+                (subst (λ p. IsStanding schema world p T header (reads is.taken) (desk_history seat.desk) (faults is.taken) (faults (seat_disk seat)) (desk_standing seat.desk)) profile from.standing);
+            restarted = λ state holds. subst (λ p. Restarts schema world p (IsIn seat.desk) state (faults is.taken) (faults (seat_disk seat))) profile
+                (from.restarted t state (subst (Holds schema world (profile_of (seat_user seat)) header state) same (subst (λ p. Holds schema world p header state (reads (seat_disk seat))) (sym profile) holds)));
+            on = is.left.later;
+            holds = λ served c at. subst (λ p. Holds schema world p header (state_of seat.desk) c) profile (from.holds t served c at);
+            here = read_is_image (seat_disk seat) t;
+          }) in
+          record {
+            opened = opened;
+            opening = opening;
+            choice = (
+              step.found,
+              step.opens,
+              record {
+                name_is = ap (λ (u : User). string_bytes u.name) is.user_is;
+                profile_is = profile;
+                journal_is = is.journal_is;
+                served = from.served;
+                running = subst (IsRunning schema world (profile_of user) header (bytes name) (before name) opened ([] ++ restart step.found step.opens ∷ []) (desk_standing seat.desk) (state_of seat.desk) (image (seat_disk seat)) (reads (seat_disk seat)) (faults (seat_disk seat))) (sym from.refusal) step.running;
+              },
+            );
+          }
+
+      module _ (decided : (user : UserProfile) (c : List ℕ) → ((entries : History) × Opens schema world user header entries c) ⊎ OpensNone schema world user header c) where
+        begin_at : (user : User) (seat : Seat D g) → IsSeatOf S reads image faults T schema world header directory disk count user seat → Begun user seat
+        begin_at user seat is = by (decided (profile_of user) (bytes (string_bytes user.name)))
+          where
+            by : ((entries : History) × Opens schema world (profile_of user) header entries (bytes (string_bytes user.name))) ⊎ OpensNone schema world (profile_of user) header (bytes (string_bytes user.name)) → Begun user seat
+            by (inl (entries, opens)) = begin_with user seat entries (inl opens) is
+            by (inr none) = begin_with user seat [] (inr (none, refl)) is
+
+        -- the users of a policy, each with his opening history, and the choices of the first opening
+        pub record AreBegun (users : List User) (seats : List (Seat D g)) : Type 0 where
+          pub begun : List NamedUser
+          pub of_policy : map unopened begun ≡ map named_user users
+          pub openings : AllByRecursion (λ user. IsOpening schema world user.profile header (bytes user.name) user.opened) begun
+          pub choices : Choices [] begun seats
+
+        pub begin_all : (users : List User) (seats : List (Seat D g)) → AreSeatsOf S reads image faults T schema world header directory disk count users seats → AreBegun users seats
+        begin_all [] [] are = record { begun = []; of_policy = refl; openings = tt; choices = tt }
+        begin_all [] (seat ∷ seats) are = absurd are
+        begin_all (user ∷ users) [] are = absurd are
+        begin_all (user ∷ users) (seat ∷ seats) are =
+            let one : Begun user seat = begin_at user seat are.0 in
+            let rest : AreBegun users seats = begin_all users seats are.1 in
+            record {
+              begun = record { name = string_bytes user.name; profile = profile_of user; opened = one.opened } ∷ rest.begun;
+              of_policy = ap (λ us. named_user user ∷ us) rest.of_policy;
+              openings = (one.opening, rest.openings);
+              choices = (one.choice, rest.choices);
+            }

@@ -1,0 +1,23 @@
+use Rattle.std.proofs.Common.{◌≡◌, sym, ap, subst, ◌∙◌}
+use Rattle.std.specs.Prelude.{option_map}
+use Rattle.log_journal.specs.Opening.{header_bytes}
+use Rattle.user_log.specs.Replies.{reply_of}
+use Rattle.batch_engine.specs.Batches.{item_in}
+use Rattle.batch_engine.specs.Steps.{Carries}
+use Rattle.batch_engine.proofs.Asking.{told_here, served_users}
+use Rattle.batch_engine.proofs.run.carry_out.Goals as goal
+
+pub answer-told-requires-clause-users : goal.answer-told-requires-clause-users
+answer-told-requires-clause-users g c = served_users c.args.registry.now.schema.now c.args.registry.now.world.now (header_bytes c.args.registry.now.header.now) c.args.seats.items c.requires.served
+
+pub returns-in-Ask-clause-carried : goal.returns-in-Ask-clause-carried
+returns-in-Ask-clause-carried g c =
+    subst (λ item. Carries c.args.registry.now.schema.now c.args.registry.now.world.now (header_bytes c.args.registry.now.header.now) g.F.D.Disk.told g.F.D.Disk.reads g.F.D.Disk.image g.F.D.Disk.faults (item_in item)
+    c.args.seats.items c.answer-told.new.seats.items c.line_of.result c.is_broken_reply.result) (sym c.in-Ask.is) (
+      option_map reply_of c.answer-told.result,
+      told_here g.F.D.Disk.told g.F.D.Disk.reads g.F.D.Disk.image g.F.D.Disk.faults c.args.registry.now.schema.now c.args.registry.now.world.now (header_bytes c.args.registry.now.header.now) c.as_str.result.now c.as_str-in-Ask.result.now
+          c.args.seats.items c.answer-told.new.seats.items (option_map reply_of c.answer-told.result) c.as_str.ensures.value c.as_str-in-Ask.ensures.value
+          (c.answer-told.ensures.told c.args.registry.now.schema.now c.args.registry.now.world.now (header_bytes c.args.registry.now.header.now) c.requires.served),
+      c.line_of.ensures,
+      c.is_broken_reply.ensures,
+    )

@@ -1,0 +1,98 @@
+//! A user of a batch at his desk.
+
+ghost use Rattle.std.specs.Prelude.{◌≡◌, IfOk, string_bytes};
+ghost use Rattle.cqe_base.specs.History.{profile_of};
+ghost use Rattle.cqe_base.specs.Limits.{KeepsLimits};
+ghost use Rattle.log_journal.specs.Opening.{header_bytes};
+ghost use Rattle.batch_engine.specs.Crew.{first_refusal, seat_user, seat_journal, seat_disk, disk_seated, journal_seated, IsLeft, IsOpenedFrom, IsReopened};
+
+use crate::registry::Registry;
+use cqe_base::user::User;
+use outside::Disk;
+use std::alloc::Global;
+use user_desk::{Desk, DeskError, Standing, open_desk};
+
+/// A user at his desk.
+#[derive(Drop)]
+pub(crate) struct Seat<'w, D: Disk> {
+    pub user: &'w User,
+    /// The name of his journal on the shelf.
+    pub journal: String,
+    pub desk: Desk<'w, D>,
+    /// Why an opening of his journal was refused first, if one was.
+    pub refusal: Option<DeskError>,
+}
+
+/// A disk that couldn't be opened for want of memory, with its name.
+#[derive(Drop)]
+pub(crate) struct Returned<D: Disk> {
+    pub journal: String,
+    pub disk: D,
+}
+
+/// The first refusal, of those before and the one of this standing.
+fn first_refusal(before: Option<DeskError>, standing: &Standing) -> Option<DeskError>
+    ensures { result ≡ first_refusal before standing.now }
+{
+    match (before, standing) {
+        (Some(why), _) => Some(why),
+        (None, Standing::Sealed(why)) => Some(*why),
+        (None, Standing::Open) => None,
+        (None, Standing::Closed(_)) => None,
+    }
+}
+
+/// Seats a user at the desk that his disk opens, behind an earlier refusal if there was one.
+pub(crate) fn seat_at<'w, D: Disk>(
+    alloc: Global,
+    registry: &Registry<'w>,
+    user: &'w User,
+    journal: String,
+    before: Option<DeskError>,
+    disk: D,
+) -> Result<Seat<'w, D>, Returned<D>>
+    requires { KeepsLimits registry.now.schema.now (profile_of user.now) }
+    ensures opened { IfOk result (IsOpenedFrom registry.now.schema.now registry.now.world.now (header_bytes registry.now.header.now) D.told D.reads D.image D.faults disk before) }
+    ensures user { IfOk result (λ seat. seat_user seat ≡ user.now) }
+    ensures journal { journal_seated result ≡ string_bytes journal }
+    ensures left { IsLeft D.reads D.image D.faults disk (disk_seated result) }
+{
+    match open_desk(
+        alloc,
+        registry.schema,
+        registry.world,
+        user,
+        registry.header,
+        disk,
+    ) {
+        Ok(desk) => {
+            desk.known();
+            let refusal = first_refusal(before, desk.standing());
+            Ok(Seat {
+                user,
+                journal,
+                desk,
+                refusal,
+            })
+        }
+        Err(refused) => Err(Returned {
+            journal,
+            disk: refused.disk,
+        }),
+    }
+}
+
+/// Closes a desk and opens it again from its disk.
+pub(crate) fn reopen<'w, D: Disk>(
+    alloc: Global,
+    registry: &Registry<'w>,
+    seat: Seat<'w, D>,
+) -> Result<Seat<'w, D>, Returned<D>>
+    requires { KeepsLimits registry.now.schema.now (profile_of (seat_user seat)) }
+    ensures reopened { IfOk result (IsReopened registry.now.schema.now registry.now.world.now (header_bytes registry.now.header.now) D.told D.reads D.image D.faults seat.entry) }
+    ensures journal { journal_seated result ≡ seat_journal seat.entry }
+    ensures left { IsLeft D.reads D.image D.faults (seat_disk seat.entry) (disk_seated result) }
+{
+    let disk = seat.desk.close();
+    seat_at(alloc, registry, seat.user, seat.journal, seat.refusal, disk)
+}

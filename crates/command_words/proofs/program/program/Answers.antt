@@ -1,0 +1,17 @@
+use Rattle.std.proofs.Common.{true, ap, ap₂, ◌∙◌}
+use Rattle.clap.specs.Words.{App, with_subcommand}
+use Rattle.clap.specs.Simple.{app_of_fields, on_top}
+use Rattle.clap.specs.declared.builder.command.Command.{Command}
+use Rattle.clap.specs.declared.builder.command.Command.TheOpen.{Command-F}
+use Rattle.command_words.specs.Matched.{with_settings}
+use Rattle.command_words.proofs.program.program.Goals as goal
+
+pub returns : goal.returns
+returns c =
+    let one = ap (λ (f : Command-F Command). record f { disable_help_flag = true }) c.no_binary_name.ensures in
+    let two = ap (λ (f : Command-F Command). record f { disable_help_subcommand = true }) (c.disable_help_flag.ensures ∙ one) in
+    let three = ap (λ (f : Command-F Command). record f { subcommand_required = true }) (c.disable_help_subcommand.ensures ∙ two) in
+    let bare = ap app_of_fields (c.subcommand_required-program.ensures ∙ three) ∙ ap (on_top with_settings) c.new.ensures.app in
+    let case = c.in_ok-subcommand.ensures.shape c.new-case.ensures.local ∙ ap₂ with_subcommand bare (ap (λ (a : App). a.top) c.new-case.ensures.app) in
+    let init = c.in_ok-subcommand-2.ensures.shape c.in_ok-init.ensures.plain ∙ ap₂ with_subcommand case (ap (λ (a : App). a.top) c.in_ok-init.ensures.shape) in
+    c.in_ok-program.ensures.shape c.in_ok-batch.ensures.plain ∙ ap₂ with_subcommand init (ap (λ (a : App). a.top) c.in_ok-batch.ensures.shape)

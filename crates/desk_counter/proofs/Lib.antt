@@ -1,0 +1,4 @@
+pub mod Settling
+pub mod Pairs
+pub mod Asking
+pub mod DeskSettles

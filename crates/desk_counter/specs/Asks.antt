@@ -1,0 +1,98 @@
+-- What an ask answers, and what it adds.
+use Rattle.std.specs.Prelude.{◌≡◌, ◌⊎◌, ℕ, ◌≤◌, true, false, [], ◌∷◌, ◌++◌, length, Option, None, Ok, IsTrue}
+use Rattle.cqe_base.specs.declared.user.Mark as base
+use Rattle.cqe_base.specs.Schema.{Text}
+use Rattle.cqe_base.specs.Formula.{Formula}
+use Rattle.cqe_base.specs.Reading.{reading}
+use Rattle.cqe_base.specs.History.{AnsweredQuery}
+use Rattle.cqe_base.specs.Run.{standing_open, reply_at}
+use Rattle.turnstile.specs.declared.pass.Pass.{Pass}
+use Rattle.turnstile.specs.History.{Entries, IsPrefix, AddsAlike, count_of}
+use Rattle.turnstile.specs.Passes.{seen, mine, shares, tickets}
+use Rattle.user_log.specs.Asked.{IsAnswer}
+use Rattle.user_log.specs.Replies.{reply_of}
+use Rattle.user_log.specs.declared.reply.Reply.{Reply}
+use Rattle.user_log.specs.declared.reply.Reply.TheVariants.{Mark, Broken, Memory}
+use Rattle.user_desk.specs.Standings.{standing_of}
+use Rattle.desk_counter.specs.declared.item.Item.{Item}
+use Rattle.desk_counter.specs.declared.item.Item.TheVariants.{Kept, Broke}
+use Rattle.desk_counter.specs.declared.item.Fixed.{Fixed}
+use Rattle.desk_counter.specs.Items.{history_of, kept_pairs, flying}
+use Rattle.desk_counter.specs.Desks.{state_shown}
+
+-- the entry of a query that was asked by this text
+abbrev pub entry_for : Formula → base.Mark → Text → AnsweredQuery
+entry_for query mark text = record { query = query; mark = mark; length = length text }
+
+-- a reply that is no mark
+abbrev pub NoMark : Reply → Type 0
+NoMark (Mark mark) = ⊥
+NoMark _ = Unit {0}
+
+module _ {D : Type 0} (fixed : Fixed D) where
+  -- the desk that has these pairs serves its user, and no append failed
+  abbrev pub IsServed : Entries Item → Type 0
+  IsServed pairs = (standing_of fixed.standing ≡ standing_open) × (flying pairs ≡ None)
+
+  -- this query and this mark answer the text behind these pairs
+  abbrev pub Answers : Entries Item → Text → Formula → base.Mark → Type 0
+  Answers pairs text query mark = IsAnswer fixed.schema fixed.world fixed.user (history_of pairs) text query mark
+
+  -- What an ask adds to the pairs that it found: a mark adds its entry, once; an append that fails adds that entry as one
+  -- in flight; a code and want of memory add nothing.
+  pub data Adds (ticket : ℕ) (text : Text) (found after : Entries Item) : Reply → Type 0 where
+    told : {query : Formula} {mark : base.Mark} → IsServed found → Answers found text query mark → after ≡ found ++ (ticket, Kept (entry_for query mark text)) ∷ [] → Adds ticket text found after (Mark mark)
+    broke : {query : Formula} {mark : base.Mark} → IsServed found → Answers found text query mark → after ≡ found ++ (ticket, Broke (entry_for query mark text)) ∷ [] → Adds ticket text found after Broken
+    coded : {code : Reply} → NoMark code → reply_at fixed.schema fixed.world fixed.user (state_shown fixed found) text ≡ reply_of code → after ≡ found → Adds ticket text found after code
+    wanted : after ≡ found → Adds ticket text found after Memory
+
+  -- What an ask does with a pass: it found pairs that begin with all that the pass had seen, and are all of that where the
+  -- pass has all shares; what it added, with a ticket that is new to the pass, was then seen, and is the pass's own.
+  pub record Asked (old new : Pass Item (Fixed D)) (text : Text) (reply : Reply) : Type 0 where
+    pub ticket : ℕ
+    pub found : Entries Item
+    pub later : IsPrefix (seen old) found
+    pub whole : shares old ≡ 65 → found ≡ seen old
+    pub fresh : (x : ℕ) → ticket ≤ x → count_of x (tickets old) ≡ 0
+    pub adds : Adds ticket text found (seen new) reply
+    pub own : AddsAlike found (seen new) (mine old) (mine new)
+    pub drew : tickets new ≡ tickets old ++ ticket ∷ []
+
+  -- the pairs without the last one
+  abbrev pub all_but_last : Entries Item → Entries Item
+  all_but_last [] = []
+  all_but_last (p ∷ []) = []
+  all_but_last (p ∷ q ∷ pairs) = p ∷ all_but_last (q ∷ pairs)
+
+  -- the pairs that a reply is by: where it is a mark, those without the last one
+  abbrev pub pairs_behind : Reply → Entries Item → Entries Item
+  pairs_behind (Mark mark) pairs = all_but_last pairs
+  pairs_behind _ pairs = pairs
+
+  -- the reply is that of the rule for these pairs, or want of memory
+  abbrev pub IsReply : Text → Entries Item → Reply → Type 0
+  IsReply text pairs reply = (reply ≡ Memory) ⊎ (reply_of reply ≡ reply_at fixed.schema fixed.world fixed.user (state_shown fixed (pairs_behind reply pairs)) text)
+
+  -- A mark was told: its entry, with its text's query and length, is the last pair that was seen and the one that the pass
+  -- has more of its own.
+  pub record Tells (old new : Pass Item (Fixed D)) (text : Text) (mark : base.Mark) : Type 0 where
+    pub ticket : ℕ
+    pub entry : AnsweredQuery
+    pub earlier : Entries Item
+    pub reads : reading fixed.schema text ≡ Ok entry.query
+    pub marked : entry.mark ≡ mark
+    pub size : entry.length ≡ length text
+    pub last : seen new ≡ earlier ++ (ticket, Kept entry) ∷ []
+    pub own : mine new ≡ mine old ++ (ticket, Kept entry) ∷ []
+    pub later : IsPrefix (seen old) earlier
+    pub whole : shares old ≡ 65 → earlier ≡ seen old
+
+  -- a reply that is a mark tells it
+  abbrev pub TellsMark : Pass Item (Fixed D) → Pass Item (Fixed D) → Text → Reply → Type 0
+  TellsMark old new text (Mark mark) = Tells old new text mark
+  TellsMark old new text _ = Unit {0}
+
+  -- No entry of the journal was added: the pass has no more of its own, and where it has all shares it has seen no more.
+  pub record AddsNone (old new : Pass Item (Fixed D)) : Type 0 where
+    pub own : kept_pairs (mine new) ≡ kept_pairs (mine old)
+    pub whole : shares old ≡ 65 → kept_pairs (seen new) ≡ kept_pairs (seen old)

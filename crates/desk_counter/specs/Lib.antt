@@ -1,0 +1,6 @@
+pub mod Codes
+pub mod Items
+pub mod Desks
+pub mod Asks
+pub mod Tickets
+pub mod Counters

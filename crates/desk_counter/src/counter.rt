@@ -1,0 +1,166 @@
+//! A desk that threads share, and its calls.
+ghost use Rattle.std.specs.Prelude.{◌≡◌};
+ghost use Rattle.cqe_base.specs.History.{profile_of};
+ghost use Rattle.std.specs.Coded.{Coded-set};
+ghost use Rattle.turnstile.specs.Passes.{first_value};
+ghost use Rattle.desk_counter.specs.Codes.{profile_code};
+
+use crate::item::{Fixed, Item};
+use crate::ticketed_desk::{Owned, TicketedDesk};
+use cqe_base::user::User;
+use outside::{Disk, Gate, Point};
+use std::alloc::Global;
+use std::sync::Wait;
+use turnstile::{Pass, PassError, Turnstile};
+use user_desk::Desk;
+use user_log::Reply;
+
+/// A value that threads share, with the user whose it is. It stands for a `Counter` wherever a thread is to take it, since
+/// it says nothing of the value's type.
+#[derive(Drop)]
+pub struct CounterOf<'w, V: Owned> {
+    turnstile: Turnstile<V>,
+    user: &'w User,
+    ghost owned: { profile_of user.now ≡ V.owner (first_value turnstile) } by { Coded-set profile_code _ _ },
+}
+
+/// A user's desk that threads share.
+pub type Counter<'w, D> = CounterOf<'w, TicketedDesk<'w, D>>;
+
+/// A pass at a counter.
+pub type DeskPass<D> = Pass<Item, Fixed<D>>;
+
+impl<'w, D: Disk> CounterOf<'w, TicketedDesk<'w, D>> {
+    ghost use Rattle.std.specs.Prelude.{◌⊎◌, ℕ, ◌^◌, ◌+◌, ◌*◌, ◌≤◌, ◌<◌, ◌↔◌, IsTrue, [], length, IfOk, IfErr, OnOk};
+    ghost use Rattle.cqe_base.specs.Censor.{IsLegal};
+    ghost use Rattle.cqe_base.specs.Limits.{KeepsSizes};
+    ghost use Rattle.turnstile.specs.declared.pass.PassError.TheVariants.{TooMany};
+    ghost use Rattle.turnstile.specs.History.{IsPrefix, IsOpening, Interleaves, IsRising, entries_with, turn_entries, count_of};
+    ghost use Rattle.turnstile.specs.Views.{remaining_view, split_off_view, view_of_both, DrewEachOnce};
+    ghost use Rattle.turnstile.specs.Passes.{view_of, seen, tickets, mine, shares, turns};
+    ghost use Rattle.user_desk.specs.Desks.{desk_history, entry_in_flight};
+    ghost use Rattle.desk_counter.specs.Items.{history_of, flying, has_broke, BrokeIsLast};
+    ghost use Rattle.desk_counter.specs.Desks.{fixed_of};
+    ghost use Rattle.desk_counter.specs.Asks.{NoMark, Asked, IsReply, TellsMark, AddsNone};
+    ghost use Rattle.desk_counter.specs.Counters.{kept_by, IsPassOf};
+
+    /// Puts a desk under a counter. The pass has all 65 shares and 65 * 2^57 turns, and has seen the desk's entries, with
+    /// ticket 0. For want of memory the desk comes back.
+    pub fn new(
+        alloc: Global,
+        desk: Desk<'w, D>,
+    ) -> Result<(Counter<'w, D>, DeskPass<D>), Desk<'w, D>>
+        ensures pass { IfOk result (λ c. IsPassOf c.1 c.0) }
+        ensures kept { IfOk result (λ c. kept_by c.0 ≡ fixed_of desk.entry) }
+        ensures history { IfOk result (λ c. history_of (seen c.1) ≡ desk_history desk.entry) }
+        ensures in_flight { IfOk result (λ c. flying (seen c.1) ≡ entry_in_flight desk.entry) }
+        ensures opening { IfOk result (λ c. IsOpening (seen c.1)) }
+        ensures mine { IfOk result (λ c. mine c.1 ≡ []) }
+        ensures all { IfOk result (λ c. (shares c.1 ≡ 65) × (turns c.1 ≡ 65 * 2 ^ 57)) }
+        ensures err { IfErr result (λ same. same ≡ desk.entry) }
+    {
+        let value = TicketedDesk::new(alloc, desk)?;
+        let user = value.user();
+        match Turnstile::new(alloc, value) {
+            Ok((turnstile, pass)) => Ok((CounterOf { turnstile, user }, pass)),
+            Err(value) => Err(value.into_desk()),
+        }
+    }
+
+    /// The user whose desk it is.
+    pub fn user(&self) -> &'w User
+        ensures { profile_of result.now ≡ (kept_by self.now).user }
+    {
+        self.user
+    }
+
+    /// Splits off a pass with one share and 2^57 turns, which has seen as much. It takes no memory.
+    pub fn split(&self, pass: &mut DeskPass<D>) -> Result<DeskPass<D>, PassError>
+        requires pass { IsPassOf pass.old self.now }
+        requires room { (shares pass.old ≡ 1) ⊎ (2 ^ 57 ≤ turns pass.old) }
+        ensures pass { IsPassOf pass.new self.now }
+        ensures rest { OnOk result (view_of pass.new ≡ remaining_view (view_of pass.old)) }
+        ensures part { IfOk result (λ p. IsPassOf p self.now × (view_of p ≡ split_off_view (view_of pass.old))) }
+        ensures mine { IfOk result (λ p. mine p ≡ []) }
+        ensures ok { OnOk result (1 < shares pass.old) }
+        ensures err { IfErr result (λ e. (e ≡ TooMany) × (shares pass.old ≡ 1) × (view_of pass.new ≡ view_of pass.old)) }
+    {
+        self.turnstile.split(pass)
+    }
+
+    /// Joins another pass to this one: the shares and the turns add up, and the longer of both lists has been seen.
+    pub fn meet(&self, pass: &mut DeskPass<D>, other: DeskPass<D>)
+        requires this { IsPassOf pass.old self.now }
+        requires that { IsPassOf other self.now }
+        ensures pass { IsPassOf pass.new self.now }
+        ensures view { view_of pass.new ≡ view_of_both (view_of pass.old) (view_of other) }
+
+        // Each had seen a prefix, in which all pairs with its tickets were.
+        ensures this { IsPrefix (seen pass.old) (seen pass.new) × (entries_with (tickets pass.old) (seen pass.new) ≡ mine pass.old) }
+        ensures that { IsPrefix (seen other) (seen pass.new) × (entries_with (tickets other) (seen pass.new) ≡ mine other) }
+
+        // The pairs of both are put together in the order of their tickets, and no ticket was drawn twice.
+        ensures mine { Interleaves (mine pass.old) (mine other) (mine pass.new) }
+        ensures order { (n : ℕ) × IsRising 0 n (seen pass.new) }
+        ensures apart { (x : ℕ) → count_of x (tickets pass.new) ≤ 1 }
+    {
+        self.turnstile.meet(pass, other);
+    }
+
+    /// Asks a text, in one turn: waits for it, settles the text by the entries of all asks before, and leaves. The gate is
+    /// passed once the text was examined, still in the turn, and once the turn has ended. A later version may use two turns.
+    pub fn ask<R: Wait, G: Gate>(
+        &self,
+        rt: &R,
+        alloc: Global,
+        pass: &mut DeskPass<D>,
+        text: &str,
+        gate: &G,
+    ) -> Reply
+        requires pass { IsPassOf pass.old self.now }
+        requires turns { 2 ≤ turns pass.old }
+        requires short { length text.now ≤ 4096 }
+        ensures pass { IsPassOf pass.new self.now }
+        ensures used { (shares pass.new ≡ shares pass.old) × (turns pass.old ≤ turns pass.new + 2) }
+
+        // What the ask found, what it added, and what it answered.
+        ensures asked { Asked (kept_by self.now) pass.old pass.new text.now result }
+
+        // The reply is that of the rule for what was seen, without the last pair where it is a mark; Broken is answered exactly where an append failed.
+        ensures reply { IsReply (kept_by self.now) text.now (seen pass.new) result }
+        ensures broken { (result ≡ Reply.Broken) ↔ IsTrue (has_broke (seen pass.new)) }
+
+        // A mark's entry is the last that was seen and the one that the pass has more of its own; without a mark there is none.
+        ensures mark { TellsMark (kept_by self.now) pass.old pass.new text.now result }
+        ensures none { NoMark result → AddsNone (kept_by self.now) pass.old pass.new }
+        ensures later { IsPrefix (seen pass.old) (seen pass.new) }
+
+        // The history is legal and within the limits, and an entry in flight stands last.
+        ensures legal { IsLegal (kept_by self.now).schema (kept_by self.now).world (kept_by self.now).user (history_of (seen pass.new)) }
+        ensures sizes { KeepsSizes (kept_by self.now).schema (kept_by self.now).user (history_of (seen pass.new)) }
+        ensures last { BrokeIsLast (seen pass.new) }
+    {
+        let mut turn = self.turnstile.enter(rt, pass);
+        let ticket = turn.ticket();
+        let reply = turn.value.settle(alloc, ticket, text);
+        turn.value.known();
+        gate.pass(self.user.name.as_str(), Point::Examined);
+        self.turnstile.leave(pass, turn);
+        gate.pass(self.user.name.as_str(), Point::Settled);
+        reply
+    }
+
+    /// Takes the desk out, with the pass that has all shares. Its entries have no tickets any more, so that it can be put
+    /// under a counter again.
+    pub fn close(self, pass: DeskPass<D>) -> Desk<'w, D>
+        requires pass { IsPassOf pass self }
+        requires all { shares pass ≡ 65 }
+        ensures kept { fixed_of result ≡ kept_by self.entry }
+        ensures history { desk_history result ≡ history_of (seen pass) }
+        ensures in_flight { entry_in_flight result ≡ flying (seen pass) }
+        ensures mine { turn_entries (seen pass) ≡ mine pass }
+        ensures drew { DrewEachOnce (view_of pass) }
+    {
+        self.turnstile.close(pass).into_desk()
+    }
+}

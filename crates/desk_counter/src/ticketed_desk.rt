@@ -1,0 +1,129 @@
+//! A desk whose entries have tickets.
+ghost use Rattle.std.specs.Prelude.{◌≡◌, length, replicate, IfOk};
+ghost use Rattle.cqe_base.specs.History.{UserProfile};
+ghost use Rattle.user_desk.specs.Desks.{desk_user, desk_history, entry_in_flight};
+ghost use Rattle.desk_counter.specs.Items.{pairs_of};
+ghost use Rattle.desk_counter.specs.Desks.{fixed_of};
+
+use crate::item::{Fixed, Item};
+use cqe_base::user::User;
+use outside::Disk;
+use std::alloc::{AllocError, Global};
+use turnstile::Recorded;
+use user_desk::Desk;
+use user_log::Reply;
+
+/// A value under a turnstile that belongs to a user.
+pub trait Owned: Recorded {
+    ghost owner: { Self → UserProfile };
+}
+
+/// A desk under a turnstile. Each of its entries has the ticket of the turn that added it, or 0 where it was there before,
+/// and so has the entry whose append failed.
+#[derive(Drop)]
+pub struct TicketedDesk<'w, D: Disk> {
+    desk: Desk<'w, D>,
+    tickets: Vec<u64>,
+    broke: u64,
+    ghost counted: { length tickets.items ≡ length (desk_history desk) },
+}
+
+impl<'w, D: Disk> Recorded for TicketedDesk<'w, D> {
+    type Item = Item;
+
+    type Fixed = Fixed<D>;
+
+    ghost entries = { λ d. pairs_of d.tickets.items (desk_history d.desk) d.broke (entry_in_flight d.desk) };
+
+    ghost fixed = { λ d. fixed_of d.desk };
+}
+
+impl<'w, D: Disk> Owned for TicketedDesk<'w, D> {
+    ghost owner = { λ d. desk_user d.desk };
+}
+
+impl<'w, D: Disk> TicketedDesk<'w, D> {
+    ghost use Rattle.std.specs.Prelude.{◌≤◌, ◌↔◌, IsTrue, IfErr};
+    ghost use Rattle.cqe_base.specs.History.{profile_of};
+    ghost use Rattle.cqe_base.specs.Censor.{IsLegal};
+    ghost use Rattle.cqe_base.specs.Limits.{KeepsSizes};
+    ghost use Rattle.turnstile.specs.History.{IsOpening};
+    ghost use Rattle.desk_counter.specs.Items.{history_of, has_broke, BrokeIsLast};
+    ghost use Rattle.desk_counter.specs.Asks.{Adds};
+    ghost use Rattle.desk_counter.specs.Tickets.{desk_of, pairs_in, fixed_in};
+
+    /// Puts ticket 0 on all that the desk has. For want of memory the desk comes back.
+    pub(crate) fn new(alloc: Global, desk: Desk<'w, D>) -> Result<TicketedDesk<'w, D>, Desk<'w, D>>
+        ensures desk { IfOk result (λ value. desk_of value ≡ desk.entry) }
+        ensures opening { IfOk result (λ value. IsOpening (pairs_in value)) }
+        ensures err { IfErr result (λ same. same ≡ desk.entry) }
+    {
+        match zeros(alloc, desk.entries().len()) {
+            Ok(tickets) => Ok(TicketedDesk {
+                desk,
+                tickets,
+                broke: 0,
+            }),
+            Err(_) => Err(desk),
+        }
+    }
+
+    /// Gives the desk, without tickets.
+    pub(crate) fn into_desk(self) -> Desk<'w, D>
+        ensures { result ≡ desk_of self.entry }
+    {
+        let TicketedDesk {
+            desk,
+            tickets: _,
+            broke: _,
+        } = self;
+        desk
+    }
+
+    /// The desk's user.
+    pub(crate) fn user(&self) -> &'w User
+        ensures { profile_of result.now ≡ (fixed_in self.now).user }
+    {
+        self.desk.user()
+    }
+
+    /// What is known of the pairs: their entries are legal and within the limits, and an entry in flight stands last.
+    pub(crate) fn known(&self)
+        ensures legal { IsLegal (fixed_in self.now).schema (fixed_in self.now).world (fixed_in self.now).user (history_of (pairs_in self.now)) }
+        ensures sizes { KeepsSizes (fixed_in self.now).schema (fixed_in self.now).user (history_of (pairs_in self.now)) }
+        ensures last { BrokeIsLast (pairs_in self.now) }
+    {
+        self.desk.known();
+    }
+
+    /// Settles a text in the turn of this ticket.
+    pub(crate) fn settle(&mut self, alloc: Global, ticket: u64, text: &str) -> Reply
+        requires { length text.now ≤ 4096 }
+        ensures fixed { fixed_in self.new ≡ fixed_in self.old }
+        ensures adds { Adds (fixed_in self.old) ticket text.now (pairs_in self.old) (pairs_in self.new) result }
+        ensures broken { (result ≡ Reply.Broken) ↔ IsTrue (has_broke (pairs_in self.new)) }
+    {
+        self.desk.known();
+        if self.desk.broken() {
+            return Reply::Broken;
+        }
+        if self.tickets.reserve(1).is_err() {
+            return Reply::Memory;
+        }
+        let reply = self.desk.settle(alloc, text);
+        self.desk.known();
+        match reply {
+            Reply::Mark(_) => self.tickets.push_reserved(ticket),
+            Reply::Broken => self.broke = ticket,
+            _ => {}
+        }
+        reply
+    }
+}
+
+// So many tickets 0.
+fn zeros(alloc: Global, count: usize) -> Result<Vec<u64>, AllocError>
+    ensures { IfOk result (λ tickets. tickets.items ≡ replicate count 0) }
+{
+    vec![in alloc; 0; count]
+}

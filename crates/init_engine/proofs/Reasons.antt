@@ -1,0 +1,41 @@
+-- The reason at a disk that was taken is the reason at what stands under its name.
+use Rattle.std.proofs.Common.{◌≡◌, ◌∙◌, ap, subst, inl, inr, ℕ, ◌≤◌, List, Option, Some, None, arith}
+use Rattle.outside.specs.Faults.{Rose}
+use Rattle.outside.specs.Shelf.{IsTaken}
+use Rattle.log_journal.specs.Opening.{IsRefused, Refuses}
+use Rattle.log_journal.specs.declared.header.OpenError.{OpenError}
+use Rattle.log_journal.specs.declared.header.OpenError.TheVariants.{NotAJournal, OtherPolicy, Damaged, DiskFault, Memory}
+use Rattle.init_engine.specs.Disks.{bytes_held}
+use Rattle.init_engine.specs.Stops.{HasReason}
+use Rattle.init_engine.specs.declared.end.Stop.{Stop}
+use Rattle.init_engine.specs.declared.end.Stop.TheVariants as stop
+
+-- a disk that was taken has the bytes that were held
+pub taken_bytes : {D : Type 0} (reads : D → List ℕ) (image : D → List ℕ → Type 0) (held : Option D) (disk : D) → IsTaken reads image held disk → reads disk ≡ bytes_held reads held
+taken_bytes reads image (Some held) disk is = ap reads is
+taken_bytes reads image None disk is = is.0
+
+-- a count that rose, rose from an earlier one too
+pub rose_longer : (before before' now now' : ℕ) → before' ≤ before → now ≤ now' → Rose before now → Rose before' now'
+rose_longer before before' now now' le le' (inl less) = inl (omega (arith, le, le', less))
+rose_longer before before' now now' le le' (inr full) = inr (omega (arith, le', full))
+
+module _ (told told' : Type 0) (header bytes bytes' : List ℕ) (before before' now now' : ℕ) (gives : told' → told) (same : told' → bytes ≡ bytes') (le : before' ≤ before) (le' : now ≤ now') where
+  refused_of : (why : OpenError) → IsRefused told header bytes before now why → IsRefused told' header bytes' before' now' why
+  refused_of NotAJournal is = λ t. subst (λ b. Refuses header b NotAJournal) (same t) (is (gives t))
+  refused_of OtherPolicy is = λ t. subst (λ b. Refuses header b OtherPolicy) (same t) (is (gives t))
+  refused_of (Damaged number) is = λ t. subst (λ b. Refuses header b (Damaged number)) (same t) (is (gives t))
+  refused_of DiskFault is = rose_longer before before' now now' le le' is
+  refused_of Memory is = tt
+
+  pub reason_of : (shelf_before shelf_before' shelf_now shelf_now' : ℕ) → (Rose shelf_before shelf_now → Rose shelf_before' shelf_now') → (why : Stop)
+      → HasReason told header bytes before now shelf_before shelf_now why → HasReason told' header bytes' before' now' shelf_before' shelf_now' why
+  reason_of sb sb' sn sn' rises (stop.Refused why) is = (λ t none. is.0 (gives t) (same t ∙ none), is.1, refused_of why is.2)
+  reason_of sb sb' sn sn' rises stop.DiskFault is = rose_longer before before' now now' le le' is
+  reason_of sb sb' sn sn' rises stop.ShelfFault is = rises is
+  reason_of sb sb' sn sn' rises stop.Memory is = tt
+
+-- a count of 0 that stands at 0 didn't rise
+pub none_rose : {P : Type 0} → Rose 0 0 → P
+none_rose (inl less) = absurd (omega (arith, less))
+none_rose (inr full) = absurd (omega (arith, full))

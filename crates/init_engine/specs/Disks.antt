@@ -1,0 +1,34 @@
+-- What becomes of the disks of users whose journals are made.
+use Rattle.std.specs.Prelude.{◌≡◌, ◌≢◌, ℕ, ◌<◌, List, [], ◌∷◌, ◌++◌, false, bytes_eq, map, string_bytes, slice_get, Option, Some, None}
+use Rattle.outside.specs.Disk.{Only}
+use Rattle.cqe_base.specs.declared.user.User.{User}
+use Rattle.log_journal.specs.Records.{Recorded, IsJournal}
+use Rattle.log_journal.specs.Names.{journal_name}
+
+-- the names of users
+abbrev pub names_of : List User → List (List ℕ)
+names_of users = map (λ user. string_bytes user.name) users
+
+-- the bytes of the disk that stands under a name, none where there is no disk
+abbrev pub bytes_held : {D : Type 0} → (D → List ℕ) → Option D → List ℕ
+bytes_held reads None = []
+bytes_held reads (Some disk) = reads disk
+
+module _ {D : Type 0} (reads : D → List ℕ) (image : D → List ℕ → Type 0) (header : List ℕ) where
+  -- The disk is a journal with this header, in each image. One that was empty is an empty journal, and another has its bytes.
+  pub record IsMade (before : List ℕ) (disk : D) : Type 0 where
+    pub durable : Only (reads disk) (image disk)
+    pub journal : (all : List Recorded) × IsJournal header all (reads disk)
+    pub empty : before ≡ [] → (reads disk ≡ header ++ 0 ∷ []) × IsJournal header [] (reads disk)
+    pub kept : before ≢ [] → reads disk ≡ before
+
+  -- the same of what stands under a name
+  pub record IsReady (before after : Option D) : Type 0 where
+    pub disk : D
+    pub stands : after ≡ Some disk
+    pub made : IsMade (bytes_held reads before) disk
+
+  -- Of these users the first are ready, and no disk is touched but those of the first of them.
+  pub record Readies (directory : List ℕ) (names : List (List ℕ)) (old new : List ℕ → Option D) (ready touched : ℕ) : Type 0 where
+    pub are : (i : ℕ) (name : List ℕ) → i < ready → slice_get names i ≡ Some name → IsReady (old (journal_name directory name)) (new (journal_name directory name))
+    pub others : (other : List ℕ) → ((i : ℕ) (name : List ℕ) → i < touched → slice_get names i ≡ Some name → bytes_eq other (journal_name directory name) ≡ false) → new other ≡ old other

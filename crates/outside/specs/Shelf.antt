@@ -1,0 +1,16 @@
+-- What a call of a shelf does to what stands under its names.
+use Rattle.std.specs.Prelude.{◌≡◌, ℕ, List, [], false, bytes_eq, Option, Some, None}
+use Rattle.outside.specs.Disk.{Only}
+
+-- Under every name the same stands as before.
+abbrev pub SameNames : {A : Type 0} → (List ℕ → A) → (List ℕ → A) → Type 0
+SameNames old new = (name : List ℕ) → new name ≡ old name
+
+-- Under every name but this one the same stands as before.
+abbrev pub SameOthers : {A : Type 0} → List ℕ → (List ℕ → A) → (List ℕ → A) → Type 0
+SameOthers name old new = (other : List ℕ) → bytes_eq other name ≡ false → new other ≡ old other
+
+-- The disk that was held, or where none was held, one without bytes.
+abbrev pub IsTaken : {D : Type 0} → (D → List ℕ) → (D → List ℕ → Type 0) → Option D → D → Type 0
+IsTaken reads image (Some held) disk = disk ≡ held
+IsTaken reads image None disk = (reads disk ≡ []) × Only [] (image disk)

@@ -1,0 +1,111 @@
+// A file of the system as a disk. Clauses aren't told what it holds.
+ghost use Rattle.std.specs.Prelude.{◌≡◌, ◌≤◌, [], length, IfOk, Ok};
+ghost use Rattle.outside.specs.Faults.{HasCause};
+
+use outside::{Disk, Failed};
+use std::fs::OpenFile;
+use std::io::{self, Read, Seek, SeekFrom, Write};
+
+/// An open file as a disk. A call that fails is counted and isn't tried again.
+#[derive(Drop)]
+pub struct FileDisk<F> {
+    file: F,
+    faults: u64,
+}
+
+impl<F> FileDisk<F> {
+    ghost use Rattle.real_edge.specs.Counts.{disk_faults};
+
+    /// A disk over an open file, with this count of faults.
+    pub fn new(file: F, faults: u64) -> Self
+        ensures { disk_faults result ≡ faults }
+    {
+        FileDisk { file, faults }
+    }
+
+    /// How often it failed.
+    pub fn faults(&self) -> u64
+        ensures { result ≡ disk_faults self.now }
+    {
+        self.faults
+    }
+}
+
+impl<F: Read + Write + Seek + OpenFile> Disk for FileDisk<F> {
+    ghost use Rattle.real_edge.specs.Counts.{disk_faults};
+
+    ghost told = { ⊥ };
+
+    ghost reads = { λ disk. [] };
+
+    ghost image = { λ disk c. ⊥ };
+
+    ghost moment = { λ disk. 0 };
+
+    ghost image_since = { λ disk t c. ⊥ };
+
+    ghost faults = { disk_faults };
+
+    ghost read_is_image = { λ disk told. told };
+
+    ghost counts_now = { λ disk t c le now. now };
+
+    ghost only_now = { λ disk c since. since };
+
+    fn length(&mut self) -> Result<u64, Failed> {
+        counted(length_of(&self.file), &mut self.faults)
+    }
+
+    fn read_at(&mut self, at: u64, into: &mut [u8]) -> Result<usize, Failed> {
+        counted(read_from(&mut self.file, at, into), &mut self.faults)
+    }
+
+    fn write_at(&mut self, at: u64, bytes: &[u8]) -> Result<(), Failed> {
+        counted(write_to(&mut self.file, at, bytes), &mut self.faults)
+    }
+
+    fn sync(&mut self) -> Result<(), Failed> {
+        counted(self.file.sync_all(), &mut self.faults)
+    }
+}
+
+// What a call answers, which is counted where it failed.
+fn counted<T>(answer: io::Result<T>, faults: &mut u64) -> Result<T, Failed>
+    ensures value { IfOk result (λ value. answer ≡ Ok value) }
+    ensures cause { HasCause faults.old faults.new result }
+{
+    match answer {
+        Ok(value) => Ok(value),
+        Err(_) => {
+            *faults = faults.saturating_add(1);
+            Err(Failed)
+        }
+    }
+}
+
+// How many bytes a file has.
+fn length_of<F: OpenFile>(file: &F) -> io::Result<u64> {
+    Ok(file.metadata()?.len())
+}
+
+// Fills the piece from that place of a file on, less only where the file ends.
+fn read_from<F: Read + Seek>(file: &mut F, at: u64, into: &mut [u8]) -> io::Result<usize>
+    ensures { IfOk result (λ n. n ≤ length into.old) }
+{
+    file.seek(SeekFrom::Start(at))?;
+    let mut filled = 0;
+    while filled < into.len() {
+        let count = file.read(&mut into[filled..])?;
+        if count == 0 {
+            break;
+        }
+        filled += count;
+    }
+    Ok(filled)
+}
+
+// Writes the whole piece from that place of a file on.
+fn write_to<F: Write + Seek>(file: &mut F, at: u64, bytes: &[u8]) -> io::Result<()> {
+    file.seek(SeekFrom::Start(at))?;
+    file.write_all(bytes)
+}

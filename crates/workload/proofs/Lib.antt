@@ -1,0 +1,5 @@
+pub mod Drawing
+pub mod Stating
+pub mod Lining
+pub mod Worlds
+pub mod Asking

@@ -1,0 +1,4 @@
+pub mod Draws
+pub mod Statements
+pub mod Stated
+pub mod Questions
