@@ -5,3 +5,4 @@ mod Reaching
 mod Making
 mod Failing
 mod Good
+mod Auditing

@@ -6,3 +6,4 @@ pub mod Complaints
 pub mod Reaches
 pub mod Ready
 pub mod Refusals
+pub mod Audited

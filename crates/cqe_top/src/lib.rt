@@ -7,6 +7,7 @@
 //! Read `specs/Statuses.antt` and `specs/Reaches.antt`, then `end`, `files` and `command`; `complaint` has the texts.
 #![tactic(auto)]
 
+mod audit;
 mod command;
 mod complaint;
 mod end;
