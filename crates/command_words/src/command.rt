@@ -2,9 +2,10 @@
 ghost use Rattle.std.specs.Prelude.{◌≡◌, true, map, option_map, option_and_then, string_bytes, IfOk};
 ghost use Rattle.std.specs.List.{list_any};
 ghost use Rattle.clap.specs.Words.{found_of, kind_of, rows_of, subcommand_rows_of};
-ghost use Rattle.command_words.specs.Readings.{reading_of, reading_in, values_of_files};
-ghost use Rattle.command_words.specs.Matched.{is_short, files_with, files_in, command_with};
+ghost use Rattle.command_words.specs.Readings.{reading_of, reading_in, names_of_files, files_said};
+ghost use Rattle.command_words.specs.Matched.{is_short, says_true, files_in, audit_in, selfrun_in, command_with};
 
+use crate::number::{number_from, small_number_from};
 use crate::program::program;
 use clap::error::ErrorKind;
 use clap::{ArgMatches, Error};
@@ -21,6 +22,28 @@ pub struct Files<'a> {
     pub journals: &'a str,
 }
 
+/// What an audit is of.
+#[derive(Clone, Copy, Debug, PartialEq, Eq)]
+pub struct AuditWords<'a> {
+    /// the files
+    pub files: Files<'a>,
+    /// the name of the user
+    pub user: &'a str,
+    /// whether the audit is written as JSON, not as lines
+    pub json: bool,
+}
+
+/// What a workload is made of.
+#[derive(Clone, Copy, Debug, PartialEq, Eq)]
+pub struct SelfrunWords {
+    /// the seed of its draws, at most 4,294,967,295
+    pub seed: u64,
+    /// how many users there are, 1 to 256
+    pub users: u32,
+    /// how many asks there are, 1 to 10,000
+    pub asks: u32,
+}
+
 /// What the program is to do. The texts are those of the words.
 #[derive(Clone, Copy, Debug, PartialEq, Eq)]
 pub enum Command<'a> {
@@ -30,13 +53,18 @@ pub enum Command<'a> {
     Init(Files<'a>),
     /// `batch`: a script with many users and sessions.
     Batch(Files<'a>),
+    /// `audit`: the history and the other worlds of one user.
+    Audit(AuditWords<'a>),
+    /// `selfrun`: a workload that the program makes and runs itself.
+    Selfrun(SelfrunWords),
 }
 
 /// Reads the words behind the program's name.
 ///
-/// The first word is the command. Its options come behind it in any order, each once, as `--name value` or
-/// `--name=value`. Words that begin with a hyphen, but for `-` alone, are values only in the second form, and no value
-/// is empty. There is no help among the words and no short form of a name. An error is want of memory.
+/// The first word is the command. Its options come behind it in any order, each at most once, as `--name value` or
+/// `--name=value`; only `--json` may be left out, and it has no value. Words that begin with a hyphen, but for `-` alone,
+/// are values only in the second form, and no value is empty. Numbers are one to ten decimal digits, within their limits.
+/// There is no help among the words and no short form of a name. An error is want of memory.
 pub fn read_words<'a>(alloc: Global, words: &'a [String]) -> Result<Option<Command<'a>>, AllocError>
     ensures { IfOk result (λ read. option_map reading_in read ≡ reading_of (map string_bytes words.now)) }
 {
@@ -99,13 +127,15 @@ fn command_with<'a>(name: &str, given: &ArgMatches<'a>) -> Option<Command<'a>>
         "case" => Some(Command::Case),
         "init" => Some(Command::Init(files_in(given)?)),
         "batch" => Some(Command::Batch(files_in(given)?)),
+        "audit" => audit_in(given),
+        "selfrun" => selfrun_in(given),
         _ => None,
     }
 }
 
 // The files that were matched.
 fn files_in<'a>(given: &ArgMatches<'a>) -> Option<Files<'a>>
-    ensures { option_map values_of_files result ≡ files_in (rows_of (found_of given.now)) }
+    ensures { option_map names_of_files result ≡ files_in (rows_of (found_of given.now)) }
 {
     files_with(
         given.get_str("policy"),
@@ -119,7 +149,7 @@ fn files_with<'a>(
     facts: Option<&'a str>,
     journals: Option<&'a str>,
 ) -> Option<Files<'a>>
-    ensures { option_map values_of_files result ≡ files_with (option_map (λ s. s.now) policy.entry) (option_map (λ s. s.now) facts.entry) (option_map (λ s. s.now) journals.entry) }
+    ensures { option_map names_of_files result ≡ files_said (option_map (λ s. s.now) policy.entry) (option_map (λ s. s.now) facts.entry) (option_map (λ s. s.now) journals.entry) }
 {
     match (policy, facts, journals) {
         (Some(policy), Some(facts), Some(journals)) => Some(Files {
@@ -129,4 +159,34 @@ fn files_with<'a>(
         }),
         _ => None,
     }
+}
+
+// The audit that was matched.
+fn audit_in<'a>(given: &ArgMatches<'a>) -> Option<Command<'a>>
+    ensures { option_map reading_in result ≡ audit_in (rows_of (found_of given.now)) }
+{
+    let files = files_in(given)?;
+    let user = given.get_str("user")?;
+    let json = says_true(given.get_str("json"));
+    Some(Command::Audit(AuditWords { files, user, json }))
+}
+
+// Whether the value of a flag is that of one that is there.
+fn says_true(value: Option<&str>) -> bool
+    ensures { result ≡ says_true (option_map (λ s. s.now) value.entry) }
+{
+    match value {
+        Some(text) => text == "true",
+        None => false,
+    }
+}
+
+// The workload that was matched.
+fn selfrun_in<'a>(given: &ArgMatches<'a>) -> Option<Command<'a>>
+    ensures { option_map reading_in result ≡ selfrun_in (rows_of (found_of given.now)) }
+{
+    let seed = number_from(0, 4_294_967_295, given.get_str("seed"))?;
+    let users = small_number_from(1, 256, given.get_str("users"))?;
+    let asks = small_number_from(1, 10_000, given.get_str("asks"))?;
+    Some(Command::Selfrun(SelfrunWords { seed, users, asks }))
 }

@@ -10,8 +10,9 @@
 #![tactic(auto)]
 
 mod command;
+mod number;
 mod program;
 #[cfg(test)]
 mod tests;
 
-pub use command::{Command, Files, read_words};
+pub use command::{AuditWords, Command, Files, SelfrunWords, read_words};
