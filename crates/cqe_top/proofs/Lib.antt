@@ -6,3 +6,4 @@ mod Making
 mod Failing
 mod Good
 mod Auditing
+mod Numbers

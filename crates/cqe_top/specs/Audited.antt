@@ -1,5 +1,6 @@
 -- What an end of the command `audit` says of the files, of the journal of the user who is named, and of what was written.
-use Rattle.std.specs.Prelude.{◌≡◌, ℕ, Bool, List, find, bytes_eq, Option, Some, None, string_bytes}
+use Rattle.std.specs.Prelude.{◌≡◌, ℕ, Bool, List, find, bytes_eq, Option, Some, None, String, string_bytes}
+use Rattle.std.specs.declared.alloc.Global.{Global}
 use Rattle.outside.specs.Faults.{Rose}
 use Rattle.outside.specs.Shelf.{SameOthers}
 use Rattle.cqe_base.specs.Schema.{Text}
@@ -13,7 +14,8 @@ use Rattle.audit_engine.specs.Ends.{IsEnd, NoNewImages}
 use Rattle.audit_engine.specs.declared.end.AuditEnd.{AuditEnd}
 use Rattle.audit_engine.specs.declared.end.AuditEnd.TheVariants as audit_end
 use Rattle.policy_files.specs.Policies.{NamedUser, PolicyValue}
-use Rattle.cqe_top.specs.Files.{FilesSay, bad_policy, bad_facts, Say}
+use Rattle.cqe_top.specs.Words.{IsAudit}
+use Rattle.cqe_top.specs.Files.{FilesSay, bad_policy, bad_facts, Say, files_say}
 use Rattle.cqe_top.specs.Reaches.{IsMissing}
 use Rattle.cqe_top.specs.declared.end.CommandEnd.{CommandEnd}
 use Rattle.cqe_top.specs.declared.end.CommandEnd.TheVariants as end
@@ -56,6 +58,12 @@ module _ (journals : Journals) where
   CanBeAudited name policy world header =
       (user : NamedUser) × (user_named name policy.users ≡ Some user) × ((entries : History) × Opens policy.schema world user.profile header entries (journals.bytes user.name))
       × (Rose (journals.before user.name) (journals.now user.name) → ⊥)
+
+-- the words are an audit of a user whom the policy in the file of its name doesn't have, where clauses are told of files
+abbrev pub AuditsNobody : Type 0 → List (String Global) → (List ℕ → Option (List ℕ)) → Type 0
+AuditsNobody told words file =
+    (policy : List ℕ) × (facts : List ℕ) × (journals : List ℕ) × (user : List ℕ) × (json : Bool) × IsAudit words policy facts journals user json
+    × (told → Say (files_say (file policy) (file facts)) (NamesNobody user))
 
 -- a disk under one name was looked at: the others are untouched, and all have their bytes and no image that they hadn't before
 pub record LooksAt {D : Type 0} (reads : D → List ℕ) (image : D → List ℕ → Type 0) (journal : Text) (old new : Text → Option D) : Type 0 where

@@ -7,3 +7,4 @@ pub mod Reaches
 pub mod Ready
 pub mod Refusals
 pub mod Audited
+pub mod Selfruns

@@ -104,10 +104,12 @@ module _ (journals : Journals) (before after old new : List ℕ) where
   BatchReaches policy_name facts_name files (Journal name why) = ⊥
 
 -- a status is that of an end, which is one of the words' command, and of which the complaints are told
-pub record Ends (status : ℕ) (AsCase AsInit AsBatch IsTold : CommandEnd → Type 0) : Type 0 where
+pub record Ends (status : ℕ) (AsCase AsInit AsBatch AsAudit AsSelfrun IsTold : CommandEnd → Type 0) : Type 0 where
   pub end : CommandEnd
   pub of_status : status ≡ status_of end
   pub as_case : AsCase end
   pub as_init : AsInit end
   pub as_batch : AsBatch end
+  pub as_audit : AsAudit end
+  pub as_selfrun : AsSelfrun end
   pub is_told : IsTold end

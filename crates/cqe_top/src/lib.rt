@@ -12,6 +12,7 @@ mod command;
 mod complaint;
 mod end;
 mod files;
+mod selfrun;
 #[cfg(test)]
 mod tests;
 
