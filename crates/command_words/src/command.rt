@@ -206,11 +206,7 @@ fn selfrun_in<'a>(given: &ArgMatches<'a>) -> Option<Command<'a>>
     )
 }
 
-fn selfrun_with<'a>(
-    seed: Option<u64>,
-    users: Option<u32>,
-    asks: Option<u32>,
-) -> Option<Command<'a>>
+fn selfrun_with<'a>(seed: Option<u64>, users: Option<u32>, asks: Option<u32>) -> Option<Command<'a>>
     ensures { option_map reading_in result ≡ selfrun_said seed users asks }
 {
     match (seed, users, asks) {
