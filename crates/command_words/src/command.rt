@@ -2,7 +2,7 @@
 ghost use Rattle.std.specs.Prelude.{◌≡◌, true, map, option_map, option_and_then, string_bytes, IfOk};
 ghost use Rattle.std.specs.List.{list_any};
 ghost use Rattle.clap.specs.Words.{found_of, kind_of, rows_of, subcommand_rows_of};
-ghost use Rattle.command_words.specs.Readings.{reading_of, reading_in, names_of_files, files_said};
+ghost use Rattle.command_words.specs.Readings.{reading_of, reading_in, names_of_files, files_said, audit_said, selfrun_said};
 ghost use Rattle.command_words.specs.Matched.{is_short, says_true, files_in, audit_in, selfrun_in, command_with};
 
 use crate::number::{number_from, small_number_from};
@@ -165,10 +165,24 @@ fn files_with<'a>(
 fn audit_in<'a>(given: &ArgMatches<'a>) -> Option<Command<'a>>
     ensures { option_map reading_in result ≡ audit_in (rows_of (found_of given.now)) }
 {
-    let files = files_in(given)?;
-    let user = given.get_str("user")?;
-    let json = says_true(given.get_str("json"));
-    Some(Command::Audit(AuditWords { files, user, json }))
+    audit_with(
+        files_in(given),
+        given.get_str("user"),
+        says_true(given.get_str("json")),
+    )
+}
+
+fn audit_with<'a>(
+    files: Option<Files<'a>>,
+    user: Option<&'a str>,
+    json: bool,
+) -> Option<Command<'a>>
+    ensures { option_map reading_in result ≡ audit_said (option_map names_of_files files.entry) (option_map (λ s. s.now) user.entry) json }
+{
+    match (files, user) {
+        (Some(files), Some(user)) => Some(Command::Audit(AuditWords { files, user, json })),
+        _ => None,
+    }
 }
 
 // Whether the value of a flag is that of one that is there.
@@ -185,8 +199,20 @@ fn says_true(value: Option<&str>) -> bool
 fn selfrun_in<'a>(given: &ArgMatches<'a>) -> Option<Command<'a>>
     ensures { option_map reading_in result ≡ selfrun_in (rows_of (found_of given.now)) }
 {
-    let seed = number_from(0, 4_294_967_295, given.get_str("seed"))?;
-    let users = small_number_from(1, 256, given.get_str("users"))?;
-    let asks = small_number_from(1, 10_000, given.get_str("asks"))?;
-    Some(Command::Selfrun(SelfrunWords { seed, users, asks }))
+    selfrun_with(
+        number_from(0, 4_294_967_295, given.get_str("seed")),
+        small_number_from(1, 256, given.get_str("users")),
+        small_number_from(1, 10_000, given.get_str("asks")),
+    )
+}
+
+fn selfrun_with<'a>(seed: Option<u64>, users: Option<u32>, asks: Option<u32>) -> Option<Command<'a>>
+    ensures { option_map reading_in result ≡ selfrun_said seed users asks }
+{
+    match (seed, users, asks) {
+        (Some(seed), Some(users), Some(asks)) => {
+            Some(Command::Selfrun(SelfrunWords { seed, users, asks }))
+        }
+        _ => None,
+    }
 }

@@ -1,3 +1,6 @@
+mod audit;
+mod selfrun;
+
 use crate::{Command, Files, read_words};
 use std::alloc::{AllocError, Global};
 use std::test::Fail;
@@ -359,6 +362,15 @@ fn behind(alloc: Global, command: &str, words: &[&str]) -> Result<Vec<String>, A
         texts.push(String::from_str(alloc, word)?)?;
     }
     Ok(texts)
+}
+
+// The words of a line.
+fn spoken(alloc: Global, line: &str) -> Result<Vec<String>, AllocError> {
+    let mut words = Vec::new(alloc);
+    for word in line.split_whitespace() {
+        words.push(String::from_str(alloc, word)?)?;
+    }
+    Ok(words)
 }
 
 #[test]
