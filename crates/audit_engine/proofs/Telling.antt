@@ -1,5 +1,5 @@
 -- What the audit of a desk writes, as what the bytes of the journal say.
-use Rattle.std.proofs.Common.{◌≡◌, inl, inr, ℕ, Bool, true, false, List, [], ◌++◌, refl, sym, subst}
+use Rattle.std.proofs.Common.{◌≡◌, ◌⊎◌, inl, inr, ℕ, Bool, true, false, List, [], ◌++◌, refl, sym, subst}
 use Rattle.outside.specs.Faults.{Rose}
 use Rattle.cqe_base.specs.Schema.{DatabaseSchema, Text}
 use Rattle.cqe_base.specs.Facts.{FactSet}
@@ -71,15 +71,15 @@ module _ (schema : DatabaseSchema) (world : FactSet) (header : Header) (name : T
   module _ (told : Type 0) (is : told) (entries : History) (json : Bool) (old new : List ℕ) where
     done : (standing : Standing) → IsStanding schema world user told (header_bytes header) bytes entries before now standing → IsPrinted schema name user standing entries json ends.Done old new
         → IsEnd schema world (header_bytes header) name user bytes before now json ends.Done old new
-    done Open stands (same, said, audits, whole) = (Open, refl, said, says told is entries Open said stands audits, whole)
-    done (Closed admission) stands (same, said, audits, whole) = (Closed admission, refl, said, says told is entries (Closed admission) said stands audits, whole)
-    done (Sealed why) stands (same, said, audits, whole) = absurd (cc)
+    done Open stands (same, (said, audits, whole)) = (Open, refl, (said, says told is entries Open said stands audits, whole))
+    done (Closed admission) stands (same, (said, audits, whole)) = (Closed admission, refl, (said, says told is entries (Closed admission) said stands audits, whole))
+    done (Sealed why) stands (same, (said, audits, whole)) = absurd (cc)
 
     refused : (why : DeskError) (standing : Standing) → IsStanding schema world user told (header_bytes header) bytes entries before now standing → IsPrinted schema name user standing entries json (ends.Refused why) old new
         → IsEnd schema world (header_bytes header) name user bytes before now json (ends.Refused why) old new
-    refused why Open stands (same, said, audits, whole) = absurd (cc)
-    refused why (Closed admission) stands (same, said, audits, whole) = absurd (cc)
-    refused why (Sealed why') stands (same, said, audits, whole) =
+    refused why Open stands (same, (said, audits, whole)) = absurd (cc)
+    refused why (Closed admission) stands (same, (said, audits, whole)) = absurd (cc)
+    refused why (Sealed why') stands (same, (said, audits, whole)) =
         let one : why' ≡ why = cc in
         (said, subst (λ w. Says schema world (header_bytes header) name user bytes before now (Sealed w) said) one (says told is entries (Sealed why') said stands audits), whole)
 

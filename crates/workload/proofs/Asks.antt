@@ -262,6 +262,9 @@ module _ (seed users : ℕ) (some_user : 0 < users) (few_users : users ≤ 256) 
       next a n = omega arith
 
   -- the script of a seed reads as its asks
-  pub script_reads : (asks : ℕ) → asks ≤ 10000 → batch_of (script_lines seed (620 + 3 * users) users asks) ≡ Ok (workload_script seed users asks)
+  pub script_reads : (count : ℕ) → count ≤ 10000 → batch_of (script_lines seed (620 + 3 * users) users count) ≡ Ok (workload_script seed users count)
   unfolding batch_of script_lines
-  script_reads asks few = lines_read 0 asks (omega (arith, few))
+  script_reads count few = lines_read 0 count (omega (arith, few)) ∙ ap (λ n. Ok (items n)) (all count)
+    where
+      all : (n : ℕ) → 0 + n ≡ n
+      all n = omega arith

@@ -14,7 +14,7 @@ use Rattle.toml.specs.Data.{Data, string, array, table, members_depth}
 use Rattle.toml.specs.Parse.{parse_document}
 use Rattle.toml.specs.View.{items_of}
 use Rattle.cqe_base.specs.declared.user.Method.{Method}
-use Rattle.cqe_base.specs.declared.user.Method.TheVariants.{Lying, Refusal, Combined}
+use Rattle.cqe_base.specs.declared.user.Method.TheVariants as methods
 use Rattle.cqe_base.specs.Schema.{Text, contains_text, is_schema_name}
 use Rattle.cqe_base.specs.Formula.{Formula}
 use Rattle.cqe_base.specs.Tokens
@@ -74,10 +74,13 @@ unfolding sentences_of sentence_of digits
 known_step number = ap (λ (r : Result Formula Refusal). small_sentence workload_schema number (codes "know") 0 r >>= λ sentence. Ok (sentence ∷ [])) known_read
 
 secret_length : (person : ℕ) → person < 40 → nat_lt 4096 (length (secret_text person)) ≡ false
-secret_length person low = short (length-append (decimal person) (codes ", d0)")) (length-decimal-le 2 person (omega (arith, low)) (omega arith) (omega (arith, low)))
+secret_length person low =
+    let whole = length-append (decimal person) (codes ", d0)") in
+    let few = length-decimal-le 2 person (omega (arith, low)) (omega arith) (omega (arith, low)) in
+    short (length (secret_text person)) (omega (arith, whole, few))
   where
-    short : length (decimal person ++ codes ", d0)") ≡ length (decimal person) + 5 → length (decimal person) ≤ 2 → nat_lt 4096 (5 + length (decimal person ++ codes ", d0)")) ≡ false
-    short whole few = grind (arith, nat_tests)
+    short : (n : ℕ) → n ≤ 100 → nat_lt 4096 n ≡ false
+    short n few = grind (arith, nat_tests)
 
 module _ (law : CanonicalFormsRead) where
   secret_read : (person : ℕ) → person < 40 → reading workload_schema (secret_text person) ≡ Ok (has_first_illness person)
@@ -107,7 +110,7 @@ module _ (law : CanonicalFormsRead) where
   method_step : (number k : ℕ) → method_of number (Some (string (method_word k))) ≡ Ok (method_at k)
   method_step number k = by (k % 3 == 0) (k % 3 == 1)
     where
-      by : (first second : Bool) → method_of number (Some (string (if first then codes "lying" else if second then codes "refusal" else codes "combined"))) ≡ Ok (if first then Lying else if second then Refusal else Combined)
+      by : (first second : Bool) → method_of number (Some (string (if first then codes "lying" else if second then codes "refusal" else codes "combined"))) ≡ Ok (if first then methods.Lying else if second then methods.Refusal else methods.Combined)
       by true second = refl
       by false true = refl
       by false false = refl
@@ -183,7 +186,10 @@ module _ (law : CanonicalFormsRead) where
           users_behind schema [] tables >>= λ users. Ok (record { schema = schema; users = users })) (tables_step seed (range_with_len 0 users))
       ∙ (λ i. schema_step i >>= λ schema. count_step users trees some few (length-map-range_with_len (user_tree seed) 0 users) i >>= λ count.
           users_behind schema [] trees >>= λ users. Ok (record { schema = schema; users = users }))
-      ∙ ap (λ r. r >>= λ users. Ok (record { schema = workload_schema; users = users })) (users_read seed 0 users few)
+      ∙ ap (λ r. r >>= λ users. Ok (record { schema = workload_schema; users = users })) (users_read seed 0 users (omega (arith, few)) ∙ ap (λ n. Ok (map (workload_user seed) (range_with_len 0 n))) (all users))
+    where
+      all : (n : ℕ) → 0 + n ≡ n
+      all n = omega arith
 
   -- the bytes of a document with the tree of the policy are the policy
   pub policy_reads : (seed users : ℕ) (trees : List Data) (bytes : List ℕ) → 1 ≤ users → users ≤ 256 → trees ≡ user_trees seed users → IsUtf8 bytes → ReadsAs (root_members trees) bytes

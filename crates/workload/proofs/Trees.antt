@@ -1,5 +1,5 @@
 -- Tables beside the trees that they stand for.
-use Rattle.std.proofs.Common.{◌≡◌, ◌∙◌, sym, ap, refl, ℕ, zero, suc, ◌+◌, ◌*◌, ◌≤◌, List, [], ◌∷◌, ◌++◌, map, codes, decimal, String, string_bytes, Global, Ordering, Less, Equal, Greater, nat_cmp, arith}
+use Rattle.std.proofs.Common.{◌≡◌, ◌∙◌, sym, ap, refl, ℕ, zero, suc, ◌+◌, ◌*◌, ◌≤◌, max, List, [], ◌∷◌, ◌++◌, map, codes, decimal, String, string_bytes, Global, Ordering, Less, Equal, Greater, nat_cmp, arith}
 use Rattle.std.specs.Ordering.{match_ordering}
 use Rattle.std.specs.Cmp.Lexicographic.{slice_cmp}
 use Rattle.std.specs.BTreeMap.{insert_entry}
@@ -44,7 +44,7 @@ numbered_more letter n = ap (map (λ k. letter ++ decimal k)) (range_to n) ∙ m
 
 flat : (texts : List Text) → items_depth (items_of (map string texts)) ≡ 0
 flat [] = refl
-flat (text ∷ texts) = flat texts
+flat (text ∷ texts) = ap (λ (n : ℕ). max 0 n) (flat texts)
 
 users_depth : (seed : ℕ) (numbers : List ℕ) → items_depth (items_of (map (user_tree seed) numbers)) ≤ 2
 users_depth seed [] = omega arith

@@ -1,5 +1,5 @@
 // The policy of a workload.
-ghost use Rattle.std.specs.Prelude.{◌≡◌, ◌+◌, ◌*◌, ◌≤◌, ℕ, Ok, map, pos, IfOk, OnOk, string_bytes};
+ghost use Rattle.std.specs.Prelude.{◌≡◌, ◌+◌, ◌*◌, ◌≤◌, ◌∷◌, [], ℕ, Ok, map, pos, IfOk, OnOk, string_bytes};
 ghost use Rattle.toml.specs.Data.{no_members, table, array, string};
 ghost use Rattle.toml.specs.View.{view, table_view};
 ghost use Rattle.policy_files.specs.Policy.{policy_in};
