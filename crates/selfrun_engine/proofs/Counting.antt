@@ -42,18 +42,18 @@ all_at p a (suc n) (suc j) k is less all = all_at p (a + 1) n j k (omega (arith,
 one_digit : (n : ℕ) → is_inside (digit_glyph false (n % 10)) ≡ true
 one_digit n = all_at (λ d. is_inside (digit_glyph false d)) 0 10 (n % 10) (n % 10) (omega arith) (mod-lt n {m = 10} (omega arith)) ten_digits
 
+either : (t : Bool) (xs ys : List ℕ) → list_all is_inside xs ≡ true → list_all is_inside ys ≡ true → list_all is_inside (if t then xs else ys) ≡ true
+either true xs ys first second = first
+either false xs ys first second = second
+
 digits_inside : (k n : ℕ) (behind : List ℕ) → list_all is_inside behind ≡ true → list_all is_inside (digits_onto k 10 false n behind) ≡ true
 digits_inside zero n behind all = all
-digits_inside (suc k) n behind all = by (n / 10 == 0)
-  where
-    next : list_all is_inside (digit_glyph false (n % 10) ∷ behind) ≡ true
-    next = λ i. one_digit n i && all i
+digits_inside (suc k) n behind all =
+    let next : list_all is_inside (digit_glyph false (n % 10) ∷ behind) ≡ true = (λ i. one_digit n i && all i) in
+    either (n / 10 == 0) (digit_glyph false (n % 10) ∷ behind) (digits_onto k 10 false (n / 10) (digit_glyph false (n % 10) ∷ behind)) next
+    (digits_inside k (n / 10) (digit_glyph false (n % 10) ∷ behind) next)
 
-    by : (t : Bool) → list_all is_inside (if t then digit_glyph false (n % 10) ∷ behind else digits_onto k 10 false (n / 10) (digit_glyph false (n % 10) ∷ behind)) ≡ true
-    by true = next
-    by false = digits_inside k (n / 10) (digit_glyph false (n % 10) ∷ behind) next
-
-decimal_inside : (n : ℕ) → list_all is_inside (decimal n) ≡ true
+pub decimal_inside : (n : ℕ) → list_all is_inside (decimal n) ≡ true
 unfolding digits
 decimal_inside n = digits_inside 64 n [] refl
 

@@ -1,8 +1,9 @@
 -- A batch over empty journals in which nothing failed.
-use Rattle.std.proofs.Common.{◌≡◌, ◌∙◌, sym, ap, subst, refl, inl, inr, ℕ, zero, suc, ◌+◌, ◌<◌, Bool, true, false, ◌||◌, List, [], ◌∷◌, ◌++◌, map, length, Option, Some, None, is_some, arith, append_assoc, append-nil}
+use Rattle.std.proofs.Common.{◌≡◌, ◌∙◌, sym, ap, subst, refl, inl, inr, ℕ, zero, suc, ◌+◌, ◌<◌, Bool, true, false, ◌||◌, List, [], ◌∷◌, ◌++◌, map, length, Option, Some, None, Result, Ok, is_some, arith, append_assoc, append-nil}
 use Rattle.std.specs.Prelude.{find, cond, bytes_eq, slice_get, if◌then◌else◌}
 use Rattle.std.specs.List.{list_any, flat_map, AllByRecursion}
 use Rattle.std.proofs.lemmas.Slice.Eq.{bytes_eq-Decides}
+use Rattle.cqe_base.specs.declared.text.ScriptError.{ScriptError}
 use Rattle.cqe_base.specs.Schema.{Text, DatabaseSchema}
 use Rattle.cqe_base.specs.Facts.{FactSet}
 use Rattle.cqe_base.specs.History.{UserProfile, History, AnsweredQuery}
@@ -11,7 +12,7 @@ use Rattle.cqe_base.specs.Transcript.{NamedUser, ScriptEvent, script_ask, script
 use Rattle.log_journal.specs.Records.{records}
 use Rattle.user_desk.specs.Entries.{entry_of}
 use Rattle.user_desk.specs.declared.standing.DeskError.{DeskError}
-use Rattle.batch_engine.specs.BatchLines.{BatchItem, asked, restarted}
+use Rattle.batch_engine.specs.BatchLines.{BatchItem, asked, restarted, batch_of}
 use Rattle.batch_engine.specs.Batch.{Journals, Serves, AreEventsOf, AreRefusals, AppendsAll, is_broken_line, unopened, line_bytes, with_opening}
 use Rattle.batch_engine.specs.Lives.{is_refused, AreCaused, IsOpening}
 use Rattle.selfrun_engine.specs.Outputs.{IsKeptOrWant, IsOfUser, IsOutput}
@@ -29,6 +30,9 @@ one_found P test (y ∷ ys) x all is = by (test y) refl (one_found P test ys x a
     by : (b : Bool) → test y ≡ b → (find test ys ≡ Some x → P x × (test x ≡ true)) → cond b (Some y) (find test ys) ≡ Some x → P x × (test x ≡ true)
     by true passes further is = let same : y ≡ x = cc in (subst P same all.0, sym (ap test same) ∙ passes)
     by false passes further is = further is
+
+one_script : (a b : List BatchItem) (read : Result (List BatchItem) ScriptError) → read ≡ Ok a → read ≡ Ok b → a ≡ b
+one_script a b read first second = cc
 
 -- ---- a user's own events
 
@@ -64,9 +68,9 @@ module _ (schema : DatabaseSchema) (world : FactSet) where
   all_later earlier events event (user ∷ users) all = (one_later earlier events event user all.0, all_later earlier events event users all.1)
 
   -- an append that failed is told
-  broken_told : (told : Reply) (added : Option AnsweredQuery) → is_some added ≡ true → reply_at_failure told added ≡ desk_broken
-  broken_told told None some = let clash : false ≡ true = some in absurd cc
-  broken_told told (Some entry) some = refl
+  broken_told : (user : UserProfile) (told : Reply) (added : Option AnsweredQuery) → is_some added ≡ true → reply_at_failure schema world user told added ≡ desk_broken
+  broken_told user told None some = let clash : false ≡ true = some in absurd cc
+  broken_told user told (Some entry) some = refl
 
   module _ (users : List NamedUser) where
     ask_kept : (earlier events : List ScriptEvent) (name : Text) (session : ℕ) (text : Text) (ending : _) (user : NamedUser) → find (λ u. bytes_eq u.name name) users ≡ Some user
@@ -80,7 +84,7 @@ module _ (schema : DatabaseSchema) (world : FactSet) where
         let own : bytes_eq name user.name ≡ true = (bytes_eq-Decides name user.name).1 (sym named) in
         let caused : AreCaused schema world user.profile (state_after schema world user earlier) ((if bytes_eq name user.name then ask text failed ∷ [] else []) ++ own_events user.name events) = one.0 in
         let first = subst (λ (t : Bool). AreCaused schema world user.profile (state_after schema world user earlier) ((if t then ask text failed ∷ [] else []) ++ own_events user.name events)) own caused in
-        let told = broken_told (reply_at schema world user.profile (state_after schema world user earlier) text) (entry_at schema world user.profile (state_after schema world user earlier) text) first.0 in
+        let told = broken_told user.profile (reply_at schema world user.profile (state_after schema world user earlier) text) (entry_at schema world user.profile (state_after schema world user earlier) text) first.0 in
         let said : is_broken_line (reply_line name session (told_after schema world earlier text failed (Some user))) ≡ true = ap (λ r. is_broken_line (reply_line name session (Some r))) told in
         let clash : true ≡ false = sym said ∙ ap (λ u. is_broken_line (reply_line name session (told_after schema world earlier text failed u))) (sym found) ∙ whole in absurd cc
 
@@ -159,3 +163,17 @@ module _ (schema : DatabaseSchema) (world : FactSet) (header : List ℕ) (journa
         all_opened = all_open answers.found answers.opened answers.events answers.users refusals all.refused none;
         lines = all.appended ∙ answers.lines;
       })
+
+  -- the same of the batch of a script, whose output was empty before
+  pub batch_undisturbed : (policy : List NamedUser) (items : List BatchItem) (script left after old new : List ℕ) (policy' : List NamedUser) (refusals : List (Option DeskError)) (is_broken : Bool)
+      → left ≡ script → batch_of script ≡ Ok items → old ≡ [] → is_broken ≡ false → policy' ≡ policy → list_any is_some refusals ≡ false
+      → AllByRecursion IsEmpty policy → AllByRecursion (IsOfUser policy) items
+      → (after ≡ []) × (items' : List BatchItem) × (batch_of left ≡ Ok items') × AppendsAll schema world header journals policy' items' old new refusals is_broken
+      → IsOutput schema world policy items new
+  batch_undisturbed policy items script left after old new policy' refusals is_broken same read none whole same_policy unrefused empty named (ended, items', read', all) =
+      let again : items' ≡ items = one_script items' items (batch_of left) read' (ap batch_of same ∙ read) in
+      undisturbed policy items new refusals empty named
+      (subst (λ b. AppendsAll schema world header journals policy items [] new refusals b) whole
+      (subst (λ o. AppendsAll schema world header journals policy items o new refusals is_broken) none
+      (subst (λ l. AppendsAll schema world header journals policy l old new refusals is_broken) again
+      (subst (λ p. AppendsAll schema world header journals p items' old new refusals is_broken) same_policy all)))) unrefused

@@ -1,7 +1,8 @@
 -- The workload, from the making of its journals to the tally of its replies.
 use Rattle.std.proofs.Common.{◌≡◌, ◌∙◌, sym, ap, subst, refl, ℕ, zero, suc, ◌+◌, ◌%◌, ◌<◌, ◌≤◌, Bool, true, false, List, [], ◌∷◌, ◌++◌, map, length, Option, Some, None, Result, Ok, Err, decimal, arith}
-use Rattle.std.specs.Prelude.{find, cond, bytes_eq, slice_get, string_bytes}
-use Rattle.std.specs.List.{list_all, range_with_len, AllByRecursion}
+use Rattle.std.specs.Prelude.{find, cond, bytes_eq, slice_get, String, string_bytes}
+use Rattle.std.specs.declared.alloc.Global.{Global}
+use Rattle.std.specs.List.{flat_map, list_all, range_with_len, AllByRecursion}
 use Rattle.std.proofs.Math.Nat.{mod-lt}
 use Rattle.std.proofs.lemmas.Slice.Eq.{bytes_eq-Decides}
 use Rattle.cqe_base.specs.Schema.{Text, DatabaseSchema, has_duplicate}
@@ -15,6 +16,10 @@ use Rattle.batch_engine.specs.BatchLines.{BatchItem, asked, restarted, batch_of}
 use Rattle.batch_engine.specs.Batch.{AreEventsOf, with_opening}
 use Rattle.batch_engine.specs.Crew.{named_user}
 use Rattle.batch_engine.specs.Shelved.{bytes_on}
+use Rattle.policy_files.specs.declared.error.PolicyError.{PolicyError}
+use Rattle.policy_files.specs.declared.error.FactsError.{FactsError}
+use Rattle.policy_files.specs.Policy.{policy_in}
+use Rattle.policy_files.specs.Facts.{facts_of}
 use Rattle.policy_files.specs.Policies
 use Rattle.policy_files.specs.Policies.{PolicyValue}
 use Rattle.policy_files.specs.Memory.{named_user_of, policy_value_of}
@@ -65,7 +70,7 @@ module _ {D : Type 0} (reads : D → List ℕ) (image : D → List ℕ → Type 
 -- a user of the workload has the name of a number below their count
 has_user : (seed k a n : ℕ) → a ≤ k → k < a + n → (user : NamedUser) × (find (λ u. bytes_eq u.name (user_name k)) (map without_entries (map (workload_user seed) (range_with_len a n))) ≡ Some user)
 has_user seed k a zero low high = absurd (omega (arith, low, high))
-has_user seed k a (suc n) low high = by (bytes_eq (user_name a) (user_name k)) refl
+has_user seed k a (suc n) low high = by (bytes_eq (user_name a) (user_name k)) refl (λ later. has_user seed k (a + 1) n later (omega (arith, high)))
   where
     rest : List NamedUser
     rest = map without_entries (map (workload_user seed) (range_with_len (a + 1) n))
@@ -73,18 +78,19 @@ has_user seed k a (suc n) low high = by (bytes_eq (user_name a) (user_name k)) r
     first : NamedUser
     first = without_entries (workload_user seed a)
 
-    by : (t : Bool) → bytes_eq (user_name a) (user_name k) ≡ t → (user : NamedUser) × (cond (bytes_eq (user_name a) (user_name k)) (Some first) (find (λ u. bytes_eq u.name (user_name k)) rest) ≡ Some user)
-    by true is = (first, ap (λ t. cond t (Some first) (find (λ u. bytes_eq u.name (user_name k)) rest)) is)
-    by false is =
-        let further = has_user seed k (a + 1) n (apart (λ same. let clash : true ≡ false = sym ((bytes_eq-Decides (user_name a) (user_name k)).1 (ap user_name same)) ∙ is in cc)) (omega (arith, high)) in
-        (further.0, ap (λ t. cond t (Some first) (find (λ u. bytes_eq u.name (user_name k)) rest)) is ∙ further.1)
-
     apart : (a ≡ k → ⊥) → a + 1 ≤ k
     apart differ = grind (arith, low, differ)
 
+    by : (t : Bool) → bytes_eq (user_name a) (user_name k) ≡ t → (a + 1 ≤ k → (user : NamedUser) × (find (λ u. bytes_eq u.name (user_name k)) rest ≡ Some user))
+        → (user : NamedUser) × (cond (bytes_eq (user_name a) (user_name k)) (Some first) (find (λ u. bytes_eq u.name (user_name k)) rest) ≡ Some user)
+    by true is later = (first, ap (λ t. cond t (Some first) (find (λ u. bytes_eq u.name (user_name k)) rest)) is)
+    by false is later =
+        let further = later (apart (λ same. let clash : true ≡ false = sym ((bytes_eq-Decides (user_name a) (user_name k)).1 (ap user_name same)) ∙ is in cc)) in
+        (further.0, ap (λ t. cond t (Some first) (find (λ u. bytes_eq u.name (user_name k)) rest)) is ∙ further.1)
+
 of_users : (seed users : ℕ) → 0 < users → (numbers : List ℕ) → AllByRecursion (IsOfUser (workload_users seed users)) (map (workload_ask seed users) numbers)
 of_users seed users some [] = tt
-of_users seed users some (t ∷ numbers) = (has_user seed (t % users) 0 users (omega arith) (mod-lt t {m = users} some), of_users seed users some numbers)
+of_users seed users some (t ∷ numbers) = (has_user seed (t % users) 0 users (omega arith) (let less = mod-lt t {m = users} some in omega (arith, less)), of_users seed users some numbers)
 
 -- the name of an ask is one word
 abbrev IsPlainItem : BatchItem → Type 0
@@ -110,6 +116,12 @@ plain_lines schema world users earlier (script_stop name text ∷ events) (resta
 plain_lines schema world users earlier (script_opening found opened ∷ events) (restarted ∷ items) of plain = absurd of.0
 
 -- ---- the tally
+
+one_policy : (a b : PolicyValue) (read : Result PolicyValue PolicyError) → read ≡ Ok a → read ≡ Ok b → a ≡ b
+one_policy a b read first second = cc
+
+one_world : (a b : FactSet) (read : Result FactSet FactsError) → read ≡ Ok a → read ≡ Ok b → a ≡ b
+one_world a b read first second = cc
 
 same_users : (users : List User) → map named_user users ≡ map without_entries (map named_user_of users)
 same_users [] = refl
@@ -142,3 +154,24 @@ module _ (seed users asks : ℕ) (some : 0 < users) where
       (subst (λ us. IsOutput workload_schema (workload_world seed) us (workload_script seed users asks) bytes) named
       (subst (λ w. IsOutput workload_schema w (map named_user policy.users.items) (workload_script seed users asks) bytes) same_world
       (subst (λ s. IsOutput s world (map named_user policy.users.items) (workload_script seed users asks) bytes) (ap (λ (p : PolicyValue). p.schema) value) written)))
+
+  -- the same, by what was read of the workload's files
+  pub tallied : (policy : Policy) (world : FactSet) (given given' facts facts' script bytes : List ℕ) (tally : Tally)
+      → given' ≡ given → policy_in given ≡ Ok (workload_policy seed users) → policy_in given' ≡ Ok (policy_value_of policy)
+      → facts' ≡ facts → facts_of workload_schema facts ≡ Ok (workload_world seed) → facts_of policy.schema facts' ≡ Ok world
+      → batch_of script ≡ Ok (workload_script seed users asks) → tally ≡ tally_in bytes
+      → ((items : List BatchItem) → batch_of script ≡ Ok items → AllByRecursion (IsOfUser (map named_user policy.users.items)) items → IsOutput policy.schema world (map named_user policy.users.items) items bytes)
+      → IsTally seed users asks tally
+  tallied policy world given given' facts facts' script bytes tally same says read same_facts states stated said is output =
+      let value : policy_value_of policy ≡ workload_policy seed users = one_policy (policy_value_of policy) (workload_policy seed users) (policy_in given') read (ap policy_in same ∙ says) in
+      let schema : policy.schema ≡ workload_schema = ap (λ (p : PolicyValue). p.schema) value in
+      let here : world ≡ workload_world seed = one_world world (workload_world seed) (facts_of policy.schema facts') stated ((λ i. facts_of (schema i) (same_facts i)) ∙ states) in
+      tally_from policy world script bytes tally value here said is output
+
+-- lines, and their texts
+pub texts_are : (lines : List (String Global)) (texts : List Text) → map string_bytes lines ≡ texts → flat_map string_bytes lines ≡ flat_map (λ line. line) texts
+texts_are lines texts are = flat lines ∙ ap (flat_map (λ line. line)) are
+  where
+    flat : (lines : List (String Global)) → flat_map string_bytes lines ≡ flat_map (λ line. line) (map string_bytes lines)
+    flat [] = refl
+    flat (line ∷ lines) = ap (λ l. string_bytes line ++ l) (flat lines)

@@ -20,11 +20,11 @@ use Rattle.selfrun_engine.specs.declared.end.SelfrunEnd.TheVariants.{Done, Write
 abbrev pub without_entries : NamedUser → Transcript.NamedUser
 without_entries user = record { name = user.name; profile = user.profile; opened = [] }
 
-module _ (seed users asks : ℕ) where
-  -- the users of the workload, with empty histories
-  abbrev pub workload_users : List Transcript.NamedUser
-  workload_users = map without_entries (workload_policy seed users).users
+-- the users of the workload, with empty histories
+abbrev pub workload_users : ℕ → ℕ → List Transcript.NamedUser
+workload_users seed users = map without_entries (workload_policy seed users).users
 
+module _ (seed users asks : ℕ) where
   -- The tally of a run: of the replies in the lines of the transcript of the workload's script, from empty histories. Each user's journal was opened, and no append failed.
   pub record IsTally (tally : Tally) : Type 0 where
     pub found : Text → Bool
@@ -32,8 +32,8 @@ module _ (seed users asks : ℕ) where
     pub events : List ScriptEvent
     pub of_script : AreEventsOf (workload_script seed users asks) events
     pub all_kept : AllByRecursion IsKeptOrWant events
-    pub all_opened : AllByRecursion (λ user. opened user.name ≡ true) workload_users
-    pub counts : tally ≡ tally_of (transcript workload_schema (workload_world seed) workload_users (with_opening found opened events))
+    pub all_opened : AllByRecursion (λ user. opened user.name ≡ true) (workload_users seed users)
+    pub counts : tally ≡ tally_of (transcript workload_schema (workload_world seed) (workload_users seed users) (with_opening found opened events))
 
   -- what each end says of the output before and after
   abbrev pub IsEnd : SelfrunEnd → List ℕ → List ℕ → Type 0

@@ -19,17 +19,16 @@ pub(crate) fn summary_lines(
 ) -> Result<Vec<String>, AllocError>
     ensures { IfOk result (λ lines. map string_bytes lines.items ≡ summary_lines seed users asks tally.now) }
 {
-    let lines = [
-        line(alloc, "seed", seed)?,
-        line(alloc, "users", u64::from(users))?,
-        line(alloc, "asks", u64::from(asks))?,
-        line(alloc, "yes", tally.yes)?,
-        line(alloc, "no", tally.no)?,
-        line(alloc, "refused", tally.refused)?,
-        line(alloc, "undecided", tally.undecided)?,
-        line(alloc, "errors", tally.errors)?,
-    ];
-    Vec::from_array(alloc, lines)
+    let mut lines = Vec::new(alloc);
+    lines.push(line(alloc, "seed", seed)?)?;
+    lines.push(line(alloc, "users", u64::from(users))?)?;
+    lines.push(line(alloc, "asks", u64::from(asks))?)?;
+    lines.push(line(alloc, "yes", tally.yes)?)?;
+    lines.push(line(alloc, "no", tally.no)?)?;
+    lines.push(line(alloc, "refused", tally.refused)?)?;
+    lines.push(line(alloc, "undecided", tally.undecided)?)?;
+    lines.push(line(alloc, "errors", tally.errors)?)?;
+    Ok(lines)
 }
 
 // A word and a number.
