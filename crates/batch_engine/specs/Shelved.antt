@@ -7,7 +7,7 @@ use Rattle.cqe_base.specs.Facts.{FactSet}
 use Rattle.cqe_base.specs.declared.user.User.{User}
 use Rattle.log_journal.specs.Names.{journal_name}
 use Rattle.batch_engine.specs.Batch.{Journals}
-use Rattle.batch_engine.specs.Crew.{seat_user, seat_journal, seat_disk, IsLeft, IsOpenedFrom}
+use Rattle.batch_engine.specs.Crew.{seat_user, seat_journal, seat_disk, IsLeft, IsClosed, IsOpenedFrom}
 use Rattle.batch_engine.specs.declared.seat.Seat.{Seat}
 
 -- the bytes that a shelf's disk reads; none where there is no disk
@@ -66,7 +66,7 @@ NoneFell old new = (name : Text) → old name ≤ new name
 abbrev pub AreOut : List Text → (Text → Bool) → Type 0
 AreOut names is_out = (name : Text) → is_out name ≡ is_among names name
 
--- no seat's disk has a lower count than its name
+-- no seat's disk had a lower count than its name as its desk was opened
 abbrev pub AreLater : {D : Type 0} {g : _} → (D → ℕ) → (Text → ℕ) → List (Seat D g) → Type 0
 AreLater faults count [] = Unit {0}
 AreLater faults count (seat ∷ seats) = (count (seat_journal seat) ≤ faults (seat_disk seat)) × AreLater faults count seats
@@ -74,8 +74,10 @@ AreLater faults count (seat ∷ seats) = (count (seat_journal seat) ≤ faults (
 module _ {D : Type 0} (told : Type 0) (reads : D → List ℕ) (image : D → List ℕ → Type 0) (faults : D → ℕ) where
   -- a seat's disk is back, as its desk left it or as one more opening did
   pub record IsBack {g : _} (disk : Text → Option D) (count : Text → ℕ) (seat : Seat D g) : Type 0 where
+    pub closed : D
+    pub is_closed : IsClosed told image faults seat.desk closed
     pub now : D
-    pub left : IsLeft reads image faults (seat_disk seat) now
+    pub left : IsLeft reads image faults closed now
     pub held : told → disk (seat_journal seat) ≡ Some now
     pub counted : count (seat_journal seat) ≡ faults now
 

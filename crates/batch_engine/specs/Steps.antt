@@ -19,7 +19,7 @@ module _ (schema : DatabaseSchema) (world : FactSet) (header : List ℕ) {D : Ty
   -- what an item does: an ask is told to the user of its name, and a restart closes and opens every desk; its line, and whether that says that an append failed
   abbrev pub Carries : {g : _} → BatchItem → List (Seat D g) → List (Seat D g) → List ℕ → Bool → Type 0
   Carries (asked ask) old new line is_broken =
-      (reply : Option Reply) × Tells schema world header told reads image faults ask.name ask.text old new reply
+      (reply : Option Reply) × Tells schema world ask.name ask.text old new reply
       × (line ≡ line_text (reply_line ask.name ask.session reply) ++ 10 ∷ []) × (is_broken ≡ is_broken_reply reply)
   Carries restarted old new line is_broken =
       AreReopened schema world header told reads image faults old new × (line ≡ line_text restart_line ++ 10 ∷ []) × (is_broken ≡ false)

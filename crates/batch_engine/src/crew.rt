@@ -12,17 +12,17 @@ ghost use Rattle.cqe_base.specs.Limits.{KeepsLimits};
 ghost use Rattle.log_journal.specs.Opening.{header_bytes};
 ghost use Rattle.log_journal.specs.Names.{journal_name};
 ghost use Rattle.user_log.specs.Replies.{reply_of};
-ghost use Rattle.user_desk.specs.Desks.{desk_schema, desk_world, desk_user, desk_header};
-ghost use Rattle.batch_engine.specs.Crew.{named_user, seat_user, is_named, IsServed, IsToldAt, Tells, AreReopened};
+ghost use Rattle.batch_engine.specs.Crew.{named_user, seat_user, seat_kept, is_named, IsServed, Tells, AreReopened};
 ghost use Rattle.batch_engine.specs.Shelved.{journals, SameBeside, AllOut, AllIn, NoneOut, NoneFell, AreOut, AreLater, AreBack, IsSeatOf, AreSeatsOf, SameBytes};
 ghost use Rattle.batch_engine.specs.declared.crew.NotOpened.{NotOpened};
 
 use crate::registry::Registry;
-use crate::seat::{Seat, reopen, seat_at};
+use crate::seat::{Seat, close_desk, reopen, seat_at, settle_at};
 use cqe_base::user::User;
 use log_journal::{journal_name, law_journals_differ};
-use outside::{Disk, Shelf, ShelfError};
+use outside::{Disk, Gate, Shelf, ShelfError};
 use std::alloc::{AllocError, Global};
+use std::sync::Wait;
 use user_log::Reply;
 
 /// Why the journals of a batch weren't opened.
@@ -56,7 +56,7 @@ pub(crate) fn give_back<F: Shelf>(shelf: &mut F, seats: Vec<Seat<'_, F::D>>)
 {
     let mut seats = seats;
     while let Some(seat) = seats.pop() {
-        let disk = seat.desk.close();
+        let disk = close_desk(seat.desk);
         shelf.give_disk(seat.journal.as_str(), disk);
     }
 }
@@ -187,30 +187,21 @@ fn place_of<D: Disk>(seats: &[Seat<'_, D>], name: &str) -> Option<usize>
         .position(|seat| seat.user.name.as_str() == name)
 }
 
-/// The reply to a text of the user of a seat.
-fn settle_at<D: Disk>(alloc: Global, seat: &mut Seat<'_, D>, text: &str) -> Reply
-    requires short { length text.now ≤ 4096 }
-    requires user { desk_user seat.old.desk ≡ profile_of (seat_user seat.old) }
-    ensures { IsToldAt (desk_schema seat.old.desk) (desk_world seat.old.desk) (desk_header seat.old.desk) D.told D.reads D.image D.faults text.now (reply_of result) seat.old seat.new }
-{
-    let reply = seat.desk.settle(alloc, text);
-    seat.desk.known();
-    reply
-}
-
 /// The reply to a text of the user who has this name, if one has.
-pub(crate) fn answer<D: Disk>(
+pub(crate) fn answer<R: Wait, G: Gate, D: Disk>(
+    rt: &R,
     alloc: Global,
     seats: &mut Vec<Seat<'_, D>>,
     name: &str,
     text: &str,
+    gate: &G,
 ) -> Option<Reply>
     requires short { length text.now ≤ 4096 }
-    requires users { AllByRecursion (λ seat. desk_user seat.desk ≡ profile_of (seat_user seat)) seats.old.items }
+    requires users { AllByRecursion (λ seat. (seat_kept seat).user ≡ profile_of (seat_user seat)) seats.old.items }
     ensures told { (schema : DatabaseSchema) (world : FactSet) (header : List ℕ) → AllByRecursion (IsServed schema world header) seats.old.items
-        → Tells schema world header D.told D.reads D.image D.faults name.now text.now seats.old.items seats.new.items (option_map reply_of result) }
+        → Tells schema world name.now text.now seats.old.items seats.new.items (option_map reply_of result) }
 {
     let place = place_of(seats.as_slice(), name)?;
     let seat = &mut seats[place];
-    Some(settle_at(alloc, seat, text))
+    Some(settle_at(rt, alloc, seat, text, gate))
 }

@@ -28,9 +28,10 @@ use cqe_base::laws::{law_legal_grows, law_private, law_runs_legal, law_scripts_h
 use cqe_base::text::ScriptError;
 use line_protocol::{LineText, text_of};
 use log_journal::law_journals_differ;
-use outside::{Disk, Failed, Shelf, Sink, Source, write_all};
+use outside::{Disk, Failed, Gate, Shelf, Sink, Source, write_all};
 use script_lines::{Reading, read_script};
 use std::alloc::Global;
+use std::sync::Wait;
 use user_desk::DeskError;
 use user_desk::laws::law_openings;
 use user_log::Reply;
@@ -103,12 +104,14 @@ fn is_broken_reply(told: Option<Reply>) -> bool
 
 /// Does what an item says: the seats behind it, its line, and whether that says that an append failed. Where memory is
 /// wanting at a restart, all disks are back.
-fn carry_out<'w, F: Shelf>(
+fn carry_out<'w, R: Wait, G: Gate, F: Shelf>(
+    rt: &R,
     alloc: Global,
     registry: &Registry<'w>,
     shelf: &mut F,
     seats: Vec<Seat<'w, F::D>>,
     item: &BatchItem,
+    gate: &G,
 ) -> Option<(Vec<Seat<'w, F::D>>, LineText, bool)>
     requires limits { AllByRecursion (λ seat. KeepsLimits registry.now.schema.now (profile_of (seat_user seat))) seats.items }
     requires served { AllByRecursion (IsServed registry.now.schema.now registry.now.world.now (header_bytes registry.now.header.now)) seats.items }
@@ -127,7 +130,14 @@ fn carry_out<'w, F: Shelf>(
     match item {
         BatchItem::Ask(ask) => {
             let mut seats = seats;
-            let told = answer(alloc, &mut seats, ask.name.as_str(), ask.text.as_str());
+            let told = answer(
+                rt,
+                alloc,
+                &mut seats,
+                ask.name.as_str(),
+                ask.text.as_str(),
+                gate,
+            );
             Some((seats, line_of(ask, told), is_broken_reply(told)))
         }
         BatchItem::Restart => {
@@ -138,13 +148,15 @@ fn carry_out<'w, F: Shelf>(
 }
 
 /// Answers the items of a batch, each in a line.
-fn answer_all<'w, F: Shelf, K: Sink>(
+fn answer_all<'w, R: Wait, G: Gate, F: Shelf, K: Sink>(
+    rt: &R,
     alloc: Global,
     registry: &Registry<'w>,
     shelf: &mut F,
     seats: Vec<Seat<'w, F::D>>,
     batch: &Batch,
     sink: &mut K,
+    gate: &G,
 ) -> Answered<'w, F::D>
     requires limits { AllByRecursion (λ seat. KeepsLimits registry.now.schema.now (profile_of (seat_user seat))) seats.items }
     requires served { AllByRecursion (IsServed registry.now.schema.now registry.now.world.now (header_bytes registry.now.header.now)) seats.items }
@@ -164,7 +176,7 @@ fn answer_all<'w, F: Shelf, K: Sink>(
     let mut seats = seats;
     let mut is_broken = false;
     for item in batch.items() {
-        let Some((next, line, says_broken)) = carry_out(alloc, registry, shelf, seats, item) else {
+        let Some((next, line, says_broken)) = carry_out(rt, alloc, registry, shelf, seats, item, gate) else {
             return Answered::Memory;
         };
         seats = next;
@@ -194,14 +206,17 @@ fn refusals_of<D: Disk>(
 }
 
 /// Reads the whole script of a batch from the source, refuses it before the first ask, or opens the journals of all users
-/// and answers its asks with one line each. A restart closes every desk and opens it again from its disk. All disks are
-/// given back on every path.
-pub fn run_batch<F: Shelf, S: Source, K: Sink>(
+/// and answers its asks with one line each. Each desk stands under a counter, at which an ask is settled as those of
+/// threads are, and passes the gate. A restart closes every desk and opens it again from its disk. All disks are given
+/// back on every path. It may wait, at the counters and at the gate.
+pub fn run_batch<R: Wait, F: Shelf, S: Source, K: Sink, G: Gate>(
+    rt: &R,
     alloc: Global,
     registry: &Registry<'_>,
     shelf: &mut F,
     source: &mut S,
     sink: &mut K,
+    gate: &G,
 ) -> BatchEnd
     requires limits { All (λ user. KeepsLimits registry.now.schema.now (profile_of user)) registry.now.users.now }
     requires names { has_duplicate (map (λ user. user.name) (map named_user registry.now.users.now)) ≡ false }
@@ -241,7 +256,7 @@ pub fn run_batch<F: Shelf, S: Source, K: Sink>(
         Err(NotOpened::Shelf) => return BatchEnd::ShelfFault,
         Err(NotOpened::Memory) => return BatchEnd::Memory,
     };
-    match answer_all(alloc, registry, shelf, seats, &batch, sink) {
+    match answer_all(rt, alloc, registry, shelf, seats, &batch, sink, gate) {
         Answered::All(seats, is_broken) => {
             let refusals = refusals_of(room, seats.as_slice());
             give_back(shelf, seats);

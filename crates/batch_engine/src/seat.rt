@@ -1,16 +1,20 @@
 //! A user of a batch at his desk.
 
-ghost use Rattle.std.specs.Prelude.{◌≡◌, IfOk, string_bytes};
+ghost use Rattle.std.specs.Prelude.{◌≡◌, ◌≤◌, length, IfOk, string_bytes};
 ghost use Rattle.cqe_base.specs.History.{profile_of};
 ghost use Rattle.cqe_base.specs.Limits.{KeepsLimits};
 ghost use Rattle.log_journal.specs.Opening.{header_bytes};
-ghost use Rattle.batch_engine.specs.Crew.{first_refusal, seat_user, seat_journal, seat_disk, disk_seated, journal_seated, IsLeft, IsOpenedFrom, IsReopened};
+ghost use Rattle.user_log.specs.Replies.{reply_of};
+ghost use Rattle.batch_engine.specs.Crew.{first_refusal, seat_user, seat_kept, seat_journal, disk_seated, journal_seated, IsLeft, IsClosed, IsToldAt, IsOpenedFrom, IsReopened};
 
 use crate::registry::Registry;
 use cqe_base::user::User;
-use outside::Disk;
+use desk_counter::SoleCounter;
+use outside::{Disk, Gate};
 use std::alloc::Global;
-use user_desk::{Desk, DeskError, Standing, open_desk};
+use std::sync::Wait;
+use user_desk::{DeskError, Standing, open_desk};
+use user_log::Reply;
 
 /// A user at his desk.
 #[derive(Drop)]
@@ -18,7 +22,8 @@ pub(crate) struct Seat<'w, D: Disk> {
     pub user: &'w User,
     /// The name of his journal on the shelf.
     pub journal: String,
-    pub desk: Desk<'w, D>,
+    /// His desk under a counter, from its opening to its close.
+    pub desk: SoleCounter<'w, D>,
     /// Why an opening of his journal was refused first, if one was.
     pub refusal: Option<DeskError>,
 }
@@ -68,18 +73,46 @@ pub(crate) fn seat_at<'w, D: Disk>(
         Ok(desk) => {
             desk.known();
             let refusal = first_refusal(before, desk.standing());
-            Ok(Seat {
-                user,
-                journal,
-                desk,
-                refusal,
-            })
+            match SoleCounter::new(alloc, desk) {
+                Ok(desk) => Ok(Seat {
+                    user,
+                    journal,
+                    desk,
+                    refusal,
+                }),
+                Err(desk) => Err(Returned {
+                    journal,
+                    disk: desk.close(),
+                }),
+            }
         }
         Err(refused) => Err(Returned {
             journal,
             disk: refused.disk,
         }),
     }
+}
+
+/// The reply to a text of the user of a seat.
+pub(crate) fn settle_at<R: Wait, G: Gate, D: Disk>(
+    rt: &R,
+    alloc: Global,
+    seat: &mut Seat<'_, D>,
+    text: &str,
+    gate: &G,
+) -> Reply
+    requires short { length text.now ≤ 4096 }
+    requires user { (seat_kept seat.old).user ≡ profile_of (seat_user seat.old) }
+    ensures { IsToldAt (seat_kept seat.old).schema (seat_kept seat.old).world text.now (reply_of result) seat.old seat.new }
+{
+    seat.desk.ask(rt, alloc, text, gate)
+}
+
+/// Closes a desk.
+pub(crate) fn close_desk<D: Disk>(desk: SoleCounter<'_, D>) -> D
+    ensures { IsClosed D.told D.image D.faults desk.entry result }
+{
+    desk.close().close()
 }
 
 /// Closes a desk and opens it again from its disk.
@@ -91,8 +124,8 @@ pub(crate) fn reopen<'w, D: Disk>(
     requires { KeepsLimits registry.now.schema.now (profile_of (seat_user seat)) }
     ensures reopened { IfOk result (IsReopened registry.now.schema.now registry.now.world.now (header_bytes registry.now.header.now) D.told D.reads D.image D.faults seat.entry) }
     ensures journal { journal_seated result ≡ seat_journal seat.entry }
-    ensures left { IsLeft D.reads D.image D.faults (seat_disk seat.entry) (disk_seated result) }
+    ensures left { (closed : D) × IsClosed D.told D.image D.faults seat.entry.desk closed × IsLeft D.reads D.image D.faults closed (disk_seated result) }
 {
-    let disk = seat.desk.close();
+    let disk = close_desk(seat.desk);
     seat_at(alloc, registry, seat.user, seat.journal, seat.refusal, disk)
 }

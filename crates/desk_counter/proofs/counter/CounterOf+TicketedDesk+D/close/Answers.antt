@@ -1,12 +1,19 @@
-use Rattle.std.proofs.Common.{ap, sym, ◌∙◌}
+use Rattle.std.proofs.Common.{ap, sym, ◌∙◌, subst, ◌≡◌, ℕ, List}
+use Rattle.outside.specs.Disk.{Elapses}
 use Rattle.user_desk.specs.declared.desk.Desk.{Desk}
-use Rattle.user_desk.specs.Desks.{desk_history, entry_in_flight}
+use Rattle.user_desk.specs.Standings.{is_sealed}
+use Rattle.user_desk.specs.Desks.{desk_history, desk_disk, entry_in_flight}
+use Rattle.turnstile.specs.Passes.{seen}
+use Rattle.desk_counter.specs.declared.item.Fixed.{Fixed}
 use Rattle.desk_counter.specs.Items.{history_of, flying}
+use Rattle.desk_counter.specs.Desks.{fixed_of}
+use Rattle.desk_counter.specs.Tickets.{fixed_in}
+use Rattle.desk_counter.specs.Counters.{kept_by}
+use Rattle.desk_counter.proofs.Asking.{one_fixed}
 use Rattle.desk_counter.proofs.DeskSettles.{history_in, flying_in}
+use Rattle.desk_counter.proofs.Closing.{closed_legal, closed_sizes, closed_whole, closed_images, closed_since, closed_cause}
 use Rattle.desk_counter.proofs.counter.CounterOf+TicketedDesk+D.close.Goals as goal
 
-pub returns-clause-history : goal.returns-clause-history
-returns-clause-history g c = ap (λ (d : Desk g.row.D.Denot g.D.Disk). desk_history d) c.into_desk.ensures ∙ sym (history_in c.close.result) ∙ ap (λ ps. history_of ps) c.close.ensures.entries
-
-pub returns-clause-in_flight : goal.returns-clause-in_flight
-returns-clause-in_flight g c = ap (λ (d : Desk g.row.D.Denot g.D.Disk). entry_in_flight d) c.into_desk.ensures ∙ sym (flying_in c.close.result) ∙ ap (λ ps. flying ps) c.close.ensures.entries
+module _ (g : goal.Ghosts) (c : goal.Context g) where
+  x : ?
+  x = ?
