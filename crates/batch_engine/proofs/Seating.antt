@@ -12,17 +12,20 @@ use Rattle.cqe_base.specs.Run.{Reply, Ending, Event, ask, restart, UserState, op
 use Rattle.cqe_base.specs.Transcript.{NamedUser, ScriptEvent, script_ask, script_restart, script_opening, own_event, own_events, state_after, told_after}
 use Rattle.outside.specs.Shelf.{IsTaken}
 use Rattle.user_desk.specs.Causes.{Opens, Refuses, IsStanding}
-use Rattle.user_desk.specs.Lives.{Holds, Settles, Restarts, IsState}
+use Rattle.user_desk.specs.Lives.{Holds, Restarts, IsState}
 use Rattle.user_desk.specs.Standings.{is_sealed}
-use Rattle.user_desk.specs.Desks.{desk_standing, desk_history, entry_in_flight, state_of, IsIn}
+use Rattle.desk_counter.specs.declared.item.Fixed.{Fixed}
+use Rattle.desk_counter.specs.Items.{flying}
+use Rattle.desk_counter.specs.Lives.{IsAskOf}
+use Rattle.desk_counter.specs.Sole.{pairs_of_sole}
 use Rattle.user_desk.specs.declared.standing.DeskError.{DeskError}
 use Rattle.log_journal.specs.Names.{journal_name}
 use Rattle.batch_engine.specs.Lives.{OpensNone, IsOpening}
 use Rattle.batch_engine.specs.Batch.{unopened}
 use Rattle.batch_engine.specs.Shelved.{bytes_on, IsSeatOf, AreSeatsOf}
-use Rattle.batch_engine.specs.Crew.{named_user, first_refusal, seat_user, seat_name, seat_journal, seat_disk, is_named, IsLeft, IsServed, IsOpenedFrom, IsToldAt, IsReopened, AreReopened, Tells, nobody, here, further}
+use Rattle.batch_engine.specs.Crew.{named_user, first_refusal, seat_user, seat_name, seat_journal, seat_kept, seat_standing, seat_history, seat_state, seat_disk, IsSeatIn, is_named, IsLeft, IsClosed, IsServed, IsOpenedFrom, IsToldAt, IsReopened, AreReopened, Tells, nobody, here, further}
 use Rattle.batch_engine.specs.declared.seat.Seat.{Seat}
-use Rattle.batch_engine.proofs.Courses.{Course, course_on, IsRunning, Asked, ask_step, Restarted, IsExclusive, Known, open_step}
+use Rattle.batch_engine.proofs.Courses.{Course, course_on, IsRunning, IsLiving, live, closing, Asked, ask_step, Restarted, IsExclusive, Known, open_step}
 
 -- ---- lists and texts
 
@@ -92,7 +95,7 @@ module _ (schema : DatabaseSchema) (world : FactSet) (header directory : List �
     pub profile_is : profile_of (seat_user seat) ≡ user.profile
     pub journal_is : seat_journal seat ≡ journal_name directory user.name
     pub served : IsServed schema world header seat
-    pub running : IsRunning schema world user.profile header (bytes user.name) (before user.name) user.opened events (desk_standing seat.desk) (state_of seat.desk) (image (seat_disk seat)) (reads (seat_disk seat)) (faults (seat_disk seat)) seat.refusal
+    pub living : IsLiving schema world user.profile header (bytes user.name) (before user.name) user.opened events (seat_standing seat) (seat_state seat) (reads (seat_disk seat)) (faults (seat_disk seat)) seat.refusal
 
   -- all do, behind the events of a script
   abbrev pub AreSeated : List ScriptEvent → List NamedUser → List (Seat D g) → Type 0
@@ -107,19 +110,14 @@ module _ (schema : DatabaseSchema) (world : FactSet) (header directory : List �
     reply : told ≡ reply_to_ask schema world user.profile (after_events schema world user.profile (opening schema world user.profile user.opened) events) text ending
     seated : IsSeated user (events ++ ask text ending ∷ []) seat
 
-  ask_at : (user : NamedUser) (events : List Event) (old new : Seat D g) (text : Text) (told : Reply) → IsSeated user events old → IsToldAt schema world header T reads image faults text told old new → AskedAt user events new text told
+  ask_at : (user : NamedUser) (events : List Event) (old new : Seat D g) (text : Text) (told : Reply) → IsSeated user events old → IsToldAt schema world text told old new → AskedAt user events new text told
   ask_at user events old new text told seated answer =
-      let standing = desk_standing old.desk in
-      let same = answer.standing_is in
+      let kept = answer.kept_is in
       let profile : profile_of (seat_user old) ≡ user.profile = seated.profile_is in
-      let asked : Asked schema world user.profile header (bytes user.name) (before user.name) user.opened events standing (state_of new.desk) (image (seat_disk new)) (reads (seat_disk new)) (faults (seat_disk new)) old.refusal text told =
-      ask_step schema world user.profile header (bytes user.name) (before user.name) user.opened events standing (state_of old.desk) (state_of new.desk) (image (seat_disk old)) (image (seat_disk new)) (reads (seat_disk old)) (reads (seat_disk new))
-      (faults (seat_disk old)) (faults (seat_disk new)) old.refusal text told seated.running
-      (λ state is. subst (λ s. Settles schema world user.profile (IsState s (state_of new.desk)) state text told (faults (seat_disk old)) (faults (seat_disk new))) same
-      (subst (λ p. Settles schema world p (IsIn new.desk) state text told (faults (seat_disk old)) (faults (seat_disk new))) profile (answer.settled state is)))
-      answer.later (λ sealed. ap reads (answer.shut sealed))
-      (λ served c at. subst (λ p. Holds schema world p header (state_of new.desk) c) (ap profile_of answer.user_is ∙ profile) (answer.holds t (ap is_sealed same ∙ served) c at))
-      (read_is_image (seat_disk new) t) in
+      let asked : Asked schema world user.profile header (bytes user.name) (before user.name) user.opened events (seat_standing old) (seat_state new) (reads (seat_disk old)) (faults (seat_disk old)) old.refusal text told =
+      ask_step schema world user.profile header (bytes user.name) (before user.name) user.opened events (seat_standing old) (seat_state old) (seat_state new) (reads (seat_disk old)) (faults (seat_disk old)) old.refusal text told seated.living
+      (λ state is. subst (λ (f : Fixed D). IsAskOf schema world user.profile (IsState f.standing (seat_state new)) state text told) kept
+      (subst (λ p. IsAskOf schema world p (IsSeatIn new) state text told) profile (answer.settled state is))) in
       record {
         ending = asked.ending;
         reply = asked.reply;
@@ -127,9 +125,14 @@ module _ (schema : DatabaseSchema) (world : FactSet) (header directory : List �
           name_is = ap (λ (u : User). string_bytes u.name) answer.user_is ∙ seated.name_is;
           profile_is = ap profile_of answer.user_is ∙ profile;
           journal_is = answer.journal_is ∙ seated.journal_is;
-          served = answer.served;
-          running = subst (λ r. IsRunning schema world user.profile header (bytes user.name) (before user.name) user.opened (events ++ ask text asked.ending ∷ []) (desk_standing new.desk) (state_of new.desk) (image (seat_disk new)) (reads (seat_disk new)) (faults (seat_disk new)) r) (sym answer.refusal_is)
-              (subst (λ s. IsRunning schema world user.profile header (bytes user.name) (before user.name) user.opened (events ++ ask text asked.ending ∷ []) s (state_of new.desk) (image (seat_disk new)) (reads (seat_disk new)) (faults (seat_disk new)) old.refusal) (sym same) asked.running);
+          served = record {
+            schema_is = ap (λ (f : Fixed D). f.schema) kept ∙ seated.served.schema_is;
+            world_is = ap (λ (f : Fixed D). f.world) kept ∙ seated.served.world_is;
+            header_is = ap (λ (f : Fixed D). f.header) kept ∙ seated.served.header_is;
+            user_is = ap (λ (f : Fixed D). f.user) kept ∙ seated.served.user_is ∙ ap profile_of (sym answer.user_is);
+          };
+          living = subst (λ r. IsLiving schema world user.profile header (bytes user.name) (before user.name) user.opened (events ++ ask text asked.ending ∷ []) (seat_standing new) (seat_state new) (reads (seat_disk new)) (faults (seat_disk new)) r) (sym answer.refusal_is)
+              (subst (λ (f : Fixed D). IsLiving schema world user.profile header (bytes user.name) (before user.name) user.opened (events ++ ask text asked.ending ∷ []) f.standing (seat_state new) (reads f.disk) (faults f.disk) old.refusal) (sym kept) asked.living);
         };
       }
 
@@ -155,7 +158,7 @@ module _ (schema : DatabaseSchema) (world : FactSet) (header directory : List �
     pub seated : AreSeated (script ++ script_ask name session text ending ∷ []) users new
 
   told_here : (script : List ScriptEvent) (name : Text) (session : ℕ) (text : Text) (user : NamedUser) (users : List NamedUser) (old new : Seat D g) (others : List (Seat D g)) (told : Reply)
-      → is_named name old ≡ true → IsToldAt schema world header T reads image faults text told old new → list_any (bytes_eq user.name) (names users) ≡ false → IsSeated user (own_events user.name script) old → AreSeated script users others
+      → is_named name old ≡ true → IsToldAt schema world text told old new → list_any (bytes_eq user.name) (names users) ≡ false → IsSeated user (own_events user.name script) old → AreSeated script users others
       → Next script name session text (user ∷ users) (new ∷ others) (Some told)
   told_here script name session text user users old new others told is answer distinct seated rest =
       let one : AskedAt user (own_events user.name script) new text told = ask_at user (own_events user.name script) old new text told seated answer in
@@ -172,7 +175,7 @@ module _ (schema : DatabaseSchema) (world : FactSet) (header directory : List �
       }
 
   pub told_next : (script : List ScriptEvent) (name : Text) (session : ℕ) (text : Text) (users : List NamedUser) (old new : List (Seat D g)) (told : Option Reply)
-      → has_duplicate (names users) ≡ false → AreSeated script users old → Tells schema world header T reads image faults name text old new told → Next script name session text users new told
+      → has_duplicate (names users) ≡ false → AreSeated script users old → Tells schema world name text old new told → Next script name session text users new told
   told_next script name session text [] old new told distinct seated nobody = record { ending = Run.kept; replied = refl; seated = tt }
   told_next script name session text (user ∷ users) old new told distinct seated nobody = absurd seated
   told_next script name session text [] old new told distinct seated (here is answer) = absurd seated
@@ -187,6 +190,21 @@ module _ (schema : DatabaseSchema) (world : FactSet) (header directory : List �
         replied = ap (λ b. told_after schema world script text rest.ending (if b then Some user else find (λ u. bytes_eq u.name name) users)) differs ∙ rest.replied;
         seated = (unnamed script name session text rest.ending user seat (other_text user.name name differs) seated.0, rest.seated);
       }
+
+  -- ---- a close
+
+  -- a desk was closed, and left this disk
+  pub close_at : (user : NamedUser) (events : List Event) (seat : Seat D g) (disk : D) → IsSeated user events seat → IsClosed T image faults seat.desk disk
+      → IsRunning schema world user.profile header (bytes user.name) (before user.name) user.opened events (seat_standing seat) (seat_state seat) (image disk) (reads disk) (faults disk) seat.refusal
+  close_at user events seat disk seated closed =
+      closing schema world user.profile header (bytes user.name) (before user.name) user.opened events (seat_standing seat) (seat_state seat) (image disk) (reads (seat_disk seat)) (reads disk) (faults (seat_disk seat)) (faults disk) seat.refusal
+      seated.living closed.later closed.cause (λ sealed. ap reads (closed.shut sealed))
+      (λ served c at.
+      subst (λ s. Holds s world user.profile header (seat_state seat) c) seated.served.schema_is
+      (subst (λ w. Holds (seat_kept seat).schema w user.profile header (seat_state seat) c) seated.served.world_is
+      (subst (λ p. Holds (seat_kept seat).schema (seat_kept seat).world p header (seat_state seat) c) (seated.served.user_is ∙ seated.profile_is)
+      (subst (λ h. Holds (seat_kept seat).schema (seat_kept seat).world (seat_kept seat).user h (seat_state seat) c) seated.served.header_is (closed.holds t served c at)))))
+      (read_is_image disk t)
 
   -- ---- openings
 
@@ -244,17 +262,19 @@ module _ (schema : DatabaseSchema) (world : FactSet) (header directory : List �
     restart_at user events old new seated again =
         let profile : profile_of (seat_user new) ≡ user.profile = ap profile_of again.user_is ∙ seated.profile_is in
         let opened = again.opened in
-        let step : Restarted schema world user.profile header (bytes user.name) (before user.name) user.opened events (desk_standing new.desk) (state_of new.desk) (image (seat_disk new)) (reads (seat_disk new)) (faults (seat_disk new)) (first_refusal old.refusal (desk_standing new.desk)) =
-        open_step schema world user.profile header (bytes user.name) (before user.name) (exclusive user.profile) T t user.opened events (reads (seat_disk new)) (faults (seat_disk old)) (faults (seat_disk new)) old.refusal
-        (desk_history new.desk) (entry_in_flight new.desk) (desk_standing new.desk) (image (seat_disk new))
-        (course_on schema world user.profile header (bytes user.name) (before user.name) user.opened events (reads (seat_disk old)) (reads (seat_disk new)) (faults (seat_disk old)) (faults (seat_disk old)) old.refusal again.left.reads_same (omega arith) seated.running.course)
+        let closed = again.closed in
+        let running = close_at user events old closed seated again.is_closed in
+        let step : Restarted schema world user.profile header (bytes user.name) (before user.name) user.opened events (seat_standing new) (seat_state new) (image (seat_disk new)) (reads (seat_disk new)) (faults (seat_disk new)) (first_refusal old.refusal (seat_standing new)) =
+        open_step schema world user.profile header (bytes user.name) (before user.name) (exclusive user.profile) T t user.opened events (reads (seat_disk new)) (faults closed) (faults (seat_disk new)) old.refusal
+        (seat_history new) (flying (pairs_of_sole new.desk)) (seat_standing new) (image (seat_disk new))
+        (course_on schema world user.profile header (bytes user.name) (before user.name) user.opened events (reads closed) (reads (seat_disk new)) (faults closed) (faults closed) old.refusal again.left.reads_same (omega arith) running.course)
         (record {
-          standing_is = subst (λ r. IsStanding schema world user.profile T header r (desk_history new.desk) (faults (seat_disk old)) (faults (seat_disk new)) (desk_standing new.desk)) (sym again.left.reads_same)
-              (subst (λ p. IsStanding schema world p T header (reads (seat_disk old)) (desk_history new.desk) (faults (seat_disk old)) (faults (seat_disk new)) (desk_standing new.desk)) profile opened.standing);
-          restarted = λ state holds. subst (λ p. Restarts schema world p (IsIn new.desk) state (faults (seat_disk old)) (faults (seat_disk new))) profile
+          standing_is = subst (λ r. IsStanding schema world user.profile T header r (seat_history new) (faults closed) (faults (seat_disk new)) (seat_standing new)) (sym again.left.reads_same)
+              (subst (λ p. IsStanding schema world p T header (reads closed) (seat_history new) (faults closed) (faults (seat_disk new)) (seat_standing new)) profile opened.standing);
+          restarted = λ state holds. subst (λ p. Restarts schema world p (IsSeatIn new) state (faults closed) (faults (seat_disk new))) profile
               (opened.restarted t state (subst (Holds schema world (profile_of (seat_user new)) header state) again.left.reads_same (subst (λ p. Holds schema world p header state (reads (seat_disk new))) (sym profile) holds)));
           on = again.left.later;
-          holds = λ served c at. subst (λ p. Holds schema world p header (state_of new.desk) c) profile (opened.holds t served c at);
+          holds = λ served c at. subst (λ p. Holds schema world p header (seat_state new) c) profile (opened.holds t served c at);
           here = read_is_image (seat_disk new) t;
         }) in (
           step.found,
@@ -264,7 +284,8 @@ module _ (schema : DatabaseSchema) (world : FactSet) (header directory : List �
             profile_is = profile;
             journal_is = again.journal_is ∙ seated.journal_is;
             served = opened.served;
-            running = subst (IsRunning schema world user.profile header (bytes user.name) (before user.name) user.opened (events ++ restart step.found step.opens ∷ []) (desk_standing new.desk) (state_of new.desk) (image (seat_disk new)) (reads (seat_disk new)) (faults (seat_disk new))) (sym opened.refusal) step.running;
+            living = subst (IsLiving schema world user.profile header (bytes user.name) (before user.name) user.opened (events ++ restart step.found step.opens ∷ []) (seat_standing new) (seat_state new) (reads (seat_disk new)) (faults (seat_disk new))) (sym opened.refusal)
+                (live schema world user.profile header (bytes user.name) (before user.name) user.opened (events ++ restart step.found step.opens ∷ []) (seat_standing new) (seat_state new) (image (seat_disk new)) (reads (seat_disk new)) (faults (seat_disk new)) (first_refusal old.refusal (seat_standing new)) step.running);
           },
         )
 
@@ -296,17 +317,17 @@ module _ (schema : DatabaseSchema) (world : FactSet) (header directory : List �
           let same : reads (seat_disk seat) ≡ reads is.taken = is.left.reads_same in
           let read : reads (seat_disk seat) ≡ bytes name = same ∙ taken_reads reads image (disk (seat_journal seat)) is.taken (is.from s) ∙ ap (λ j. bytes_on reads (disk j)) is.journal_is ∙ sym (bytes_are name) in
           let counted : faults is.taken ≡ before name = is.counted ∙ ap count is.journal_is ∙ sym (counts_are name) in
-          let step : Restarted schema world (profile_of user) header (bytes name) (before name) opened [] (desk_standing seat.desk) (state_of seat.desk) (image (seat_disk seat)) (reads (seat_disk seat)) (faults (seat_disk seat)) (first_refusal None (desk_standing seat.desk)) =
+          let step : Restarted schema world (profile_of user) header (bytes name) (before name) opened [] (seat_standing seat) (seat_state seat) (image (seat_disk seat)) (reads (seat_disk seat)) (faults (seat_disk seat)) (first_refusal None (seat_standing seat)) =
           open_step schema world (profile_of user) header (bytes name) (before name) (exclusive (profile_of user)) T t opened [] (reads (seat_disk seat)) (faults is.taken) (faults (seat_disk seat)) None
-          (desk_history seat.desk) (entry_in_flight seat.desk) (desk_standing seat.desk) (image (seat_disk seat))
+          (seat_history seat) (flying (pairs_of_sole seat.desk)) (seat_standing seat) (image (seat_disk seat))
           (first_course schema world header bytes before (profile_of user) name opened (faults is.taken) (reads (seat_disk seat)) counted read opening)
           (record {
-            standing_is = subst (λ r. IsStanding schema world (profile_of user) T header r (desk_history seat.desk) (faults is.taken) (faults (seat_disk seat)) (desk_standing seat.desk)) (sym same)
-                (subst (λ p. IsStanding schema world p T header (reads is.taken) (desk_history seat.desk) (faults is.taken) (faults (seat_disk seat)) (desk_standing seat.desk)) profile from.standing);
-            restarted = λ state holds. subst (λ p. Restarts schema world p (IsIn seat.desk) state (faults is.taken) (faults (seat_disk seat))) profile
+            standing_is = subst (λ r. IsStanding schema world (profile_of user) T header r (seat_history seat) (faults is.taken) (faults (seat_disk seat)) (seat_standing seat)) (sym same)
+                (subst (λ p. IsStanding schema world p T header (reads is.taken) (seat_history seat) (faults is.taken) (faults (seat_disk seat)) (seat_standing seat)) profile from.standing);
+            restarted = λ state holds. subst (λ p. Restarts schema world p (IsSeatIn seat) state (faults is.taken) (faults (seat_disk seat))) profile
                 (from.restarted t state (subst (Holds schema world (profile_of (seat_user seat)) header state) same (subst (λ p. Holds schema world p header state (reads (seat_disk seat))) (sym profile) holds)));
             on = is.left.later;
-            holds = λ served c at. subst (λ p. Holds schema world p header (state_of seat.desk) c) profile (from.holds t served c at);
+            holds = λ served c at. subst (λ p. Holds schema world p header (seat_state seat) c) profile (from.holds t served c at);
             here = read_is_image (seat_disk seat) t;
           }) in
           record {
@@ -320,7 +341,8 @@ module _ (schema : DatabaseSchema) (world : FactSet) (header directory : List �
                 profile_is = profile;
                 journal_is = is.journal_is;
                 served = from.served;
-                running = subst (IsRunning schema world (profile_of user) header (bytes name) (before name) opened ([] ++ restart step.found step.opens ∷ []) (desk_standing seat.desk) (state_of seat.desk) (image (seat_disk seat)) (reads (seat_disk seat)) (faults (seat_disk seat))) (sym from.refusal) step.running;
+                living = subst (IsLiving schema world (profile_of user) header (bytes name) (before name) opened ([] ++ restart step.found step.opens ∷ []) (seat_standing seat) (seat_state seat) (reads (seat_disk seat)) (faults (seat_disk seat))) (sym from.refusal)
+                    (live schema world (profile_of user) header (bytes name) (before name) opened ([] ++ restart step.found step.opens ∷ []) (seat_standing seat) (seat_state seat) (image (seat_disk seat)) (reads (seat_disk seat)) (faults (seat_disk seat)) (first_refusal None (seat_standing seat)) step.running);
               },
             );
           }

@@ -75,7 +75,7 @@ module _ {D : Type 0} (fixed : Fixed D) (text : Text) where
     IsNow = IsState fixed.standing (state_shown fixed after)
 
     abbrev IsTold : Reply → Type 0
-    IsTold told = IsAskOf fixed.schema fixed.world fixed.user IsNow state text (reply_of told)
+    IsTold reply = IsAskOf fixed.schema fixed.world fixed.user IsNow state text (reply_of reply)
 
     -- where nothing was added the state is still one of the desk's
     still : after ≡ found → IsNow state
@@ -121,12 +121,12 @@ module _ {D : Type 0} (fixed : Fixed D) (text : Text) where
 
     told_code : (code : Reply) → NoMark code → reply_at fixed.schema fixed.world fixed.user (state_shown fixed found) text ≡ reply_of code → after ≡ found → IsTold code
     told_code code none replied same =
-        let told : reply_at fixed.schema fixed.world fixed.user state text ≡ reply_of code = same_reply fixed.standing (history_of found) (flying found) state is ∙ replied in
-        let nothing : entry_at fixed.schema fixed.world fixed.user state text ≡ None = ap (λ r. entry_added text (reading fixed.schema text) r) told ∙ code_adds_none text (reading fixed.schema text) code none in
+        let same_told : reply_at fixed.schema fixed.world fixed.user state text ≡ reply_of code = same_reply fixed.standing (history_of found) (flying found) state is ∙ replied in
+        let nothing : entry_at fixed.schema fixed.world fixed.user state text ≡ None = ap (λ r. entry_added text (reading fixed.schema text) r) same_told ∙ code_adds_none text (reading fixed.schema text) code none in
         record {
           ending = kept;
           after = subst IsNow (sym (ap (λ o. record state { entries = state.entries ++ option_to_list o }) nothing ∙ ap (λ (h : History). record state { entries = h }) (append-nil state.entries))) (still same);
-          reply = sym told;
+          reply = sym same_told;
         }
 
     -- what an ask adds is an event

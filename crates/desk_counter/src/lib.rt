@@ -19,5 +19,5 @@ mod ticketed_desk;
 
 pub use counter::{Counter, CounterOf, DeskPass};
 pub use item::{Answered, Fixed, Item, Profile};
-pub use sole::SoleCounter;
+pub use sole::{SoleCounter, SoleOf};
 pub use ticketed_desk::{Owned, TicketedDesk};

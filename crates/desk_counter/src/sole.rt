@@ -1,12 +1,13 @@
 //! A counter in one thread's hands.
-ghost use Rattle.std.specs.Prelude.{◌≡◌, ◌≤◌, ◌*◌, length, IfOk, IfErr};
-ghost use Rattle.turnstile.specs.Passes.{shares, turns};
-ghost use Rattle.desk_counter.specs.Counters.{IsPassOf};
+ghost use Rattle.std.specs.Prelude.{◌≡◌, ◌≤◌, ◌*◌, length, Some, IfOk, IfErr};
+ghost use Rattle.turnstile.specs.Passes.{IsOf, IsReady, first_value, fixed, shares, turns};
 
-use crate::counter::{Counter, CounterOf, DeskPass};
+use crate::counter::CounterOf;
+use crate::ticketed_desk::{Owned, TicketedDesk};
 use outside::{Disk, Gate};
 use std::alloc::Global;
 use std::sync::Wait;
+use turnstile::Pass;
 use user_desk::Desk;
 use user_log::Reply;
 
@@ -15,16 +16,21 @@ const MOST_ASKS: u64 = 1 << 62;
 
 /// A desk under a counter, with the pass that has all shares: one thread asks by it as many threads ask at a counter.
 #[derive(Drop)]
-pub struct SoleCounter<'w, D: Disk> {
-    counter: Counter<'w, D>,
-    pass: DeskPass<D>,
+pub struct SoleOf<'w, V: Owned> {
+    counter: CounterOf<'w, V>,
+    pass: Pass<V::Item, V::Fixed>,
     asks_left: u64,
-    ghost place: { IsPassOf pass counter },
+    ghost place: { IsOf pass counter.turnstile },
+    ghost ready: { IsReady pass },
+    ghost kept: { fixed pass ≡ Some (V.kept (first_value counter.turnstile)) },
     ghost all: { shares pass ≡ 65 },
     ghost room: { 2 * asks_left ≤ turns pass },
 }
 
-impl<'w, D: Disk> SoleCounter<'w, D> {
+/// A user's desk under a counter, with the pass that has all shares.
+pub type SoleCounter<'w, D> = SoleOf<'w, TicketedDesk<'w, D>>;
+
+impl<'w, D: Disk> SoleOf<'w, TicketedDesk<'w, D>> {
     ghost use Rattle.std.specs.Prelude.{true, false, List, ℕ};
     ghost use Rattle.outside.specs.Faults.{Rose};
     ghost use Rattle.cqe_base.specs.Run.{UserState};
@@ -45,7 +51,7 @@ impl<'w, D: Disk> SoleCounter<'w, D> {
         ensures err { IfErr result (λ same. same ≡ desk.entry) }
     {
         let (counter, pass) = CounterOf::new(alloc, desk)?;
-        Ok(SoleCounter {
+        Ok(SoleOf {
             counter,
             pass,
             asks_left: MOST_ASKS,
