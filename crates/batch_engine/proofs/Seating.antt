@@ -24,7 +24,7 @@ use Rattle.batch_engine.specs.Lives.{OpensNone, IsOpening}
 use Rattle.batch_engine.specs.Batch.{unopened}
 use Rattle.batch_engine.specs.Shelved.{bytes_on, IsSeatOf, AreSeatsOf}
 use Rattle.batch_engine.specs.Crew.{named_user, first_refusal, seat_user, seat_name, seat_journal, seat_kept, seat_standing, seat_history, seat_state, seat_disk, IsSeatIn, is_named, IsLeft, IsClosed, IsServed, IsOpenedFrom, IsToldAt, IsReopened, AreReopened, Tells, nobody, here, further}
-use Rattle.batch_engine.specs.declared.seat.Seat.{Seat}
+use Rattle.batch_engine.specs.Seats.{DeskSeat}
 use Rattle.batch_engine.proofs.Courses.{Course, course_on, IsRunning, IsLiving, live, closing, Asked, ask_step, Restarted, IsExclusive, Known, open_step}
 
 -- ---- lists and texts
@@ -87,10 +87,10 @@ module _ (schema : DatabaseSchema) (world : FactSet) (header : List ℕ) (bytes 
   }
   first_course user name opened now c counted same (inr (none, empty)) = record { later = omega (arith, counted); caused = tt; fits = inr (none, empty, same, refl); refused = refl }
 
-module _ (schema : DatabaseSchema) (world : FactSet) (header directory : List ℕ) {D : Type 0} {g : _} (T : Type 0) (reads : D → List ℕ) (image : D → List ℕ → Type 0) (faults : D → ℕ) (t : T) (read_is_image : (d : D) → T → image d (reads d))
+module _ (schema : DatabaseSchema) (world : FactSet) (header directory : List ℕ) {D : Type 0} {g h : _} (T : Type 0) (reads : D → List ℕ) (image : D → List ℕ → Type 0) (faults : D → ℕ) (t : T) (read_is_image : (d : D) → T → image d (reads d))
     (bytes : Text → List ℕ) (before : Text → ℕ) where
   -- a user sits at his desk behind these events of his
-  pub record IsSeated (user : NamedUser) (events : List Event) (seat : Seat D g) : Type 0 where
+  pub record IsSeated (user : NamedUser) (events : List Event) (seat : DeskSeat D g h) : Type 0 where
     pub name_is : seat_name seat ≡ user.name
     pub profile_is : profile_of (seat_user seat) ≡ user.profile
     pub journal_is : seat_journal seat ≡ journal_name directory user.name
@@ -98,19 +98,19 @@ module _ (schema : DatabaseSchema) (world : FactSet) (header directory : List �
     pub living : IsLiving schema world user.profile header (bytes user.name) (before user.name) user.opened events (seat_standing seat) (seat_state seat) (reads (seat_disk seat)) (faults (seat_disk seat)) seat.refusal
 
   -- all do, behind the events of a script
-  abbrev pub AreSeated : List ScriptEvent → List NamedUser → List (Seat D g) → Type 0
+  abbrev pub AreSeated : List ScriptEvent → List NamedUser → List (DeskSeat D g h) → Type 0
   AreSeated script [] [] = Unit {0}
   AreSeated script (user ∷ users) (seat ∷ seats) = IsSeated user (own_events user.name script) seat × AreSeated script users seats
   AreSeated script users seats = ⊥
 
   -- ---- an ask
 
-  record AskedAt (user : NamedUser) (events : List Event) (seat : Seat D g) (text : Text) (told : Reply) : Type 0 where
+  record AskedAt (user : NamedUser) (events : List Event) (seat : DeskSeat D g h) (text : Text) (told : Reply) : Type 0 where
     ending : Ending
     reply : told ≡ reply_to_ask schema world user.profile (after_events schema world user.profile (opening schema world user.profile user.opened) events) text ending
     seated : IsSeated user (events ++ ask text ending ∷ []) seat
 
-  ask_at : (user : NamedUser) (events : List Event) (old new : Seat D g) (text : Text) (told : Reply) → IsSeated user events old → IsToldAt schema world text told old new → AskedAt user events new text told
+  ask_at : (user : NamedUser) (events : List Event) (old new : DeskSeat D g h) (text : Text) (told : Reply) → IsSeated user events old → IsToldAt schema world text told old new → AskedAt user events new text told
   ask_at user events old new text told seated answer =
       let kept = answer.kept_is in
       let profile : profile_of (seat_user old) ≡ user.profile = seated.profile_is in
@@ -137,13 +137,13 @@ module _ (schema : DatabaseSchema) (world : FactSet) (header directory : List �
       }
 
   -- an ask of another name changes nothing
-  unnamed : (script : List ScriptEvent) (name : Text) (session : ℕ) (text : Text) (ending : Ending) (user : NamedUser) (seat : Seat D g) → bytes_eq name user.name ≡ false → IsSeated user (own_events user.name script) seat
+  unnamed : (script : List ScriptEvent) (name : Text) (session : ℕ) (text : Text) (ending : Ending) (user : NamedUser) (seat : DeskSeat D g h) → bytes_eq name user.name ≡ false → IsSeated user (own_events user.name script) seat
       → IsSeated user (own_events user.name (script ++ script_ask name session text ending ∷ [])) seat
   unnamed script name session text ending user seat other seated =
       subst (λ es. IsSeated user es seat)
       (sym (own-push user.name script (script_ask name session text ending) ∙ ap (λ b. own_events user.name script ++ (if b then ask text ending ∷ [] else [])) other ∙ append-nil (own_events user.name script))) seated
 
-  all_unnamed : (script : List ScriptEvent) (name : Text) (session : ℕ) (text : Text) (ending : Ending) (users : List NamedUser) (seats : List (Seat D g)) → list_any (bytes_eq name) (names users) ≡ false
+  all_unnamed : (script : List ScriptEvent) (name : Text) (session : ℕ) (text : Text) (ending : Ending) (users : List NamedUser) (seats : List (DeskSeat D g h)) → list_any (bytes_eq name) (names users) ≡ false
       → AreSeated script users seats → AreSeated (script ++ script_ask name session text ending ∷ []) users seats
   all_unnamed script name session text ending [] [] none seated = tt
   all_unnamed script name session text ending [] (seat ∷ seats) none seated = absurd seated
@@ -152,12 +152,12 @@ module _ (schema : DatabaseSchema) (world : FactSet) (header directory : List �
       (unnamed script name session text ending user seat (left_false _ _ none) seated.0, all_unnamed script name session text ending users seats (right_false _ _ none) seated.1)
 
   -- an ask with some ending: what is told, and the seats behind it
-  pub record Next (script : List ScriptEvent) (name : Text) (session : ℕ) (text : Text) (users : List NamedUser) (new : List (Seat D g)) (told : Option Reply) : Type 0 where
+  pub record Next (script : List ScriptEvent) (name : Text) (session : ℕ) (text : Text) (users : List NamedUser) (new : List (DeskSeat D g h)) (told : Option Reply) : Type 0 where
     pub ending : Ending
     pub replied : told_after schema world script text ending (find (λ u. bytes_eq u.name name) users) ≡ told
     pub seated : AreSeated (script ++ script_ask name session text ending ∷ []) users new
 
-  told_here : (script : List ScriptEvent) (name : Text) (session : ℕ) (text : Text) (user : NamedUser) (users : List NamedUser) (old new : Seat D g) (others : List (Seat D g)) (told : Reply)
+  told_here : (script : List ScriptEvent) (name : Text) (session : ℕ) (text : Text) (user : NamedUser) (users : List NamedUser) (old new : DeskSeat D g h) (others : List (DeskSeat D g h)) (told : Reply)
       → is_named name old ≡ true → IsToldAt schema world text told old new → list_any (bytes_eq user.name) (names users) ≡ false → IsSeated user (own_events user.name script) old → AreSeated script users others
       → Next script name session text (user ∷ users) (new ∷ others) (Some told)
   told_here script name session text user users old new others told is answer distinct seated rest =
@@ -174,7 +174,7 @@ module _ (schema : DatabaseSchema) (world : FactSet) (header directory : List �
         );
       }
 
-  pub told_next : (script : List ScriptEvent) (name : Text) (session : ℕ) (text : Text) (users : List NamedUser) (old new : List (Seat D g)) (told : Option Reply)
+  pub told_next : (script : List ScriptEvent) (name : Text) (session : ℕ) (text : Text) (users : List NamedUser) (old new : List (DeskSeat D g h)) (told : Option Reply)
       → has_duplicate (names users) ≡ false → AreSeated script users old → Tells schema world name text old new told → Next script name session text users new told
   told_next script name session text [] old new told distinct seated nobody = record { ending = Run.kept; replied = refl; seated = tt }
   told_next script name session text (user ∷ users) old new told distinct seated nobody = absurd seated
@@ -194,7 +194,7 @@ module _ (schema : DatabaseSchema) (world : FactSet) (header directory : List �
   -- ---- a close
 
   -- a desk was closed, and left this disk
-  pub close_at : (user : NamedUser) (events : List Event) (seat : Seat D g) (disk : D) → IsSeated user events seat → IsClosed T image faults seat.desk disk
+  pub close_at : (user : NamedUser) (events : List Event) (seat : DeskSeat D g h) (disk : D) → IsSeated user events seat → IsClosed T image faults seat.desk disk
       → IsRunning schema world user.profile header (bytes user.name) (before user.name) user.opened events (seat_standing seat) (seat_state seat) (image disk) (reads disk) (faults disk) seat.refusal
   close_at user events seat disk seated closed =
       closing schema world user.profile header (bytes user.name) (before user.name) user.opened events (seat_standing seat) (seat_state seat) (image disk) (reads (seat_disk seat)) (reads disk) (faults (seat_disk seat)) (faults disk) seat.refusal
@@ -209,22 +209,22 @@ module _ (schema : DatabaseSchema) (world : FactSet) (header directory : List �
   -- ---- openings
 
   -- the choices of a user's opening
-  abbrev pub Choice : NamedUser → List Event → Seat D g → Type 0
+  abbrev pub Choice : NamedUser → List Event → DeskSeat D g h → Type 0
   Choice user events seat = (found : Bool) × (opens : Bool) × IsSeated user (events ++ restart found opens ∷ []) seat
 
-  abbrev pub Choices : List ScriptEvent → List NamedUser → List (Seat D g) → Type 0
+  abbrev pub Choices : List ScriptEvent → List NamedUser → List (DeskSeat D g h) → Type 0
   Choices script [] [] = Unit {0}
   Choices script (user ∷ users) (seat ∷ seats) = Choice user (own_events user.name script) seat × Choices script users seats
   Choices script users seats = ⊥
 
   module _ (event : (Text → Bool) → (Text → Bool) → ScriptEvent) (own : (name : Text) (found opens : Text → Bool) → own_event name (event found opens) ≡ restart (found name) (opens name) ∷ []) where
     -- one event for all of them
-    pub record Chosen (script : List ScriptEvent) (users : List NamedUser) (seats : List (Seat D g)) : Type 0 where
+    pub record Chosen (script : List ScriptEvent) (users : List NamedUser) (seats : List (DeskSeat D g h)) : Type 0 where
       pub found : Text → Bool
       pub opens : Text → Bool
       pub seated : AreSeated (script ++ event found opens ∷ []) users seats
 
-    others_seated : (script : List ScriptEvent) (name : Text) (f o : Bool) (found opens : Text → Bool) (users : List NamedUser) (seats : List (Seat D g)) → list_any (bytes_eq name) (names users) ≡ false
+    others_seated : (script : List ScriptEvent) (name : Text) (f o : Bool) (found opens : Text → Bool) (users : List NamedUser) (seats : List (DeskSeat D g h)) → list_any (bytes_eq name) (names users) ≡ false
         → AreSeated (script ++ event found opens ∷ []) users seats → AreSeated (script ++ event (with_name name f found) (with_name name o opens) ∷ []) users seats
     others_seated script name f o found opens [] [] none seated = tt
     others_seated script name f o found opens [] (seat ∷ seats) none seated = absurd seated
@@ -237,7 +237,7 @@ module _ (schema : DatabaseSchema) (world : FactSet) (header directory : List �
       others_seated script name f o found opens users seats (right_false (bytes_eq name user.name) (list_any (bytes_eq name) (names users)) none) seated.1,
     )
 
-    pub choose : (script : List ScriptEvent) (users : List NamedUser) (seats : List (Seat D g)) → has_duplicate (names users) ≡ false → Choices script users seats → Chosen script users seats
+    pub choose : (script : List ScriptEvent) (users : List NamedUser) (seats : List (DeskSeat D g h)) → has_duplicate (names users) ≡ false → Choices script users seats → Chosen script users seats
     choose script [] [] distinct choices = record { found = λ n. false; opens = λ n. false; seated = tt }
     choose script [] (seat ∷ seats) distinct choices = absurd choices
     choose script (user ∷ users) [] distinct choices = absurd choices
@@ -258,7 +258,7 @@ module _ (schema : DatabaseSchema) (world : FactSet) (header directory : List �
   -- ---- closing and opening again
 
   module _ (exclusive : (user : UserProfile) → IsExclusive schema world user header) where
-    restart_at : (user : NamedUser) (events : List Event) (old new : Seat D g) → IsSeated user events old → IsReopened schema world header T reads image faults old new → Choice user events new
+    restart_at : (user : NamedUser) (events : List Event) (old new : DeskSeat D g h) → IsSeated user events old → IsReopened schema world header T reads image faults old new → Choice user events new
     restart_at user events old new seated again =
         let profile : profile_of (seat_user new) ≡ user.profile = ap profile_of again.user_is ∙ seated.profile_is in
         let opened = again.opened in
@@ -290,7 +290,7 @@ module _ (schema : DatabaseSchema) (world : FactSet) (header directory : List �
         )
 
     -- every desk was closed and opened again
-    pub restart_all : (script : List ScriptEvent) (users : List NamedUser) (olds news : List (Seat D g)) → AreSeated script users olds → AreReopened schema world header T reads image faults olds news → Choices script users news
+    pub restart_all : (script : List ScriptEvent) (users : List NamedUser) (olds news : List (DeskSeat D g h)) → AreSeated script users olds → AreReopened schema world header T reads image faults olds news → Choices script users news
     restart_all script [] [] [] seated again = tt
     restart_all script [] [] (new ∷ news) seated again = absurd again
     restart_all script [] (old ∷ olds) news seated again = absurd seated
@@ -303,12 +303,12 @@ module _ (schema : DatabaseSchema) (world : FactSet) (header directory : List �
 
     module _ (S : Type 0) (s : S) (disk : Text → Option D) (count : Text → ℕ) (bytes_are : (name : Text) → bytes name ≡ bytes_on reads (disk (journal_name directory name))) (counts_are : (name : Text) → before name ≡ count (journal_name directory name)) where
       -- a user with the history with which his journal is opened
-      pub record Begun (user : User) (seat : Seat D g) : Type 0 where
+      pub record Begun (user : User) (seat : DeskSeat D g h) : Type 0 where
         pub opened : History
         pub opening : IsOpening schema world (profile_of user) header (bytes (string_bytes user.name)) opened
         pub choice : Choice (record { name = string_bytes user.name; profile = profile_of user; opened = opened }) [] seat
 
-      begin_with : (user : User) (seat : Seat D g) (opened : History) → IsOpening schema world (profile_of user) header (bytes (string_bytes user.name)) opened
+      begin_with : (user : User) (seat : DeskSeat D g h) (opened : History) → IsOpening schema world (profile_of user) header (bytes (string_bytes user.name)) opened
           → IsSeatOf S reads image faults T schema world header directory disk count user seat → Begun user seat
       begin_with user seat opened opening is =
           let name = string_bytes user.name in
@@ -348,7 +348,7 @@ module _ (schema : DatabaseSchema) (world : FactSet) (header directory : List �
           }
 
       module _ (decided : (user : UserProfile) (c : List ℕ) → ((entries : History) × Opens schema world user header entries c) ⊎ OpensNone schema world user header c) where
-        begin_at : (user : User) (seat : Seat D g) → IsSeatOf S reads image faults T schema world header directory disk count user seat → Begun user seat
+        begin_at : (user : User) (seat : DeskSeat D g h) → IsSeatOf S reads image faults T schema world header directory disk count user seat → Begun user seat
         begin_at user seat is = by (decided (profile_of user) (bytes (string_bytes user.name)))
           where
             by : ((entries : History) × Opens schema world (profile_of user) header entries (bytes (string_bytes user.name))) ⊎ OpensNone schema world (profile_of user) header (bytes (string_bytes user.name)) → Begun user seat
@@ -356,13 +356,13 @@ module _ (schema : DatabaseSchema) (world : FactSet) (header directory : List �
             by (inr none) = begin_with user seat [] (inr (none, refl)) is
 
         -- the users of a policy, each with his opening history, and the choices of the first opening
-        pub record AreBegun (users : List User) (seats : List (Seat D g)) : Type 0 where
+        pub record AreBegun (users : List User) (seats : List (DeskSeat D g h)) : Type 0 where
           pub begun : List NamedUser
           pub of_policy : map unopened begun ≡ map named_user users
           pub openings : AllByRecursion (λ user. IsOpening schema world user.profile header (bytes user.name) user.opened) begun
           pub choices : Choices [] begun seats
 
-        pub begin_all : (users : List User) (seats : List (Seat D g)) → AreSeatsOf S reads image faults T schema world header directory disk count users seats → AreBegun users seats
+        pub begin_all : (users : List User) (seats : List (DeskSeat D g h)) → AreSeatsOf S reads image faults T schema world header directory disk count users seats → AreBegun users seats
         begin_all [] [] are = record { begun = []; of_policy = refl; openings = tt; choices = tt }
         begin_all [] (seat ∷ seats) are = absurd are
         begin_all (user ∷ users) [] are = absurd are

@@ -17,7 +17,7 @@ ghost use Rattle.batch_engine.specs.Shelved.{journals, SameBeside, AllOut, AllIn
 ghost use Rattle.batch_engine.specs.declared.crew.NotOpened.{NotOpened};
 
 use crate::registry::Registry;
-use crate::seat::{Seat, close_desk, reopen, seat_at, settle_at};
+use crate::seat::{DeskSeat, close_desk, reopen, seat_at, settle_at};
 use cqe_base::user::User;
 use log_journal::{journal_name, law_journals_differ};
 use outside::{Disk, Gate, Shelf, ShelfError};
@@ -43,7 +43,7 @@ pub(crate) fn room_for<T: Drop>(alloc: Global, count: usize) -> Result<Vec<T>, A
 }
 
 /// Closes all desks and gives their disks back.
-pub(crate) fn give_back<F: Shelf>(shelf: &mut F, seats: Vec<Seat<'_, F::D>>)
+pub(crate) fn give_back<F: Shelf>(shelf: &mut F, seats: Vec<DeskSeat<'_, F::D>>)
     requires distinct { has_duplicate (journals seats.items) ≡ false }
     requires out { AllOut (journals seats.items) (F.is_out shelf.old) }
     requires later { AreLater F.D.faults (F.disk_faults shelf.old) seats.items }
@@ -66,8 +66,8 @@ pub(crate) fn reopen_all<'w, F: Shelf>(
     alloc: Global,
     registry: &Registry<'w>,
     shelf: &mut F,
-    seats: Vec<Seat<'w, F::D>>,
-) -> Option<Vec<Seat<'w, F::D>>>
+    seats: Vec<DeskSeat<'w, F::D>>,
+) -> Option<Vec<DeskSeat<'w, F::D>>>
     requires limits { AllByRecursion (λ seat. KeepsLimits registry.now.schema.now (profile_of (seat_user seat))) seats.items }
     requires distinct { has_duplicate (journals seats.items) ≡ false }
     requires out { AllOut (journals seats.items) (F.is_out shelf.old) }
@@ -109,7 +109,7 @@ fn open_seat<'w, F: Shelf>(
     registry: &Registry<'w>,
     shelf: &mut F,
     user: &'w User,
-) -> Result<Seat<'w, F::D>, NotOpened>
+) -> Result<DeskSeat<'w, F::D>, NotOpened>
     requires limits { KeepsLimits registry.now.schema.now (profile_of user.now) }
     requires inside { F.is_out shelf.old (journal_name registry.now.directory.now (string_bytes user.now.name)) ≡ false }
     ensures opened { IfOk result (IsSeatOf F.told F.D.reads F.D.image F.D.faults F.D.told registry.now.schema.now registry.now.world.now (header_bytes registry.now.header.now) registry.now.directory.now (F.disk shelf.old) (F.disk_faults shelf.old) user.now) }
@@ -148,7 +148,7 @@ pub(crate) fn open_all<'w, F: Shelf>(
     alloc: Global,
     registry: &Registry<'w>,
     shelf: &mut F,
-) -> Result<Vec<Seat<'w, F::D>>, NotOpened>
+) -> Result<Vec<DeskSeat<'w, F::D>>, NotOpened>
     requires limits { All (λ user. KeepsLimits registry.now.schema.now (profile_of user)) registry.now.users.now }
     requires distinct { has_duplicate (map (λ user. user.name) (map named_user registry.now.users.now)) ≡ false }
     requires inside { NoneOut (F.is_out shelf.old) }
@@ -178,7 +178,7 @@ pub(crate) fn open_all<'w, F: Shelf>(
 }
 
 /// The place of the first user who has this name.
-fn place_of<D: Disk>(seats: &[Seat<'_, D>], name: &str) -> Option<usize>
+fn place_of<D: Disk>(seats: &[DeskSeat<'_, D>], name: &str) -> Option<usize>
     ensures place { result ≡ position (is_named name.now) seats.now }
     ensures within { IfSome result (λ place. place < length seats.now) }
 {
@@ -191,7 +191,7 @@ fn place_of<D: Disk>(seats: &[Seat<'_, D>], name: &str) -> Option<usize>
 pub(crate) fn answer<R: Wait, G: Gate, D: Disk>(
     rt: &R,
     alloc: Global,
-    seats: &mut Vec<Seat<'_, D>>,
+    seats: &mut Vec<DeskSeat<'_, D>>,
     name: &str,
     text: &str,
     gate: &G,

@@ -22,10 +22,11 @@ ghost use Rattle.batch_engine.specs.declared.run.BatchEnd.{BatchEnd};
 use crate::batch::{Batch, BatchAsk, BatchItem};
 use crate::crew::{NotOpened, answer, give_back, open_all, reopen_all, room_for};
 use crate::registry::Registry;
-use crate::seat::Seat;
+use crate::seat::{DeskSeat, Seat};
 use case_engine::line_reply;
 use cqe_base::laws::{law_legal_grows, law_private, law_runs_legal, law_scripts_hide};
 use cqe_base::text::ScriptError;
+use desk_counter::{Owned, TicketedDesk};
 use line_protocol::{LineText, text_of};
 use log_journal::law_journals_differ;
 use outside::{Disk, Failed, Gate, Shelf, Sink, Source, write_all};
@@ -56,11 +57,11 @@ pub enum BatchEnd {
 
 /// How the items of a batch were answered.
 #[derive(Drop)]
-enum Answered<'w, D: Disk> {
+enum Answered<'w, V: Owned> {
     /// All were, and it says whether some line is that an append failed.
-    All(Vec<Seat<'w, D>>, bool),
+    All(Vec<Seat<'w, V>>, bool),
     /// A write failed.
-    Cut(Vec<Seat<'w, D>>),
+    Cut(Vec<Seat<'w, V>>),
     /// Memory was wanting at a restart. All disks are back.
     Memory,
 }
@@ -109,10 +110,10 @@ fn carry_out<'w, R: Wait, G: Gate, F: Shelf>(
     alloc: Global,
     registry: &Registry<'w>,
     shelf: &mut F,
-    seats: Vec<Seat<'w, F::D>>,
+    seats: Vec<DeskSeat<'w, F::D>>,
     item: &BatchItem,
     gate: &G,
-) -> Option<(Vec<Seat<'w, F::D>>, LineText, bool)>
+) -> Option<(Vec<DeskSeat<'w, F::D>>, LineText, bool)>
     requires limits { AllByRecursion (λ seat. KeepsLimits registry.now.schema.now (profile_of (seat_user seat))) seats.items }
     requires served { AllByRecursion (IsServed registry.now.schema.now registry.now.world.now (header_bytes registry.now.header.now)) seats.items }
     requires distinct { has_duplicate (journals seats.items) ≡ false }
@@ -130,14 +131,8 @@ fn carry_out<'w, R: Wait, G: Gate, F: Shelf>(
     match item {
         BatchItem::Ask(ask) => {
             let mut seats = seats;
-            let told = answer(
-                rt,
-                alloc,
-                &mut seats,
-                ask.name.as_str(),
-                ask.text.as_str(),
-                gate,
-            );
+            let (name, text) = (ask.name.as_str(), ask.text.as_str());
+            let told = answer(rt, alloc, &mut seats, name, text, gate);
             Some((seats, line_of(ask, told), is_broken_reply(told)))
         }
         BatchItem::Restart => {
@@ -153,11 +148,11 @@ fn answer_all<'w, R: Wait, G: Gate, F: Shelf, K: Sink>(
     alloc: Global,
     registry: &Registry<'w>,
     shelf: &mut F,
-    seats: Vec<Seat<'w, F::D>>,
+    seats: Vec<DeskSeat<'w, F::D>>,
     batch: &Batch,
     sink: &mut K,
     gate: &G,
-) -> Answered<'w, F::D>
+) -> Answered<'w, TicketedDesk<'w, F::D>>
     requires limits { AllByRecursion (λ seat. KeepsLimits registry.now.schema.now (profile_of (seat_user seat))) seats.items }
     requires served { AllByRecursion (IsServed registry.now.schema.now registry.now.world.now (header_bytes registry.now.header.now)) seats.items }
     requires distinct { has_duplicate (journals seats.items) ≡ false }
@@ -192,7 +187,7 @@ fn answer_all<'w, R: Wait, G: Gate, F: Shelf, K: Sink>(
 /// The first refusal of each seat, in a list with the room for them.
 fn refusals_of<D: Disk>(
     room: Vec<Option<DeskError>>,
-    seats: &[Seat<'_, D>],
+    seats: &[DeskSeat<'_, D>],
 ) -> Vec<Option<DeskError>>
     requires empty { room.items ≡ [] }
     requires room { length seats.now ≤ vec_capacity room }

@@ -5,28 +5,31 @@ ghost use Rattle.cqe_base.specs.History.{profile_of};
 ghost use Rattle.cqe_base.specs.Limits.{KeepsLimits};
 ghost use Rattle.log_journal.specs.Opening.{header_bytes};
 ghost use Rattle.user_log.specs.Replies.{reply_of};
-ghost use Rattle.batch_engine.specs.Crew.{first_refusal, seat_user, seat_kept, seat_journal, disk_seated, journal_seated, IsLeft, IsClosed, IsToldAt, IsOpenedFrom, IsReopened};
+ghost use Rattle.batch_engine.specs.Crew.{first_refusal, seat_user, seat_kept, seat_journal, disk_seated, journal_seated, IsLeft, IsLeftBy, IsClosed, IsToldAt, IsOpenedFrom, IsReopened};
 
 use crate::registry::Registry;
 use cqe_base::user::User;
-use desk_counter::SoleCounter;
+use desk_counter::{Owned, SoleCounter, SoleOf, TicketedDesk};
 use outside::{Disk, Gate};
 use std::alloc::Global;
 use std::sync::Wait;
 use user_desk::{DeskError, Standing, open_desk};
 use user_log::Reply;
 
-/// A user at his desk.
+/// A user at a value under a turnstile, which is his desk.
 #[derive(Drop)]
-pub(crate) struct Seat<'w, D: Disk> {
+pub(crate) struct Seat<'w, V: Owned> {
     pub user: &'w User,
     /// The name of his journal on the shelf.
     pub journal: String,
     /// His desk under a counter, from its opening to its close.
-    pub desk: SoleCounter<'w, D>,
+    pub desk: SoleOf<'w, V>,
     /// Why an opening of his journal was refused first, if one was.
     pub refusal: Option<DeskError>,
 }
+
+/// A user at his desk.
+pub(crate) type DeskSeat<'w, D> = Seat<'w, TicketedDesk<'w, D>>;
 
 /// A disk that couldn't be opened for want of memory, with its name.
 #[derive(Drop)]
@@ -55,7 +58,7 @@ pub(crate) fn seat_at<'w, D: Disk>(
     journal: String,
     before: Option<DeskError>,
     disk: D,
-) -> Result<Seat<'w, D>, Returned<D>>
+) -> Result<DeskSeat<'w, D>, Returned<D>>
     requires { KeepsLimits registry.now.schema.now (profile_of user.now) }
     ensures opened { IfOk result (IsOpenedFrom registry.now.schema.now registry.now.world.now (header_bytes registry.now.header.now) D.told D.reads D.image D.faults disk before) }
     ensures user { IfOk result (λ seat. seat_user seat ≡ user.now) }
@@ -97,7 +100,7 @@ pub(crate) fn seat_at<'w, D: Disk>(
 pub(crate) fn settle_at<R: Wait, G: Gate, D: Disk>(
     rt: &R,
     alloc: Global,
-    seat: &mut Seat<'_, D>,
+    seat: &mut DeskSeat<'_, D>,
     text: &str,
     gate: &G,
 ) -> Reply
@@ -119,12 +122,12 @@ pub(crate) fn close_desk<D: Disk>(desk: SoleCounter<'_, D>) -> D
 pub(crate) fn reopen<'w, D: Disk>(
     alloc: Global,
     registry: &Registry<'w>,
-    seat: Seat<'w, D>,
-) -> Result<Seat<'w, D>, Returned<D>>
+    seat: DeskSeat<'w, D>,
+) -> Result<DeskSeat<'w, D>, Returned<D>>
     requires { KeepsLimits registry.now.schema.now (profile_of (seat_user seat)) }
     ensures reopened { IfOk result (IsReopened registry.now.schema.now registry.now.world.now (header_bytes registry.now.header.now) D.told D.reads D.image D.faults seat.entry) }
     ensures journal { journal_seated result ≡ seat_journal seat.entry }
-    ensures left { (closed : D) × IsClosed D.told D.image D.faults seat.entry.desk closed × IsLeft D.reads D.image D.faults closed (disk_seated result) }
+    ensures left { IsLeftBy D.told D.reads D.image D.faults seat.entry.desk (disk_seated result) }
 {
     let disk = close_desk(seat.desk);
     seat_at(alloc, registry, seat.user, seat.journal, seat.refusal, disk)

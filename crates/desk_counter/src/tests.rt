@@ -98,7 +98,7 @@ fn liar(rt: &impl Abort, alloc: Global, schema: &Schema, name: &str) -> Result<U
     })
 }
 
-fn clinic(rt: &impl Abort, alloc: Global) -> Result<Clinic, Fail>
+fn make_clinic(rt: &impl Abort, alloc: Global) -> Result<Clinic, Fail>
     ensures eve { IfOk result (λ c. KeepsLimits c.schema (profile_of c.eve)) }
     ensures kim { IfOk result (λ c. KeepsLimits c.schema (profile_of c.kim)) }
 {
@@ -231,7 +231,7 @@ fn ask_by_two<'w, R: Threads + Wait + Sync>(
 #[test]
 fn two_threads_ask_one_desk(rt: HostRuntime) -> Result<(), Fail> {
     let alloc = rt.alloc();
-    let clinic = clinic(&rt, alloc)?;
+    let clinic = make_clinic(&rt, alloc)?;
     let (counter, pass) = counter_of(&rt, alloc, &clinic, &clinic.eve)?;
     let texts = ("drug(ann)", "not hiv(bob)");
     let (desk, told) = ask_by_two(&rt, alloc, counter, pass, texts, 100).ok_or("not split")?;
@@ -268,13 +268,14 @@ fn split_all(counter: &Counter<'_, MemoryDisk>, pass: &mut DeskPass<MemoryDisk>)
 #[test]
 fn a_pass_splits_sixty_four_times(rt: HostRuntime) -> Result<(), Fail> {
     let alloc = rt.alloc();
-    let clinic = clinic(&rt, alloc)?;
+    let clinic = make_clinic(&rt, alloc)?;
     let (counter, mut pass) = counter_of(&rt, alloc, &clinic, &clinic.eve)?;
     assert_eq!(rt; split_all(&counter, &mut pass), 64);
     Ok(())
 }
 
 /// A gate that holds the first ask of eve that passes this point until so many asks are settled.
+#[derive(Drop)]
 struct Hold {
     point: Point,
     until: u64,
@@ -343,7 +344,7 @@ fn ask_beside<R: Threads + Wait + Sync>(
 #[test]
 fn an_ask_in_its_turn_holds_no_other_desk(rt: HostRuntime) -> Result<(), Fail> {
     let alloc = rt.alloc();
-    let clinic = clinic(&rt, alloc)?;
+    let clinic = make_clinic(&rt, alloc)?;
     let (eve, eve_pass) = counter_of(&rt, alloc, &clinic, &clinic.eve)?;
     let (kim, kim_pass) = counter_of(&rt, alloc, &clinic, &clinic.kim)?;
     let gate = Hold::new(Point::Examined, 1);
@@ -355,7 +356,7 @@ fn an_ask_in_its_turn_holds_no_other_desk(rt: HostRuntime) -> Result<(), Fail> {
 #[test]
 fn a_settled_ask_holds_nobody(rt: HostRuntime) -> Result<(), Fail> {
     let alloc = rt.alloc();
-    let clinic = clinic(&rt, alloc)?;
+    let clinic = make_clinic(&rt, alloc)?;
     let (counter, mut first) = counter_of(&rt, alloc, &clinic, &clinic.eve)?;
     let Ok(second) = counter.split(&mut first) else {
         panic!(rt; "not split");
