@@ -100,7 +100,7 @@ module _ {D : Type 0} {g h : _} (schema : DatabaseSchema) (world : FactSet) (nam
       (subst (λ s. IsToldAt schema world text reply s new) at (told_served schema world header seat new text reply here_served answer))
 
   -- the same of an ask in memory, whose name and text are shown by slices
-  pub told_here : (old new : List (DeskSeat D g h)) (reply : Option Run.Reply) {name' text' : Text} → name ≡ name' → text ≡ text' → Tells schema world name text old new reply → Tells schema world header T reads image faults name' text' old new reply
+  pub told_here : (old new : List (DeskSeat D g h)) (reply : Option Run.Reply) {name' text' : Text} → name ≡ name' → text ≡ text' → Tells schema world name text old new reply → Tells schema world name' text' old new reply
   told_here old new reply {name'} {text'} a b tells =
       subst (λ n. Tells schema world n text' old new reply) a (subst (λ t. Tells schema world name t old new reply) b tells)
 

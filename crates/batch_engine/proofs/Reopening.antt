@@ -57,8 +57,8 @@ module _ (schema : DatabaseSchema) (world : FactSet) (header : List ℕ) {D : Ty
       (subst (λ j. count j ≤ faults (seat_disk n)) (sym are.0.journal_is) (omega (arith, first, closed, on)), later_reopened count olds news are.1 later.1)
 
   -- what a closed desk shows where the shelf tells its disks
-  closed_told : (shelf_told → told) → {seat : DeskSeat D g h} {disk : D} → IsClosed told image faults seat.desk disk → IsClosed shelf_told image faults seat.desk disk
-  closed_told tells closed = record { holds = λ t. closed.holds (tells t); later = closed.later; cause = closed.cause; shut = closed.shut; still = closed.still }
+  closed_told : (shelf_told → told) → (seat : DeskSeat D g h) (disk : D) → IsClosed told image faults seat.desk disk → IsClosed shelf_told image faults seat.desk disk
+  closed_told tells seat disk closed = record { holds = λ t. closed.holds (tells t); later = closed.later; cause = closed.cause; shut = closed.shut; still = closed.still }
 
   -- where the disks of reopened seats are back, those of the seats before are
   back_before : (shelf_told → told) → (disk : Text → Option D) (count : Text → ℕ) (olds news : List (DeskSeat D g h)) → AreReopened schema world header told reads image faults olds news → AreBack shelf_told reads image faults disk count news → AreBack shelf_told reads image faults disk count olds
@@ -70,7 +70,7 @@ module _ (schema : DatabaseSchema) (world : FactSet) (header : List ℕ) {D : Ty
       now = back.0.now;
       left = record {
         closed = are.0.closed;
-        is_closed = closed_told tells are.0.is_closed;
+        is_closed = closed_told tells o are.0.closed are.0.is_closed;
         left = left_on reads image faults are.0.closed (seat_disk n) back.0.now are.0.left (subst (λ d. IsLeft reads image faults d back.0.now) (back.0.left.is_closed.still are.0.opened.fresh) back.0.left.left);
       };
       held = λ t. ap disk (sym are.0.journal_is) ∙ back.0.held t;
@@ -199,7 +199,7 @@ module _ (schema : DatabaseSchema) (world : FactSet) (header : List ℕ) {D : Ty
                 (back-append shelf_told reads image faults disk3 count3 half.done (seat ∷ rest) (back_before tells disk3 count3 half.done reopened half.are back3) (
                   record {
                     now = returned;
-                    left = record { closed = left.closed; is_closed = closed_told tells left.is_closed; left = left.left };
+                    left = record { closed = left.closed; is_closed = closed_told tells seat left.closed left.is_closed; left = left.left };
                     held = λ t. here_same disk1 disk2 disk3 disks2 disks3 ∙ ap disk1 (sym named) ∙ held1 t;
                     counted = here_same count1 count2 count3 counts2 counts3 ∙ ap count1 (sym named) ∙ counted1;
                   },
