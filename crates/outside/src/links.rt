@@ -19,10 +19,10 @@ pub enum LinksError {
 /// Where connections come in, one after the other. Each has two ends, which go back once it is served.
 pub trait Door {
     /// The end of a connection that its client's bytes come from.
-    type Src: Source + Drop;
+    type Src: Source + Drop + Send;
 
     /// The end of a connection that answers go to.
-    type Snk: Sink + Drop;
+    type Snk: Sink + Drop + Send;
 
     /// Whether clauses are told what comes in and goes back: over memory they are, over a real socket they are not.
     ghost told: { Type 0 };
