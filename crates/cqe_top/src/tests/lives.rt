@@ -1,6 +1,7 @@
 //! Journals over lives: what is written of them, what a crash leaves, and which are refused.
 use super::ward::{
-    FACTS, JOURNALS, POLICY, batch, init, journal, journal_bytes, put_journal, shelf_of, ward,
+    FACTS, JOURNALS, POLICY, batch, init, journal, journal_bytes, put_journal, put_same, shelf_of,
+    ward,
 };
 use super::{Run, joined};
 use outside::{MemoryDisk, Plan};
@@ -73,10 +74,7 @@ fn journals_are_made_once(rt: HostRuntime) -> Result<(), Fail> {
     assert_eq!(rt; journal_bytes(&shelf, "d/eve.log"), recorded.as_slice());
     // other facts, with the same journals
     let mut other = shelf_of(alloc, POLICY.as_bytes(), b"hiv(ann)\n")?;
-    for name in JOURNALS {
-        let bytes = journal_bytes(&shelf, name).to_vec(alloc)?;
-        put_journal(alloc, &mut other, name, bytes)?;
-    }
+    put_same(alloc, &shelf, &JOURNALS, &mut other)?;
     let run = init(alloc, &mut other)?;
     run.check(
         &rt,
