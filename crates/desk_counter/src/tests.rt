@@ -1,21 +1,19 @@
 //! Desks on disks in memory, which threads share. Marks were worked out by hand.
-ghost use Rattle.std.specs.Prelude.{◌≡◌, ℕ, ◌+◌, ◌*◌, ◌^◌, ◌≤◌, [], true, length, IfOk, IfSome, MatchBool};
+ghost use Rattle.std.specs.Prelude.{◌≡◌, ◌+◌, ◌*◌, ◌^◌, ◌≤◌, true, length, Some, IfOk};
 ghost use Rattle.cqe_base.specs.Formula.{formula_of, nodes, is_sentence_of};
 ghost use Rattle.cqe_base.specs.History.{profile_of};
 ghost use Rattle.cqe_base.specs.Limits.{KeepsLimits};
-ghost use Rattle.turnstile.specs.Passes.{mine, shares, turns};
-ghost use Rattle.user_desk.specs.Desks.{desk_history};
-ghost use Rattle.desk_counter.specs.Items.{kept_pairs};
+ghost use Rattle.turnstile.specs.Passes.{IsOf, IsReady, first_value, fixed, shares as shares_of, turns};
 ghost use Rattle.desk_counter.specs.Counters.{IsPassOf};
 
-use crate::{Counter, DeskPass};
+use crate::{Counter, CounterOf, DeskPass, Owned, TicketedDesk};
 use cqe_base::laws::law_reading;
 use cqe_base::schema::Schema;
 use cqe_base::sentence::{Sentence, nodes};
 use cqe_base::user::{Mark, Method, User};
 use cqe_base::world::{Fact, World};
 use log_journal::{Header, format};
-use outside::{Gate, MemoryDisk, OpenGate, Point};
+use outside::{Disk, Gate, MemoryDisk, OpenGate, Point};
 use sentence_text::read_sentence;
 use std::alloc::Global;
 use std::process::Abort;
@@ -24,7 +22,7 @@ use std::sync::atomic::{AtomicU64, Ordering};
 use std::test::Fail;
 use std::thread;
 use std::thread::{Threads, join};
-use turnstile::PassError;
+use turnstile::{Pass, PassError};
 use user_desk::{Desk, open_desk};
 use user_log::Reply;
 use user_log::laws::law_views_without_entries;
@@ -130,8 +128,7 @@ fn counter_of<'w>(
 ) -> Result<(Counter<'w, MemoryDisk>, DeskPass<MemoryDisk>), Fail>
     requires { KeepsLimits clinic.now.schema (profile_of user.now) }
     ensures pass { IfOk result (λ c. IsPassOf c.1 c.0) }
-    ensures mine { IfOk result (λ c. mine c.1 ≡ []) }
-    ensures all { IfOk result (λ c. (shares c.1 ≡ 65) × (turns c.1 ≡ 65 * 2 ^ 57)) }
+    ensures all { IfOk result (λ c. (shares_of c.1 ≡ 65) × (turns c.1 ≡ 65 * 2 ^ 57)) }
 {
     let mut disk = MemoryDisk::new(alloc, Vec::new(alloc))?;
     format(&mut disk, &HEADER)?;
@@ -145,86 +142,126 @@ fn counter_of<'w>(
     }
 }
 
-// One ask, and whether it was told a mark.
-fn ask_once<R: Wait, G: Gate>(
-    rt: &R,
-    alloc: Global,
-    counter: &Counter<'_, MemoryDisk>,
-    pass: &mut DeskPass<MemoryDisk>,
-    text: &str,
-    gate: &G,
-) -> bool
-    requires pass { IsPassOf pass.old counter.now }
-    requires turns { 2 ≤ turns pass.old }
-    requires short { length text.now ≤ 4096 }
-    ensures pass { IsPassOf pass.new counter.now }
-    ensures used { (shares pass.new ≡ shares pass.old) × (turns pass.old ≤ turns pass.new + 2) }
-    ensures mine { MatchBool result (length (kept_pairs (mine pass.new)) ≡ length (kept_pairs (mine pass.old)) + 1) (length (kept_pairs (mine pass.new)) ≡ length (kept_pairs (mine pass.old))) }
-{
-    match counter.ask(rt, alloc, pass, text, gate) {
-        Reply::Mark(_) => true,
-        _ => false,
-    }
+/// Work that a thread does.
+trait Job {
+    // What work leaves as it was.
+    ghost same: { Self → Self → Type 0 };
+
+    fn finish<R: Wait>(self, rt: &R) -> Self
+        ensures { same self result };
 }
 
-// As many asks of one text, and how many of them were told a mark.
-fn ask_often<R: Wait, G: Gate>(
-    rt: &R,
+/// A session at a counter, which asks one text so often. It says nothing of the value's type, so that a thread can take it.
+#[derive(Drop)]
+struct Session<'a, 'w, V: Owned, G> {
+    counter: &'a CounterOf<'w, V>,
+    pass: Pass<V::Item, V::Fixed>,
+    shares: u64,
+    text: &'a str,
+    asks: u64,
+    told: u64,
     alloc: Global,
-    counter: &Counter<'_, MemoryDisk>,
-    mut pass: DeskPass<MemoryDisk>,
-    text: &str,
-    count: u64,
-    gate: &G,
-) -> (DeskPass<MemoryDisk>, u64)
-    requires pass { IsPassOf pass counter.now }
-    requires turns { 2 * count ≤ turns pass }
-    requires short { length text.now ≤ 4096 }
-    ensures pass { IsPassOf result.0 counter.now }
-    ensures shares { shares result.0 ≡ shares pass }
-    ensures mine { length (kept_pairs (mine result.0)) ≡ length (kept_pairs (mine pass)) + result.1 }
-    ensures most { result.1 ≤ count }
-{
-    let mut told = 0;
-    for made in 0..count {
-        prove!(told <= made);
-        if ask_once(rt, alloc, counter, &mut pass, text, gate) {
-            told += 1;
+    gate: &'a G,
+    ghost place: { IsOf pass counter.now.turnstile },
+    ghost ready: { IsReady pass },
+    ghost kept: { fixed pass ≡ Some (V.kept (first_value counter.now.turnstile)) },
+    ghost counted: { shares ≡ shares_of pass },
+    ghost turns: { 2 * asks ≤ turns pass },
+    ghost short: { length text.now ≤ 4096 },
+    ghost few: { told + asks ≤ 1000 },
+}
+
+impl<'a, 'w, D: Disk, G: Gate> Session<'a, 'w, TicketedDesk<'w, D>, G> {
+    // One ask.
+    fn ask<R: Wait>(&mut self, rt: &R)
+        requires { 1 ≤ self.old.asks }
+        ensures counter { self.new.counter ≡ self.old.counter }
+        ensures asks { self.new.asks + 1 ≡ self.old.asks }
+    {
+        let reply = self
+            .counter
+            .ask(rt, self.alloc, &mut self.pass, self.text, self.gate);
+        self.asks -= 1;
+        if let Reply::Mark(_) = reply {
+            self.told += 1;
         }
     }
-    (pass, told)
 }
 
-// Two threads ask one desk, each with a pass and a text of its own. The passes meet, and the counter is closed: each mark
-// that was told stands in the desk's entries.
+impl<'a, 'w, D: Disk, G: Gate> Job for Session<'a, 'w, TicketedDesk<'w, D>, G> {
+    ghost same = { λ before after. after.counter ≡ before.counter };
+
+    fn finish<R: Wait>(self, rt: &R) -> Self {
+        let mut session = self;
+        while session.asks > 0 {
+            session.ask(rt);
+        }
+        session
+    }
+}
+
+// Two threads do a job each.
+fn finish_both<J: Job + Drop + Send, R: Threads + Wait + Sync>(rt: &R, one: J, two: J) -> (J, J)
+    ensures one { J.same one result.0 }
+    ensures two { J.same two result.1 }
+{
+    join(rt, move || one.finish(rt), move || two.finish(rt))
+}
+
+/// A session that makes so many asks.
+fn session_at<'a, 'w, V: Owned, G>(
+    alloc: Global,
+    at: (&'a CounterOf<'w, V>, Pass<V::Item, V::Fixed>),
+    shares: u64,
+    text: &'a str,
+    asks: u64,
+    gate: &'a G,
+) -> Session<'a, 'w, V, G>
+    requires place { IsOf at.1 at.0.now.turnstile × IsReady at.1 }
+    requires kept { fixed at.1 ≡ Some (V.kept (first_value at.0.now.turnstile)) }
+    requires shares { shares ≡ shares_of at.1 }
+    requires turns { 2 * asks ≤ turns at.1 }
+    requires short { length text.now ≤ 4096 }
+    requires few { asks ≤ 1000 }
+    ensures { result.counter ≡ at.0 }
+{
+    let (counter, pass) = at;
+    Session {
+        counter,
+        pass,
+        shares,
+        text,
+        asks,
+        told: 0,
+        alloc,
+        gate,
+    }
+}
+
+// Two threads ask one desk, each with a pass and a text of its own. The passes meet, and the counter is closed.
 fn ask_by_two<'w, R: Threads + Wait + Sync>(
     rt: &R,
     alloc: Global,
     counter: Counter<'w, MemoryDisk>,
     pass: DeskPass<MemoryDisk>,
     texts: (&str, &str),
-    count: u64,
 ) -> Option<(Desk<'w, MemoryDisk>, u64)>
     requires pass { IsPassOf pass counter }
-    requires mine { mine pass ≡ [] }
-    requires all { (shares pass ≡ 65) × (turns pass ≡ 65 * 2 ^ 57) }
+    requires all { (shares_of pass ≡ 65) × (turns pass ≡ 65 * 2 ^ 57) }
     requires short { (length texts.0.now ≤ 4096) × (length texts.1.now ≤ 4096) }
-    requires few { count ≤ 2 ^ 32 }
-    ensures { IfSome result (λ r. r.1 ≤ length (desk_history r.0)) }
 {
     let mut first = pass;
-    let Ok(second) = counter.split(&mut first) else {
+    let second = counter.split(&mut first).ok()?;
+    let one = session_at(alloc, (&counter, first), 64, texts.0, 100, &OpenGate);
+    let two = session_at(alloc, (&counter, second), 1, texts.1, 100, &OpenGate);
+    let (one, two) = finish_both(rt, one, two);
+    let told = one.told + two.told;
+    if one.shares != 64 || two.shares != 1 {
         return None;
-    };
-    let shared = &counter;
-    let (one, two) = texts;
-    let ((mut first, a), (second, b)) = join(
-        rt,
-        move || ask_often(rt, alloc, shared, first, one, count, &OpenGate),
-        move || ask_often(rt, alloc, shared, second, two, count, &OpenGate),
-    );
-    counter.meet(&mut first, second);
-    Some((counter.close(first), a + b))
+    }
+    let mut pass = one.pass;
+    counter.meet(&mut pass, two.pass);
+    Some((counter.close(pass), told))
 }
 
 // A liar who keeps `hiv(ann)` secret is told `no` of `drug(ann)`, a lie, and `yes` of `not hiv(bob)`, the truth.
@@ -234,7 +271,7 @@ fn two_threads_ask_one_desk(rt: HostRuntime) -> Result<(), Fail> {
     let clinic = make_clinic(&rt, alloc)?;
     let (counter, pass) = counter_of(&rt, alloc, &clinic, &clinic.eve)?;
     let texts = ("drug(ann)", "not hiv(bob)");
-    let (desk, told) = ask_by_two(&rt, alloc, counter, pass, texts, 100).ok_or("not split")?;
+    let (desk, told) = ask_by_two(&rt, alloc, counter, pass, texts).ok_or("not split")?;
     assert_eq!(rt; (told, desk.entries().len(), desk.broken()), (200, 200, false));
     let mut lies = 0u64;
     for entry in desk.entries() {
@@ -253,7 +290,7 @@ fn two_threads_ask_one_desk(rt: HostRuntime) -> Result<(), Fail> {
 // Splits a pass until it has one share, and counts the splits.
 fn split_all(counter: &Counter<'_, MemoryDisk>, pass: &mut DeskPass<MemoryDisk>) -> u64
     requires pass { IsPassOf pass.old counter.now }
-    requires turns { turns pass.old ≡ shares pass.old * 2 ^ 57 }
+    requires turns { turns pass.old ≡ shares_of pass.old * 2 ^ 57 }
 {
     for made in 0..100 {
         match counter.split(pass) {
@@ -320,25 +357,22 @@ impl Gate for Hold {
     }
 }
 
-// Two threads ask once each, at these counters.
-fn ask_beside<R: Threads + Wait + Sync>(
+// Two threads ask once each, at these counters, and it says how many marks they were told.
+fn ask_beside<'a, 'w, R: Threads + Wait + Sync>(
     rt: &R,
     alloc: Global,
-    one: (&Counter<'_, MemoryDisk>, DeskPass<MemoryDisk>),
-    two: (&Counter<'_, MemoryDisk>, DeskPass<MemoryDisk>),
-    gate: &Hold,
+    one: (&'a Counter<'w, MemoryDisk>, DeskPass<MemoryDisk>),
+    two: (&'a Counter<'w, MemoryDisk>, DeskPass<MemoryDisk>),
+    shares: u64,
+    gate: &'a Hold,
 ) -> u64
-    requires one { IsPassOf one.1 one.0.now × (2 ≤ turns one.1) }
-    requires two { IsPassOf two.1 two.0.now × (2 ≤ turns two.1) }
+    requires one { IsPassOf one.1 one.0.now × (2 ≤ turns one.1) × (shares ≡ shares_of one.1) }
+    requires two { IsPassOf two.1 two.0.now × (2 ≤ turns two.1) × (shares_of two.1 ≡ 1) }
 {
-    let (first, first_pass) = one;
-    let (second, second_pass) = two;
-    let ((_, a), (_, b)) = join(
-        rt,
-        move || ask_often(rt, alloc, first, first_pass, "drug(ann)", 1, gate),
-        move || ask_often(rt, alloc, second, second_pass, "drug(ann)", 1, gate),
-    );
-    a + b
+    let one = session_at(alloc, one, shares, "drug(ann)", 1, gate);
+    let two = session_at(alloc, two, 1, "drug(ann)", 1, gate);
+    let (one, two) = finish_both(rt, one, two);
+    one.told + two.told
 }
 
 #[test]
@@ -346,9 +380,13 @@ fn an_ask_in_its_turn_holds_no_other_desk(rt: HostRuntime) -> Result<(), Fail> {
     let alloc = rt.alloc();
     let clinic = make_clinic(&rt, alloc)?;
     let (eve, eve_pass) = counter_of(&rt, alloc, &clinic, &clinic.eve)?;
-    let (kim, kim_pass) = counter_of(&rt, alloc, &clinic, &clinic.kim)?;
+    let (kim, mut kim_pass) = counter_of(&rt, alloc, &clinic, &clinic.kim)?;
+    let Ok(kim_part) = kim.split(&mut kim_pass) else {
+        panic!(rt; "not split");
+    };
     let gate = Hold::new(Point::Examined, 1);
-    assert_eq!(rt; ask_beside(&rt, alloc, (&eve, eve_pass), (&kim, kim_pass), &gate), 2);
+    let told = ask_beside(&rt, alloc, (&eve, eve_pass), (&kim, kim_part), 65, &gate);
+    assert_eq!(rt; told, 2);
     assert_eq!(rt; gate.released.load(Ordering::SeqCst), 1);
     Ok(())
 }
@@ -362,7 +400,8 @@ fn a_settled_ask_holds_nobody(rt: HostRuntime) -> Result<(), Fail> {
         panic!(rt; "not split");
     };
     let gate = Hold::new(Point::Settled, 2);
-    assert_eq!(rt; ask_beside(&rt, alloc, (&counter, first), (&counter, second), &gate), 2);
+    let told = ask_beside(&rt, alloc, (&counter, first), (&counter, second), 64, &gate);
+    assert_eq!(rt; told, 2);
     assert_eq!(rt; gate.released.load(Ordering::SeqCst), 1);
     Ok(())
 }
