@@ -1,6 +1,6 @@
 -- What is made of the rows of a command is what it says with the uses.
-use Rattle.std.proofs.Common.{◌≡◌, Bool, true, false, not, ◌&&◌, ◌||◌, cond, List, [], ◌∷◌, ◌++◌, refl, ap, ◌∙◌, subst}
-use Rattle.std.specs.Prelude.{⊤, Option, Some, None, option_map, option_and_then, find, slice_get, unwrap_or, bytes_eq, codes, if◌then◌else◌}
+use Rattle.std.proofs.Common.{◌≡◌, Bool, true, false, not, ◌||◌, cond, List, [], ◌∷◌, ◌++◌, refl, ap, ◌∙◌, subst}
+use Rattle.std.specs.Prelude.{⊤, Option, Some, None, option_map, option_and_then, find, slice_get, unwrap_or, bytes_eq, codes}
 use Rattle.std.specs.List.{list_all}
 use Rattle.std.specs.Option.{option_map_or}
 use Rattle.std.proofs.lemmas.Bool.{and_parts}
@@ -9,7 +9,7 @@ use Rattle.clap.specs.Words.{Row, Text, first_of}
 use Rattle.clap.specs.Walk.{with_default}
 use Rattle.command_words.specs.Uses.{OptionRow, Use, is_flag}
 use Rattle.command_words.specs.Numbers.{number_from, number_or}
-use Rattle.command_words.specs.Readings.{CommandRow, FileNames, audit_row, audit_said, batch_row, case_row, command_of, commands, files_of, files_said, init_row, is_used, runs_batch, runs_init, selfrun_row, selfrun_said, serve_row, serve_said, value_of}
+use Rattle.command_words.specs.Readings.{CommandRow, audit_row, audit_said, batch_row, command_of, commands, files_of, files_said, init_row, is_used, runs_batch, runs_init, selfrun_row, selfrun_said, serve_row, serve_said, value_of}
 use Rattle.command_words.specs.Matched.{command_with, files_in, says_true}
 use Rattle.command_words.proofs.Options.{default_is, finished_rows, rows_of_uses, row_of_use, rule_for, text_of, unused_row}
 use Rattle.command_words.proofs.Walks.{rows_at_end}
