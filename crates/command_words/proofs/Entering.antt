@@ -98,8 +98,8 @@ no_command word words (option_word x xs) unknown = refl
 
 -- the first word is one
 pub record Enters (row : CommandRow) (word : Text) (words : List Text) : Type 0 where
-  pub faults : none (fault_of program (word ∷ words)) ≡ passes row (walk_from (held [])) words
-  pub matched : subcommand_of program (word ∷ words) ≡ Some (row.name, ends row (walk_from (held [])) words)
+  pub faults : none (fault_of program (word ∷ words)) ≡ passes row (walk_from (held row.options [])) words
+  pub matched : subcommand_of program (word ∷ words) ≡ Some (row.name, ends row (walk_from (held row.options [])) words)
 
 pub enters : (row : CommandRow) (word : Text) (words : List Text) → command_of word ≡ Some row → Enters row word words
 unfolding walked walk_fault defaults_fault
@@ -113,7 +113,7 @@ enters row word words known =
     let walk_is : walk_of (word ∷ words) ≡ stopped_at row.name words = ap (λ (w : Walk). fold (walked [] names) w words) moved ∙ kept row.name [] words in
     let fault_is : ◌≡◌ {A = Kinds} (walk_fault top names (walk_from nothing_held) (word ∷ words)) [] =
     (λ i. or_else (turn i) (walk_fault top names (moved i) words)) ∙ kept_fault row.name [] words in
-    let inner : none (whole (stopped_at row.name words) []) ≡ passes row (walk_from (held [])) words = rw found (none_nil _) in record {
+    let inner : none (whole (stopped_at row.name words) []) ≡ passes row (walk_from (held row.options [])) words = rw found (none_nil _) in record {
       faults = (λ i. none (whole (walk_is i) (fault_is i))) ∙ inner;
       matched = ap (λ (w : Walk). entered built_program w.stopped) walk_is ∙ ap (option_map (λ (s : Shape). rows_at s words)) found;
     }

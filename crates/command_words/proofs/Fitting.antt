@@ -1,21 +1,22 @@
 -- What clap answers on all words is their reading.
-use Rattle.std.proofs.Common.{◌≡◌, ◌==◌, Bool, true, false, not, ◌&&◌, ◌||◌, cond, List, [], ◌∷◌, ◌++◌, map, refl, sym, ap, ◌∙◌, true≢false, eqb-true, subst, ⊎_elim}
-use Rattle.std.specs.Prelude.{Option, Some, None, option_map, option_and_then, is_some, find, slice_get, unwrap_or, bytes_eq, codes, if◌then◌else◌}
+use Rattle.std.proofs.Common.{◌≡◌, ◌==◌, Bool, true, false, not, ◌&&◌, ◌||◌, cond, List, [], ◌∷◌, ◌++◌, refl, sym, ap, ◌∙◌, true≢false, eqb-true, ⊎_elim}
+use Rattle.std.specs.Prelude.{Option, Some, None, option_map, option_and_then, is_some, find, bytes_eq, if◌then◌else◌}
 use Rattle.std.specs.List.{list_all, list_any}
 use Rattle.std.proofs.Math.Bool.{and-false}
 use Rattle.std.proofs.lemmas.Bool.{and_parts}
 use Rattle.std.proofs.lemmas.Slice.Eq.{bytes_eq-Decides}
-use Rattle.clap.specs.Words.{HasKind, Row, Text, Kinds, fault_of, first_of, kind_of, subcommand_of}
+use Rattle.clap.specs.Words.{HasKind, Row, Text, Kinds, fault_of, kind_of, subcommand_of}
 use Rattle.clap.specs.declared.error.Error.{Error}
 use Rattle.clap.specs.declared.error.kind.ErrorKind.TheVariants.{OutOfMemory}
 use Rattle.clap.specs.Lexer.{has_byte}
-use Rattle.command_words.specs.Uses.{Use, name_and_value, option_of, is_value_word, in_front, uses_of, with_value, followed}
-use Rattle.command_words.specs.Readings.{CommandRow, OptionRow, Reading, command_of, do_fit, file_options, has_no_repeat, is_used, reading_of, reading_with, value_of}
-use Rattle.command_words.specs.Matched.{command_with, files_in, files_with, is_short, program}
-use Rattle.command_words.proofs.Options.{is_complete, needs, none, or_false, row_of_use, rows_of_uses}
+use Rattle.command_words.specs.Uses.{OptionRow, Use, alone, name_and_value, option_of, is_flag, is_value_word, in_front, uses_of, followed}
+use Rattle.command_words.specs.Readings.{CommandRow, Reading, command_of, do_fit, has_no_repeat, is_used, reading_by, reading_of, reading_with}
+use Rattle.command_words.specs.Matched.{command_with, is_short, program}
+use Rattle.command_words.proofs.Options.{is_complete, needs, none, or_false, sort_of}
 use Rattle.command_words.proofs.Turns.{Named, plain_word, option_word, named, option_at, name_at, value_at}
-use Rattle.command_words.proofs.Walks.{completes, extends, gives, uses_apart, uses_attached}
+use Rattle.command_words.proofs.Walks.{completes, extends, gives, uses_apart, uses_attached, uses_flag}
 use Rattle.command_words.proofs.Entering.{enters, no_command, no_words}
+use Rattle.command_words.proofs.Said.{command_reading}
 
 -- the options of which the uses are
 abbrev is_known : List OptionRow → Text → Bool
@@ -24,7 +25,7 @@ is_known options name = list_any (λ (row : OptionRow). bytes_eq row.name name) 
 known_is : (options : List OptionRow) (name : Text) → is_some (needs options name) ≡ is_known options name
 known_is [] name = refl
 known_is (row ∷ options) name =
-    elim (bytes_eq row.name name) as (λ t. is_some (option_map (λ (r : OptionRow). r.is_needed) (cond t (Some row) (find (λ (r : OptionRow). bytes_eq r.name name) options))) ≡ (t || is_known options name)) [
+    elim (bytes_eq row.name name) as (λ t. is_some (option_map sort_of (cond t (Some row) (find (λ (r : OptionRow). bytes_eq r.name name) options))) ≡ (t || is_known options name)) [
       | true ↦ refl
       | false ↦ known_is options name
     ]
@@ -133,41 +134,45 @@ or_right true b e first = absurd (true≢false first)
 or_right false b e first = e
 
 -- a word before others of which one has a short form
-short_behind : (word next : Text) (rest : List Text) → Named word → list_any is_short (next ∷ rest) ≡ true → ◌≡◌ {A = Option (List Use)} (uses_of (next ∷ rest)) None
-    → (list_any is_short rest ≡ true → ◌≡◌ {A = Option (List Use)} (uses_of rest) None) → ◌≡◌ {A = Option (List Use)} (uses_of (word ∷ next ∷ rest)) None
+short_behind : (options : List OptionRow) (word next : Text) (rest : List Text) → Named word → list_any is_short (next ∷ rest) ≡ true → ◌≡◌ {A = Option (List Use)} (uses_of options (next ∷ rest)) None
+    → (list_any is_short rest ≡ true → ◌≡◌ {A = Option (List Use)} (uses_of options rest) None) → ◌≡◌ {A = Option (List Use)} (uses_of options (word ∷ next ∷ rest)) None
 unfolding uses_of
-short_behind word next rest (plain_word plain) e attached apart = rw plain.names_none refl
-short_behind word next rest (option_word x xs) e attached apart = by_form (has_byte 61 (x ∷ xs)) refl (is_short next) refl
+short_behind options word next rest (plain_word plain) e attached apart = rw plain.names_none refl
+short_behind options word next rest (option_word x xs) e attached apart = by_form (is_flag options (name_at x xs)) refl (has_byte 61 (x ∷ xs)) refl (is_short next) refl
   where
-    by_form : (t : Bool) → has_byte 61 (x ∷ xs) ≡ t → (s : Bool) → is_short next ≡ s → ◌≡◌ {A = Option (List Use)} (uses_of (option_at x xs ∷ next ∷ rest)) None
-    by_form true has s short = uses_attached x xs (next ∷ rest) has ∙ ap (in_front (with_value (name_at x xs) (value_at x xs))) attached ∙ front_none _
-    by_form false has true short =
+    by_form : (flag : Bool) → is_flag options (name_at x xs) ≡ flag → (t : Bool) → has_byte 61 (x ∷ xs) ≡ t → (s : Bool) → is_short next ≡ s
+        → ◌≡◌ {A = Option (List Use)} (uses_of options (option_at x xs ∷ next ∷ rest)) None
+    by_form flag is true has s short =
+        uses_attached options x xs (next ∷ rest) flag is has ∙ ap (in_front (alone flag (name_at x xs) (Some (value_at x xs)))) attached ∙ front_none _
+    by_form true is false has s short = uses_flag options x xs (next ∷ rest) is has ∙ ap (in_front (Some (record { name = name_at x xs; value = [] }))) attached
+    by_form false is false has true short =
         let no_value : ◌≡◌ {A = Option Use} (followed (name_at x xs) next) None = rw (short_word next short).1 refl in
-        uses_apart x xs next rest has ∙ ap (λ (w : Option Use). in_front w (uses_of rest)) no_value
-    by_form false has false long = uses_apart x xs next rest has ∙ ap (in_front (followed (name_at x xs) next)) (apart (or_right (is_short next) (list_any is_short rest) e long)) ∙ front_none _
+        uses_apart options x xs next rest is has ∙ ap (λ (w : Option Use). in_front w (uses_of options rest)) no_value
+    by_form false is false has false long =
+        uses_apart options x xs next rest is has ∙ ap (in_front (followed (name_at x xs) next)) (apart (or_right (is_short next) (list_any is_short rest) e long)) ∙ front_none _
 
 -- words with one of a short form make no uses
-short_uses : (words : List Text) → list_any is_short words ≡ true → ◌≡◌ {A = Option (List Use)} (uses_of words) None
+short_uses : (options : List OptionRow) (words : List Text) → list_any is_short words ≡ true → ◌≡◌ {A = Option (List Use)} (uses_of options words) None
 unfolding uses_of
-short_uses [] e = absurd (cc)
-short_uses (word ∷ []) e = only (is_short word) refl e
+short_uses options [] e = absurd (cc)
+short_uses options (word ∷ []) e = only (is_short word) refl e
   where
-    only : (t : Bool) → is_short word ≡ t → (t || false) ≡ true → ◌≡◌ {A = Option (List Use)} (uses_of (word ∷ [])) None
+    only : (t : Bool) → is_short word ≡ t → (t || false) ≡ true → ◌≡◌ {A = Option (List Use)} (uses_of options (word ∷ [])) None
     only true short e = rw (short_word word short).0 refl
     only false long e = absurd (true≢false (sym e))
-short_uses (word ∷ next ∷ rest) e = first (short_uses (next ∷ rest)) (short_uses rest) (is_short word) refl
+short_uses options (word ∷ next ∷ rest) e = first (short_uses options (next ∷ rest)) (short_uses options rest) (is_short word) refl
   where
-    first : (list_any is_short (next ∷ rest) ≡ true → ◌≡◌ {A = Option (List Use)} (uses_of (next ∷ rest)) None)
-        → (list_any is_short rest ≡ true → ◌≡◌ {A = Option (List Use)} (uses_of rest) None)
-        → (t : Bool) → is_short word ≡ t → ◌≡◌ {A = Option (List Use)} (uses_of (word ∷ next ∷ rest)) None
+    first : (list_any is_short (next ∷ rest) ≡ true → ◌≡◌ {A = Option (List Use)} (uses_of options (next ∷ rest)) None)
+        → (list_any is_short rest ≡ true → ◌≡◌ {A = Option (List Use)} (uses_of options rest) None)
+        → (t : Bool) → is_short word ≡ t → ◌≡◌ {A = Option (List Use)} (uses_of options (word ∷ next ∷ rest)) None
     first attached apart true short = rw (short_word word short).0 refl
     first attached apart false long =
         let others : list_any is_short (next ∷ rest) ≡ true = or_right (is_short word) (list_any is_short (next ∷ rest)) e long in
-        short_behind word next rest (named word long) others (attached others) apart
+        short_behind options word next rest (named word long) others (attached others) apart
 
-reading_none : (o : Option CommandRow) → ◌≡◌ {A = Option Reading} (reading_with o None) None
-reading_none None = refl
-reading_none (Some row) = refl
+short_words : (o : Option CommandRow) (words : List Text) → list_any is_short words ≡ true → ◌≡◌ {A = Option Reading} (reading_with o words) None
+short_words None words e = refl
+short_words (Some row) words e = ap (reading_by row) (short_uses row.options words e)
 
 -- words with one of a short form have no reading
 pub short_reading : (words : List Text) → list_any is_short words ≡ true → ◌≡◌ {A = Option Reading} (reading_of words) None
@@ -176,74 +181,8 @@ short_reading [] e = absurd (cc)
 short_reading (word ∷ words) e = first (is_short word) refl
   where
     first : (t : Bool) → is_short word ≡ t → ◌≡◌ {A = Option Reading} (reading_of (word ∷ words)) None
-    first true short = ap (λ (o : Option CommandRow). reading_with o (uses_of words)) (short_command word short)
-    first false long = ap (reading_with (command_of word)) (short_uses words (or_right (is_short word) (list_any is_short words) e long)) ∙ reading_none (command_of word)
-
--- the first value of a row
-value_row : (uses : List Use) (name : Text) → first_of name (rows_of_uses uses) ≡ value_of uses name
-value_row [] name = refl
-value_row (u ∷ uses) name =
-    elim (bytes_eq u.name name) as (λ t. option_and_then (λ (r : Row). slice_get r.values 0) (cond t (Some (row_of_use u)) (find (λ (r : Row). bytes_eq r.id name) (rows_of_uses uses)))
-    ≡ option_map (λ (v : Use). v.value) (cond t (Some u) (find (λ (v : Use). bytes_eq v.name name) uses))) [
-      | true ↦ refl
-      | false ↦ value_row uses name
-    ]
-
--- an option that is used has a value
-used_value : (uses : List Use) (name : Text) → is_used uses name ≡ true → (value : Text) × (value_of uses name ≡ Some value)
-used_value [] name = λ e. absurd (cc)
-used_value (u ∷ uses) name =
-    elim (bytes_eq u.name name) as (λ t. (t || is_used uses name) ≡ true → (value : Text) × (option_map (λ (v : Use). v.value) (cond t (Some u) (find (λ (v : Use). bytes_eq v.name name) uses)) ≡ Some value)) [
-      | true ↦ λ e. (u.value, refl)
-      | false ↦ λ e. used_value uses name e
-    ]
-
--- the files of a command are all there
-files_are : (uses : List Use) → is_complete file_options uses ≡ true
-    → files_in (rows_of_uses uses) ≡ Some (value_of uses (codes "policy") ∷ value_of uses (codes "facts") ∷ value_of uses (codes "journals") ∷ [])
-files_are uses whole =
-    let one = and_parts (is_used uses (codes "policy")) _ whole in
-    let two = and_parts (is_used uses (codes "facts")) _ one.1 in
-    let three = and_parts (is_used uses (codes "journals")) _ two.1 in
-    let policy = used_value uses (codes "policy") one.0 in
-    let facts = used_value uses (codes "facts") two.0 in
-    let journals = used_value uses (codes "journals") three.0 in
-    (λ i. files_with (value_row uses (codes "policy") i) (value_row uses (codes "facts") i) (value_row uses (codes "journals") i))
-    ∙ rw (policy.1, facts.1, journals.1) refl
-
--- a row of the table is one of three
-in_table : (P : CommandRow → Type 0) (word : Text) (row : CommandRow) → command_of word ≡ Some row
-    → P (record { name = codes "case"; options = [] }) → P (record { name = codes "init"; options = file_options }) → P (record { name = codes "batch"; options = file_options }) → P row
-in_table P word row is case init batch =
-    elim (bytes_eq (codes "case") word) as (λ t. cond t (Some (record { name = codes "case"; options = [] }))
-    (cond (bytes_eq (codes "init") word) (Some (record { name = codes "init"; options = file_options })) (cond (bytes_eq (codes "batch") word) (Some (record { name = codes "batch"; options = file_options })) None)) ≡ Some row → P row) [
-      | true ↦ λ e. subst P (same _ e) case
-      | false ↦
-          elim (bytes_eq (codes "init") word) as (λ t.
-          cond t (Some (record { name = codes "init"; options = file_options })) (cond (bytes_eq (codes "batch") word) (Some (record { name = codes "batch"; options = file_options })) None) ≡ Some row → P row) [
-            | true ↦ λ e. subst P (same _ e) init
-            | false ↦
-                elim (bytes_eq (codes "batch") word) as (λ t. cond t (Some (record { name = codes "batch"; options = file_options })) None ≡ Some row → P row) [
-                  | true ↦ λ e. subst P (same _ e) batch
-                  | false ↦ λ e. absurd (cc)
-                ]
-          ]
-    ] is
-  where
-    same : (first : CommandRow) → Some first ≡ Some row → first ≡ row
-    same first e = ap (λ (o : Option CommandRow). unwrap_or o first) e
-
--- the reading of a command's row
-abbrev reading_at : CommandRow → List Use → Reading
-reading_at row uses = record { command = row.name; values = map (λ (o : OptionRow). value_of uses o.name) row.options }
-
--- what is made of the rows of a command is its reading
-command_reading : (word : Text) (row : CommandRow) (uses : List Use) → command_of word ≡ Some row → is_complete row.options uses ≡ true → command_with row.name (rows_of_uses uses) ≡ Some (reading_at row uses)
-command_reading word row uses known =
-    in_table (λ (r : CommandRow). is_complete r.options uses ≡ true → command_with r.name (rows_of_uses uses) ≡ Some (reading_at r uses)) word row known
-    (λ whole. refl)
-    (λ whole. ap (option_map (λ values. record { command = codes "init"; values = values })) (files_are uses whole))
-    (λ whole. ap (option_map (λ values. record { command = codes "batch"; values = values })) (files_are uses whole))
+    first true short = ap (λ (o : Option CommandRow). reading_with o words) (short_command word short)
+    first false long = short_words (command_of word) words (or_right (is_short word) (list_any is_short words) e long)
 
 -- the reading of what was matched
 abbrev pub matched_reading : Option (Text × List Row) → Option Reading
@@ -255,24 +194,26 @@ unfolding reading_of
 taken [] long free = absurd (true≢false (sym (ap none free) ∙ no_words))
 taken (word ∷ words) long free = by_command (command_of word) refl
   where
-    by_uses : (row : CommandRow) → command_of word ≡ Some row → (o : Option (List Use)) → uses_of words ≡ o → completes row.options [] o ≡ true → matched_reading (subcommand_of program (word ∷ words)) ≡ reading_of (word ∷ words)
+    by_uses : (row : CommandRow) → command_of word ≡ Some row → (o : Option (List Use)) → uses_of row.options words ≡ o → completes row.options [] o ≡ true
+        → matched_reading (subcommand_of program (word ∷ words)) ≡ reading_of (word ∷ words)
     by_uses row known None is bad = absurd (cc)
     by_uses row known (Some uses) is good =
         let parts = and_parts (extends row.options [] uses) (is_complete row.options uses) good in
         let rows = (gives row [] words (or_false (is_short word) (list_any is_short words) long).1).ends uses is parts.0 in
         let fit : do_fit row.options uses ≡ true = sym (fits row.options uses) ∙ good in
-        let reading : reading_with (Some row) (Some uses) ≡ Some (reading_at row uses) = rw fit refl in
+        let reading : reading_by row (Some uses) ≡ row.says uses = rw fit refl in
         ap matched_reading ((enters row word words known).matched ∙ ap (λ (r : List Row). Some (row.name, r)) rows)
-        ∙ command_reading word row uses known parts.1
+        ∙ command_reading word row uses known
         ∙ sym reading
-        ∙ (λ i. reading_with (sym known i) (sym is i))
+        ∙ ap (reading_by row) (sym is)
+        ∙ ap (λ (o : Option CommandRow). reading_with o words) (sym known)
 
     by_command : (o : Option CommandRow) → command_of word ≡ o → matched_reading (subcommand_of program (word ∷ words)) ≡ reading_of (word ∷ words)
     by_command None unknown =
         absurd (true≢false (sym (ap none free) ∙ no_command word words (named word (or_false (is_short word) (list_any is_short words) long).0) unknown))
     by_command (Some row) known =
         let given = gives row [] words (or_false (is_short word) (list_any is_short words) long).1 in
-        by_uses row known (uses_of words) refl (sym given.passes ∙ sym (enters row word words known).faults ∙ ap none free)
+        by_uses row known (uses_of row.options words) refl (sym given.passes ∙ sym (enters row word words known).faults ∙ ap none free)
 
 -- words that it refuses
 pub refused : (words : List Text) → list_any is_short words ≡ false → none (fault_of program words) ≡ false → ◌≡◌ {A = Option Reading} (reading_of words) None
@@ -280,18 +221,18 @@ unfolding reading_of
 refused [] long fails = refl
 refused (word ∷ words) long fails = by_command (command_of word) refl
   where
-    by_uses : (row : CommandRow) → command_of word ≡ Some row → (o : Option (List Use)) → uses_of words ≡ o → completes row.options [] o ≡ false → ◌≡◌ {A = Option Reading} (reading_of (word ∷ words)) None
-    by_uses row known None is bad = (λ i. reading_with (known i) (is i))
-    by_uses row known (Some uses) is bad =
+    by_uses : (row : CommandRow) (o : Option (List Use)) → completes row.options [] o ≡ false → ◌≡◌ {A = Option Reading} (reading_by row o) None
+    by_uses row None bad = refl
+    by_uses row (Some uses) bad =
         let unfit : do_fit row.options uses ≡ false = sym (fits row.options uses) ∙ bad in
-        let none : ◌≡◌ {A = Option Reading} (reading_with (Some row) (Some uses)) None = rw unfit refl in
-        (λ i. reading_with (known i) (is i)) ∙ none
+        rw unfit refl
 
     by_command : (o : Option CommandRow) → command_of word ≡ o → ◌≡◌ {A = Option Reading} (reading_of (word ∷ words)) None
-    by_command None unknown = ap (λ (o : Option CommandRow). reading_with o (uses_of words)) unknown
+    by_command None unknown = ap (λ (o : Option CommandRow). reading_with o words) unknown
     by_command (Some row) known =
         let given = gives row [] words (or_false (is_short word) (list_any is_short words) long).1 in
-        by_uses row known (uses_of words) refl (sym given.passes ∙ sym (enters row word words known).faults ∙ fails)
+        ap (λ (o : Option CommandRow). reading_with o words) known
+        ∙ by_uses row (uses_of row.options words) (sym given.passes ∙ sym (enters row word words known).faults ∙ fails)
 
 -- an error that isn't want of memory is a fault of the words
 pub fault_there : (kinds : Kinds) (e : Error) → HasKind kinds e → (kind_of e ≡ OutOfMemory → ⊥) → none kinds ≡ false

@@ -11,7 +11,7 @@ use Rattle.clap.specs.Faults.{check_fault, defaults_fault, settle_fault, turn_fa
 use Rattle.command_words.specs.Uses.{behind_hyphen, name_and_value, option_of, is_equals, with_value, followed}
 use Rattle.command_words.specs.Readings.{CommandRow}
 use Rattle.command_words.specs.Matched.{is_short}
-use Rattle.command_words.proofs.Options.{by_id, by_index, by_long, needs, none, none_first, none_nil, rule_named, rules_for, shape_for}
+use Rattle.command_words.proofs.Options.{Sort, by_id, by_index, by_long, needs, none, none_first, none_nil, rule_named, rule_of_sort, rules_for, shape_for}
 
 -- what stands to be checked after the words
 abbrev pub tail_fault : Shape → Held → Kinds
@@ -117,13 +117,13 @@ value_at x xs = after_first is_equals (x ∷ xs)
 
 -- no rule has the name
 no_rule : (row : CommandRow) (name : Text) → needs row.options name ≡ None → ◌≡◌ {A = Option Rule} (arg_by_long (rules_for row.options) name) None
-no_rule row name unknown = by_long row.options name ∙ ap (option_map (rule_named name)) unknown
+no_rule row name unknown = by_long row.options name ∙ ap (option_map (rule_of_sort name)) unknown
 
-long_rule : (row : CommandRow) (name : Text) (is_needed : Bool) → needs row.options name ≡ Some is_needed → arg_by_long (rules_for row.options) name ≡ Some (rule_named name is_needed)
-long_rule row name is_needed known = by_long row.options name ∙ ap (option_map (rule_named name)) known
+long_rule : (row : CommandRow) (name : Text) (s : Sort) → needs row.options name ≡ Some s → arg_by_long (rules_for row.options) name ≡ Some (rule_of_sort name s)
+long_rule row name s known = by_long row.options name ∙ ap (option_map (rule_of_sort name)) known
 
-pub id_rule : (row : CommandRow) (name : Text) (is_needed : Bool) → needs row.options name ≡ Some is_needed → arg_by_id (rules_for row.options) name ≡ Some (rule_named name is_needed)
-id_rule row name is_needed known = by_id row.options name ∙ ap (option_map (rule_named name)) known
+pub id_rule : (row : CommandRow) (name : Text) (s : Sort) → needs row.options name ≡ Some s → arg_by_id (rules_for row.options) name ≡ Some (rule_of_sort name s)
+id_rule row name s known = by_id row.options name ∙ ap (option_map (rule_of_sort name)) known
 
 -- a name that no option has fails, and changes nothing
 pub idle_unknown : (row : CommandRow) (h : Held) (x : ℕ) (xs : Text) → needs row.options (name_at x xs) ≡ None
@@ -136,40 +136,56 @@ none_three [] b = none_nil b
 none_three (k ∷ ks) b = refl
 
 -- an option with its value in the word
-pub idle_attached : (row : CommandRow) (h : Held) (x : ℕ) (xs : Text) (is_needed : Bool) → needs row.options (name_at x xs) ≡ Some is_needed → has_byte 61 (x ∷ xs) ≡ true
+pub idle_attached : (row : CommandRow) (h : Held) (x : ℕ) (xs : Text) (is_needed : Bool) → needs row.options (name_at x xs) ≡ Some (is_needed, true) → has_byte 61 (x ∷ xs) ≡ true
     → (turns row (walk_from h) (option_at x xs)
-    ≡ (none (settle_fault (rules_for row.options) false h) && none (use_fault false (rule_named (name_at x xs) is_needed) (value_at x xs ∷ []) (settled (rules_for row.options) h).rows)))
-    × (walked (rules_for row.options) [] (walk_from h) (option_at x xs) ≡ walk_from (reacted (rules_for row.options) (rule_named (name_at x xs) is_needed) (value_at x xs ∷ []) h))
+    ≡ (none (settle_fault (rules_for row.options) false h) && none (use_fault false (rule_named (name_at x xs) is_needed true) (value_at x xs ∷ []) (settled (rules_for row.options) h).rows)))
+    × (walked (rules_for row.options) [] (walk_from h) (option_at x xs) ≡ walk_from (reacted (rules_for row.options) (rule_named (name_at x xs) is_needed true) (value_at x xs ∷ []) h))
 unfolding walked
-idle_attached row h x xs is_needed known has = rw (long_rule row (name_at x xs) is_needed known, has) (none_three (settle_fault (rules_for row.options) false h) _, refl)
+idle_attached row h x xs is_needed known has = rw (long_rule row (name_at x xs) (is_needed, true) known, has) (none_three (settle_fault (rules_for row.options) false h) _, refl)
+
+-- a flag
+pub idle_flag : (row : CommandRow) (h : Held) (x : ℕ) (xs : Text) (is_needed : Bool) → needs row.options (name_at x xs) ≡ Some (is_needed, false) → has_byte 61 (x ∷ xs) ≡ false
+    → (turns row (walk_from h) (option_at x xs)
+    ≡ (none (settle_fault (rules_for row.options) false h) && none (use_fault false (rule_named (name_at x xs) is_needed false) [] (settled (rules_for row.options) h).rows)))
+    × (walked (rules_for row.options) [] (walk_from h) (option_at x xs) ≡ walk_from (reacted (rules_for row.options) (rule_named (name_at x xs) is_needed false) [] h))
+unfolding walked
+idle_flag row h x xs is_needed known has = rw (long_rule row (name_at x xs) (is_needed, false) known, has) (none_three (settle_fault (rules_for row.options) false h) _, refl)
+
+-- a flag with a value in the word fails, and changes nothing
+pub idle_flag_valued : (row : CommandRow) (h : Held) (x : ℕ) (xs : Text) (is_needed : Bool) → needs row.options (name_at x xs) ≡ Some (is_needed, false) → has_byte 61 (x ∷ xs) ≡ true
+    → (turns row (walk_from h) (option_at x xs) ≡ false) × (walked (rules_for row.options) [] (walk_from h) (option_at x xs) ≡ walk_from h)
+unfolding walked
+idle_flag_valued row h x xs is_needed known has = rw (long_rule row (name_at x xs) (is_needed, false) known, has, by_index row.options 1) (refl, refl)
 
 -- an option whose value is to follow
-pub idle_apart : (row : CommandRow) (h : Held) (x : ℕ) (xs : Text) (is_needed : Bool) → needs row.options (name_at x xs) ≡ Some is_needed → has_byte 61 (x ∷ xs) ≡ false
+pub idle_apart : (row : CommandRow) (h : Held) (x : ℕ) (xs : Text) (is_needed : Bool) → needs row.options (name_at x xs) ≡ Some (is_needed, true) → has_byte 61 (x ∷ xs) ≡ false
     → (turns row (walk_from h) (option_at x xs) ≡ none (settle_fault (rules_for row.options) false h))
     × (walked (rules_for row.options) [] (walk_from h) (option_at x xs) ≡ awaiting (name_at x xs) (settled (rules_for row.options) h))
 unfolding walked
-idle_apart row h x xs is_needed known has = rw (long_rule row (name_at x xs) is_needed known, has) (none_nil (settle_fault (rules_for row.options) false h), refl)
+idle_apart row h x xs is_needed known has = rw (long_rule row (name_at x xs) (is_needed, true) known, has) (none_nil (settle_fault (rules_for row.options) false h), refl)
 
 -- no word follows an option that waits for one
-pub awaiting_end : (row : CommandRow) (name : Text) (h : Held) (is_needed : Bool) → needs row.options name ≡ Some is_needed → passes row (awaiting name h) [] ≡ false
+pub awaiting_end : (row : CommandRow) (name : Text) (h : Held) (is_needed : Bool) → needs row.options name ≡ Some (is_needed, true) → passes row (awaiting name h) [] ≡ false
 unfolding walk_fault
-awaiting_end row name h is_needed known = rw (id_rule row name is_needed known) refl
+awaiting_end row name h is_needed known = rw (id_rule row name (is_needed, true) known) refl
 
 -- an option follows one that waits for a value
-pub awaiting_option : (row : CommandRow) (name : Text) (h : Held) (is_needed : Bool) (x : ℕ) (xs : Text) → needs row.options name ≡ Some is_needed
+pub awaiting_option : (row : CommandRow) (name : Text) (h : Held) (is_needed : Bool) (x : ℕ) (xs : Text) → needs row.options name ≡ Some (is_needed, true)
     → turns row (awaiting name h) (option_at x xs) ≡ false
 awaiting_option row name h is_needed x xs known = go (needs row.options (name_at x xs)) refl (has_byte 61 (x ∷ xs)) refl
   where
-    go : (o : Option Bool) → needs row.options (name_at x xs) ≡ o → (t : Bool) → has_byte 61 (x ∷ xs) ≡ t → turns row (awaiting name h) (option_at x xs) ≡ false
+    go : (o : Option Sort) → needs row.options (name_at x xs) ≡ o → (t : Bool) → has_byte 61 (x ∷ xs) ≡ t → turns row (awaiting name h) (option_at x xs) ≡ false
     go None unknown t has = rw (no_rule row (name_at x xs) unknown) refl
-    go (Some other) found true has = rw (long_rule row (name_at x xs) other found, has, id_rule row name is_needed known) refl
-    go (Some other) found false has = rw (long_rule row (name_at x xs) other found, has, id_rule row name is_needed known) refl
+    go (Some (other, true)) found true has = rw (long_rule row (name_at x xs) (other, true) found, has, id_rule row name (is_needed, true) known) refl
+    go (Some (other, true)) found false has = rw (long_rule row (name_at x xs) (other, true) found, has, id_rule row name (is_needed, true) known) refl
+    go (Some (other, false)) found true has = rw (long_rule row (name_at x xs) (other, false) found, has) refl
+    go (Some (other, false)) found false has = rw (long_rule row (name_at x xs) (other, false) found, has, id_rule row name (is_needed, true) known) refl
 
 -- a value follows
-pub awaiting_plain : (row : CommandRow) (name : Text) (h : Held) (is_needed : Bool) (word : Text) → needs row.options name ≡ Some is_needed → IsPlain word
+pub awaiting_plain : (row : CommandRow) (name : Text) (h : Held) (is_needed : Bool) (word : Text) → needs row.options name ≡ Some (is_needed, true) → IsPlain word
     → (turns row (awaiting name h) word ≡ true)
     × (walked (rules_for row.options) [] (awaiting name h) word ≡ walk_from (record h { pending = Some (name, word ∷ []) }))
 unfolding walked
 awaiting_plain row name h is_needed word known plain =
     let same : bytes_eq name name ≡ true = (bytes_eq-Decides name name).1 refl in
-    rw (plain.no_end, plain.long, plain.short, id_rule row name is_needed known, same) (refl, refl)
+    rw (plain.no_end, plain.long, plain.short, id_rule row name (is_needed, true) known, same) (refl, refl)

@@ -1,3 +1,4 @@
 pub mod Uses
+pub mod Numbers
 pub mod Readings
 pub mod Matched

@@ -1,35 +1,36 @@
 -- The reading of the words: a table of the commands and their options, and what fits it.
-use Rattle.std.specs.Prelude.{ℕ, Bool, true, not, ◌&&◌, ◌||◌, List, [], ◌∷◌, map, find, Option, Some, None, option_map, codes, bytes_eq, if◌then◌else◌}
+use Rattle.std.specs.Prelude.{ℕ, Bool, true, false, not, ◌&&◌, ◌||◌, List, [], ◌∷◌, find, Option, Some, None, option_map, codes, bytes_eq, if◌then◌else◌}
 use Rattle.std.specs.List.{list_all, list_any}
-use Rattle.command_words.specs.Uses.{Use, uses_of}
+use Rattle.command_words.specs.Uses.{OptionRow, Use, uses_of}
+use Rattle.command_words.specs.Numbers.{number_from, number_or}
 use Rattle.command_words.specs.declared.command.Command.{Command}
-use Rattle.command_words.specs.declared.command.Command.TheVariants.{Case, Init, Batch}
+use Rattle.command_words.specs.declared.command.Command.TheVariants.{Case, Init, Batch, Audit, Selfrun, Serve}
 use Rattle.command_words.specs.declared.command.Files.{Files}
 
--- an option of a command: its name, without its hyphens, and whether it must be there
-pub record OptionRow : Type 0 where
-  pub name : List ℕ
-  pub is_needed : Bool
+-- ---- what words say
 
--- a command: its name, and its options
-pub record CommandRow : Type 0 where
-  pub name : List ℕ
-  pub options : List OptionRow
+-- the names of the files that a command stands on
+pub record FileNames : Type 0 where
+  pub policy : List ℕ
+  pub facts : List ℕ
+  pub journals : List ℕ
 
--- an option that must be there
-abbrev pub needed : List ℕ → OptionRow
-needed name = record { name = name; is_needed = true }
+-- what words say: a command, and the values that it runs with
+pub data Reading : Type 0 where
+  -- a script with one user
+  runs_case : Reading
+  -- the empty journals over these files
+  runs_init : FileNames → Reading
+  -- a script with many users over these files
+  runs_batch : FileNames → Reading
+  -- the audit of the user of this name, as JSON or as lines
+  runs_audit : FileNames → List ℕ → Bool → Reading
+  -- the workload of this seed, with so many users and so many asks
+  runs_selfrun : ℕ → ℕ → ℕ → Reading
+  -- a server over these files, at this address, with so many workers, for so many sessions
+  runs_serve : FileNames → List ℕ → ℕ → ℕ → Reading
 
--- the options that name the files of a command
-abbrev pub file_options : List OptionRow
-file_options = needed (codes "policy") ∷ needed (codes "facts") ∷ needed (codes "journals") ∷ []
-
--- the table of the commands
-abbrev pub commands : List CommandRow
-commands = record { name = codes "case"; options = [] }
-    ∷ record { name = codes "init"; options = file_options }
-    ∷ record { name = codes "batch"; options = file_options }
-    ∷ []
+-- ---- the uses of options
 
 -- an option of this name is used
 abbrev pub is_used : List Use → List ℕ → Bool
@@ -50,33 +51,130 @@ do_fit rows uses =
 abbrev pub value_of : List Use → List ℕ → Option (List ℕ)
 value_of uses name = option_map (λ u. u.value) (find (λ u. bytes_eq u.name name) uses)
 
--- what words say: a command, and the value of each of its options that is there, in the order of the table
-pub record Reading : Type 0 where
-  pub command : List ℕ
-  pub values : List (Option (List ℕ))
+-- ---- what the values of options say
 
--- the reading of a command from the table and uses that the words make
-abbrev pub reading_with : Option CommandRow → Option (List Use) → Option Reading
-reading_with (Some row) (Some uses) =
-    if do_fit row.options uses then Some (record { command = row.name; values = map (λ o. value_of uses o.name) row.options })
-    else None
-reading_with _ _ = None
+-- the names of the files, where all are there
+abbrev pub files_said : Option (List ℕ) → Option (List ℕ) → Option (List ℕ) → Option FileNames
+files_said (Some policy) (Some facts) (Some journals) = Some (record { policy = policy; facts = facts; journals = journals })
+files_said _ _ _ = None
+
+-- an audit over these files, of this user
+abbrev pub audit_said : Option FileNames → Option (List ℕ) → Bool → Option Reading
+audit_said (Some files) (Some user) is_json = Some (runs_audit files user is_json)
+audit_said _ _ _ = None
+
+-- a run by these three numbers
+abbrev pub selfrun_said : Option ℕ → Option ℕ → Option ℕ → Option Reading
+selfrun_said (Some seed) (Some users) (Some asks) = Some (runs_selfrun seed users asks)
+selfrun_said _ _ _ = None
+
+-- a server over these files, at this address, with these numbers
+abbrev pub serve_said : Option FileNames → Option (List ℕ) → Option ℕ → Option ℕ → Option Reading
+serve_said (Some files) (Some address) (Some workers) (Some sessions) = Some (runs_serve files address workers sessions)
+serve_said _ _ _ _ = None
+
+-- the files that uses name
+abbrev pub files_of : List Use → Option FileNames
+files_of uses = files_said (value_of uses (codes "policy")) (value_of uses (codes "facts")) (value_of uses (codes "journals"))
+
+-- the audit that uses say: as JSON where `--json` is used
+abbrev pub audit_of : List Use → Option Reading
+audit_of uses = audit_said (files_of uses) (value_of uses (codes "user")) (is_used uses (codes "json"))
+
+-- the run that uses say: the seed is a number of 32 bits, the users are 1 to 256, the asks 1 to 10,000
+abbrev pub selfrun_of : List Use → Option Reading
+selfrun_of uses =
+    selfrun_said (number_from 0 4294967295 (value_of uses (codes "seed"))) (number_from 1 256 (value_of uses (codes "users"))) (number_from 1 10000 (value_of uses (codes "asks")))
+
+-- the server that uses say: 1 to 64 workers, else 4, and 1 to 1,000,000 sessions, else 2^30
+abbrev pub serve_of : List Use → Option Reading
+serve_of uses =
+    serve_said (files_of uses) (value_of uses (codes "listen")) (number_or 4 1 64 (value_of uses (codes "workers"))) (number_or 1073741824 1 1000000 (value_of uses (codes "sessions")))
+
+-- ---- the table
+
+-- a command: its name, its options, and what it says with uses of these
+pub record CommandRow : Type 0 where
+  pub name : List ℕ
+  pub options : List OptionRow
+  pub says : List Use → Option Reading
+
+-- an option that must be there, with a value
+abbrev pub needed : List ℕ → OptionRow
+needed name = record { name = name; is_needed = true; has_value = true }
+
+-- an option with a value, which may be there
+abbrev pub optional : List ℕ → OptionRow
+optional name = record { name = name; is_needed = false; has_value = true }
+
+-- an option without a value, which may be there
+abbrev pub flag : List ℕ → OptionRow
+flag name = record { name = name; is_needed = false; has_value = false }
+
+-- the options that name the files of a command, and further ones
+abbrev pub file_options : List OptionRow → List OptionRow
+file_options others = needed (codes "policy") ∷ needed (codes "facts") ∷ needed (codes "journals") ∷ others
+
+-- `case`
+abbrev pub case_row : CommandRow
+case_row = record { name = codes "case"; options = []; says = λ uses. Some runs_case }
+
+-- `init --policy P --facts F --journals DIR`
+abbrev pub init_row : CommandRow
+init_row = record { name = codes "init"; options = file_options []; says = λ uses. option_map runs_init (files_of uses) }
+
+-- `batch --policy P --facts F --journals DIR`
+abbrev pub batch_row : CommandRow
+batch_row = record { name = codes "batch"; options = file_options []; says = λ uses. option_map runs_batch (files_of uses) }
+
+-- `audit --policy P --facts F --journals DIR --user NAME [--json]`
+abbrev pub audit_row : CommandRow
+audit_row = record { name = codes "audit"; options = file_options (needed (codes "user") ∷ flag (codes "json") ∷ []); says = audit_of }
+
+-- `selfrun --seed N --users N --asks N`
+abbrev pub selfrun_row : CommandRow
+selfrun_row = record { name = codes "selfrun"; options = needed (codes "seed") ∷ needed (codes "users") ∷ needed (codes "asks") ∷ []; says = selfrun_of }
+
+-- `serve --policy P --facts F --journals DIR --listen ADDRESS [--workers N] [--sessions N]`
+abbrev pub serve_row : CommandRow
+serve_row = record { name = codes "serve"; options = file_options (needed (codes "listen") ∷ optional (codes "workers") ∷ optional (codes "sessions") ∷ []); says = serve_of }
+
+-- all commands
+abbrev pub commands : List CommandRow
+commands = case_row ∷ init_row ∷ batch_row ∷ audit_row ∷ selfrun_row ∷ serve_row ∷ []
 
 -- the command of this name
 abbrev pub command_of : List ℕ → Option CommandRow
 command_of name = find (λ row. bytes_eq row.name name) commands
 
+-- ---- the reading
+
+-- what a command of the table says with uses, if they fit
+abbrev pub reading_by : CommandRow → Option (List Use) → Option Reading
+reading_by row (Some uses) = if do_fit row.options uses then row.says uses else None
+reading_by row None = None
+
+-- the reading of the words behind a command
+abbrev pub reading_with : Option CommandRow → List (List ℕ) → Option Reading
+reading_with (Some row) words = reading_by row (uses_of row.options words)
+reading_with None words = None
+
 -- the one reading of the words, if they have one: the first is the command, and its options come in any order
 unfoldable pub reading_of : List (List ℕ) → Option Reading
 reading_of [] = None
-reading_of (command ∷ words) = reading_with (command_of command) (uses_of words)
+reading_of (command ∷ words) = reading_with (command_of command) words
 
--- the values of the options that name the files
-abbrev pub values_of_files : Files → List (Option (List ℕ))
-values_of_files files = Some files.policy.now ∷ Some files.facts.now ∷ Some files.journals.now ∷ []
+-- ---- commands in memory
+
+-- the names that files in memory stand for
+abbrev pub names_of_files : Files → FileNames
+names_of_files files = record { policy = files.policy.now; facts = files.facts.now; journals = files.journals.now }
 
 -- the reading that a command in memory stands for
 abbrev pub reading_in : Command → Reading
-reading_in Case = record { command = codes "case"; values = [] }
-reading_in (Init files) = record { command = codes "init"; values = values_of_files files }
-reading_in (Batch files) = record { command = codes "batch"; values = values_of_files files }
+reading_in Case = runs_case
+reading_in (Init files) = runs_init (names_of_files files)
+reading_in (Batch files) = runs_batch (names_of_files files)
+reading_in (Audit words) = runs_audit (names_of_files words.files) words.user.now words.json
+reading_in (Selfrun words) = runs_selfrun words.seed words.users words.asks
+reading_in (Serve words) = runs_serve (names_of_files words.files) words.listen.now words.workers words.sessions

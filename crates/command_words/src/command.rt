@@ -2,9 +2,10 @@
 ghost use Rattle.std.specs.Prelude.{◌≡◌, true, map, option_map, option_and_then, string_bytes, IfOk};
 ghost use Rattle.std.specs.List.{list_any};
 ghost use Rattle.clap.specs.Words.{found_of, kind_of, rows_of, subcommand_rows_of};
-ghost use Rattle.command_words.specs.Readings.{reading_of, reading_in, values_of_files};
-ghost use Rattle.command_words.specs.Matched.{is_short, files_with, files_in, command_with};
+ghost use Rattle.command_words.specs.Readings.{reading_of, reading_in, names_of_files, files_said, audit_said, selfrun_said, serve_said};
+ghost use Rattle.command_words.specs.Matched.{is_short, says_true, files_in, audit_in, selfrun_in, serve_in, command_with};
 
+use crate::number::{number_from, number_or, small_number_from, small_number_or};
 use crate::program::program;
 use clap::error::ErrorKind;
 use clap::{ArgMatches, Error};
@@ -21,6 +22,41 @@ pub struct Files<'a> {
     pub journals: &'a str,
 }
 
+/// What an audit is of.
+#[derive(Clone, Copy, Debug, PartialEq, Eq)]
+pub struct AuditWords<'a> {
+    /// the files
+    pub files: Files<'a>,
+    /// the name of the user
+    pub user: &'a str,
+    /// whether the audit is written as JSON, not as lines
+    pub json: bool,
+}
+
+/// What a workload is made of.
+#[derive(Clone, Copy, Debug, PartialEq, Eq)]
+pub struct SelfrunWords {
+    /// the seed of its draws, at most 4,294,967,295
+    pub seed: u64,
+    /// how many users there are, 1 to 256
+    pub users: u32,
+    /// how many asks there are, 1 to 10,000
+    pub asks: u32,
+}
+
+/// What a server is to do.
+#[derive(Clone, Copy, Debug, PartialEq, Eq)]
+pub struct ServeWords<'a> {
+    /// the files
+    pub files: Files<'a>,
+    /// the address at which it listens
+    pub listen: &'a str,
+    /// how many workers serve, 1 to 64, and 4 without the option
+    pub workers: u32,
+    /// how many connections they serve together, 1 to 1,000,000, and 2^30 without the option
+    pub sessions: u64,
+}
+
 /// What the program is to do. The texts are those of the words.
 #[derive(Clone, Copy, Debug, PartialEq, Eq)]
 pub enum Command<'a> {
@@ -30,13 +66,21 @@ pub enum Command<'a> {
     Init(Files<'a>),
     /// `batch`: a script with many users and sessions.
     Batch(Files<'a>),
+    /// `audit`: the history and the other worlds of one user.
+    Audit(AuditWords<'a>),
+    /// `selfrun`: a workload that the program makes and runs itself.
+    Selfrun(SelfrunWords),
+    /// `serve`: a server of connections.
+    Serve(ServeWords<'a>),
 }
 
 /// Reads the words behind the program's name.
 ///
-/// The first word is the command. Its options come behind it in any order, each once, as `--name value` or
-/// `--name=value`. Words that begin with a hyphen, but for `-` alone, are values only in the second form, and no value
-/// is empty. There is no help among the words and no short form of a name. An error is want of memory.
+/// The first word is the command. Its options come behind it in any order, each at most once, as `--name value` or
+/// `--name=value`; only `--json`, `--workers` and `--sessions` may be left out, and `--json` has no value. Words that
+/// begin with a hyphen, but for `-` alone, are values only in the second form, and no value is empty. Numbers are one to
+/// ten decimal digits, within their limits. There is no help among the words and no short form of a name. An error is
+/// want of memory.
 pub fn read_words<'a>(alloc: Global, words: &'a [String]) -> Result<Option<Command<'a>>, AllocError>
     ensures { IfOk result (λ read. option_map reading_in read ≡ reading_of (map string_bytes words.now)) }
 {
@@ -99,13 +143,16 @@ fn command_with<'a>(name: &str, given: &ArgMatches<'a>) -> Option<Command<'a>>
         "case" => Some(Command::Case),
         "init" => Some(Command::Init(files_in(given)?)),
         "batch" => Some(Command::Batch(files_in(given)?)),
+        "audit" => audit_in(given),
+        "selfrun" => selfrun_in(given),
+        "serve" => serve_in(given),
         _ => None,
     }
 }
 
 // The files that were matched.
 fn files_in<'a>(given: &ArgMatches<'a>) -> Option<Files<'a>>
-    ensures { option_map values_of_files result ≡ files_in (rows_of (found_of given.now)) }
+    ensures { option_map names_of_files result ≡ files_in (rows_of (found_of given.now)) }
 {
     files_with(
         given.get_str("policy"),
@@ -119,7 +166,7 @@ fn files_with<'a>(
     facts: Option<&'a str>,
     journals: Option<&'a str>,
 ) -> Option<Files<'a>>
-    ensures { option_map values_of_files result ≡ files_with (option_map (λ s. s.now) policy.entry) (option_map (λ s. s.now) facts.entry) (option_map (λ s. s.now) journals.entry) }
+    ensures { option_map names_of_files result ≡ files_said (option_map (λ s. s.now) policy.entry) (option_map (λ s. s.now) facts.entry) (option_map (λ s. s.now) journals.entry) }
 {
     match (policy, facts, journals) {
         (Some(policy), Some(facts), Some(journals)) => Some(Files {
@@ -127,6 +174,95 @@ fn files_with<'a>(
             facts,
             journals,
         }),
+        _ => None,
+    }
+}
+
+// The audit that was matched.
+fn audit_in<'a>(given: &ArgMatches<'a>) -> Option<Command<'a>>
+    ensures { option_map reading_in result ≡ audit_in (rows_of (found_of given.now)) }
+{
+    audit_with(
+        files_in(given),
+        given.get_str("user"),
+        says_true(given.get_str("json")),
+    )
+}
+
+fn audit_with<'a>(
+    files: Option<Files<'a>>,
+    user: Option<&'a str>,
+    json: bool,
+) -> Option<Command<'a>>
+    ensures { option_map reading_in result ≡ audit_said (option_map names_of_files files.entry) (option_map (λ s. s.now) user.entry) json }
+{
+    match (files, user) {
+        (Some(files), Some(user)) => Some(Command::Audit(AuditWords { files, user, json })),
+        _ => None,
+    }
+}
+
+// Whether the value of a flag is that of one that is there.
+fn says_true(value: Option<&str>) -> bool
+    ensures { result ≡ says_true (option_map (λ s. s.now) value.entry) }
+{
+    match value {
+        Some(text) => text == "true",
+        None => false,
+    }
+}
+
+// The workload that was matched.
+fn selfrun_in<'a>(given: &ArgMatches<'a>) -> Option<Command<'a>>
+    ensures { option_map reading_in result ≡ selfrun_in (rows_of (found_of given.now)) }
+{
+    selfrun_with(
+        number_from(0, 4_294_967_295, given.get_str("seed")),
+        small_number_from(1, 256, given.get_str("users")),
+        small_number_from(1, 10_000, given.get_str("asks")),
+    )
+}
+
+fn selfrun_with<'a>(seed: Option<u64>, users: Option<u32>, asks: Option<u32>) -> Option<Command<'a>>
+    ensures { option_map reading_in result ≡ selfrun_said seed users asks }
+{
+    match (seed, users, asks) {
+        (Some(seed), Some(users), Some(asks)) => {
+            Some(Command::Selfrun(SelfrunWords { seed, users, asks }))
+        }
+        _ => None,
+    }
+}
+
+// The server that was matched.
+fn serve_in<'a>(given: &ArgMatches<'a>) -> Option<Command<'a>>
+    ensures { option_map reading_in result ≡ serve_in (rows_of (found_of given.now)) }
+{
+    serve_with(
+        files_in(given),
+        given.get_str("listen"),
+        small_number_or(4, 1, 64, given.get_str("workers")),
+        number_or(1_073_741_824, 1, 1_000_000, given.get_str("sessions")),
+    )
+}
+
+fn serve_with<'a>(
+    files: Option<Files<'a>>,
+    listen: Option<&'a str>,
+    workers: Option<u32>,
+    sessions: Option<u64>,
+) -> Option<Command<'a>>
+    ensures { option_map reading_in result ≡ serve_said (option_map names_of_files files.entry) (option_map (λ s. s.now) listen.entry) workers sessions }
+{
+    match (files, listen, workers, sessions) {
+        (Some(files), Some(listen), Some(workers), Some(sessions)) => {
+            Some(Command::Serve(ServeWords {
+                files,
+                listen,
+                workers,
+                sessions,
+            }))
+        }
         _ => None,
     }
 }

@@ -2,19 +2,22 @@
 ghost use Rattle.std.specs.Prelude.{◌≡◌, false, IfOk};
 ghost use Rattle.clap.specs.Words.{app_of, rule_of};
 ghost use Rattle.clap.specs.declared.builder.command.Command.TheViews.{out-Command};
-ghost use Rattle.command_words.specs.Matched.{file_command, file_rule, program};
+ghost use Rattle.command_words.specs.Matched.{audit_command, file_command, flag_rule, needed_rule, optional_rule, program, serve_command, three_command};
 
 use clap::builder::ValueParser;
 use clap::{Arg, ArgAction, Command};
 use std::alloc::{AllocError, Global};
 
-/// One level of commands, with no help. Options have texts, which aren't empty.
+/// One level of commands, with no help. The values of options are texts, which aren't empty.
 pub(crate) fn program<'a>(alloc: Global) -> Result<Command<'a>, AllocError>
     ensures { IfOk result (λ command. app_of command ≡ program) }
 {
     let case = Command::new(alloc, "case");
     let init = with_files(alloc, "init")?;
     let batch = with_files(alloc, "batch")?;
+    let audit = audit(alloc)?;
+    let selfrun = with_three(alloc, "selfrun", "seed", "users", "asks")?;
+    let serve = serve(alloc)?;
     let program = Command::new(alloc, "cqe")
         .no_binary_name(true)
         .disable_help_flag(true)
@@ -23,8 +26,36 @@ pub(crate) fn program<'a>(alloc: Global) -> Result<Command<'a>, AllocError>
     let program = program
         .subcommand(case)?
         .subcommand(init)?
-        .subcommand(batch)?;
+        .subcommand(batch)?
+        .subcommand(audit)?
+        .subcommand(selfrun)?
+        .subcommand(serve)?;
     Ok(program)
+}
+
+// The audit of a user.
+fn audit<'a>(alloc: Global) -> Result<Command<'a>, AllocError>
+    ensures shape { IfOk result (λ command. app_of command ≡ audit_command) }
+    ensures plain { IfOk result (λ command. (out-Command command).has_globals ≡ false) }
+{
+    let user = needed(alloc, "user");
+    let json = flag(alloc, "json");
+    let files = with_files(alloc, "audit")?;
+    let command = files.arg(user)?.arg(json)?;
+    Ok(command)
+}
+
+// The server.
+fn serve<'a>(alloc: Global) -> Result<Command<'a>, AllocError>
+    ensures shape { IfOk result (λ command. app_of command ≡ serve_command) }
+    ensures plain { IfOk result (λ command. (out-Command command).has_globals ≡ false) }
+{
+    let listen = needed(alloc, "listen");
+    let workers = optional(alloc, "workers");
+    let sessions = optional(alloc, "sessions");
+    let files = with_files(alloc, "serve")?;
+    let command = files.arg(listen)?.arg(workers)?.arg(sessions)?;
+    Ok(command)
 }
 
 // A command with the options that name its files.
@@ -32,24 +63,51 @@ fn with_files<'a>(alloc: Global, name: &'a str) -> Result<Command<'a>, AllocErro
     ensures shape { IfOk result (λ command. app_of command ≡ file_command name.now) }
     ensures plain { IfOk result (λ command. (out-Command command).has_globals ≡ false) }
 {
-    let policy = file_option(alloc, "policy");
-    let facts = file_option(alloc, "facts");
-    let journals = file_option(alloc, "journals");
-    let command = Command::new(alloc, name)
-        .arg(policy)?
-        .arg(facts)?
-        .arg(journals)?;
+    let command = with_three(alloc, name, "policy", "facts", "journals")?;
     Ok(command)
 }
 
-// An option that must be there.
-fn file_option<'a>(alloc: Global, name: &'a str) -> Arg<'a>
-    ensures rule { rule_of result ≡ file_rule name.now }
+// A command with three options that must be there.
+fn with_three<'a>(
+    alloc: Global,
+    name: &'a str,
+    one: &'a str,
+    two: &'a str,
+    three: &'a str,
+) -> Result<Command<'a>, AllocError>
+    ensures shape { IfOk result (λ command. app_of command ≡ three_command name.now one.now two.now three.now) }
+    ensures plain { IfOk result (λ command. (out-Command command).has_globals ≡ false) }
+{
+    let one = needed(alloc, one);
+    let two = needed(alloc, two);
+    let three = needed(alloc, three);
+    let command = Command::new(alloc, name).arg(one)?.arg(two)?.arg(three)?;
+    Ok(command)
+}
+
+// An option that must be there, with a value.
+fn needed<'a>(alloc: Global, name: &'a str) -> Arg<'a>
+    ensures rule { rule_of result ≡ needed_rule name.now }
+    ensures plain { result.global ≡ false }
+{
+    optional(alloc, name).required(true)
+}
+
+// An option that may be there, with a value.
+fn optional<'a>(alloc: Global, name: &'a str) -> Arg<'a>
+    ensures rule { rule_of result ≡ optional_rule name.now }
     ensures plain { result.global ≡ false }
 {
     Arg::new(alloc, name)
         .long(name)
         .action(ArgAction::Set)
         .value_parser(ValueParser::NonEmptyString)
-        .required(true)
+}
+
+// An option without a value, which may be there.
+fn flag<'a>(alloc: Global, name: &'a str) -> Arg<'a>
+    ensures rule { rule_of result ≡ flag_rule name.now }
+    ensures plain { result.global ≡ false }
+{
+    Arg::new(alloc, name).long(name).action(ArgAction::SetTrue)
 }

@@ -1,3 +1,7 @@
+mod audit;
+mod selfrun;
+mod serve;
+
 use crate::{Command, Files, read_words};
 use std::alloc::{AllocError, Global};
 use std::test::Fail;
@@ -235,7 +239,7 @@ const MISNAMED: [&[&str]; 58] = [
     &["--policy", "p", "--facts", "f", "--journals/", "d"],
     &["--policy", "p", "--facts", "f", "--directory", "d"],
     &["--policy", "p", "--facts", "f", "-j", "d"],
-    // options of commands that aren't there yet, or of none
+    // options of other commands
     &[
         "--workers",
         "4",
@@ -359,6 +363,15 @@ fn behind(alloc: Global, command: &str, words: &[&str]) -> Result<Vec<String>, A
         texts.push(String::from_str(alloc, word)?)?;
     }
     Ok(texts)
+}
+
+// The words of a line.
+fn spoken(alloc: Global, line: &str) -> Result<Vec<String>, AllocError> {
+    let mut words = Vec::new(alloc);
+    for word in line.split_whitespace() {
+        words.push(String::from_str(alloc, word)?)?;
+    }
+    Ok(words)
 }
 
 #[test]

@@ -1,7 +1,7 @@
 use Rattle.std.proofs.Common.{codes, ◌∙◌}
 use Rattle.clap.proofs.WalkLemmas.{first_value-rows}
 use Rattle.clap.specs.Words.{found_of}
-use Rattle.command_words.specs.Matched.{files_with}
+use Rattle.command_words.specs.Readings.{files_said}
 use Rattle.command_words.proofs.command.files_in.Goals as goal
 
 pub returns : goal.returns
@@ -10,4 +10,4 @@ returns c =
     let policy = c.get_str.ensures ∙ first_value-rows f (codes "policy") in
     let facts = c.get_str-2.ensures ∙ first_value-rows f (codes "facts") in
     let journals = c.get_str-3.ensures ∙ first_value-rows f (codes "journals") in
-    c.files_with.ensures ∙ (λ i. files_with (policy i) (facts i) (journals i))
+    c.files_with.ensures ∙ (λ i. files_said (policy i) (facts i) (journals i))
