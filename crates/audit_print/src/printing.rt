@@ -1,5 +1,5 @@
 // The audit of a desk.
-ghost use Rattle.std.specs.Prelude.{◌≡◌, ◌++◌, map, string_bytes, Err, IfOk, OnOk, OnErr};
+ghost use Rattle.std.specs.Prelude.{◌≡◌, ◌≤◌, ◌++◌, map, string_bytes, Err, IfOk, OnOk, OnErr};
 ghost use Rattle.std.specs.List.{flat_map};
 ghost use Rattle.outside.specs.Faults.{HasCause, Rose};
 ghost use Rattle.outside.specs.Streams.{AppendsPart};
@@ -43,6 +43,7 @@ pub fn audit<D: Disk, K: Sink>(
     ensures part { K.told → result ≡ Err AuditError.WriteFault → (said : AuditSaid) × Audits schema.now (string_bytes user.now.name) (profile_of user.now) (desk_standing desk.now) (desk_history desk.now) said
         × AppendsPart (K.written sink.old) (K.written sink.new) (audit_text json said) }
     ensures nothing { result ≡ Err AuditError.Memory → sink.new ≡ sink.old }
+    ensures later { K.faults sink.old ≤ K.faults sink.new }
     ensures cause { result ≡ Err AuditError.WriteFault → Rose (K.faults sink.old) (K.faults sink.new) }
 {
     let Ok(lines) = audit_lines(alloc, schema, user, desk, json) else {

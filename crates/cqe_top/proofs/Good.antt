@@ -7,6 +7,7 @@ use Rattle.cqe_base.specs.Schema.{Text}
 use Rattle.cqe_base.specs.Facts.{FactSet}
 use Rattle.cqe_base.specs.Transcript.{NamedUser}
 use Rattle.user_desk.specs.declared.standing.DeskError.{DeskError}
+use Rattle.user_desk.specs.declared.standing.DeskError.TheVariants as desk_errors
 use Rattle.log_journal.specs.Names.{journal_name}
 use Rattle.log_journal.specs.Opening.{Refuses, IsRefused}
 use Rattle.log_journal.specs.declared.header.OpenError.{OpenError}
@@ -27,20 +28,20 @@ use Rattle.cqe_top.proofs.Failing.{CanOpen, none_refused, none_broken}
 
 -- ---- what the files say
 
-abbrev when_both : (PolicyValue → FactSet → List ℕ → Type 0) → FilesSay → Type 0
+abbrev pub when_both : (PolicyValue → FactSet → List ℕ → Type 0) → FilesSay → Type 0
 when_both P (both policy world header) = P policy world header
 when_both P files = Unit {0}
 
 -- files that say two things say one
-agree : (P : PolicyValue → FactSet → List ℕ → Type 0) (files : FilesSay) (first second : PolicyValue) (first_world second_world : FactSet) (first_header second_header : List ℕ)
+pub agree : (P : PolicyValue → FactSet → List ℕ → Type 0) (files : FilesSay) (first second : PolicyValue) (first_world second_world : FactSet) (first_header second_header : List ℕ)
     → files ≡ both first first_world first_header → files ≡ both second second_world second_header → P first first_world first_header → P second second_world second_header
 agree P files first second first_world second_world first_header second_header said says holds = subst (when_both P) (sym said ∙ says) holds
 
-abbrev IsBoth : FilesSay → Type 0
+abbrev pub IsBoth : FilesSay → Type 0
 IsBoth (both policy world header) = Unit {0}
 IsBoth files = ⊥
 
-not_missing : (files : FilesSay) (policy_name facts_name name : List ℕ) → IsBoth files → IsMissing files policy_name facts_name name → ⊥
+pub not_missing : (files : FilesSay) (policy_name facts_name name : List ℕ) → IsBoth files → IsMissing files policy_name facts_name name → ⊥
 not_missing files policy_name facts_name name is (inl (none, same)) = subst IsBoth none is
 not_missing files policy_name facts_name name is (inr (none, same)) = subst IsBoth none is
 
@@ -124,7 +125,11 @@ module _ {D : Type 0} (told : Type 0) (reads : D → List ℕ) (image : D → Li
     good_init (ends.Policy why) is reached (policy, world, header, say, can) shelf = absurd (subst IsBoth (sym say ∙ reached.0) tt)
     good_init (ends.Facts why) is reached (policy, world, header, say, can) shelf = absurd (subst IsBoth (sym say ∙ reached.0) tt)
     good_init (ends.Missing name) is reached (policy, world, header, say, can) shelf = absurd (not_missing files policy_name facts_name name.now (subst IsBoth (sym say) tt) reached.0)
-    good_init (ends.Journal name why) is (policy', world', header', say', (user, at, stops)) (policy, world, header, say, can) shelf =
+    good_init (ends.Journal name (desk_errors.Stale number)) is reached says shelf = absurd reached
+    good_init (ends.Journal name (desk_errors.Unlawful number stored computed)) is reached says shelf = absurd reached
+    good_init (ends.Journal name (desk_errors.Size number)) is reached says shelf = absurd reached
+    good_init (ends.Journal name (desk_errors.NotAdmitted admission)) is reached says shelf = absurd reached
+    good_init (ends.Journal name (desk_errors.Journal why)) is (policy', world', header', say', (user, at, stops)) (policy, world, header, say, can) shelf =
         let can' = agree (CanBeMade (journals_on reads image directory old new before now)) files policy policy' world world' header header' say say' can in
         let one = at_number (IsMadeOf header') policy'.users user stops.name can' stops.is in
         absurd (unrefused header' (bytes_on reads (old (journal_name directory stops.name))) (before (journal_name directory stops.name)) (now (journal_name directory stops.name)) why is

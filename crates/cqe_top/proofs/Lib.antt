@@ -5,3 +5,5 @@ mod Reaching
 mod Making
 mod Failing
 mod Good
+mod Auditing
+mod Numbers

@@ -5,6 +5,7 @@ use Rattle.outside.specs.Shelf.{SameNames}
 use Rattle.outside.specs.Faults.{Rose}
 use Rattle.cqe_base.specs.Facts.{FactSet}
 use Rattle.cqe_base.specs.declared.user.User.{User}
+use Rattle.user_desk.specs.declared.standing.DeskError.TheVariants as desk_errors
 use Rattle.policy_files.specs.Policies.{PolicyValue}
 use Rattle.policy_files.specs.Users.{names_of}
 use Rattle.init_engine.specs.Disks as init
@@ -36,7 +37,7 @@ module _ {D : Type 0} (told : Type 0) (reads : D → List ℕ) (image : D → Li
   pub shelf_rose : (made : InitEnd) (end : CommandEnd) → IsEnd told reads image header directory (init.names_of users) change made → IsEndOfInit users made end → end ≡ ends.ShelfFault
       → Rose change.shelf_before change.shelf_now
   shelf_rose init_end.Done end ended is fault = let clash : ends.Done ≡ ends.ShelfFault = sym is ∙ fault in absurd cc
-  shelf_rose (init_end.Refused user why) end ended (name, at, is) fault = let clash : ends.Journal name why ≡ ends.ShelfFault = sym is ∙ fault in absurd cc
+  shelf_rose (init_end.Refused user why) end ended (name, at, is) fault = let clash : ends.Journal name (desk_errors.Journal why) ≡ ends.ShelfFault = sym is ∙ fault in absurd cc
   shelf_rose init_end.DiskFault end ended is fault = let clash : ends.DiskFault ≡ ends.ShelfFault = sym is ∙ fault in absurd cc
   shelf_rose init_end.ShelfFault end (user, stops) is fault = stops.reason
   shelf_rose init_end.Memory end ended is fault = let clash : ends.Memory ≡ ends.ShelfFault = sym is ∙ fault in absurd cc

@@ -6,3 +6,5 @@ pub mod Complaints
 pub mod Reaches
 pub mod Ready
 pub mod Refusals
+pub mod Audited
+pub mod Selfruns

@@ -2,6 +2,7 @@
 use Rattle.std.specs.Prelude.{◌≡◌, ◌⊎◌, ℕ, Bool, true, false, List, [], Option, Ok, Err, string_bytes}
 use Rattle.outside.specs.Shelf.{SameNames}
 use Rattle.user_desk.specs.declared.standing.DeskError.{DeskError}
+use Rattle.user_desk.specs.declared.standing.DeskError.TheVariants as desk_errors
 use Rattle.case_engine.specs.Script.{script_of}
 use Rattle.case_engine.specs.Case as case
 use Rattle.init_engine.specs.Disks as init
@@ -60,8 +61,9 @@ module _ {D : Type 0} (told : Type 0) (reads : D → List ℕ) (image : D → Li
   InitReaches policy_name facts_name files (Policy why) = (files ≡ bad_policy why) × IsUntouched
   InitReaches policy_name facts_name files (Facts why) = (files ≡ bad_facts why) × IsUntouched
   InitReaches policy_name facts_name files (Missing name) = IsMissing files policy_name facts_name name.now × IsUntouched
-  InitReaches policy_name facts_name files (Journal name why) =
+  InitReaches policy_name facts_name files (Journal name (desk_errors.Journal why)) =
       Say files (λ policy world header. (user : ℕ) × IsAt (names_of policy.users) user (string_bytes name) × Makes (init_end.Refused user why) policy world header)
+  InitReaches policy_name facts_name files (Journal name why) = ⊥
   InitReaches policy_name facts_name files DiskFault = Say files (Makes init_end.DiskFault)
   InitReaches policy_name facts_name files ShelfFault = IsUntouched ⊎ Say files (Makes init_end.ShelfFault)
   InitReaches policy_name facts_name files Memory = IsUntouched ⊎ Say files (Makes init_end.Memory)
@@ -102,10 +104,12 @@ module _ (journals : Journals) (before after old new : List ℕ) where
   BatchReaches policy_name facts_name files (Journal name why) = ⊥
 
 -- a status is that of an end, which is one of the words' command, and of which the complaints are told
-pub record Ends (status : ℕ) (AsCase AsInit AsBatch IsTold : CommandEnd → Type 0) : Type 0 where
+pub record Ends (status : ℕ) (AsCase AsInit AsBatch AsAudit AsSelfrun IsTold : CommandEnd → Type 0) : Type 0 where
   pub end : CommandEnd
   pub of_status : status ≡ status_of end
   pub as_case : AsCase end
   pub as_init : AsInit end
   pub as_batch : AsBatch end
+  pub as_audit : AsAudit end
+  pub as_selfrun : AsSelfrun end
   pub is_told : IsTold end

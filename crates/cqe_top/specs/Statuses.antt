@@ -4,6 +4,7 @@ use Rattle.std.specs.List.{list_any}
 use Rattle.std.specs.declared.alloc.Global.{Global}
 use Rattle.cqe_base.specs.declared.user.User.{User}
 use Rattle.user_desk.specs.declared.standing.DeskError.{DeskError}
+use Rattle.user_desk.specs.declared.standing.DeskError.TheVariants as desk_errors
 use Rattle.case_engine.specs.declared.case.CaseEnd.{CaseEnd}
 use Rattle.case_engine.specs.declared.case.CaseEnd.TheVariants as case_end
 use Rattle.init_engine.specs.Disks.{names_of}
@@ -11,6 +12,8 @@ use Rattle.init_engine.specs.declared.end.InitEnd.{InitEnd}
 use Rattle.init_engine.specs.declared.end.InitEnd.TheVariants as init_end
 use Rattle.batch_engine.specs.declared.run.BatchEnd.{BatchEnd}
 use Rattle.batch_engine.specs.declared.run.BatchEnd.TheVariants as batch_end
+use Rattle.audit_engine.specs.declared.end.AuditEnd.{AuditEnd}
+use Rattle.audit_engine.specs.declared.end.AuditEnd.TheVariants as audit_end
 use Rattle.cqe_top.specs.declared.end.CommandEnd.{CommandEnd}
 use Rattle.cqe_top.specs.declared.end.CommandEnd.TheVariants.{Done, Usage, Missing, ShelfFault, Policy, Facts, Script, ReadFault, WriteFault, Journal, Journals, DiskFault, Memory}
 
@@ -50,10 +53,18 @@ InRange users made = Unit {0}
 -- the end of the command `init` for the end of its making of these users' journals; a user who is refused is named
 abbrev pub IsEndOfInit : List User → InitEnd → CommandEnd → Type 0
 IsEndOfInit users init_end.Done end = end ≡ Done
-IsEndOfInit users (init_end.Refused user why) end = (name : String Global) × IsAt (names_of users) user (string_bytes name) × (end ≡ Journal name why)
+IsEndOfInit users (init_end.Refused user why) end = (name : String Global) × IsAt (names_of users) user (string_bytes name) × (end ≡ Journal name (desk_errors.Journal why))
 IsEndOfInit users init_end.DiskFault end = end ≡ DiskFault
 IsEndOfInit users init_end.ShelfFault end = end ≡ ShelfFault
 IsEndOfInit users init_end.Memory end = end ≡ Memory
+
+-- the end of the command `audit` for the end of the audit of the user of this number; where his journal is refused he is named
+abbrev pub IsEndOfAudit : List User → ℕ → AuditEnd → CommandEnd → Type 0
+IsEndOfAudit users number audit_end.Done end = end ≡ Done
+IsEndOfAudit users number (audit_end.Refused why) end = (name : String Global) × IsAt (names_of users) number (string_bytes name) × (end ≡ Journal name why)
+IsEndOfAudit users number audit_end.WriteFault end = end ≡ WriteFault
+IsEndOfAudit users number audit_end.ShelfFault end = end ≡ ShelfFault
+IsEndOfAudit users number audit_end.Memory end = end ≡ Memory
 
 -- whether one of the refusals is there
 abbrev pub has_refusal : List (Option DeskError) → Bool

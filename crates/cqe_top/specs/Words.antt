@@ -1,7 +1,7 @@
 -- The commands that words can say.
-use Rattle.std.specs.Prelude.{◌≡◌, ℕ, List, [], ◌∷◌, map, Some, None, String, string_bytes, codes}
+use Rattle.std.specs.Prelude.{◌≡◌, ℕ, Bool, List, map, Some, None, String, string_bytes}
 use Rattle.std.specs.declared.alloc.Global.{Global}
-use Rattle.command_words.specs.Readings.{reading_of}
+use Rattle.command_words.specs.Readings.{reading_of, runs_case, runs_init, runs_batch, runs_audit, runs_selfrun}
 
 -- no command
 abbrev pub IsUsage : List (String Global) → Type 0
@@ -9,14 +9,21 @@ IsUsage words = reading_of (map string_bytes words) ≡ None
 
 -- `case`
 abbrev pub IsCase : List (String Global) → Type 0
-IsCase words = reading_of (map string_bytes words) ≡ Some (record { command = codes "case"; values = [] })
+IsCase words = reading_of (map string_bytes words) ≡ Some runs_case
 
 -- `init` over the policy and the facts of these names, with the journals in this directory
 abbrev pub IsInit : List (String Global) → List ℕ → List ℕ → List ℕ → Type 0
-IsInit words policy facts journals =
-    reading_of (map string_bytes words) ≡ Some (record { command = codes "init"; values = Some policy ∷ Some facts ∷ Some journals ∷ [] })
+IsInit words policy facts journals = reading_of (map string_bytes words) ≡ Some (runs_init (record { policy = policy; facts = facts; journals = journals }))
 
 -- `batch` over the same
 abbrev pub IsBatch : List (String Global) → List ℕ → List ℕ → List ℕ → Type 0
-IsBatch words policy facts journals =
-    reading_of (map string_bytes words) ≡ Some (record { command = codes "batch"; values = Some policy ∷ Some facts ∷ Some journals ∷ [] })
+IsBatch words policy facts journals = reading_of (map string_bytes words) ≡ Some (runs_batch (record { policy = policy; facts = facts; journals = journals }))
+
+-- `audit` over the same, of the user of this name, as JSON or as lines
+abbrev pub IsAudit : List (String Global) → List ℕ → List ℕ → List ℕ → List ℕ → Bool → Type 0
+IsAudit words policy facts journals user json =
+    reading_of (map string_bytes words) ≡ Some (runs_audit (record { policy = policy; facts = facts; journals = journals }) user json)
+
+-- `selfrun` with this seed, so many users and so many asks
+abbrev pub IsSelfrun : List (String Global) → ℕ → ℕ → ℕ → Type 0
+IsSelfrun words seed users asks = reading_of (map string_bytes words) ≡ Some (runs_selfrun seed users asks)

@@ -1,20 +1,25 @@
 // The top call.
-ghost use Rattle.std.specs.Prelude.{◌≡◌, ◌≤◌, ◌⊎◌, List, ℕ, IsOk, IsErr};
+ghost use Rattle.std.specs.Prelude.{◌≡◌, ◌≤◌, ◌⊎◌, List, ℕ, Bool, IsOk, IsErr};
 ghost use Rattle.outside.specs.Faults.{Rose};
 ghost use Rattle.case_engine.specs.Script.{script_of};
 ghost use Rattle.batch_engine.specs.BatchLines.{batch_of};
 ghost use Rattle.batch_engine.specs.Shelved.{journals_on, NoneOut, NoneFell};
 ghost use Rattle.cqe_top.specs.declared.end.CommandEnd.{CommandEnd};
-ghost use Rattle.cqe_top.specs.Words.{IsUsage, IsCase, IsInit, IsBatch};
+ghost use Rattle.log_journal.specs.Names.{journal_name};
+ghost use Rattle.cqe_top.specs.Words.{IsUsage, IsCase, IsInit, IsBatch, IsAudit, IsSelfrun};
 ghost use Rattle.cqe_top.specs.Files.{files_say, Say};
 ghost use Rattle.cqe_top.specs.Ready.{CanBeMade, CanBeOpened};
 ghost use Rattle.cqe_top.specs.Refusals.{IsOfInit};
 ghost use Rattle.cqe_top.specs.Reaches.{CaseReaches, InitReaches, BatchReaches, change_of, Ends};
+ghost use Rattle.cqe_top.specs.Audited.{AuditReaches, AuditsNobody, CanBeAudited, LooksAt};
+ghost use Rattle.cqe_top.specs.Selfruns.{SelfrunReaches};
 ghost use Rattle.cqe_top.specs.Complaints.{complaint_of, Gives};
 
+use crate::audit::audit;
 use crate::complaint::complain;
 use crate::end::{CommandEnd, end_of_batch, end_of_case, end_of_init, status_of};
 use crate::files::read_files;
+use crate::selfrun::selfrun;
 use batch_engine::{Registry, run_batch};
 use case_engine::run_case;
 use command_words::{Command, read_words};
@@ -29,8 +34,10 @@ use std::sync::Wait;
 /// The command `case` reads a script with one user from the source and writes one line for each ask to the sink. `init`
 /// reads a policy and facts from the shelf and makes an empty journal on the disk of each user, where that is empty.
 /// `batch` reads the same files and a script of many users from the source, over their journals; a user whose journal is
-/// refused doesn't stop the others, and each ask passes the gate. It may wait, at the desks and at the gate. What can't be
-/// done is said to the complaints; where they fail too, nothing else changes.
+/// refused doesn't stop the others, and each ask passes the gate. `audit` reads the same files and prints what the journal
+/// of one of the users holds. `selfrun` makes a workload, runs it over objects in memory, and prints how often each reply
+/// came. It may wait, at the desks and at the gate. What can't be done is said to the complaints; where they fail too,
+/// nothing else changes.
 pub fn top<R: Wait, F: Shelf, S: Source, K: Sink, E: Sink, G: Gate>(
     rt: &R,
     alloc: Global,
@@ -52,12 +59,17 @@ pub fn top<R: Wait, F: Shelf, S: Source, K: Sink, E: Sink, G: Gate>(
         (λ end. F.told → S.told → K.told → (policy facts journals : List ℕ) → IsBatch words.now policy facts journals
         → BatchReaches (journals_on F.D.reads F.D.image journals (F.disk shelf.old) (F.disk shelf.new) (F.disk_faults shelf.old) (F.disk_faults shelf.new))
         (S.left source.old) (S.left source.new) (K.written sink.old) (K.written sink.new) policy facts (files_say (F.file shelf.old policy) (F.file shelf.old facts)) end)
+        (λ end. F.told → K.told → (policy facts journals user : List ℕ) (json : Bool) → IsAudit words.now policy facts journals user json
+        → AuditReaches (journals_on F.D.reads F.D.image journals (F.disk shelf.old) (F.disk shelf.new) (F.disk_faults shelf.old) (F.disk_faults shelf.new))
+        json (K.written sink.old) (K.written sink.new) policy facts user (files_say (F.file shelf.old policy) (F.file shelf.old facts)) end)
+        (λ end. K.told → (seed users asks : ℕ) → IsSelfrun words.now seed users asks → SelfrunReaches seed users asks end (K.written sink.old) (K.written sink.new))
         (λ end. E.told → Gives (complaint_of end) (E.written complaints.old) (E.written complaints.new) (Rose (E.faults complaints.old) (E.faults complaints.new))) }
 
-    // Words without a reading, and nothing else, have the status of usage, and then nothing is read or written.
-    ensures usage { result ≡ 2 → IsUsage words.now }
+    // Words without a reading, and the audit of a user whom the policy doesn't have, alone have the status of usage, and then
+    // nothing is written.
+    ensures usage { result ≡ 2 → IsUsage words.now ⊎ AuditsNobody F.told words.now (F.file shelf.old) }
     ensures is_usage { IsUsage words.now → (result ≡ 2) ⊎ (result ≡ 13) }
-    ensures usage_takes_nothing { result ≡ 2 → shelf.new ≡ shelf.old }
+    ensures usage_takes_nothing { IsUsage words.now → shelf.new ≡ shelf.old }
     ensures usage_reads_nothing { result ≡ 2 → source.new ≡ source.old }
     ensures usage_writes_nothing { result ≡ 2 → sink.new ≡ sink.old }
 
@@ -65,6 +77,15 @@ pub fn top<R: Wait, F: Shelf, S: Source, K: Sink, E: Sink, G: Gate>(
     ensures case_takes_nothing { IsCase words.now → shelf.new ≡ shelf.old }
     ensures init_reads_nothing { (policy facts journals : List ℕ) → IsInit words.now policy facts journals → source.new ≡ source.old }
     ensures init_writes_nothing { (policy facts journals : List ℕ) → IsInit words.now policy facts journals → sink.new ≡ sink.old }
+
+    // An audit looks at one disk and has no input.
+    ensures audit_looks { F.told → (policy facts journals user : List ℕ) (json : Bool) → IsAudit words.now policy facts journals user json
+        → LooksAt F.D.reads F.D.image (journal_name journals user) (F.disk shelf.old) (F.disk shelf.new) }
+    ensures audit_reads_nothing { (policy facts journals user : List ℕ) (json : Bool) → IsAudit words.now policy facts journals user json → source.new ≡ source.old }
+
+    // A workload is run over nothing but memory.
+    ensures selfrun_takes_nothing { (seed users asks : ℕ) → IsSelfrun words.now seed users asks → shelf.new ≡ shelf.old }
+    ensures selfrun_reads_nothing { (seed users asks : ℕ) → IsSelfrun words.now seed users asks → source.new ≡ source.old }
 
     // A fault has its cause.
     ensures read_cause { result ≡ 6 → Rose (S.faults source.old) (S.faults source.new) }
@@ -83,6 +104,13 @@ pub fn top<R: Wait, F: Shelf, S: Source, K: Sink, E: Sink, G: Gate>(
         (CanBeOpened (journals_on F.D.reads F.D.image journals (F.disk shelf.old) (F.disk shelf.new) (F.disk_faults shelf.old) (F.disk_faults shelf.new)))
         → (Rose (F.faults shelf.old) (F.faults shelf.new) → ⊥) → (Rose (S.faults source.old) (S.faults source.new) → ⊥) → (Rose (K.faults sink.old) (K.faults sink.new) → ⊥)
         → (result ≡ 0) ⊎ (result ≡ 13) }
+
+    ensures good_audit { F.told → K.told → (policy facts journals user : List ℕ) (json : Bool) → IsAudit words.now policy facts journals user json
+        → Say (files_say (F.file shelf.old policy) (F.file shelf.old facts))
+        (CanBeAudited (journals_on F.D.reads F.D.image journals (F.disk shelf.old) (F.disk shelf.new) (F.disk_faults shelf.old) (F.disk_faults shelf.new)) user)
+        → (Rose (F.faults shelf.old) (F.faults shelf.new) → ⊥) → (Rose (K.faults sink.old) (K.faults sink.new) → ⊥) → (result ≡ 0) ⊎ (result ≡ 13) }
+
+    ensures good_selfrun { K.told → (seed users asks : ℕ) → IsSelfrun words.now seed users asks → (Rose (K.faults sink.old) (K.faults sink.new) → ⊥) → (result ≡ 0) ⊎ (result ≡ 13) }
 
     // All disks are back, and no count fell.
     ensures inside { NoneOut (F.is_out shelf.new) }
@@ -116,14 +144,23 @@ fn run<'w, R: Wait, F: Shelf, S: Source, K: Sink, G: Gate>(
     ensures as_batch { F.told → S.told → K.told → (policy facts journals : List ℕ) → IsBatch words.now policy facts journals
         → BatchReaches (journals_on F.D.reads F.D.image journals (F.disk shelf.old) (F.disk shelf.new) (F.disk_faults shelf.old) (F.disk_faults shelf.new))
         (S.left source.old) (S.left source.new) (K.written sink.old) (K.written sink.new) policy facts (files_say (F.file shelf.old policy) (F.file shelf.old facts)) result }
-    ensures usage { result ≡ CommandEnd.Usage → IsUsage words.now }
+    ensures as_audit { F.told → K.told → (policy facts journals user : List ℕ) (json : Bool) → IsAudit words.now policy facts journals user json
+        → AuditReaches (journals_on F.D.reads F.D.image journals (F.disk shelf.old) (F.disk shelf.new) (F.disk_faults shelf.old) (F.disk_faults shelf.new))
+        json (K.written sink.old) (K.written sink.new) policy facts user (files_say (F.file shelf.old policy) (F.file shelf.old facts)) result }
+    ensures as_selfrun { K.told → (seed users asks : ℕ) → IsSelfrun words.now seed users asks → SelfrunReaches seed users asks result (K.written sink.old) (K.written sink.new) }
+    ensures usage { result ≡ CommandEnd.Usage → IsUsage words.now ⊎ AuditsNobody F.told words.now (F.file shelf.old) }
     ensures is_usage { IsUsage words.now → (result ≡ CommandEnd.Usage) ⊎ (result ≡ CommandEnd.Memory) }
-    ensures usage_takes_nothing { result ≡ CommandEnd.Usage → shelf.new ≡ shelf.old }
+    ensures usage_takes_nothing { IsUsage words.now → shelf.new ≡ shelf.old }
     ensures usage_reads_nothing { result ≡ CommandEnd.Usage → source.new ≡ source.old }
     ensures usage_writes_nothing { result ≡ CommandEnd.Usage → sink.new ≡ sink.old }
     ensures case_takes_nothing { IsCase words.now → shelf.new ≡ shelf.old }
     ensures init_reads_nothing { (policy facts journals : List ℕ) → IsInit words.now policy facts journals → source.new ≡ source.old }
     ensures init_writes_nothing { (policy facts journals : List ℕ) → IsInit words.now policy facts journals → sink.new ≡ sink.old }
+    ensures audit_looks { F.told → (policy facts journals user : List ℕ) (json : Bool) → IsAudit words.now policy facts journals user json
+        → LooksAt F.D.reads F.D.image (journal_name journals user) (F.disk shelf.old) (F.disk shelf.new) }
+    ensures audit_reads_nothing { (policy facts journals user : List ℕ) (json : Bool) → IsAudit words.now policy facts journals user json → source.new ≡ source.old }
+    ensures selfrun_takes_nothing { (seed users asks : ℕ) → IsSelfrun words.now seed users asks → shelf.new ≡ shelf.old }
+    ensures selfrun_reads_nothing { (seed users asks : ℕ) → IsSelfrun words.now seed users asks → source.new ≡ source.old }
     ensures read_cause { result ≡ CommandEnd.ReadFault → Rose (S.faults source.old) (S.faults source.new) }
     ensures write_cause { result ≡ CommandEnd.WriteFault → Rose (K.faults sink.old) (K.faults sink.new) }
     ensures shelf_cause { result ≡ CommandEnd.ShelfFault → Rose (F.faults shelf.old) (F.faults shelf.new) }
@@ -150,6 +187,10 @@ fn run<'w, R: Wait, F: Shelf, S: Source, K: Sink, G: Gate>(
             sink,
             gate,
         ),
+        Ok(Some(Command::Audit(words))) => {
+            audit(alloc, &words.files, words.user, words.json, shelf, sink)
+        }
+        Ok(Some(Command::Selfrun(words))) => selfrun(alloc, &words, sink),
         Ok(None) => CommandEnd::Usage,
         Err(AllocError) => CommandEnd::Memory,
     }

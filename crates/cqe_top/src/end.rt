@@ -1,14 +1,14 @@
 // How a command ends.
 ghost use Rattle.std.specs.Prelude.{◌≡◌, ◌<◌, length, string_bytes};
-ghost use Rattle.cqe_top.specs.Statuses.{end_of_case, end_of_answers, end_of_batch, has_refusal, IsAt, IsEndOfInit, InRange, status_of};
+ghost use Rattle.cqe_top.specs.Statuses.{end_of_case, end_of_answers, end_of_batch, has_refusal, IsAt, IsEndOfInit, IsEndOfAudit, InRange, status_of};
 ghost use Rattle.init_engine.specs.Disks.{names_of};
 
+use audit_engine::AuditEnd;
 use batch_engine::BatchEnd;
 use case_engine::CaseEnd;
 use cqe_base::text::ScriptError;
 use cqe_base::user::User;
 use init_engine::InitEnd;
-use log_journal::OpenError;
 use policy_files::{FactsError, PolicyError};
 use user_desk::DeskError;
 
@@ -33,8 +33,9 @@ pub enum CommandEnd<'w> {
     ReadFault,
     /// A write failed.
     WriteFault,
-    /// `init` stopped at the user of this name, whose disk isn't empty and isn't opened as a journal.
-    Journal(String, OpenError),
+    /// The journal of the user of this name is refused: `init` stopped at him, whose disk isn't empty and isn't opened as a
+    /// journal, or `audit` wrote that he is sealed.
+    Journal(String, DeskError),
     /// `batch` answered all items, and journals of these users were refused; each has the first refusal of his, if one was.
     Journals(Vec<User>, Vec<Option<DeskError>>),
     /// A call of a disk failed: `init` stopped there, or `batch` answered all items, some of them by it, and no journal
@@ -64,10 +65,26 @@ pub(crate) fn end_of_init<'w>(users: Vec<User>, end: InitEnd) -> CommandEnd<'w>
 {
     match end {
         InitEnd::Done => CommandEnd::Done,
-        InitEnd::Refused { user, why } => CommandEnd::Journal(name_at(users, user), why),
+        InitEnd::Refused { user, why } => {
+            CommandEnd::Journal(name_at(users, user), DeskError::Journal(why))
+        }
         InitEnd::DiskFault => CommandEnd::DiskFault,
         InitEnd::ShelfFault => CommandEnd::ShelfFault,
         InitEnd::Memory => CommandEnd::Memory,
+    }
+}
+
+/// The end of the command `audit` for the end of the audit of the user of this number.
+pub(crate) fn end_of_audit<'w>(users: Vec<User>, number: usize, end: AuditEnd) -> CommandEnd<'w>
+    requires { number < length users.items }
+    ensures { IsEndOfAudit users.items number end result }
+{
+    match end {
+        AuditEnd::Done => CommandEnd::Done,
+        AuditEnd::Refused(why) => CommandEnd::Journal(name_at(users, number), why),
+        AuditEnd::WriteFault => CommandEnd::WriteFault,
+        AuditEnd::ShelfFault => CommandEnd::ShelfFault,
+        AuditEnd::Memory => CommandEnd::Memory,
     }
 }
 

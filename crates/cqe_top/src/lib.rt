@@ -7,10 +7,12 @@
 //! Read `specs/Statuses.antt` and `specs/Reaches.antt`, then `end`, `files` and `command`; `complaint` has the texts.
 #![tactic(auto)]
 
+mod audit;
 mod command;
 mod complaint;
 mod end;
 mod files;
+mod selfrun;
 #[cfg(test)]
 mod tests;
 

@@ -8,9 +8,11 @@ use outside::{MemoryShelf, MemorySink, MemorySource, OpenGate, Pieces, Plan};
 use std::alloc::{AllocError, Global};
 use std::process::Abort;
 
+mod audit;
 mod batch;
 mod case;
 mod lives;
+mod selfrun;
 mod ward;
 
 // What the program did.

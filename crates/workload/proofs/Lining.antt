@@ -17,7 +17,7 @@ use Rattle.workload.specs.declared.statement.Statement.TheVariants.{Drug, Has}
 use Rattle.workload.proofs.Stating.{IsWithin, states}
 
 -- the byte is no line feed
-abbrev is_other : ℕ → Bool
+abbrev pub is_other : ℕ → Bool
 is_other b = not (b == 10)
 
 no_feed : (b : ℕ) → is_other b ≡ true → (b == 10) ≡ false
@@ -31,7 +31,7 @@ one_byte : (seen : List ℕ) (b : ℕ) (rest : List ℕ) → (b == 10) ≡ false
 one_byte [] b rest is = ap (λ (t : Bool). if t then record { bytes = []; ended = true } ∷ lines_after [] rest else lines_after (b ∷ []) rest) is
 one_byte (s ∷ seen) b rest is = ap (λ (t : Bool). if t then record { bytes = s ∷ seen; ended = true } ∷ lines_after [] rest else lines_after ((s ∷ seen) ++ b ∷ []) rest) is
 
-line_up : (seen bytes rest : List ℕ) → list_all is_other bytes ≡ true → lines_after seen (bytes ++ 10 ∷ rest) ≡ record { bytes = seen ++ bytes; ended = true } ∷ lines_after [] rest
+pub line_up : (seen bytes rest : List ℕ) → list_all is_other bytes ≡ true → lines_after seen (bytes ++ 10 ∷ rest) ≡ record { bytes = seen ++ bytes; ended = true } ∷ lines_after [] rest
 line_up [] [] rest all = refl
 line_up (s ∷ seen) [] rest all = ap (λ (l : List ℕ). record { bytes = l; ended = true } ∷ lines_after [] rest) (sym (append-nil (s ∷ seen)))
 line_up seen (b ∷ bytes) rest all =

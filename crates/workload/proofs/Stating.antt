@@ -56,7 +56,7 @@ module _ (law : CanonicalFormsRead) where
       ap (reading workload_schema) (sym (drug_text j less))
       ∙ law workload_schema (atom 0 (person_term j ∷ [])) valid (ap (λ (b : Bool). is_domain (if b then Some 1 else None) 1 && true) (lt-ltb j 40 less)) (omega arith)
 
-  has_read : (j k : ℕ) → j < 40 → k < 12 → reading workload_schema (statement_text (Has j k)) ≡ Ok (atom 1 (person_term j ∷ disease_term k ∷ []))
+  pub has_read : (j k : ℕ) → j < 40 → k < 12 → reading workload_schema (statement_text (Has j k)) ≡ Ok (atom 1 (person_term j ∷ disease_term k ∷ []))
   has_read j k less less' =
       ap (reading workload_schema) (sym (has_text j k less less'))
       ∙ law workload_schema (atom 1 (person_term j ∷ disease_term k ∷ [])) valid

@@ -3,7 +3,11 @@ ghost use Rattle.std.specs.Prelude.{◌≡◌, ◌≤◌, ◌+◌, ◌*◌, map,
 ghost use Rattle.workload.specs.Statements.{statements, facts_text};
 ghost use Rattle.workload.specs.Stated.{stated_facts, meant_fact, workload_schema, workload_world};
 ghost use Rattle.workload.specs.Questions.{script_lines};
+ghost use Rattle.workload.specs.Policies.{workload_policy};
+ghost use Rattle.workload.specs.Scripts.{workload_script};
 ghost use Rattle.policy_files.specs.Facts.{facts_of};
+ghost use Rattle.policy_files.specs.Policy.{policy_in};
+ghost use Rattle.batch_engine.specs.BatchLines.{batch_of};
 
 use crate::draws::Draws;
 use crate::policy::policy_text;
@@ -27,11 +31,14 @@ pub fn make(alloc: Global, seed: u64, users: u32, asks: u32) -> Result<Workload,
     requires few_users { users ≤ 256 }
     requires some_ask { 1 ≤ asks }
     requires few_asks { asks ≤ 10000 }
+    // The policy reads as that of the seed.
+    ensures policy { IfOk result (λ made. policy_in made.policy.items ≡ Ok (workload_policy seed users)) }
     // The facts read as the database of the seed. Each line states one fact.
     ensures read { IfOk result (λ made. facts_of workload_schema made.facts.items ≡ Ok (workload_world seed)) }
     ensures facts { IfOk result (λ made. made.facts.items ≡ facts_text (statements seed)) }
     ensures stated { IfOk result (λ made. stated_facts made.facts.items ≡ map (λ statement. Some (meant_fact statement)) (statements seed)) }
-    // The lines of the script ask what is drawn after the facts and three secrets for each user.
+    // The script reads as the asks of the seed. Its lines ask what is drawn after the facts and three secrets for each user.
+    ensures asks { IfOk result (λ made. batch_of made.script.items ≡ Ok (workload_script seed users asks)) }
     ensures script { IfOk result (λ made. made.script.items ≡ script_lines seed (620 + 3 * users) users asks) }
 {
     law_canonical_forms_read();

@@ -120,6 +120,34 @@ pub(super) fn batch(rt: &HostRuntime, shelf: &mut MemoryShelf, script: &str) -> 
     run_over(rt, &BATCH, shelf, source, sink, complaints)
 }
 
+/// `audit` of this user on this shelf, as text or in JSON.
+pub(super) fn audit(
+    alloc: Global,
+    shelf: &mut MemoryShelf,
+    user: &str,
+    json: bool,
+) -> Result<Run, AllocError>
+    requires { (name : List ℕ) → is_disk_out shelf.old name ≡ false }
+    ensures { (name : List ℕ) → is_disk_out shelf.new name ≡ false }
+{
+    let source = MemorySource::new(joined(alloc, &["not read"])?);
+    let (sink, complaints) = (MemorySink::new(alloc), MemorySink::new(alloc));
+    let words = [
+        "audit",
+        "--policy",
+        "p",
+        "--facts",
+        "f",
+        "--journals",
+        "d",
+        "--user",
+        user,
+        "--json",
+    ];
+    let words = if json { &words[..] } else { &words[..9] };
+    run_over(alloc, words, shelf, source, sink, complaints)
+}
+
 /// A journal of the ward: the header, and from byte 72 on these bytes.
 pub(super) fn journal(alloc: Global, behind: &[u8]) -> Result<Vec<u8>, AllocError> {
     let mut bytes = Vec::new(alloc);

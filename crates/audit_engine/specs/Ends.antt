@@ -1,0 +1,52 @@
+-- How the audit of a user ends, by the bytes of his journal.
+use Rattle.std.specs.Prelude.{◌≡◌, ℕ, Bool, true, false, List, ◌++◌, Option}
+use Rattle.outside.specs.Faults.{Rose}
+use Rattle.outside.specs.Streams.{AppendsPart}
+use Rattle.cqe_base.specs.Schema.{DatabaseSchema, Text}
+use Rattle.cqe_base.specs.Facts.{FactSet}
+use Rattle.cqe_base.specs.History.{UserProfile, History}
+use Rattle.cqe_base.specs.Censor.{admitted}
+use Rattle.censors.specs.Admitting.{admission_of}
+use Rattle.user_desk.specs.Causes.{Opens, IsSealedBy}
+use Rattle.user_desk.specs.Standings.{is_sealed}
+use Rattle.user_desk.specs.declared.standing.DeskError.{DeskError}
+use Rattle.user_desk.specs.declared.standing.Standing.{Standing}
+use Rattle.user_desk.specs.declared.standing.Standing.TheVariants.{Open, Closed, Sealed}
+use Rattle.batch_engine.specs.Lives.{IsOpening}
+use Rattle.batch_engine.specs.Shelved.{image_on}
+use Rattle.audit_text.specs.Said.{AuditSaid}
+use Rattle.audit_text.specs.Json.{audit_text}
+use Rattle.audit_print.specs.Audits.{Audits}
+use Rattle.audit_engine.specs.declared.end.AuditEnd.{AuditEnd}
+use Rattle.audit_engine.specs.declared.end.AuditEnd.TheVariants.{Done, Refused, WriteFault, ShelfFault, Memory}
+
+-- no disk has an image that it hadn't before
+abbrev pub NoNewImages : {D : Type 0} → (D → List ℕ → Type 0) → (Text → Option D) → (Text → Option D) → Type 0
+NoNewImages image old new = (name : Text) (c : List ℕ) → image_on image (new name) c → image_on image (old name) c
+
+module _ (schema : DatabaseSchema) (world : FactSet) (header : List ℕ) (name : Text) (user : UserProfile) (bytes : List ℕ) (before now : ℕ) where
+  -- Why a user whose journal stands for these entries has this standing. He is served where he is admitted and the bytes of his journal open a desk; he is closed
+  -- where they do and he isn't; and his journal is refused for a reason that the bytes show, or where the count of its disk's faults rose.
+  abbrev pub HasStanding : History → Standing → Type 0
+  HasStanding entries Open = (admitted schema world user ≡ true) × Opens schema world user header entries bytes
+  HasStanding entries (Closed admission) = (admitted schema world user ≡ false) × (admission ≡ admission_of schema world user) × Opens schema world user header entries bytes
+  HasStanding entries (Sealed why) = IsSealedBy schema world user (Unit {0}) header bytes before now why × (Opens schema world user header entries bytes → Rose before now)
+
+  -- this is said of the user: the audit of his standing and of the legal history that the bytes of his journal stand for, the empty one where they open no desk
+  pub record Says (standing : Standing) (said : AuditSaid) : Type 0 where
+    pub entries : History
+    pub opening_is : IsOpening schema world user header bytes entries
+    pub standing_is : HasStanding entries standing
+    pub audits : Audits schema name user standing entries said
+
+  -- all of it was appended
+  abbrev pub AppendsAll : Bool → Standing → List ℕ → List ℕ → Type 0
+  AppendsAll json standing old new = (said : AuditSaid) × Says standing said × (new ≡ old ++ audit_text json said)
+
+  -- what each end says of the output before and after
+  abbrev pub IsEnd : Bool → AuditEnd → List ℕ → List ℕ → Type 0
+  IsEnd json Done old new = (standing : Standing) × (is_sealed standing ≡ false) × AppendsAll json standing old new
+  IsEnd json (Refused why) old new = AppendsAll json (Sealed why) old new
+  IsEnd json WriteFault old new = (standing : Standing) × (said : AuditSaid) × Says standing said × AppendsPart old new (audit_text json said)
+  IsEnd json ShelfFault old new = new ≡ old
+  IsEnd json Memory old new = new ≡ old

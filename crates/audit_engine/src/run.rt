@@ -1,0 +1,88 @@
+// The audit of a user whose journal lies on a shelf.
+ghost use Rattle.std.specs.Prelude.{◌≡◌, ◌≤◌, List, ℕ, false, string_bytes};
+ghost use Rattle.outside.specs.Faults.{Rose};
+ghost use Rattle.outside.specs.Shelf.{SameOthers};
+ghost use Rattle.cqe_base.specs.History.{profile_of};
+ghost use Rattle.cqe_base.specs.Limits.{KeepsLimits};
+ghost use Rattle.log_journal.specs.Names.{journal_name};
+ghost use Rattle.log_journal.specs.Opening.{header_bytes};
+ghost use Rattle.batch_engine.specs.Shelved.{bytes_on, image_on, NoneOut, NoneFell, SameBytes};
+ghost use Rattle.audit_engine.specs.Ends.{IsEnd, NoNewImages};
+ghost use Rattle.audit_engine.specs.declared.end.AuditEnd.{AuditEnd};
+
+use crate::end::AuditEnd;
+use crate::print::audit_disk;
+use batch_engine::Registry;
+use cqe_base::user::User;
+use log_journal::journal_name;
+use outside::{Shelf, ShelfError, Sink};
+use std::alloc::Global;
+
+/// Prints the audit of a user of the registry, as text or in JSON: his standing and the history of his journal, the disk
+/// `DIRECTORY/NAME.log`. That disk is opened and given back on every path, with the bytes that it had.
+pub fn run_audit<'w, F: Shelf, K: Sink>(
+    alloc: Global,
+    registry: &Registry<'w>,
+    user: &'w User,
+    json: bool,
+    shelf: &mut F,
+    sink: &mut K,
+) -> AuditEnd
+    requires limits { KeepsLimits registry.now.schema.now (profile_of user.now) }
+    requires inside { NoneOut (F.is_out shelf.old) }
+    ensures ends { F.told → K.told → IsEnd registry.now.schema.now registry.now.world.now (header_bytes registry.now.header.now) (string_bytes user.now.name) (profile_of user.now)
+        (bytes_on F.D.reads (F.disk shelf.old (journal_name registry.now.directory.now (string_bytes user.now.name))))
+        (F.disk_faults shelf.old (journal_name registry.now.directory.now (string_bytes user.now.name))) (F.disk_faults shelf.new (journal_name registry.now.directory.now (string_bytes user.now.name)))
+        json result (K.written sink.old) (K.written sink.new) }
+    ensures disks { SameOthers (journal_name registry.now.directory.now (string_bytes user.now.name)) (F.disk shelf.old) (F.disk shelf.new) }
+    ensures bytes { F.told → SameBytes F.D.reads (F.disk shelf.old) (F.disk shelf.new) }
+    ensures images { F.told → NoNewImages F.D.image (F.disk shelf.old) (F.disk shelf.new) }
+    ensures inside { NoneOut (F.is_out shelf.new) }
+    ensures counts { NoneFell (F.disk_faults shelf.old) (F.disk_faults shelf.new) }
+    ensures shelf_later { F.faults shelf.old ≤ F.faults shelf.new }
+    ensures sink_later { K.faults sink.old ≤ K.faults sink.new }
+    ensures write_cause { result ≡ AuditEnd.WriteFault → Rose (K.faults sink.old) (K.faults sink.new) }
+    ensures shelf_cause { result ≡ AuditEnd.ShelfFault → Rose (F.faults shelf.old) (F.faults shelf.new) }
+{
+    let Ok(journal) = journal_name(alloc, registry.directory, user.name.as_str()) else {
+        return AuditEnd::Memory;
+    };
+    audit_journal(alloc, registry, user, journal.as_str(), json, shelf, sink)
+}
+
+// The same, by the name of the journal's disk.
+fn audit_journal<'w, F: Shelf, K: Sink>(
+    alloc: Global,
+    registry: &Registry<'w>,
+    user: &'w User,
+    journal: &str,
+    json: bool,
+    shelf: &mut F,
+    sink: &mut K,
+) -> AuditEnd
+    requires limits { KeepsLimits registry.now.schema.now (profile_of user.now) }
+    requires inside { NoneOut (F.is_out shelf.old) }
+    ensures ends { F.told → K.told → IsEnd registry.now.schema.now registry.now.world.now (header_bytes registry.now.header.now) (string_bytes user.now.name) (profile_of user.now)
+        (bytes_on F.D.reads (F.disk shelf.old journal.now)) (F.disk_faults shelf.old journal.now) (F.disk_faults shelf.new journal.now)
+        json result (K.written sink.old) (K.written sink.new) }
+    ensures disks { SameOthers journal.now (F.disk shelf.old) (F.disk shelf.new) }
+    ensures bytes { F.told → bytes_on F.D.reads (F.disk shelf.new journal.now) ≡ bytes_on F.D.reads (F.disk shelf.old journal.now) }
+    ensures images { F.told → (c : List ℕ) → image_on F.D.image (F.disk shelf.new journal.now) c → image_on F.D.image (F.disk shelf.old journal.now) c }
+    ensures inside { NoneOut (F.is_out shelf.new) }
+    ensures counts { NoneFell (F.disk_faults shelf.old) (F.disk_faults shelf.new) }
+    ensures shelf_later { F.faults shelf.old ≤ F.faults shelf.new }
+    ensures sink_later { K.faults sink.old ≤ K.faults sink.new }
+    ensures write_cause { result ≡ AuditEnd.WriteFault → Rose (K.faults sink.old) (K.faults sink.new) }
+    ensures shelf_cause { result ≡ AuditEnd.ShelfFault → Rose (F.faults shelf.old) (F.faults shelf.new) }
+{
+    match shelf.take_disk(alloc, journal) {
+        Ok(disk) => {
+            let (disk, end) = audit_disk(alloc, registry, user, json, disk, sink);
+            shelf.give_disk(journal, disk);
+            end
+        }
+        Err(ShelfError::Memory) => AuditEnd::Memory,
+        Err(ShelfError::Missing) => AuditEnd::ShelfFault,
+        Err(ShelfError::Failed) => AuditEnd::ShelfFault,
+    }
+}

@@ -1,0 +1,4 @@
+pub mod Counting
+pub mod Undisturbed
+pub mod Workloads
+pub mod Writing

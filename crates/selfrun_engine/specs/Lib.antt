@@ -1,0 +1,4 @@
+pub mod Counting
+pub mod Tallies
+pub mod Outputs
+pub mod Runs
