@@ -1,6 +1,5 @@
 mod audit;
 mod selfrun;
-mod serve;
 
 use crate::{Command, Files, read_words};
 use std::alloc::{AllocError, Global};
@@ -239,7 +238,7 @@ const MISNAMED: [&[&str]; 58] = [
     &["--policy", "p", "--facts", "f", "--journals/", "d"],
     &["--policy", "p", "--facts", "f", "--directory", "d"],
     &["--policy", "p", "--facts", "f", "-j", "d"],
-    // options of other commands
+    // options of commands that aren't there yet, or of none
     &[
         "--workers",
         "4",

@@ -190,7 +190,7 @@ fn run<'w, R: Wait, F: Shelf, S: Source, K: Sink, G: Gate>(
         Ok(Some(Command::Audit(words))) => {
             audit(alloc, &words.files, words.user, words.json, shelf, sink)
         }
-        Ok(Some(Command::Selfrun(words))) => selfrun(alloc, &words, sink),
+        Ok(Some(Command::Selfrun(words))) => selfrun(rt, alloc, &words, sink),
         Ok(None) => CommandEnd::Usage,
         Err(AllocError) => CommandEnd::Memory,
     }
