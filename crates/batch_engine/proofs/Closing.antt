@@ -16,7 +16,6 @@ use Rattle.cqe_base.specs.declared.user.User.{User}
 use Rattle.user_desk.specs.Causes.{Opens}
 use Rattle.user_desk.specs.Lives.{Holds, IsState}
 use Rattle.user_desk.specs.Standings.{is_sealed}
-use Rattle.user_desk.specs.Desks.{desk_standing, state_of}
 use Rattle.user_desk.specs.declared.standing.DeskError.{DeskError}
 use Rattle.user_desk.specs.declared.standing.Standing.{Standing}
 use Rattle.user_desk.specs.declared.standing.Standing.TheVariants.{Open, Closed, Sealed}
@@ -24,11 +23,11 @@ use Rattle.log_journal.specs.Names.{journal_name}
 use Rattle.batch_engine.specs.BatchLines.{BatchItem}
 use Rattle.batch_engine.specs.Lives.{RoseBy, is_opened, failures, OpensNone, IsOpening, IsRefusal}
 use Rattle.batch_engine.specs.Batch.{Journals, Serves, Answers, AreRefusals, AppendsAll, AppendsSome, unopened, with_opening, line_bytes}
-use Rattle.batch_engine.specs.Crew.{named_user, seat_name, seat_journal, seat_disk, IsLeft}
+use Rattle.batch_engine.specs.Crew.{named_user, seat_name, seat_journal, seat_standing, seat_state, IsLeft, IsClosed}
 use Rattle.batch_engine.specs.Shelved.{bytes_on, image_on, journals_on, IsBack, AreBack}
-use Rattle.batch_engine.specs.declared.seat.Seat.{Seat}
+use Rattle.batch_engine.specs.Seats.{DeskSeat}
 use Rattle.batch_engine.proofs.Courses.{Course, course_on, Fits, IsRunning}
-use Rattle.batch_engine.proofs.Seating.{left_false, right_false, text_is, names, IsSeated, AreSeated}
+use Rattle.batch_engine.proofs.Seating.{left_false, right_false, text_is, names, IsSeated, AreSeated, close_at}
 use Rattle.batch_engine.proofs.Telling.{SoFar}
 
 -- ---- users by their names
@@ -83,34 +82,41 @@ served_standing Open shows state is unsealed = refl
 served_standing (Closed admission) shows state is unsealed = refl
 served_standing (Sealed why) shows state is unsealed = absurd (unsealed is)
 
-module _ (schema : DatabaseSchema) (world : FactSet) (users : List NamedUser) (header directory : List ℕ) {D : Type 0} {g : _} (T S : Type 0) (s : S) (reads : D → List ℕ) (image : D → List ℕ → Type 0) (faults : D → ℕ) (t : T)
+module _ (schema : DatabaseSchema) (world : FactSet) (users : List NamedUser) (header directory : List ℕ) {D : Type 0} {g h : _} (T S : Type 0) (s : S) (reads : D → List ℕ) (image : D → List ℕ → Type 0) (faults : D → ℕ) (t : T)
     (read_is_image : (d : D) → T → image d (reads d)) (disk disk' : Text → Option D) (count count' : Text → ℕ) where
-  abbrev Seated : NamedUser → List ScriptEvent → Seat D g → Type 0
+  abbrev Seated : NamedUser → List ScriptEvent → DeskSeat D g h → Type 0
   Seated user script seat = IsSeated schema world header directory T reads image faults t read_is_image (bytes_of reads directory disk) (count_of directory count) user (own_events user.name script) seat
 
-  abbrev AllSeated : List ScriptEvent → List NamedUser → List (Seat D g) → Type 0
+  abbrev AllSeated : List ScriptEvent → List NamedUser → List (DeskSeat D g h) → Type 0
   AllSeated script us seats = AreSeated schema world header directory T reads image faults t read_is_image (bytes_of reads directory disk) (count_of directory count) script us seats
 
   -- the disk of a user's journal, which is back
-  record Back (user : NamedUser) (script : List ScriptEvent) (seat : Seat D g) : Type 0 where
+  record Back (user : NamedUser) (script : List ScriptEvent) (seat : DeskSeat D g h) : Type 0 where
     now : D
     held : disk' (journal_name directory user.name) ≡ Some now
-    left : IsLeft reads image faults (seat_disk seat) now
+    closed : D
+    left : IsLeft reads image faults closed now
+    running : IsRunning schema world user.profile header (bytes_of reads directory disk user.name) (count_of directory count user.name) user.opened (own_events user.name script) (seat_standing seat) (seat_state seat) (image closed) (reads closed) (faults closed) seat.refusal
     course : Course schema world user.profile header (bytes_of reads directory disk user.name) (count_of directory count user.name) user.opened (own_events user.name script) (reads now) (count' (journal_name directory user.name)) seat.refusal
 
-  back : (user : NamedUser) (script : List ScriptEvent) (seat : Seat D g) → Seated user script seat → IsBack S reads image faults disk' count' seat → Back user script seat
+  back : (user : NamedUser) (script : List ScriptEvent) (seat : DeskSeat D g h) → Seated user script seat → IsBack S reads image faults disk' count' seat → Back user script seat
   back user script seat seated is =
       let counted : count' (journal_name directory user.name) ≡ faults is.now = ap count' (sym seated.journal_is) ∙ is.counted in
+      let left = is.left in
+      let closed : IsClosed T image faults seat.desk left.closed = record { holds = λ told. left.is_closed.holds s; later = left.is_closed.later; cause = left.is_closed.cause; shut = left.is_closed.shut; still = left.is_closed.still } in
+      let running = close_at schema world header directory T reads image faults t read_is_image (bytes_of reads directory disk) (count_of directory count) user (own_events user.name script) seat left.closed seated closed in
       record {
         now = is.now;
         held = ap disk' (sym seated.journal_is) ∙ is.held s;
-        left = is.left;
-        course = course_on schema world user.profile header (bytes_of reads directory disk user.name) (count_of directory count user.name) user.opened (own_events user.name script) (reads (seat_disk seat)) (reads is.now) (faults (seat_disk seat))
-            (count' (journal_name directory user.name)) seat.refusal is.left.reads_same (subst (λ n. faults (seat_disk seat) ≤ n) (sym counted) is.left.later) seated.running.course;
+        closed = left.closed;
+        left = left.left;
+        running = running;
+        course = course_on schema world user.profile header (bytes_of reads directory disk user.name) (count_of directory count user.name) user.opened (own_events user.name script) (reads left.closed) (reads is.now) (faults left.closed)
+            (count' (journal_name directory user.name)) seat.refusal left.left.reads_same (subst (λ n. faults left.closed ≤ n) (sym counted) left.left.later) running.course;
       }
 
   module _ (empty : EmptyHistoryIsLegal) (runs : RunsStayLegal) (hide : ScriptsHide) (alone : TranscriptIsPrivate) (valid : is_valid_schema schema ≡ true) where
-    serves : (user : NamedUser) (script : List ScriptEvent) (seat : Seat D g) → Finds users user → KeepsLimits schema user.profile → IsOpening schema world user.profile header (bytes_of reads directory disk user.name) user.opened
+    serves : (user : NamedUser) (script : List ScriptEvent) (seat : DeskSeat D g h) → Finds users user → KeepsLimits schema user.profile → IsOpening schema world user.profile header (bytes_of reads directory disk user.name) user.opened
         → Seated user script seat → IsBack S reads image faults disk' count' seat → Serves schema world header (journals_on reads image directory disk disk' count count') users script user
     serves user script seat found limits opening_is seated is =
         let at : Back user script seat = back user script seat seated is in
@@ -123,7 +129,7 @@ module _ (schema : DatabaseSchema) (world : FactSet) (users : List NamedUser) (h
           caused = at.course.caused;
           refused = λ none. refused_at at none at.course.fits;
           counted = λ opens. counted_at at opens at.course.fits;
-          stands = λ unsealed c here. seated.running.images (served_standing (desk_standing seat.desk) (state_of seat.desk) (state_after schema world user script) seated.running.is_in unsealed) c
+          stands = λ unsealed c here. at.running.images (served_standing (seat_standing seat) (seat_state seat) (state_after schema world user script) seated.living.is_in unsealed) c
               (at.left.images c (subst (λ o. image_on image o c) at.held here));
         }
       where
@@ -137,7 +143,7 @@ module _ (schema : DatabaseSchema) (world : FactSet) (users : List NamedUser) (h
         counted_at at opens (inl (was, holds, rose)) = rose
         counted_at at opens (inr (none, is_empty, same, never)) = absurd (none user.opened opens)
 
-    serves_all : (us : List NamedUser) (script : List ScriptEvent) (seats : List (Seat D g)) → AllByRecursion (Finds users) us → AllByRecursion (λ (u : NamedUser). KeepsLimits schema u.profile) us
+    serves_all : (us : List NamedUser) (script : List ScriptEvent) (seats : List (DeskSeat D g h)) → AllByRecursion (Finds users) us → AllByRecursion (λ (u : NamedUser). KeepsLimits schema u.profile) us
         → AllByRecursion (λ (u : NamedUser). IsOpening schema world u.profile header (bytes_of reads directory disk u.name) u.opened) us → AllSeated script us seats → AreBack S reads image faults disk' count' seats
         → AllByRecursion (Serves schema world header (journals_on reads image directory disk disk' count count') users script) us
     serves_all [] script [] found limits openings seated is = tt
@@ -146,8 +152,8 @@ module _ (schema : DatabaseSchema) (world : FactSet) (users : List NamedUser) (h
     serves_all (user ∷ us) script (seat ∷ seats) found limits openings seated is =
         (serves user script seat found.0 limits.0 openings.0 seated.0 is.0, serves_all us script seats found.1 limits.1 openings.1 seated.1 is.1)
 
-    refusals_all : (us : List NamedUser) (script : List ScriptEvent) (seats : List (Seat D g)) → AllSeated script us seats → AreBack S reads image faults disk' count' seats
-        → AreRefusals schema world header (journals_on reads image directory disk disk' count count') script us (map (λ (s : Seat D g). s.refusal) seats)
+    refusals_all : (us : List NamedUser) (script : List ScriptEvent) (seats : List (DeskSeat D g h)) → AllSeated script us seats → AreBack S reads image faults disk' count' seats
+        → AreRefusals schema world header (journals_on reads image directory disk disk' count count') script us (map (λ (s : DeskSeat D g h). s.refusal) seats)
     refusals_all [] script [] seated is = tt
     refusals_all [] script (seat ∷ seats) seated is = absurd seated
     refusals_all (user ∷ us) script [] seated is = absurd seated
@@ -155,10 +161,10 @@ module _ (schema : DatabaseSchema) (world : FactSet) (users : List NamedUser) (h
 
     module _ (policy : List NamedUser) (of_policy : map unopened users ≡ policy) (distinct : has_duplicate (names users) ≡ false) (limits : AllByRecursion (λ (u : NamedUser). KeepsLimits schema u.profile) users)
         (openings : AllByRecursion (λ (u : NamedUser). IsOpening schema world u.profile header (bytes_of reads directory disk u.name) u.opened) users) (found opened : Text → Bool) where
-      abbrev pub Told : List BatchItem → List ℕ → List ℕ → List (Seat D g) → Bool → Type 0
+      abbrev pub Told : List BatchItem → List ℕ → List ℕ → List (DeskSeat D g h) → Bool → Type 0
       Told items old new seats is_broken = (output : List ℕ) × (new ≡ old ++ output) × SoFar schema world users header directory T reads image faults t read_is_image (bytes_of reads directory disk) (count_of directory count) found opened items output seats is_broken
 
-      abbrev answers : (items : List BatchItem) (output : List ℕ) (seats : List (Seat D g)) (is_broken : Bool) → SoFar schema world users header directory T reads image faults t read_is_image (bytes_of reads directory disk) (count_of directory count) found opened items output seats is_broken
+      abbrev answers : (items : List BatchItem) (output : List ℕ) (seats : List (DeskSeat D g h)) (is_broken : Bool) → SoFar schema world users header directory T reads image faults t read_is_image (bytes_of reads directory disk) (count_of directory count) found opened items output seats is_broken
           → AreBack S reads image faults disk' count' seats → Answers schema world header (journals_on reads image directory disk disk' count count') policy items output
       answers items output seats is_broken so_far is = record {
         users = users;
@@ -172,8 +178,8 @@ module _ (schema : DatabaseSchema) (world : FactSet) (users : List NamedUser) (h
       }
 
       -- all items were answered
-      pub answered_all : (items : List BatchItem) (old new : List ℕ) (seats : List (Seat D g)) (is_broken : Bool) → Told items old new seats is_broken → AreBack S reads image faults disk' count' seats
-          → AppendsAll schema world header (journals_on reads image directory disk disk' count count') policy items old new (map (λ (s : Seat D g). s.refusal) seats) is_broken
+      pub answered_all : (items : List BatchItem) (old new : List ℕ) (seats : List (DeskSeat D g h)) (is_broken : Bool) → Told items old new seats is_broken → AreBack S reads image faults disk' count' seats
+          → AppendsAll schema world header (journals_on reads image directory disk disk' count count') policy items old new (map (λ (s : DeskSeat D g h). s.refusal) seats) is_broken
       answered_all items old new seats is_broken (output, written, so_far) is = record {
         written = output;
         appended = written;
@@ -183,7 +189,7 @@ module _ (schema : DatabaseSchema) (world : FactSet) (users : List NamedUser) (h
       }
 
       -- the first items were answered, and of the last line a part was written
-      pub answered_some : (front back all : List BatchItem) (n : ℕ) (old before_line new line : List ℕ) (seats : List (Seat D g)) (is_broken : Bool)
+      pub answered_some : (front back all : List BatchItem) (n : ℕ) (old before_line new line : List ℕ) (seats : List (DeskSeat D g h)) (is_broken : Bool)
           → (output : List ℕ) → before_line ≡ old ++ output → SoFar schema world users header directory T reads image faults t read_is_image (bytes_of reads directory disk) (count_of directory count) found opened front (output ++ line) seats is_broken
           → AreBack S reads image faults disk' count' seats → new ≡ before_line ++ take n line → all ≡ front ++ back
           → AppendsSome schema world header (journals_on reads image directory disk disk' count count') policy all old new

@@ -13,7 +13,8 @@ use Rattle.cqe_base.specs.Run
 use Rattle.cqe_base.specs.Run.{Reply, Ending, want, kept, failed, Event, ask, restart, UserState, opening, after_event, after_events, reply_to_ask, entry_at, standing_sealed}
 use Rattle.log_journal.specs.declared.header.OpenError.TheVariants as journal_error
 use Rattle.user_desk.specs.Causes.{Opens, IsSealedBy, IsStanding, Refuses}
-use Rattle.user_desk.specs.Lives.{Holds, Settles, Restarts, IsState, shown}
+use Rattle.user_desk.specs.Lives.{Holds, Restarts, IsState, shown}
+use Rattle.desk_counter.specs.Lives.{IsAskOf}
 use Rattle.user_desk.specs.Standings.{is_sealed, standing_of}
 use Rattle.user_desk.specs.declared.standing.DeskError.{DeskError}
 use Rattle.user_desk.specs.declared.standing.DeskError.TheVariants.{Journal, Stale, Unlawful, Size, NotAdmitted}
@@ -72,43 +73,45 @@ module _ (schema : DatabaseSchema) (world : FactSet) (user : UserProfile) where
   -- ---- one ask
 
   -- an ask with an ending that has its cause
-  record Once (is_now : UserState → Type 0) (state : UserState) (text : Text) (told : Reply) (before now : ℕ) : Type 0 where
+  record Once (is_now : UserState → Type 0) (state : UserState) (text : Text) (told : Reply) : Type 0 where
     ending : Ending
     caused : IsCaused schema world user state (ask text ending)
     after : is_now (after_event schema world user state (ask text ending))
     reply : told ≡ reply_to_ask schema world user state text ending
-    risen : (n start : ℕ) → RoseBy n start before → RoseBy (n + failures_in (ask text ending)) start now
 
-  once : (is_now : UserState → Type 0) (state : UserState) (text : Text) (told : Reply) (before now : ℕ) → before ≤ now → Settles schema world user is_now state text told before now → Once is_now state text told before now
-  once is_now state text told before now later settled = by settled.ending settled.after settled.reply settled.cause
+  once : (is_now : UserState → Type 0) (state : UserState) (text : Text) (told : Reply) → IsAskOf schema world user is_now state text told → Once is_now state text told
+  once is_now state text told asked = by asked.ending asked.after asked.reply
     where
-      same : (n start : ℕ) → RoseBy n start before → RoseBy (n + 0) start now
-      same n start rose = subst (λ m. RoseBy m start now) (omega arith) (rose_more n start before now rose later)
-
       unadded : (entry : Option AnsweredQuery) → entry ≡ None → record state { entries = state.entries ++ option_to_list entry } ≡ state
       unadded entry none = ap (λ e. record state { entries = state.entries ++ option_to_list e }) none ∙ ap (λ es. record state { entries = es }) (append-nil state.entries)
 
       by_entry : (entry : Option AnsweredQuery) → entry_at schema world user state text ≡ entry → is_now (after_event schema world user state (ask text failed))
-          → told ≡ reply_to_ask schema world user state text failed → Rose before now → Once is_now state text told before now
-      by_entry (Some entry) is after reply rose = record {
-        ending = failed;
-        caused = ap is_some is;
-        after = after;
-        reply = reply;
-        risen = λ n start so. rose_again n start before now so later rose;
-      }
-      by_entry None is after reply rose = record {
+          → told ≡ reply_to_ask schema world user state text failed → Once is_now state text told
+      by_entry (Some entry) is after reply = record { ending = failed; caused = ap is_some is; after = after; reply = reply }
+      by_entry None is after reply = record {
         ending = kept;
         caused = tt;
         after = subst is_now (ap (λ e. Run.after_failure schema world user state e) is ∙ sym (unadded (entry_at schema world user state text) is)) after;
         reply = reply ∙ ap (λ e. Run.reply_at_failure schema world user (Run.reply_at schema world user state text) e) is;
-        risen = same;
       }
 
-      by : (ending : Ending) → is_now (after_event schema world user state (ask text ending)) → told ≡ reply_to_ask schema world user state text ending → (ending ≡ failed → Rose before now) → Once is_now state text told before now
-      by want after reply cause = record { ending = want; caused = tt; after = after; reply = reply; risen = same }
-      by kept after reply cause = record { ending = kept; caused = tt; after = after; reply = reply; risen = same }
-      by failed after reply cause = by_entry (entry_at schema world user state text) refl after reply (cause refl)
+      by : (ending : Ending) → is_now (after_event schema world user state (ask text ending)) → told ≡ reply_to_ask schema world user state text ending → Once is_now state text told
+      by want after reply = record { ending = want; caused = tt; after = after; reply = reply }
+      by kept after reply = record { ending = kept; caused = tt; after = after; reply = reply }
+      by failed after reply = by_entry (entry_at schema world user state text) refl after reply
+
+  -- a state in which an append failed adds nothing
+  broken_adds : (state : UserState) (text : Text) → state.broken ≡ true → entry_at schema world user state text ≡ None
+  broken_adds state text broken =
+      ap (λ b. Run.entry_added text (reading schema text) (Run.reply schema world user state.entries state.standing b text)) broken ∙ by state.standing (reading schema text)
+    where
+      by : (standing : Run.Standing) (read : Result Formula Refusal) → Run.entry_added text read (Run.reply_by schema world user state.entries standing true text read) ≡ None
+      by Run.standing_open (Ok query) = refl
+      by Run.standing_open (Err why) = refl
+      by Run.standing_closed (Ok query) = refl
+      by Run.standing_closed (Err why) = refl
+      by Run.standing_sealed (Ok query) = refl
+      by Run.standing_sealed (Err why) = refl
 
   -- bytes that open a desk show no reason to refuse them
   abbrev pub IsExclusive : List ℕ → Type 0
@@ -207,62 +210,149 @@ module _ (schema : DatabaseSchema) (world : FactSet) (user : UserProfile) where
     none_refused : (text : Text) (ending : Ending) → is_refused (ask text ending) ≡ false
     none_refused text ending = refl
 
+    -- The count of his disk at its desk's opening rose for each failure; or for all but the last, an append that failed since.
+    pub data RoseBut (events : List Event) (standing : Standing) (state : UserState) (now : ℕ) : Type 0 where
+      all_rose : RoseBy (failures events) before now → RoseBut events standing state now
+      last_flies : (earlier : ℕ) → failures events ≡ earlier + 1 → RoseBy earlier before now → is_sealed standing ≡ false → state.broken ≡ true → RoseBut events standing state now
+
+    -- What is known of his disk as his desk was opened: the bytes opened a desk, where the desk is sealed it holds the state
+    -- that the events made, and its count rose; or they open none, and are still there.
+    abbrev pub FitsLiving : History → List Event → Standing → UserState → List ℕ → ℕ → Type 0
+    FitsLiving opened events standing state reads now =
+        (Opens schema world user header opened bytes × (is_sealed standing ≡ true → Holds schema world user header (after_events schema world user (opening schema world user opened) events) reads) × RoseBut events standing state now)
+        ⊎ (OpensNone schema world user header bytes × (opened ≡ []) × (reads ≡ bytes) × (list_any is_opened events ≡ false))
+
+    -- his run at a desk that stands under a counter, whose disk is known as it was at the desk's opening
+    pub record IsLiving (opened : History) (events : List Event) (standing : Standing) (state : UserState) (reads : List ℕ) (now : ℕ) (refusal : Option DeskError) : Type 0 where
+      pub is_in : IsState standing state (after_events schema world user (opening schema world user opened) events)
+      pub later : before ≤ now
+      pub caused : AreCaused schema world user (opening schema world user opened) events
+      pub refused : IsRefusal schema world user header bytes before now events refusal
+      pub shut : OpensNone schema world user header bytes → is_sealed standing ≡ true
+      pub fits : FitsLiving opened events standing state reads now
+
+    -- the desk was just opened
+    pub live : (opened : History) (events : List Event) (standing : Standing) (state : UserState) (image : List ℕ → Type 0) (reads : List ℕ) (now : ℕ) (refusal : Option DeskError)
+        → IsRunning opened events standing state image reads now refusal → IsLiving opened events standing state reads now refusal
+    live opened events standing state image reads now refusal running = record {
+      is_in = running.is_in;
+      later = running.course.later;
+      caused = running.course.caused;
+      refused = running.course.refused;
+      shut = running.shut;
+      fits = by running.course.fits;
+    }
+      where
+        by : Fits opened events reads now → FitsLiving opened events standing state reads now
+        by (inl (opens, holds, rose)) = inl (opens, λ sealed. holds, all_rose rose)
+        by (inr none) = inr none
+
+    -- the desk is closed, and leaves a disk with these images
+    pub closing : (opened : History) (events : List Event) (standing : Standing) (state : UserState) (image : List ℕ → Type 0) (reads reads' : List ℕ) (now later : ℕ) (refusal : Option DeskError)
+        → IsLiving opened events standing state reads now refusal → now ≤ later → (state.broken ≡ true → Rose now later) → (is_sealed standing ≡ true → reads' ≡ reads)
+        → (is_sealed standing ≡ false → (c : List ℕ) → image c → Holds schema world user header state c) → image reads'
+        → IsRunning opened events standing state image reads' later refusal
+    closing opened events standing state image reads reads' now later refusal living on cause same holds here = record {
+      is_in = living.is_in;
+      course = record {
+        later = omega (arith, living.later, on);
+        caused = living.caused;
+        fits = by living.fits;
+        refused = refused_later refusal living.refused;
+      };
+      shut = living.shut;
+      images = λ served c at. subst (λ s. Holds schema world user header s c) (sym (shown_is standing state _ served living.is_in)) (holds served c at);
+    }
+      where
+        refused_later : (r : Option DeskError) → IsRefusal schema world user header bytes before now events r → IsRefusal schema world user header bytes before later events r
+        refused_later None none = none
+        refused_later (Some why) is = (is.0, sealed_on now later on why is.1)
+
+        rises : RoseBut events standing state now → RoseBy (failures events) before later
+        rises (all_rose rose) = rose_more (failures events) before now later rose on
+        rises (last_flies earlier count rose served broken) = subst (λ n. RoseBy n before later) (sym count) (rose_again earlier before now later rose on (cause broken))
+
+        held : (is_sealed standing ≡ true → Holds schema world user header (after_events schema world user (opening schema world user opened) events) reads) → (b : Bool) → is_sealed standing ≡ b
+            → Holds schema world user header (after_events schema world user (opening schema world user opened) events) reads'
+        held was true sealed = subst (Holds schema world user header (after_events schema world user (opening schema world user opened) events)) (sym (same sealed)) (was sealed)
+        held was false served = subst (λ s. Holds schema world user header s reads') (sym (shown_is standing state _ served living.is_in)) (holds served reads' here)
+
+        by : FitsLiving opened events standing state reads now → Fits opened events reads' later
+        by (inl (opens, was, rose)) = inl (opens, held was (is_sealed standing) refl, rises rose)
+        by (inr (none, empty, is, never)) = inr (none, empty, same (living.shut none) ∙ is, never)
+
     -- an ask of the user at his desk, with some ending
-    pub record Asked (opened : History) (events : List Event) (standing : Standing) (state : UserState) (image : List ℕ → Type 0) (reads : List ℕ) (now : ℕ) (refusal : Option DeskError) (text : Text) (told : Reply) : Type 0 where
+    pub record Asked (opened : History) (events : List Event) (standing : Standing) (state : UserState) (reads : List ℕ) (now : ℕ) (refusal : Option DeskError) (text : Text) (told : Reply) : Type 0 where
       pub ending : Ending
       pub reply : told ≡ reply_to_ask schema world user (after_events schema world user (opening schema world user opened) events) text ending
-      pub running : IsRunning opened (events ++ ask text ending ∷ []) standing state image reads now refusal
+      pub living : IsLiving opened (events ++ ask text ending ∷ []) standing state reads now refusal
 
-    pub ask_step : (opened : History) (events : List Event) (standing : Standing) (old new : UserState) (image image' : List ℕ → Type 0) (reads reads' : List ℕ) (now later : ℕ) (refusal : Option DeskError) (text : Text) (told : Reply)
-        → IsRunning opened events standing old image reads now refusal
-        → ((state : UserState) → IsState standing old state → Settles schema world user (IsState standing new) state text told now later)
-        → now ≤ later → (is_sealed standing ≡ true → reads' ≡ reads)
-        → (is_sealed standing ≡ false → (c : List ℕ) → image' c → Holds schema world user header new c) → image' reads'
-        → Asked opened events standing new image' reads' later refusal text told
-    ask_step opened events standing old new image image' reads reads' now later refusal text told running settles on still holds here =
-        let state = after_events schema world user (opening schema world user opened) events in
-        let one : Once (IsState standing new) state text told now later = once (IsState standing new) state text told now later on (settles state running.is_in) in
-        let event : Event = ask text one.ending in
-        let next = after_event schema world user state event in
-        let pushed : after_events schema world user (opening schema world user opened) (events ++ event ∷ []) ≡ next = after-push (opening schema world user opened) events event in
+    pub ask_step : (opened : History) (events : List Event) (standing : Standing) (old new : UserState) (reads : List ℕ) (now : ℕ) (refusal : Option DeskError) (text : Text) (told : Reply)
+        → IsLiving opened events standing old reads now refusal → ((state : UserState) → IsState standing old state → IsAskOf schema world user (IsState standing new) state text told)
+        → Asked opened events standing new reads now refusal text told
+    ask_step opened events standing old new reads now refusal text told living settles =
+        let one = once (IsState standing new) state text told (settles state living.is_in) in
         record {
           ending = one.ending;
           reply = one.reply;
-          running = record {
-            is_in = subst (IsState standing new) (sym pushed) one.after;
-            course = record {
-              later = omega (arith, running.course.later, on);
-              caused = caused-push (opening schema world user opened) events event running.course.caused one.caused;
-              fits = fits_on one event next pushed running.course.fits;
-              refused = refusal_on now later on events event (none_refused text one.ending) refusal running.course.refused;
-            };
-            shut = running.shut;
-            images = λ served c at. subst (λ s. Holds schema world user header s c) (sym (pushed ∙ shown_is standing new next served one.after)) (holds served c at);
+          living = record {
+            is_in = subst (IsState standing new) (sym (pushed one.ending)) one.after;
+            later = living.later;
+            caused = caused-push (opening schema world user opened) events (ask text one.ending) living.caused one.caused;
+            refused = refusal_on now now (omega arith) events (ask text one.ending) (none_refused text one.ending) refusal living.refused;
+            shut = living.shut;
+            fits = fits_on one.ending one.caused one.after living.fits;
           };
         }
       where
-        holds_on : (ending : Ending) → IsState standing new (after_event schema world user (after_events schema world user (opening schema world user opened) events) (ask text ending))
-            → Holds schema world user header (after_events schema world user (opening schema world user opened) events) reads → (b : Bool) → is_sealed standing ≡ b
-            → Holds schema world user header (after_event schema world user (after_events schema world user (opening schema world user opened) events) (ask text ending)) reads'
-        holds_on ending after was true is =
-            subst (λ s. Holds schema world user header s reads') (sym (sealed_still (after_events schema world user (opening schema world user opened) events) text ending (sealed_is standing old _ is running.is_in)))
-            (subst (Holds schema world user header (after_events schema world user (opening schema world user opened) events)) (sym (still is)) was)
-        holds_on ending after was false is = subst (λ s. Holds schema world user header s reads') (sym (shown_is standing new _ is after)) (holds is reads' here)
+        state : UserState
+        state = after_events schema world user (opening schema world user opened) events
 
-        fits_on : (one : Once (IsState standing new) (after_events schema world user (opening schema world user opened) events) text told now later) (event : Event) (next : UserState)
-            → after_events schema world user (opening schema world user opened) (events ++ ask text one.ending ∷ []) ≡ after_event schema world user (after_events schema world user (opening schema world user opened) events) (ask text one.ending)
-            → Fits opened events reads now → Fits opened (events ++ ask text one.ending ∷ []) reads' later
-        fits_on one event next pushed (inl (opens, was, rose)) = inl (
+        pushed : (ending : Ending) → after_events schema world user (opening schema world user opened) (events ++ ask text ending ∷ []) ≡ after_event schema world user state (ask text ending)
+        pushed ending = after-push (opening schema world user opened) events (ask text ending)
+
+        -- a desk whose append failed is still so
+        broken_still : (ending : Ending) → IsState standing new (after_event schema world user state (ask text ending)) → is_sealed standing ≡ false → old.broken ≡ true → (after_event schema world user state (ask text ending)).broken ≡ state.broken → new.broken ≡ true
+        broken_still ending after served broken same =
+            ap (λ (s : UserState). s.broken) (sym (shown_is standing new _ served after)) ∙ same ∙ ap (λ (s : UserState). s.broken) (shown_is standing old state served living.is_in) ∙ broken
+
+        more : (ending : Ending) (n : ℕ) → failures_in (ask text ending) ≡ n → failures (events ++ ask text ending ∷ []) ≡ failures events + n
+        more ending n is = failures-push events (ask text ending) ∙ ap (λ k. failures events + k) is
+
+        unfailed : (ending : Ending) → failures_in (ask text ending) ≡ 0 → (after_event schema world user state (ask text ending)).broken ≡ state.broken → IsState standing new (after_event schema world user state (ask text ending))
+            → RoseBut events standing old now → RoseBut (events ++ ask text ending ∷ []) standing new now
+        unfailed ending none same after (all_rose rose) = all_rose (subst (λ n. RoseBy n before now) (omega arith ∙ sym (more ending 0 none)) rose)
+        unfailed ending none same after (last_flies earlier count rose served broken) =
+            last_flies earlier (let e = more ending 0 none in omega (arith, e, count)) rose served (broken_still ending after served broken same)
+
+        -- the entry in flight shows that no append had failed before, and that the desk isn't sealed
+        flew : is_some (entry_at schema world user state text) ≡ true → IsState standing new (after_event schema world user state (ask text failed)) → RoseBut events standing old now → (b : Bool) → is_sealed standing ≡ b
+            → RoseBut (events ++ ask text failed ∷ []) standing new now
+        flew some after rose true sealed =
+            let e : false ≡ true = sym (ap (λ (o : Option AnsweredQuery). is_some o) (adds_none state text (sealed_is standing old state sealed living.is_in))) ∙ some in absurd cc
+        flew some after (all_rose rose) false served = last_flies (failures events) (more failed 1 refl) rose served (by_entry (entry_at schema world user state text) some (shown_is standing new _ served after))
+          where
+            by_entry : (entry : Option AnsweredQuery) → is_some entry ≡ true → Run.after_failure schema world user state entry ≡ new → new.broken ≡ true
+            by_entry (Some entry) some is = ap (λ (s : UserState). s.broken) (sym is)
+            by_entry None some is = absurd cc
+        flew some after (last_flies earlier count rose served' broken) false served =
+            let broke : state.broken ≡ true = ap (λ (s : UserState). s.broken) (shown_is standing old state served living.is_in) ∙ broken in
+            let e : false ≡ true = sym (ap (λ (o : Option AnsweredQuery). is_some o) (broken_adds state text broke)) ∙ some in absurd cc
+
+        rises : (ending : Ending) → IsCaused schema world user state (ask text ending) → IsState standing new (after_event schema world user state (ask text ending)) → RoseBut events standing old now
+            → RoseBut (events ++ ask text ending ∷ []) standing new now
+        rises want caused after rose = unfailed want refl refl after rose
+        rises kept caused after rose = unfailed kept refl refl after rose
+        rises failed caused after rose = flew caused after rose (is_sealed standing) refl
+
+        fits_on : (ending : Ending) → IsCaused schema world user state (ask text ending) → IsState standing new (after_event schema world user state (ask text ending))
+            → FitsLiving opened events standing old reads now → FitsLiving opened (events ++ ask text ending ∷ []) standing new reads now
+        fits_on ending caused after (inl (opens, was, rose)) = inl (
           opens,
-          subst (λ s. Holds schema world user header s reads') (sym pushed) (holds_on one.ending one.after was (is_sealed standing) refl),
-          subst (λ n. RoseBy n before later) (sym (failures-push events (ask text one.ending))) (one.risen (failures events) before rose),
+          λ sealed. subst (λ s. Holds schema world user header s reads) (sym (pushed ending ∙ sealed_still state text ending (sealed_is standing old state sealed living.is_in))) (was sealed),
+          rises ending caused after rose,
         )
-        fits_on one event next pushed (inr (none, empty, is, never)) = inr (
-          none,
-          empty,
-          still (running.shut none) ∙ is,
-          any-push is_opened events (ask text one.ending) ∙ ap (λ b. b || false) never,
-        )
+        fits_on ending caused after (inr (none, empty, is, never)) = inr (none, empty, is, any-push is_opened events (ask text ending) ∙ ap (λ b. b || false) never)
 
     -- ---- an opening
 

@@ -21,7 +21,7 @@ use Rattle.batch_engine.specs.Batch.{AppendsAll, AppendsSome, unopened}
 use Rattle.batch_engine.specs.Crew.{named_user}
 use Rattle.batch_engine.specs.Shelved.{journals_on, AreBack, AreSeatsOf}
 use Rattle.batch_engine.specs.Steps.{Runs, nothing, more, RunsAll, RunsSome}
-use Rattle.batch_engine.specs.declared.seat.Seat.{Seat}
+use Rattle.batch_engine.specs.Seats.{DeskSeat}
 use Rattle.batch_engine.proofs.Courses.{IsExclusive}
 use Rattle.batch_engine.proofs.Seating.{names, AreSeated, AreBegun, begin_all, Chosen, choose}
 use Rattle.batch_engine.proofs.Telling.{SoFar, so_far_first, so_far_more}
@@ -37,13 +37,13 @@ pub all_of : {X : Type 0} (P : X → Type 0) (xs : List X) → All P xs → AllB
 all_of P [] all = tt
 all_of P (x ∷ xs) all = (All-head P x xs all, all_of P xs (All-tail P x xs all))
 
-module _ (schema : DatabaseSchema) (world : FactSet) (header directory : List ℕ) {D : Type 0} {g : _} (T S : Type 0) (t : T) (s : S) (reads : D → List ℕ) (image : D → List ℕ → Type 0) (faults : D → ℕ)
+module _ (schema : DatabaseSchema) (world : FactSet) (header directory : List ℕ) {D : Type 0} {g h : _} (T S : Type 0) (t : T) (s : S) (reads : D → List ℕ) (image : D → List ℕ → Type 0) (faults : D → ℕ)
     (read_is_image : (d : D) → T → image d (reads d)) (disk disk' : Text → Option D) (count count' : Text → ℕ)
     (exclusive : (user : UserProfile) → IsExclusive schema world user header)
     (decided : (user : UserProfile) (c : List ℕ) → ((entries : History) × Opens schema world user header entries c) ⊎ OpensNone schema world user header c)
     (empty : EmptyHistoryIsLegal) (runs_legal : RunsStayLegal) (hide : ScriptsHide) (alone : TranscriptIsPrivate) (valid : is_valid_schema schema ≡ true)
     (users : List User) (limits : All (λ u. KeepsLimits schema (profile_of u)) users) (distinct : has_duplicate (map (λ user. user.name) (map named_user users)) ≡ false)
-    (seats : List (Seat D g)) (seats_are : AreSeatsOf S reads image faults T schema world header directory disk count users seats) where
+    (seats : List (DeskSeat D g h)) (seats_are : AreSeatsOf S reads image faults T schema world header directory disk count users seats) where
   -- the users with their opening histories, at their desks behind the opening of all journals
   record Start : Type 0 where
     named : List NamedUser
@@ -71,7 +71,7 @@ module _ (schema : DatabaseSchema) (world : FactSet) (header directory : List �
         seated = chosen.seated;
       }
 
-  so_far_run : (st : Start) (items : List BatchItem) (new : List (Seat D g)) (output : List ℕ) (is_broken : Bool) → Runs schema world header T reads image faults items seats output new is_broken
+  so_far_run : (st : Start) (items : List BatchItem) (new : List (DeskSeat D g h)) (output : List ℕ) (is_broken : Bool) → Runs schema world header T reads image faults items seats output new is_broken
       → SoFar schema world st.named header directory T reads image faults t read_is_image (bytes_of reads directory disk) (count_of directory count) st.found st.opened items output new is_broken
   so_far_run st items new output is_broken (nothing same) =
       so_far_first schema world st.named header directory T reads image faults t read_is_image (bytes_of reads directory disk) (count_of directory count) st.found st.opened seats st.seated
@@ -80,15 +80,15 @@ module _ (schema : DatabaseSchema) (world : FactSet) (header directory : List �
       (so_far_run st first mid before was runs) carried
 
   -- all items were answered
-  pub finish_all : (wrote : Type 0) → wrote → (items : List BatchItem) (new : List (Seat D g)) (is_broken : Bool) (before after : List ℕ) → RunsAll schema world header T reads image faults wrote items seats new is_broken before after
-      → AreBack S reads image faults disk' count' new → AppendsAll schema world header (journals_on reads image directory disk disk' count count') (map named_user users) items before after (map (λ (x : Seat D g). x.refusal) new) is_broken
+  pub finish_all : (wrote : Type 0) → wrote → (items : List BatchItem) (new : List (DeskSeat D g h)) (is_broken : Bool) (before after : List ℕ) → RunsAll schema world header T reads image faults wrote items seats new is_broken before after
+      → AreBack S reads image faults disk' count' new → AppendsAll schema world header (journals_on reads image directory disk disk' count count') (map named_user users) items before after (map (λ (x : DeskSeat D g h). x.refusal) new) is_broken
   finish_all wrote w items new is_broken before after all back =
       let st = start in
       answered_all schema world st.named header directory T S s reads image faults t read_is_image disk disk' count count' empty runs_legal hide alone valid (map named_user users) st.of_policy st.differ
       (limits_named schema users st.named st.of_policy limits) st.openings st.found st.opened items before after new is_broken (all.output, all.appended w, so_far_run st items new all.output is_broken all.runs) back
 
   -- the first items were
-  pub finish_some : (wrote : Type 0) → wrote → (items : List BatchItem) (new : List (Seat D g)) (before after : List ℕ) → RunsSome schema world header T reads image faults wrote items seats new before after
+  pub finish_some : (wrote : Type 0) → wrote → (items : List BatchItem) (new : List (DeskSeat D g h)) (before after : List ℕ) → RunsSome schema world header T reads image faults wrote items seats new before after
       → AreBack S reads image faults disk' count' new → AppendsSome schema world header (journals_on reads image directory disk disk' count count') (map named_user users) items before after
   finish_some wrote w items new before after some back =
       let st = start in

@@ -9,3 +9,4 @@ pub mod Shorts
 pub mod Asking
 pub mod Running
 pub mod Ending
+mod Seated

@@ -13,7 +13,7 @@ use Rattle.cqe_base.specs.declared.user.User.{User}
 use Rattle.log_journal.specs.Names.{journal_name, JournalsDiffer}
 use Rattle.batch_engine.specs.Crew.{named_user, seat_user, seat_journal, seat_disk, IsServed, IsLeft}
 use Rattle.batch_engine.specs.Shelved.{bytes_on, is_among, journals, SameBeside, SameBytes, AllOut, AllIn, NoneOut, NoneFell, AreOut, IsBack, AreBack, AreLater, IsSeatOf, AreSeatsOf}
-use Rattle.batch_engine.specs.declared.seat.Seat.{Seat}
+use Rattle.batch_engine.specs.Seats.{DeskSeat}
 use Rattle.batch_engine.proofs.Seating.{left_false, right_false, text_is, taken_reads}
 use Rattle.batch_engine.proofs.Shelving.{Parts, parts, among-append, journals-append}
 
@@ -45,7 +45,7 @@ first_distinct users i distinct =
     names-append (x ∷ xs) ys = ap (λ l. string_bytes x.name ∷ l) (names-append xs ys)
 
 -- as many names as seats
-pub length-journals : {D : Type 0} {g : _} (seats : List (Seat D g)) → length (journals seats) ≡ length seats
+pub length-journals : {D : Type 0} {g h : _} (seats : List (DeskSeat D g h)) → length (journals seats) ≡ length seats
 length-journals [] = refl
 length-journals (s ∷ seats) = ap (λ n. suc n) (length-journals seats)
 
@@ -58,21 +58,21 @@ module _ (directory : Text) where
   journals_distinct differ [] = refl
   journals_distinct differ (n ∷ ns) = ap (λ b. b || has_duplicate (map (journal_name directory) ns)) (journal_among differ ns n) ∙ ap (λ b. is_among ns n || b) (journals_distinct differ ns)
 
-  module _ (schema : DatabaseSchema) (world : FactSet) (header : List ℕ) {D : Type 0} {g : _} (told disk_told : Type 0) (reads : D → List ℕ) (image : D → List ℕ → Type 0) (faults : D → ℕ) (disk0 : Text → Option D) (count0 : Text → ℕ) where
-    abbrev Seats : List User → List (Seat D g) → Type 0
+  module _ (schema : DatabaseSchema) (world : FactSet) (header : List ℕ) {D : Type 0} {g h : _} (told disk_told : Type 0) (reads : D → List ℕ) (image : D → List ℕ → Type 0) (faults : D → ℕ) (disk0 : Text → Option D) (count0 : Text → ℕ) where
+    abbrev Seats : List User → List (DeskSeat D g h) → Type 0
     Seats users seats = AreSeatsOf told reads image faults disk_told schema world header directory disk0 count0 users seats
 
     -- the journals of seats are those of their users
-    pub seat_journals : (users : List User) (seats : List (Seat D g)) → Seats users seats → journals seats ≡ map (journal_name directory) (names users)
+    pub seat_journals : (users : List User) (seats : List (DeskSeat D g h)) → Seats users seats → journals seats ≡ map (journal_name directory) (names users)
     seat_journals [] [] are = refl
     seat_journals [] (s ∷ seats) are = absurd are
     seat_journals (u ∷ users) [] are = absurd are
     seat_journals (u ∷ users) (s ∷ seats) are = ap (λ j. j ∷ journals seats) are.0.journal_is ∙ ap (λ js. journal_name directory (string_bytes u.name) ∷ js) (seat_journals users seats are.1)
 
-    pub seats_distinct : JournalsDiffer → (users : List User) (seats : List (Seat D g)) → Seats users seats → has_duplicate (names users) ≡ false → has_duplicate (journals seats) ≡ false
+    pub seats_distinct : JournalsDiffer → (users : List User) (seats : List (DeskSeat D g h)) → Seats users seats → has_duplicate (names users) ≡ false → has_duplicate (journals seats) ≡ false
     seats_distinct differ users seats are distinct = ap has_duplicate (seat_journals users seats are) ∙ journals_distinct differ (names users) ∙ distinct
 
-    pub seats_later : (count : Text → ℕ) (users : List User) (seats : List (Seat D g)) → SameNames count0 count → Seats users seats → AreLater faults count seats
+    pub seats_later : (count : Text → ℕ) (users : List User) (seats : List (DeskSeat D g h)) → SameNames count0 count → Seats users seats → AreLater faults count seats
     seats_later count [] [] same are = tt
     seats_later count [] (s ∷ seats) same are = absurd are
     seats_later count (u ∷ users) [] same are = absurd are
@@ -82,25 +82,25 @@ module _ (directory : Text) where
         let now = same (seat_journal s) in
         (omega (arith, on, counted, now), seats_later count users seats same are.1)
 
-    pub seats_served : (users : List User) (seats : List (Seat D g)) → Seats users seats → AllByRecursion (IsServed schema world header) seats
+    pub seats_served : (users : List User) (seats : List (DeskSeat D g h)) → Seats users seats → AllByRecursion (IsServed schema world header) seats
     seats_served [] [] are = tt
     seats_served [] (s ∷ seats) are = absurd are
     seats_served (u ∷ users) [] are = absurd are
     seats_served (u ∷ users) (s ∷ seats) are = (are.0.opened.served, seats_served users seats are.1)
 
-    pub seats_limits : (users : List User) (seats : List (Seat D g)) → Seats users seats → AllByRecursion (λ (u : User). KeepsLimits schema (profile_of u)) users → AllByRecursion (λ (s : Seat D g). KeepsLimits schema (profile_of (seat_user s))) seats
+    pub seats_limits : (users : List User) (seats : List (DeskSeat D g h)) → Seats users seats → AllByRecursion (λ (u : User). KeepsLimits schema (profile_of u)) users → AllByRecursion (λ (s : DeskSeat D g h). KeepsLimits schema (profile_of (seat_user s))) seats
     seats_limits [] [] are limits = tt
     seats_limits [] (s ∷ seats) are limits = absurd are
     seats_limits (u ∷ users) [] are limits = absurd are
     seats_limits (u ∷ users) (s ∷ seats) are limits = (subst (λ v. KeepsLimits schema (profile_of v)) (sym are.0.user_is) limits.0, seats_limits users seats are.1 limits.1)
 
-    pub same_length : (users : List User) (seats : List (Seat D g)) → Seats users seats → length seats ≡ length users
+    pub same_length : (users : List User) (seats : List (DeskSeat D g h)) → Seats users seats → length seats ≡ length users
     same_length [] [] are = refl
     same_length [] (s ∷ seats) are = absurd are
     same_length (u ∷ users) [] are = absurd are
     same_length (u ∷ users) (s ∷ seats) are = ap (λ n. suc n) (same_length users seats are.1)
 
-    seats-push : (users : List User) (seats : List (Seat D g)) (user : User) (seat : Seat D g) → Seats users seats → IsSeatOf told reads image faults disk_told schema world header directory disk0 count0 user seat → Seats (users ++ user ∷ []) (seats ++ seat ∷ [])
+    seats-push : (users : List User) (seats : List (DeskSeat D g h)) (user : User) (seat : DeskSeat D g h) → Seats users seats → IsSeatOf told reads image faults disk_told schema world header directory disk0 count0 user seat → Seats (users ++ user ∷ []) (seats ++ seat ∷ [])
     seats-push [] [] user seat are is = (is, tt)
     seats-push [] (s ∷ seats) user seat are is = absurd are
     seats-push (u ∷ users) [] user seat are is = absurd are
@@ -109,13 +109,13 @@ module _ (directory : Text) where
     -- ---- one user after the other
 
     -- the journals of the first users are open
-    pub record Opened (users : List User) (i : ℕ) (seats : List (Seat D g)) (disk : Text → Option D) (is_out : Text → Bool) (count : Text → ℕ) : Type 0 where
+    pub record Opened (users : List User) (i : ℕ) (seats : List (DeskSeat D g h)) (disk : Text → Option D) (is_out : Text → Bool) (count : Text → ℕ) : Type 0 where
       pub are : Seats (take i users) seats
       pub out : AreOut (journals seats) is_out
       pub disks : SameBeside (journals seats) disk0 disk
       pub counts : SameNames count0 count
 
-    pub opened_none : (users : List User) (seats : List (Seat D g)) (is_out : Text → Bool) → seats ≡ [] → NoneOut is_out → Opened users 0 seats disk0 is_out count0
+    pub opened_none : (users : List User) (seats : List (DeskSeat D g h)) (is_out : Text → Bool) → seats ≡ [] → NoneOut is_out → Opened users 0 seats disk0 is_out count0
     opened_none users seats is_out none inside = record {
       are = subst (Seats (take 0 users)) (sym none) (first users);
       out = λ name. inside name ∙ ap (λ s. is_among (journals s) name) (sym none);
@@ -127,7 +127,7 @@ module _ (directory : Text) where
         first [] = tt
         first (u ∷ us) = tt
 
-    module _ (differ : JournalsDiffer) (users : List User) (distinct : has_duplicate (names users) ≡ false) (i : ℕ) (user : User) (low : i < length users) (is : user ≡ get_or users i user) (seats : List (Seat D g))
+    module _ (differ : JournalsDiffer) (users : List User) (distinct : has_duplicate (names users) ≡ false) (i : ℕ) (user : User) (low : i < length users) (is : user ≡ get_or users i user) (seats : List (DeskSeat D g h))
         (disk : Text → Option D) (is_out : Text → Bool) (count : Text → ℕ) (so_far : Opened users i seats disk is_out count) where
       abbrev one : Text
       one = journal_name directory (string_bytes user.name)
@@ -139,7 +139,7 @@ module _ (directory : Text) where
       pub next_in : is_out one ≡ false
       next_in = so_far.out one ∙ next_none
 
-      seat_here : (seat : Seat D g) → IsSeatOf told reads image faults disk_told schema world header directory disk count user seat → IsSeatOf told reads image faults disk_told schema world header directory disk0 count0 user seat
+      seat_here : (seat : DeskSeat D g h) → IsSeatOf told reads image faults disk_told schema world header directory disk count user seat → IsSeatOf told reads image faults disk_told schema world header directory disk0 count0 user seat
       seat_here seat at = record {
         user_is = at.user_is;
         journal_is = at.journal_is;
@@ -150,7 +150,7 @@ module _ (directory : Text) where
         left = at.left;
       }
 
-      pub opened_more : (seat : Seat D g) (disk' : Text → Option D) (is_out' : Text → Bool) (count' : Text → ℕ) → IsSeatOf told reads image faults disk_told schema world header directory disk count user seat
+      pub opened_more : (seat : DeskSeat D g h) (disk' : Text → Option D) (is_out' : Text → Bool) (count' : Text → ℕ) → IsSeatOf told reads image faults disk_told schema world header directory disk count user seat
           → is_out' one ≡ true → SameOthers one is_out is_out' → SameOthers one disk disk' → SameNames count count' → Opened users (i + 1) (seats ++ seat ∷ []) disk' is_out' count'
       opened_more seat disk' is_out' count' at out outs disks counts =
           let more : take (i + 1) users ≡ take i users ++ user ∷ [] = take_more users i user low ∙ ap (λ u. take i users ++ u ∷ []) (sym is) in
@@ -178,34 +178,35 @@ module _ (directory : Text) where
 
     -- ---- one was refused, and the disks of those before are given back
 
-    pub all_out : (seats : List (Seat D g)) (is_out : Text → Bool) → AreOut (journals seats) is_out → AllOut (journals seats) is_out
+    pub all_out : (seats : List (DeskSeat D g h)) (is_out : Text → Bool) → AreOut (journals seats) is_out → AllOut (journals seats) is_out
     all_out seats is_out are name among = are name ∙ among
 
     -- none is out once all are back
-    pub none_out : (seats : List (Seat D g)) (is_out is_out' : Text → Bool) → AreOut (journals seats) is_out → AllIn (journals seats) is_out' → SameBeside (journals seats) is_out is_out' → NoneOut is_out'
+    pub none_out : (seats : List (DeskSeat D g h)) (is_out is_out' : Text → Bool) → AreOut (journals seats) is_out → AllIn (journals seats) is_out' → SameBeside (journals seats) is_out is_out' → NoneOut is_out'
     none_out seats is_out is_out' are inside others name = by (is_among (journals seats) name) refl
       where
         by : (b : Bool) → is_among (journals seats) name ≡ b → is_out' name ≡ false
         by true among = inside name among
         by false none = others name none ∙ are name ∙ none
 
-    by_later : (count count' : Text → ℕ) (disk' : Text → Option D) (name : Text) (s : Seat D g) → count (seat_journal s) ≤ faults (seat_disk s) → IsBack told reads image faults disk' count' s → (b : Bool) → bytes_eq name (seat_journal s) ≡ b
+    by_later : (count count' : Text → ℕ) (disk' : Text → Option D) (name : Text) (s : DeskSeat D g h) → count (seat_journal s) ≤ faults (seat_disk s) → IsBack told reads image faults disk' count' s → (b : Bool) → bytes_eq name (seat_journal s) ≡ b
         → (bytes_eq name (seat_journal s) ≡ false → count name ≤ count' name) → count name ≤ count' name
     by_later count count' disk' name s first back true same more =
         let at : name ≡ seat_journal s = same_text name (seat_journal s) (sym same) in
-        let on = back.left.later in
+        let closed = back.left.is_closed.later in
+        let on = back.left.left.later in
         let counted = back.counted in
-        subst (λ n. count n ≤ count' n) (sym at) (omega (arith, first, on, counted))
+        subst (λ n. count n ≤ count' n) (sym at) (omega (arith, first, closed, on, counted))
     by_later count count' disk' name s first back false differs more = more differs
 
-    among_later : (count count' : Text → ℕ) (disk' : Text → Option D) (name : Text) (ss : List (Seat D g)) → AreLater faults count ss → AreBack told reads image faults disk' count' ss → is_among (journals ss) name ≡ true → count name ≤ count' name
+    among_later : (count count' : Text → ℕ) (disk' : Text → Option D) (name : Text) (ss : List (DeskSeat D g h)) → AreLater faults count ss → AreBack told reads image faults disk' count' ss → is_among (journals ss) name ≡ true → count name ≤ count' name
     among_later count count' disk' name [] later back among = absurd cc
     among_later count count' disk' name (s ∷ ss) later back among =
         by_later count count' disk' name s later.0 back.0 (bytes_eq name (seat_journal s)) refl
         (λ differs. among_later count count' disk' name ss later.1 back.1 (sym (ap (λ b. b || is_among (journals ss) name) differs) ∙ among))
 
     -- no count fell
-    pub none_fell : (count count' : Text → ℕ) (seats : List (Seat D g)) → AreLater faults count seats → (disk' : Text → Option D) → AreBack told reads image faults disk' count' seats → SameBeside (journals seats) count count'
+    pub none_fell : (count count' : Text → ℕ) (seats : List (DeskSeat D g h)) → AreLater faults count seats → (disk' : Text → Option D) → AreBack told reads image faults disk' count' seats → SameBeside (journals seats) count count'
         → NoneFell count count'
     none_fell count count' seats later disk' back others name = by (is_among (journals seats) name) refl
       where
@@ -213,15 +214,15 @@ module _ (directory : Text) where
         by true among = among_later count count' disk' name seats later back among
         by false none = subst (λ n. count name ≤ n) (sym (others name none)) (omega arith)
 
-    by_same : told → (disk' : Text → Option D) (count' : Text → ℕ) (name : Text) (u : User) (s : Seat D g) → IsSeatOf told reads image faults disk_told schema world header directory disk0 count0 u s → IsBack told reads image faults disk' count' s
+    by_same : told → (disk' : Text → Option D) (count' : Text → ℕ) (name : Text) (u : User) (s : DeskSeat D g h) → IsSeatOf told reads image faults disk_told schema world header directory disk0 count0 u s → IsBack told reads image faults disk' count' s
         → (b : Bool) → bytes_eq name (seat_journal s) ≡ b → (bytes_eq name (seat_journal s) ≡ false → bytes_on reads (disk' name) ≡ bytes_on reads (disk0 name)) → bytes_on reads (disk' name) ≡ bytes_on reads (disk0 name)
     by_same t disk' count' name u s are back true same more =
         let at : name ≡ seat_journal s = same_text name (seat_journal s) (sym same) in
-        ap (λ n. bytes_on reads (disk' n)) at ∙ ap (bytes_on reads) (back.held t) ∙ back.left.reads_same ∙ are.left.reads_same ∙ taken_reads reads image (disk0 (seat_journal s)) are.taken (are.from t)
+        ap (λ n. bytes_on reads (disk' n)) at ∙ ap (bytes_on reads) (back.held t) ∙ back.left.left.reads_same ∙ ap reads (back.left.is_closed.still are.opened.fresh) ∙ are.left.reads_same ∙ taken_reads reads image (disk0 (seat_journal s)) are.taken (are.from t)
         ∙ ap (λ n. bytes_on reads (disk0 n)) (sym at)
     by_same t disk' count' name u s are back false differs more = more differs
 
-    among_same : told → (disk' : Text → Option D) (count' : Text → ℕ) (name : Text) (us : List User) (ss : List (Seat D g)) → Seats us ss → AreBack told reads image faults disk' count' ss → is_among (journals ss) name ≡ true
+    among_same : told → (disk' : Text → Option D) (count' : Text → ℕ) (name : Text) (us : List User) (ss : List (DeskSeat D g h)) → Seats us ss → AreBack told reads image faults disk' count' ss → is_among (journals ss) name ≡ true
         → bytes_on reads (disk' name) ≡ bytes_on reads (disk0 name)
     among_same t disk' count' name [] [] are back among = absurd cc
     among_same t disk' count' name [] (s ∷ ss) are back among = absurd are
@@ -231,7 +232,7 @@ module _ (directory : Text) where
         (λ differs. among_same t disk' count' name us ss are.1 back.1 (sym (ap (λ b. b || is_among (journals ss) name) differs) ∙ among))
 
     -- the disks read the same as at the beginning
-    pub same_bytes : told → (users : List User) (seats : List (Seat D g)) → Seats users seats → (disk' : Text → Option D) (count' : Text → ℕ) → AreBack told reads image faults disk' count' seats
+    pub same_bytes : told → (users : List User) (seats : List (DeskSeat D g h)) → Seats users seats → (disk' : Text → Option D) (count' : Text → ℕ) → AreBack told reads image faults disk' count' seats
         → ((name : Text) → is_among (journals seats) name ≡ false → bytes_on reads (disk' name) ≡ bytes_on reads (disk0 name)) → SameBytes reads disk0 disk'
     same_bytes t users seats are disk' count' back others name = by (is_among (journals seats) name) refl
       where

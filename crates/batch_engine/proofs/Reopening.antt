@@ -5,74 +5,83 @@ use Rattle.std.specs.Cmp.Lexicographic.{same_text}
 use Rattle.outside.specs.Shelf.{SameOthers}
 use Rattle.cqe_base.specs.Schema.{Text, DatabaseSchema, has_duplicate}
 use Rattle.cqe_base.specs.Facts.{FactSet}
-use Rattle.batch_engine.specs.Crew.{seat_journal, seat_disk, IsLeft, IsReopened, AreReopened}
+use Rattle.batch_engine.specs.Crew.{seat_journal, seat_disk, IsLeft, IsLeftBy, IsClosed, IsReopened, AreReopened}
 use Rattle.batch_engine.specs.Shelved.{is_among, journals, SameBeside, AllOut, AllIn, IsBack, AreBack, AreLater}
-use Rattle.batch_engine.specs.declared.seat.Seat.{Seat}
+use Rattle.batch_engine.specs.Seats.{DeskSeat}
 use Rattle.batch_engine.proofs.Seating.{left_false, right_false, text_is}
 use Rattle.batch_engine.proofs.Shelving.{Parts, parts, among-append, journals-append, back-append, back_on, later-first, later-second, later_on, left_on, among_first, among_second, among_none_first, among_none_second, beside_one}
 
-module _ (schema : DatabaseSchema) (world : FactSet) (header : List ℕ) {D : Type 0} {g : _} (told shelf_told : Type 0) (reads : D → List ℕ) (image : D → List ℕ → Type 0) (faults : D → ℕ) where
+module _ (schema : DatabaseSchema) (world : FactSet) (header : List ℕ) {D : Type 0} {g h : _} (told shelf_told : Type 0) (reads : D → List ℕ) (image : D → List ℕ → Type 0) (faults : D → ℕ) where
   -- these seats were closed and opened again, and those are still to be
-  pub record Halfway (all seats reopened : List (Seat D g)) : Type 0 where
-    pub done : List (Seat D g)
+  pub record Halfway (all seats reopened : List (DeskSeat D g h)) : Type 0 where
+    pub done : List (DeskSeat D g h)
     pub split : all ≡ done ++ seats
     pub are : AreReopened schema world header told reads image faults done reopened
 
-  pub halfway_first : (all reopened : List (Seat D g)) → reopened ≡ [] → Halfway all all reopened
+  pub halfway_first : (all reopened : List (DeskSeat D g h)) → reopened ≡ [] → Halfway all all reopened
   halfway_first all reopened none = record { done = []; split = refl; are = subst (AreReopened schema world header told reads image faults []) (sym none) tt }
 
-  reopened-push : (done news : List (Seat D g)) (old new : Seat D g) → AreReopened schema world header told reads image faults done news → IsReopened schema world header told reads image faults old new
+  reopened-push : (done news : List (DeskSeat D g h)) (old new : DeskSeat D g h) → AreReopened schema world header told reads image faults done news → IsReopened schema world header told reads image faults old new
       → AreReopened schema world header told reads image faults (done ++ old ∷ []) (news ++ new ∷ [])
   reopened-push [] [] old new are is = (is, tt)
   reopened-push [] (n ∷ news) old new are is = absurd are
   reopened-push (d ∷ done) [] old new are is = absurd are
   reopened-push (d ∷ done) (n ∷ news) old new are is = (are.0, reopened-push done news old new are.1 is)
 
-  pub halfway_more : (all seats rest reopened : List (Seat D g)) (old new : Seat D g) → seats ≡ old ∷ rest → Halfway all seats reopened → IsReopened schema world header told reads image faults old new → Halfway all rest (reopened ++ new ∷ [])
+  pub halfway_more : (all seats rest reopened : List (DeskSeat D g h)) (old new : DeskSeat D g h) → seats ≡ old ∷ rest → Halfway all seats reopened → IsReopened schema world header told reads image faults old new → Halfway all rest (reopened ++ new ∷ [])
   halfway_more all seats rest reopened old new is half again = record {
     done = half.done ++ old ∷ [];
     split = half.split ∙ ap (λ l. half.done ++ l) is ∙ sym (append_assoc half.done (old ∷ []) rest);
     are = reopened-push half.done reopened old new half.are again;
   }
 
-  pub halfway_all : (all seats reopened : List (Seat D g)) → seats ≡ [] → Halfway all seats reopened → AreReopened schema world header told reads image faults all reopened
+  pub halfway_all : (all seats reopened : List (DeskSeat D g h)) → seats ≡ [] → Halfway all seats reopened → AreReopened schema world header told reads image faults all reopened
   halfway_all all seats reopened none half =
       subst (λ l. AreReopened schema world header told reads image faults l reopened) (sym (half.split ∙ ap (λ l. half.done ++ l) none ∙ append-nil half.done)) half.are
 
   -- a seat's names go on
-  pub same_journals : (olds news : List (Seat D g)) → AreReopened schema world header told reads image faults olds news → journals news ≡ journals olds
+  pub same_journals : (olds news : List (DeskSeat D g h)) → AreReopened schema world header told reads image faults olds news → journals news ≡ journals olds
   same_journals [] [] are = refl
   same_journals [] (n ∷ news) are = absurd are
   same_journals (o ∷ olds) [] are = absurd are
   same_journals (o ∷ olds) (n ∷ news) are = ap (λ j. j ∷ journals news) are.0.journal_is ∙ ap (λ js. seat_journal o ∷ js) (same_journals olds news are.1)
 
-  pub later_reopened : (count : Text → ℕ) (olds news : List (Seat D g)) → AreReopened schema world header told reads image faults olds news → AreLater faults count olds → AreLater faults count news
+  pub later_reopened : (count : Text → ℕ) (olds news : List (DeskSeat D g h)) → AreReopened schema world header told reads image faults olds news → AreLater faults count olds → AreLater faults count news
   later_reopened count [] [] are later = tt
   later_reopened count [] (n ∷ news) are later = absurd are
   later_reopened count (o ∷ olds) [] are later = absurd are
   later_reopened count (o ∷ olds) (n ∷ news) are later =
       let first = later.0 in
+      let closed = are.0.is_closed.later in
       let on = are.0.left.later in
-      (subst (λ j. count j ≤ faults (seat_disk n)) (sym are.0.journal_is) (omega (arith, first, on)), later_reopened count olds news are.1 later.1)
+      (subst (λ j. count j ≤ faults (seat_disk n)) (sym are.0.journal_is) (omega (arith, first, closed, on)), later_reopened count olds news are.1 later.1)
+
+  -- what a closed desk shows where the shelf tells its disks
+  closed_told : (shelf_told → told) → (seat : DeskSeat D g h) (disk : D) → IsClosed told image faults seat.desk disk → IsClosed shelf_told image faults seat.desk disk
+  closed_told tells seat disk closed = record { holds = λ t. closed.holds (tells t); later = closed.later; cause = closed.cause; shut = closed.shut; still = closed.still }
 
   -- where the disks of reopened seats are back, those of the seats before are
-  back_before : (disk : Text → Option D) (count : Text → ℕ) (olds news : List (Seat D g)) → AreReopened schema world header told reads image faults olds news → AreBack shelf_told reads image faults disk count news → AreBack shelf_told reads image faults disk count olds
-  back_before disk count [] [] are back = tt
-  back_before disk count [] (n ∷ news) are back = absurd are
-  back_before disk count (o ∷ olds) [] are back = absurd are
-  back_before disk count (o ∷ olds) (n ∷ news) are back = (
+  back_before : (shelf_told → told) → (disk : Text → Option D) (count : Text → ℕ) (olds news : List (DeskSeat D g h)) → AreReopened schema world header told reads image faults olds news → AreBack shelf_told reads image faults disk count news → AreBack shelf_told reads image faults disk count olds
+  back_before tells disk count [] [] are back = tt
+  back_before tells disk count [] (n ∷ news) are back = absurd are
+  back_before tells disk count (o ∷ olds) [] are back = absurd are
+  back_before tells disk count (o ∷ olds) (n ∷ news) are back = (
     record {
       now = back.0.now;
-      left = left_on reads image faults (seat_disk o) (seat_disk n) back.0.now are.0.left back.0.left;
+      left = record {
+        closed = are.0.closed;
+        is_closed = closed_told tells o are.0.closed are.0.is_closed;
+        left = left_on reads image faults are.0.closed (seat_disk n) back.0.now are.0.left (subst (λ d. IsLeft reads image faults d back.0.now) (back.0.left.is_closed.still are.0.opened.fresh) back.0.left.left);
+      };
       held = λ t. ap disk (sym are.0.journal_is) ∙ back.0.held t;
       counted = ap count (sym are.0.journal_is) ∙ back.0.counted;
     },
-    back_before disk count olds news are.1 back.1,
+    back_before tells disk count olds news are.1 back.1,
   )
 
   -- ---- memory was wanting at one seat
 
-  module _ (all seats rest reopened : List (Seat D g)) (seat : Seat D g) (is : seats ≡ seat ∷ rest) (half : Halfway all seats reopened)
+  module _ (all seats rest reopened : List (DeskSeat D g h)) (seat : DeskSeat D g h) (is : seats ≡ seat ∷ rest) (half : Halfway all seats reopened)
       (disk0 : Text → Option D) (out0 : Text → Bool) (count0 : Text → ℕ) (distinct : has_duplicate (journals all) ≡ false) (out : AllOut (journals all) out0) (later : AreLater faults count0 all) where
     abbrev here : Text
     here = seat_journal seat
@@ -104,7 +113,7 @@ module _ (schema : DatabaseSchema) (world : FactSet) (header : List ℕ) {D : Ty
     here_apart : is_among (journals rest) here ≡ false
     here_apart = left_false _ _ two.second
 
-    module _ (returned : D) (disk1 : Text → Option D) (out1 : Text → Bool) (count1 : Text → ℕ) (one : Text) (named : one ≡ here) (left : IsLeft reads image faults (seat_disk seat) returned)
+    module _ (returned : D) (disk1 : Text → Option D) (out1 : Text → Bool) (count1 : Text → ℕ) (one : Text) (named : one ≡ here) (tells : shelf_told → told) (left : IsLeftBy told reads image faults seat.desk returned)
         (held1 : shelf_told → disk1 one ≡ Some returned) (disks1 : SameOthers one disk0 disk1) (in1 : out1 one ≡ false) (outs1 : SameOthers one out0 out1) (counted1 : count1 one ≡ faults returned) (counts1 : SameOthers one count0 count1) where
       one_apart : is_among (journals rest) one ≡ false
       one_apart = ap (is_among (journals rest)) named ∙ here_apart
@@ -187,10 +196,10 @@ module _ (schema : DatabaseSchema) (world : FactSet) (header : List ℕ) {D : Ty
           pub failed : Failed
           failed = record {
             back = subst (AreBack shelf_told reads image faults disk3 count3) (sym (half.split ∙ ap (λ l. half.done ++ l) is))
-                (back-append shelf_told reads image faults disk3 count3 half.done (seat ∷ rest) (back_before disk3 count3 half.done reopened half.are back3) (
+                (back-append shelf_told reads image faults disk3 count3 half.done (seat ∷ rest) (back_before tells disk3 count3 half.done reopened half.are back3) (
                   record {
                     now = returned;
-                    left = left;
+                    left = record { closed = left.closed; is_closed = closed_told tells seat left.closed left.is_closed; left = left.left };
                     held = λ t. here_same disk1 disk2 disk3 disks2 disks3 ∙ ap disk1 (sym named) ∙ held1 t;
                     counted = here_same count1 count2 count3 counts2 counts3 ∙ ap count1 (sym named) ∙ counted1;
                   },

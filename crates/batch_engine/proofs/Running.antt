@@ -11,11 +11,12 @@ use Rattle.cqe_base.specs.Run.{Reply}
 use Rattle.batch_engine.specs.BatchLines.{BatchItem, asked, restarted}
 use Rattle.batch_engine.specs.Said.{is_short_item}
 use Rattle.batch_engine.specs.Batches.{item_in}
+use Rattle.desk_counter.specs.declared.item.Fixed.{Fixed}
 use Rattle.batch_engine.specs.Crew.{seat_user, seat_journal, seat_disk, IsServed, IsToldAt, IsReopened, AreReopened, Tells, nobody, here, further}
 use Rattle.batch_engine.specs.Shelved.{journals, AreLater}
 use Rattle.outside.specs.Streams.{AppendsPart}
 use Rattle.batch_engine.specs.Steps.{Carries, Runs, nothing, more, RunsAll, RunsSome}
-use Rattle.batch_engine.specs.declared.seat.Seat.{Seat}
+use Rattle.batch_engine.specs.Seats.{DeskSeat}
 use Rattle.batch_engine.specs.declared.batch.BatchItem as memory
 use Rattle.batch_engine.proofs.Shelving.{map-append}
 
@@ -49,21 +50,21 @@ take_all [] (suc n) all = refl
 take_all (x ∷ xs) zero all = absurd (omega (arith, all))
 take_all (x ∷ xs) (suc n) all = ap (λ l. x ∷ l) (take_all xs n (omega (arith, all)))
 
-module _ (schema : DatabaseSchema) (world : FactSet) (header : List ℕ) {D : Type 0} {g : _} (told : Type 0) (reads : D → List ℕ) (image : D → List ℕ → Type 0) (faults : D → ℕ) where
-  abbrev pub Limits : List (Seat D g) → Type 0
-  Limits seats = AllByRecursion (λ (s : Seat D g). KeepsLimits schema (profile_of (seat_user s))) seats
+module _ (schema : DatabaseSchema) (world : FactSet) (header : List ℕ) {D : Type 0} {g h : _} (told : Type 0) (reads : D → List ℕ) (image : D → List ℕ → Type 0) (faults : D → ℕ) where
+  abbrev pub Limits : List (DeskSeat D g h) → Type 0
+  Limits seats = AllByRecursion (λ (s : DeskSeat D g h). KeepsLimits schema (profile_of (seat_user s))) seats
 
   -- what stays of the seats: their journals, and with their users their limits; and their counts didn't fall
-  pub record Stay (old new : List (Seat D g)) : Type 0 where
+  pub record Stay (old new : List (DeskSeat D g h)) : Type 0 where
     pub names : journals new ≡ journals old
     pub limits : Limits old → Limits new
     pub served : AllByRecursion (IsServed schema world header) old → AllByRecursion (IsServed schema world header) new
     pub later : (count : Text → ℕ) → AreLater faults count old → AreLater faults count new
 
-  stay : (seats : List (Seat D g)) → Stay seats seats
+  stay : (seats : List (DeskSeat D g h)) → Stay seats seats
   stay seats = record { names = refl; limits = λ l. l; served = λ s. s; later = λ count l. l }
 
-  stay_on : (a b c : List (Seat D g)) → Stay a b → Stay b c → Stay a c
+  stay_on : (a b c : List (DeskSeat D g h)) → Stay a b → Stay b c → Stay a c
   stay_on a b c first second = record {
     names = second.names ∙ first.names;
     limits = λ l. second.limits (first.limits l);
@@ -71,20 +72,30 @@ module _ (schema : DatabaseSchema) (world : FactSet) (header : List ℕ) {D : Ty
     later = λ count l. second.later count (first.later count l);
   }
 
-  later_at : (count : Text → ℕ) (old new : Seat D g) → seat_journal new ≡ seat_journal old → faults (seat_disk old) ≤ faults (seat_disk new) → count (seat_journal old) ≤ faults (seat_disk old) → count (seat_journal new) ≤ faults (seat_disk new)
+  later_at : (count : Text → ℕ) (old new : DeskSeat D g h) → seat_journal new ≡ seat_journal old → faults (seat_disk old) ≤ faults (seat_disk new) → count (seat_journal old) ≤ faults (seat_disk old) → count (seat_journal new) ≤ faults (seat_disk new)
   later_at count old new named on first = subst (λ j. count j ≤ faults (seat_disk new)) (sym named) (omega (arith, first, on))
 
-  limit_at : (old new : Seat D g) → seat_user new ≡ seat_user old → KeepsLimits schema (profile_of (seat_user old)) → KeepsLimits schema (profile_of (seat_user new))
+  limit_at : (old new : DeskSeat D g h) → seat_user new ≡ seat_user old → KeepsLimits schema (profile_of (seat_user old)) → KeepsLimits schema (profile_of (seat_user new))
   limit_at old new is keeps = subst (λ u. KeepsLimits schema (profile_of u)) (sym is) keeps
 
-  stay_told : (name text : Text) (old new : List (Seat D g)) (reply : Option Reply) → Tells schema world header told reads image faults name text old new reply → Stay old new
+  stay_told : (name text : Text) (old new : List (DeskSeat D g h)) (reply : Option Reply) → Tells schema world name text old new reply → Stay old new
   stay_told name text old new reply nobody = stay []
-  stay_told name text old new reply (here {old = first} {new = next} {others} is answer) = record {
-    names = ap (λ j. j ∷ journals others) answer.journal_is;
-    limits = λ l. (limit_at first next answer.user_is l.0, l.1);
-    served = λ s. (answer.served, s.1);
-    later = λ count l. (later_at count first next answer.journal_is answer.later l.0, l.1);
-  }
+  stay_told name text old new reply (here {old = first} {new = next} {others} is answer) =
+      let kept = answer.kept_is in
+      record {
+        names = ap (λ j. j ∷ journals others) answer.journal_is;
+        limits = λ l. (limit_at first next answer.user_is l.0, l.1);
+        served = λ s. (
+          record {
+            schema_is = ap (λ (f : Fixed D). f.schema) kept ∙ s.0.schema_is;
+            world_is = ap (λ (f : Fixed D). f.world) kept ∙ s.0.world_is;
+            header_is = ap (λ (f : Fixed D). f.header) kept ∙ s.0.header_is;
+            user_is = ap (λ (f : Fixed D). f.user) kept ∙ s.0.user_is ∙ ap profile_of (sym answer.user_is);
+          },
+          s.1,
+        );
+        later = λ count l. (later_at count first next answer.journal_is (subst (λ d. faults (seat_disk first) ≤ faults d) (sym (ap (λ (f : Fixed D). f.disk) kept)) (omega arith)) l.0, l.1);
+      }
   stay_told name text old new reply (further {seat} {others} {after} {told_reply} other rest) =
       let tail : Stay others after = stay_told name text others after told_reply rest in
       record {
@@ -94,7 +105,7 @@ module _ (schema : DatabaseSchema) (world : FactSet) (header : List ℕ) {D : Ty
         later = λ count l. (l.0, tail.later count l.1);
       }
 
-  stay_reopened : (old new : List (Seat D g)) → AreReopened schema world header told reads image faults old new → Stay old new
+  stay_reopened : (old new : List (DeskSeat D g h)) → AreReopened schema world header told reads image faults old new → Stay old new
   stay_reopened [] [] are = stay []
   stay_reopened [] (n ∷ new) are = absurd are
   stay_reopened (o ∷ old) [] are = absurd are
@@ -104,24 +115,27 @@ module _ (schema : DatabaseSchema) (world : FactSet) (header : List ℕ) {D : Ty
         names = ap (λ j. j ∷ journals new) are.0.journal_is ∙ ap (λ js. seat_journal o ∷ js) tail.names;
         limits = λ l. (limit_at o n are.0.user_is l.0, tail.limits l.1);
         served = λ s. (are.0.opened.served, tail.served s.1);
-        later = λ count l. (later_at count o n are.0.journal_is are.0.left.later l.0, tail.later count l.1);
+        later = λ count l.
+            let closed = are.0.is_closed.later in
+            let opened = are.0.left.later in
+            (later_at count o n are.0.journal_is (omega (arith, closed, opened)) l.0, tail.later count l.1);
       }
 
-  stay_carried : (item : BatchItem) (old new : List (Seat D g)) (line : List ℕ) (is_broken : Bool) → Carries schema world header told reads image faults item old new line is_broken → Stay old new
+  stay_carried : (item : BatchItem) (old new : List (DeskSeat D g h)) (line : List ℕ) (is_broken : Bool) → Carries schema world header told reads image faults item old new line is_broken → Stay old new
   stay_carried (asked ask) old new line is_broken carried = stay_told ask.name ask.text old new carried.0 carried.1
   stay_carried restarted old new line is_broken carried = stay_reopened old new carried.0
 
-  pub stay_run : (items : List BatchItem) (old new : List (Seat D g)) (output : List ℕ) (is_broken : Bool) → Runs schema world header told reads image faults items old output new is_broken → Stay old new
+  pub stay_run : (items : List BatchItem) (old new : List (DeskSeat D g h)) (output : List ℕ) (is_broken : Bool) → Runs schema world header told reads image faults items old output new is_broken → Stay old new
   stay_run items old new output is_broken (nothing seats) = stay seats
   stay_run items old new output is_broken (more first old' mid new' before line was says item runs carried) =
       stay_on old' mid new' (stay_run first old' mid before was runs) (stay_carried item mid new' line says carried)
 
   -- ---- one more item
 
-  pub runs_first : (wrote : Type 0) (seats : List (Seat D g)) (before : List ℕ) → RunsAll schema world header told reads image faults wrote [] seats seats false before before
+  pub runs_first : (wrote : Type 0) (seats : List (DeskSeat D g h)) (before : List ℕ) → RunsAll schema world header told reads image faults wrote [] seats seats false before before
   runs_first wrote seats before = record { output = []; appended = λ w. sym (append-nil before); runs = nothing seats }
 
-  pub runs_more : (wrote : Type 0) (items : List BatchItem) (item : BatchItem) (old mid new : List (Seat D g)) (is_broken says now : Bool) (before after last line : List ℕ) → now ≡ (is_broken || says)
+  pub runs_more : (wrote : Type 0) (items : List BatchItem) (item : BatchItem) (old mid new : List (DeskSeat D g h)) (is_broken says now : Bool) (before after last line : List ℕ) → now ≡ (is_broken || says)
       → RunsAll schema world header told reads image faults wrote items old mid is_broken before after → Carries schema world header told reads image faults item mid new line says → (wrote → last ≡ after ++ line)
       → RunsAll schema world header told reads image faults wrote (items ++ item ∷ []) old new now before last
   runs_more wrote items item old mid new is_broken says now before after last line joined so_far carried appended = record {
@@ -131,7 +145,7 @@ module _ (schema : DatabaseSchema) (world : FactSet) (header : List ℕ) {D : Ty
   }
 
   -- memory was wanting at the next item
-  pub runs_stopped : (wrote : Type 0) (items front back : List BatchItem) (old new : List (Seat D g)) (is_broken : Bool) (before after : List ℕ) → items ≡ front ++ back
+  pub runs_stopped : (wrote : Type 0) (items front back : List BatchItem) (old new : List (DeskSeat D g h)) (is_broken : Bool) (before after : List ℕ) → items ≡ front ++ back
       → RunsAll schema world header told reads image faults wrote front old new is_broken before after → RunsSome schema world header told reads image faults wrote items old new before after
   runs_stopped wrote items front back old new is_broken before after split so_far = record {
     front = front;
@@ -145,7 +159,7 @@ module _ (schema : DatabaseSchema) (world : FactSet) (header : List ℕ) {D : Ty
   }
 
   -- of the line of the next item a part was written
-  pub runs_cut : (wrote : Type 0) (items front back : List BatchItem) (item : BatchItem) (old mid new : List (Seat D g)) (is_broken says : Bool) (before after last line : List ℕ) → items ≡ (front ++ item ∷ []) ++ back
+  pub runs_cut : (wrote : Type 0) (items front back : List BatchItem) (item : BatchItem) (old mid new : List (DeskSeat D g h)) (is_broken says : Bool) (before after last line : List ℕ) → items ≡ (front ++ item ∷ []) ++ back
       → RunsAll schema world header told reads image faults wrote front old mid is_broken before after → Carries schema world header told reads image faults item mid new line says → (wrote → AppendsPart after last line)
       → RunsSome schema world header told reads image faults wrote items old new before last
   runs_cut wrote items front back item old mid new is_broken says before after last line split so_far carried part = record {

@@ -12,17 +12,20 @@ use Rattle.cqe_base.specs.Run.{Reply, Ending, Event, ask, restart, UserState, op
 use Rattle.cqe_base.specs.Transcript.{NamedUser, ScriptEvent, script_ask, script_restart, script_opening, own_event, own_events, state_after, told_after}
 use Rattle.outside.specs.Shelf.{IsTaken}
 use Rattle.user_desk.specs.Causes.{Opens, Refuses, IsStanding}
-use Rattle.user_desk.specs.Lives.{Holds, Settles, Restarts, IsState}
+use Rattle.user_desk.specs.Lives.{Holds, Restarts, IsState}
 use Rattle.user_desk.specs.Standings.{is_sealed}
-use Rattle.user_desk.specs.Desks.{desk_standing, desk_history, entry_in_flight, state_of, IsIn}
+use Rattle.desk_counter.specs.declared.item.Fixed.{Fixed}
+use Rattle.desk_counter.specs.Items.{flying}
+use Rattle.desk_counter.specs.Lives.{IsAskOf}
+use Rattle.desk_counter.specs.Sole.{pairs_of_sole}
 use Rattle.user_desk.specs.declared.standing.DeskError.{DeskError}
 use Rattle.log_journal.specs.Names.{journal_name}
 use Rattle.batch_engine.specs.Lives.{OpensNone, IsOpening}
 use Rattle.batch_engine.specs.Batch.{unopened}
 use Rattle.batch_engine.specs.Shelved.{bytes_on, IsSeatOf, AreSeatsOf}
-use Rattle.batch_engine.specs.Crew.{named_user, first_refusal, seat_user, seat_name, seat_journal, seat_disk, is_named, IsLeft, IsServed, IsOpenedFrom, IsToldAt, IsReopened, AreReopened, Tells, nobody, here, further}
-use Rattle.batch_engine.specs.declared.seat.Seat.{Seat}
-use Rattle.batch_engine.proofs.Courses.{Course, course_on, IsRunning, Asked, ask_step, Restarted, IsExclusive, Known, open_step}
+use Rattle.batch_engine.specs.Crew.{named_user, first_refusal, seat_user, seat_name, seat_journal, seat_kept, seat_standing, seat_history, seat_state, seat_disk, IsSeatIn, is_named, IsLeft, IsClosed, IsServed, IsOpenedFrom, IsToldAt, IsReopened, AreReopened, Tells, nobody, here, further}
+use Rattle.batch_engine.specs.Seats.{DeskSeat}
+use Rattle.batch_engine.proofs.Courses.{Course, course_on, IsRunning, IsLiving, live, closing, Asked, ask_step, Restarted, IsExclusive, Known, open_step}
 
 -- ---- lists and texts
 
@@ -84,42 +87,37 @@ module _ (schema : DatabaseSchema) (world : FactSet) (header : List ℕ) (bytes 
   }
   first_course user name opened now c counted same (inr (none, empty)) = record { later = omega (arith, counted); caused = tt; fits = inr (none, empty, same, refl); refused = refl }
 
-module _ (schema : DatabaseSchema) (world : FactSet) (header directory : List ℕ) {D : Type 0} {g : _} (T : Type 0) (reads : D → List ℕ) (image : D → List ℕ → Type 0) (faults : D → ℕ) (t : T) (read_is_image : (d : D) → T → image d (reads d))
+module _ (schema : DatabaseSchema) (world : FactSet) (header directory : List ℕ) {D : Type 0} {g h : _} (T : Type 0) (reads : D → List ℕ) (image : D → List ℕ → Type 0) (faults : D → ℕ) (t : T) (read_is_image : (d : D) → T → image d (reads d))
     (bytes : Text → List ℕ) (before : Text → ℕ) where
   -- a user sits at his desk behind these events of his
-  pub record IsSeated (user : NamedUser) (events : List Event) (seat : Seat D g) : Type 0 where
+  pub record IsSeated (user : NamedUser) (events : List Event) (seat : DeskSeat D g h) : Type 0 where
     pub name_is : seat_name seat ≡ user.name
     pub profile_is : profile_of (seat_user seat) ≡ user.profile
     pub journal_is : seat_journal seat ≡ journal_name directory user.name
     pub served : IsServed schema world header seat
-    pub running : IsRunning schema world user.profile header (bytes user.name) (before user.name) user.opened events (desk_standing seat.desk) (state_of seat.desk) (image (seat_disk seat)) (reads (seat_disk seat)) (faults (seat_disk seat)) seat.refusal
+    pub living : IsLiving schema world user.profile header (bytes user.name) (before user.name) user.opened events (seat_standing seat) (seat_state seat) (reads (seat_disk seat)) (faults (seat_disk seat)) seat.refusal
 
   -- all do, behind the events of a script
-  abbrev pub AreSeated : List ScriptEvent → List NamedUser → List (Seat D g) → Type 0
+  abbrev pub AreSeated : List ScriptEvent → List NamedUser → List (DeskSeat D g h) → Type 0
   AreSeated script [] [] = Unit {0}
   AreSeated script (user ∷ users) (seat ∷ seats) = IsSeated user (own_events user.name script) seat × AreSeated script users seats
   AreSeated script users seats = ⊥
 
   -- ---- an ask
 
-  record AskedAt (user : NamedUser) (events : List Event) (seat : Seat D g) (text : Text) (told : Reply) : Type 0 where
+  record AskedAt (user : NamedUser) (events : List Event) (seat : DeskSeat D g h) (text : Text) (told : Reply) : Type 0 where
     ending : Ending
     reply : told ≡ reply_to_ask schema world user.profile (after_events schema world user.profile (opening schema world user.profile user.opened) events) text ending
     seated : IsSeated user (events ++ ask text ending ∷ []) seat
 
-  ask_at : (user : NamedUser) (events : List Event) (old new : Seat D g) (text : Text) (told : Reply) → IsSeated user events old → IsToldAt schema world header T reads image faults text told old new → AskedAt user events new text told
+  ask_at : (user : NamedUser) (events : List Event) (old new : DeskSeat D g h) (text : Text) (told : Reply) → IsSeated user events old → IsToldAt schema world text told old new → AskedAt user events new text told
   ask_at user events old new text told seated answer =
-      let standing = desk_standing old.desk in
-      let same = answer.standing_is in
+      let kept = answer.kept_is in
       let profile : profile_of (seat_user old) ≡ user.profile = seated.profile_is in
-      let asked : Asked schema world user.profile header (bytes user.name) (before user.name) user.opened events standing (state_of new.desk) (image (seat_disk new)) (reads (seat_disk new)) (faults (seat_disk new)) old.refusal text told =
-      ask_step schema world user.profile header (bytes user.name) (before user.name) user.opened events standing (state_of old.desk) (state_of new.desk) (image (seat_disk old)) (image (seat_disk new)) (reads (seat_disk old)) (reads (seat_disk new))
-      (faults (seat_disk old)) (faults (seat_disk new)) old.refusal text told seated.running
-      (λ state is. subst (λ s. Settles schema world user.profile (IsState s (state_of new.desk)) state text told (faults (seat_disk old)) (faults (seat_disk new))) same
-      (subst (λ p. Settles schema world p (IsIn new.desk) state text told (faults (seat_disk old)) (faults (seat_disk new))) profile (answer.settled state is)))
-      answer.later (λ sealed. ap reads (answer.shut sealed))
-      (λ served c at. subst (λ p. Holds schema world p header (state_of new.desk) c) (ap profile_of answer.user_is ∙ profile) (answer.holds t (ap is_sealed same ∙ served) c at))
-      (read_is_image (seat_disk new) t) in
+      let asked : Asked schema world user.profile header (bytes user.name) (before user.name) user.opened events (seat_standing old) (seat_state new) (reads (seat_disk old)) (faults (seat_disk old)) old.refusal text told =
+      ask_step schema world user.profile header (bytes user.name) (before user.name) user.opened events (seat_standing old) (seat_state old) (seat_state new) (reads (seat_disk old)) (faults (seat_disk old)) old.refusal text told seated.living
+      (λ state is. subst (λ (f : Fixed D). IsAskOf schema world user.profile (IsState f.standing (seat_state new)) state text told) kept
+      (subst (λ p. IsAskOf schema world p (IsSeatIn new) state text told) profile (answer.settled state is))) in
       record {
         ending = asked.ending;
         reply = asked.reply;
@@ -127,20 +125,25 @@ module _ (schema : DatabaseSchema) (world : FactSet) (header directory : List �
           name_is = ap (λ (u : User). string_bytes u.name) answer.user_is ∙ seated.name_is;
           profile_is = ap profile_of answer.user_is ∙ profile;
           journal_is = answer.journal_is ∙ seated.journal_is;
-          served = answer.served;
-          running = subst (λ r. IsRunning schema world user.profile header (bytes user.name) (before user.name) user.opened (events ++ ask text asked.ending ∷ []) (desk_standing new.desk) (state_of new.desk) (image (seat_disk new)) (reads (seat_disk new)) (faults (seat_disk new)) r) (sym answer.refusal_is)
-              (subst (λ s. IsRunning schema world user.profile header (bytes user.name) (before user.name) user.opened (events ++ ask text asked.ending ∷ []) s (state_of new.desk) (image (seat_disk new)) (reads (seat_disk new)) (faults (seat_disk new)) old.refusal) (sym same) asked.running);
+          served = record {
+            schema_is = ap (λ (f : Fixed D). f.schema) kept ∙ seated.served.schema_is;
+            world_is = ap (λ (f : Fixed D). f.world) kept ∙ seated.served.world_is;
+            header_is = ap (λ (f : Fixed D). f.header) kept ∙ seated.served.header_is;
+            user_is = ap (λ (f : Fixed D). f.user) kept ∙ seated.served.user_is ∙ ap profile_of (sym answer.user_is);
+          };
+          living = subst (λ r. IsLiving schema world user.profile header (bytes user.name) (before user.name) user.opened (events ++ ask text asked.ending ∷ []) (seat_standing new) (seat_state new) (reads (seat_disk new)) (faults (seat_disk new)) r) (sym answer.refusal_is)
+              (subst (λ (f : Fixed D). IsLiving schema world user.profile header (bytes user.name) (before user.name) user.opened (events ++ ask text asked.ending ∷ []) f.standing (seat_state new) (reads f.disk) (faults f.disk) old.refusal) (sym kept) asked.living);
         };
       }
 
   -- an ask of another name changes nothing
-  unnamed : (script : List ScriptEvent) (name : Text) (session : ℕ) (text : Text) (ending : Ending) (user : NamedUser) (seat : Seat D g) → bytes_eq name user.name ≡ false → IsSeated user (own_events user.name script) seat
+  unnamed : (script : List ScriptEvent) (name : Text) (session : ℕ) (text : Text) (ending : Ending) (user : NamedUser) (seat : DeskSeat D g h) → bytes_eq name user.name ≡ false → IsSeated user (own_events user.name script) seat
       → IsSeated user (own_events user.name (script ++ script_ask name session text ending ∷ [])) seat
   unnamed script name session text ending user seat other seated =
       subst (λ es. IsSeated user es seat)
       (sym (own-push user.name script (script_ask name session text ending) ∙ ap (λ b. own_events user.name script ++ (if b then ask text ending ∷ [] else [])) other ∙ append-nil (own_events user.name script))) seated
 
-  all_unnamed : (script : List ScriptEvent) (name : Text) (session : ℕ) (text : Text) (ending : Ending) (users : List NamedUser) (seats : List (Seat D g)) → list_any (bytes_eq name) (names users) ≡ false
+  all_unnamed : (script : List ScriptEvent) (name : Text) (session : ℕ) (text : Text) (ending : Ending) (users : List NamedUser) (seats : List (DeskSeat D g h)) → list_any (bytes_eq name) (names users) ≡ false
       → AreSeated script users seats → AreSeated (script ++ script_ask name session text ending ∷ []) users seats
   all_unnamed script name session text ending [] [] none seated = tt
   all_unnamed script name session text ending [] (seat ∷ seats) none seated = absurd seated
@@ -149,13 +152,13 @@ module _ (schema : DatabaseSchema) (world : FactSet) (header directory : List �
       (unnamed script name session text ending user seat (left_false _ _ none) seated.0, all_unnamed script name session text ending users seats (right_false _ _ none) seated.1)
 
   -- an ask with some ending: what is told, and the seats behind it
-  pub record Next (script : List ScriptEvent) (name : Text) (session : ℕ) (text : Text) (users : List NamedUser) (new : List (Seat D g)) (told : Option Reply) : Type 0 where
+  pub record Next (script : List ScriptEvent) (name : Text) (session : ℕ) (text : Text) (users : List NamedUser) (new : List (DeskSeat D g h)) (told : Option Reply) : Type 0 where
     pub ending : Ending
     pub replied : told_after schema world script text ending (find (λ u. bytes_eq u.name name) users) ≡ told
     pub seated : AreSeated (script ++ script_ask name session text ending ∷ []) users new
 
-  told_here : (script : List ScriptEvent) (name : Text) (session : ℕ) (text : Text) (user : NamedUser) (users : List NamedUser) (old new : Seat D g) (others : List (Seat D g)) (told : Reply)
-      → is_named name old ≡ true → IsToldAt schema world header T reads image faults text told old new → list_any (bytes_eq user.name) (names users) ≡ false → IsSeated user (own_events user.name script) old → AreSeated script users others
+  told_here : (script : List ScriptEvent) (name : Text) (session : ℕ) (text : Text) (user : NamedUser) (users : List NamedUser) (old new : DeskSeat D g h) (others : List (DeskSeat D g h)) (told : Reply)
+      → is_named name old ≡ true → IsToldAt schema world text told old new → list_any (bytes_eq user.name) (names users) ≡ false → IsSeated user (own_events user.name script) old → AreSeated script users others
       → Next script name session text (user ∷ users) (new ∷ others) (Some told)
   told_here script name session text user users old new others told is answer distinct seated rest =
       let one : AskedAt user (own_events user.name script) new text told = ask_at user (own_events user.name script) old new text told seated answer in
@@ -171,8 +174,8 @@ module _ (schema : DatabaseSchema) (world : FactSet) (header directory : List �
         );
       }
 
-  pub told_next : (script : List ScriptEvent) (name : Text) (session : ℕ) (text : Text) (users : List NamedUser) (old new : List (Seat D g)) (told : Option Reply)
-      → has_duplicate (names users) ≡ false → AreSeated script users old → Tells schema world header T reads image faults name text old new told → Next script name session text users new told
+  pub told_next : (script : List ScriptEvent) (name : Text) (session : ℕ) (text : Text) (users : List NamedUser) (old new : List (DeskSeat D g h)) (told : Option Reply)
+      → has_duplicate (names users) ≡ false → AreSeated script users old → Tells schema world name text old new told → Next script name session text users new told
   told_next script name session text [] old new told distinct seated nobody = record { ending = Run.kept; replied = refl; seated = tt }
   told_next script name session text (user ∷ users) old new told distinct seated nobody = absurd seated
   told_next script name session text [] old new told distinct seated (here is answer) = absurd seated
@@ -188,25 +191,40 @@ module _ (schema : DatabaseSchema) (world : FactSet) (header directory : List �
         seated = (unnamed script name session text rest.ending user seat (other_text user.name name differs) seated.0, rest.seated);
       }
 
+  -- ---- a close
+
+  -- a desk was closed, and left this disk
+  pub close_at : (user : NamedUser) (events : List Event) (seat : DeskSeat D g h) (disk : D) → IsSeated user events seat → IsClosed T image faults seat.desk disk
+      → IsRunning schema world user.profile header (bytes user.name) (before user.name) user.opened events (seat_standing seat) (seat_state seat) (image disk) (reads disk) (faults disk) seat.refusal
+  close_at user events seat disk seated closed =
+      closing schema world user.profile header (bytes user.name) (before user.name) user.opened events (seat_standing seat) (seat_state seat) (image disk) (reads (seat_disk seat)) (reads disk) (faults (seat_disk seat)) (faults disk) seat.refusal
+      seated.living closed.later closed.cause (λ sealed. ap reads (closed.shut sealed))
+      (λ served c at.
+      subst (λ s. Holds s world user.profile header (seat_state seat) c) seated.served.schema_is
+      (subst (λ w. Holds (seat_kept seat).schema w user.profile header (seat_state seat) c) seated.served.world_is
+      (subst (λ p. Holds (seat_kept seat).schema (seat_kept seat).world p header (seat_state seat) c) (seated.served.user_is ∙ seated.profile_is)
+      (subst (λ h. Holds (seat_kept seat).schema (seat_kept seat).world (seat_kept seat).user h (seat_state seat) c) seated.served.header_is (closed.holds t served c at)))))
+      (read_is_image disk t)
+
   -- ---- openings
 
   -- the choices of a user's opening
-  abbrev pub Choice : NamedUser → List Event → Seat D g → Type 0
+  abbrev pub Choice : NamedUser → List Event → DeskSeat D g h → Type 0
   Choice user events seat = (found : Bool) × (opens : Bool) × IsSeated user (events ++ restart found opens ∷ []) seat
 
-  abbrev pub Choices : List ScriptEvent → List NamedUser → List (Seat D g) → Type 0
+  abbrev pub Choices : List ScriptEvent → List NamedUser → List (DeskSeat D g h) → Type 0
   Choices script [] [] = Unit {0}
   Choices script (user ∷ users) (seat ∷ seats) = Choice user (own_events user.name script) seat × Choices script users seats
   Choices script users seats = ⊥
 
   module _ (event : (Text → Bool) → (Text → Bool) → ScriptEvent) (own : (name : Text) (found opens : Text → Bool) → own_event name (event found opens) ≡ restart (found name) (opens name) ∷ []) where
     -- one event for all of them
-    pub record Chosen (script : List ScriptEvent) (users : List NamedUser) (seats : List (Seat D g)) : Type 0 where
+    pub record Chosen (script : List ScriptEvent) (users : List NamedUser) (seats : List (DeskSeat D g h)) : Type 0 where
       pub found : Text → Bool
       pub opens : Text → Bool
       pub seated : AreSeated (script ++ event found opens ∷ []) users seats
 
-    others_seated : (script : List ScriptEvent) (name : Text) (f o : Bool) (found opens : Text → Bool) (users : List NamedUser) (seats : List (Seat D g)) → list_any (bytes_eq name) (names users) ≡ false
+    others_seated : (script : List ScriptEvent) (name : Text) (f o : Bool) (found opens : Text → Bool) (users : List NamedUser) (seats : List (DeskSeat D g h)) → list_any (bytes_eq name) (names users) ≡ false
         → AreSeated (script ++ event found opens ∷ []) users seats → AreSeated (script ++ event (with_name name f found) (with_name name o opens) ∷ []) users seats
     others_seated script name f o found opens [] [] none seated = tt
     others_seated script name f o found opens [] (seat ∷ seats) none seated = absurd seated
@@ -219,7 +237,7 @@ module _ (schema : DatabaseSchema) (world : FactSet) (header directory : List �
       others_seated script name f o found opens users seats (right_false (bytes_eq name user.name) (list_any (bytes_eq name) (names users)) none) seated.1,
     )
 
-    pub choose : (script : List ScriptEvent) (users : List NamedUser) (seats : List (Seat D g)) → has_duplicate (names users) ≡ false → Choices script users seats → Chosen script users seats
+    pub choose : (script : List ScriptEvent) (users : List NamedUser) (seats : List (DeskSeat D g h)) → has_duplicate (names users) ≡ false → Choices script users seats → Chosen script users seats
     choose script [] [] distinct choices = record { found = λ n. false; opens = λ n. false; seated = tt }
     choose script [] (seat ∷ seats) distinct choices = absurd choices
     choose script (user ∷ users) [] distinct choices = absurd choices
@@ -240,21 +258,23 @@ module _ (schema : DatabaseSchema) (world : FactSet) (header directory : List �
   -- ---- closing and opening again
 
   module _ (exclusive : (user : UserProfile) → IsExclusive schema world user header) where
-    restart_at : (user : NamedUser) (events : List Event) (old new : Seat D g) → IsSeated user events old → IsReopened schema world header T reads image faults old new → Choice user events new
+    restart_at : (user : NamedUser) (events : List Event) (old new : DeskSeat D g h) → IsSeated user events old → IsReopened schema world header T reads image faults old new → Choice user events new
     restart_at user events old new seated again =
         let profile : profile_of (seat_user new) ≡ user.profile = ap profile_of again.user_is ∙ seated.profile_is in
         let opened = again.opened in
-        let step : Restarted schema world user.profile header (bytes user.name) (before user.name) user.opened events (desk_standing new.desk) (state_of new.desk) (image (seat_disk new)) (reads (seat_disk new)) (faults (seat_disk new)) (first_refusal old.refusal (desk_standing new.desk)) =
-        open_step schema world user.profile header (bytes user.name) (before user.name) (exclusive user.profile) T t user.opened events (reads (seat_disk new)) (faults (seat_disk old)) (faults (seat_disk new)) old.refusal
-        (desk_history new.desk) (entry_in_flight new.desk) (desk_standing new.desk) (image (seat_disk new))
-        (course_on schema world user.profile header (bytes user.name) (before user.name) user.opened events (reads (seat_disk old)) (reads (seat_disk new)) (faults (seat_disk old)) (faults (seat_disk old)) old.refusal again.left.reads_same (omega arith) seated.running.course)
+        let closed = again.closed in
+        let running = close_at user events old closed seated again.is_closed in
+        let step : Restarted schema world user.profile header (bytes user.name) (before user.name) user.opened events (seat_standing new) (seat_state new) (image (seat_disk new)) (reads (seat_disk new)) (faults (seat_disk new)) (first_refusal old.refusal (seat_standing new)) =
+        open_step schema world user.profile header (bytes user.name) (before user.name) (exclusive user.profile) T t user.opened events (reads (seat_disk new)) (faults closed) (faults (seat_disk new)) old.refusal
+        (seat_history new) (flying (pairs_of_sole new.desk)) (seat_standing new) (image (seat_disk new))
+        (course_on schema world user.profile header (bytes user.name) (before user.name) user.opened events (reads closed) (reads (seat_disk new)) (faults closed) (faults closed) old.refusal again.left.reads_same (omega arith) running.course)
         (record {
-          standing_is = subst (λ r. IsStanding schema world user.profile T header r (desk_history new.desk) (faults (seat_disk old)) (faults (seat_disk new)) (desk_standing new.desk)) (sym again.left.reads_same)
-              (subst (λ p. IsStanding schema world p T header (reads (seat_disk old)) (desk_history new.desk) (faults (seat_disk old)) (faults (seat_disk new)) (desk_standing new.desk)) profile opened.standing);
-          restarted = λ state holds. subst (λ p. Restarts schema world p (IsIn new.desk) state (faults (seat_disk old)) (faults (seat_disk new))) profile
+          standing_is = subst (λ r. IsStanding schema world user.profile T header r (seat_history new) (faults closed) (faults (seat_disk new)) (seat_standing new)) (sym again.left.reads_same)
+              (subst (λ p. IsStanding schema world p T header (reads closed) (seat_history new) (faults closed) (faults (seat_disk new)) (seat_standing new)) profile opened.standing);
+          restarted = λ state holds. subst (λ p. Restarts schema world p (IsSeatIn new) state (faults closed) (faults (seat_disk new))) profile
               (opened.restarted t state (subst (Holds schema world (profile_of (seat_user new)) header state) again.left.reads_same (subst (λ p. Holds schema world p header state (reads (seat_disk new))) (sym profile) holds)));
           on = again.left.later;
-          holds = λ served c at. subst (λ p. Holds schema world p header (state_of new.desk) c) profile (opened.holds t served c at);
+          holds = λ served c at. subst (λ p. Holds schema world p header (seat_state new) c) profile (opened.holds t served c at);
           here = read_is_image (seat_disk new) t;
         }) in (
           step.found,
@@ -264,12 +284,13 @@ module _ (schema : DatabaseSchema) (world : FactSet) (header directory : List �
             profile_is = profile;
             journal_is = again.journal_is ∙ seated.journal_is;
             served = opened.served;
-            running = subst (IsRunning schema world user.profile header (bytes user.name) (before user.name) user.opened (events ++ restart step.found step.opens ∷ []) (desk_standing new.desk) (state_of new.desk) (image (seat_disk new)) (reads (seat_disk new)) (faults (seat_disk new))) (sym opened.refusal) step.running;
+            living = subst (IsLiving schema world user.profile header (bytes user.name) (before user.name) user.opened (events ++ restart step.found step.opens ∷ []) (seat_standing new) (seat_state new) (reads (seat_disk new)) (faults (seat_disk new))) (sym opened.refusal)
+                (live schema world user.profile header (bytes user.name) (before user.name) user.opened (events ++ restart step.found step.opens ∷ []) (seat_standing new) (seat_state new) (image (seat_disk new)) (reads (seat_disk new)) (faults (seat_disk new)) (first_refusal old.refusal (seat_standing new)) step.running);
           },
         )
 
     -- every desk was closed and opened again
-    pub restart_all : (script : List ScriptEvent) (users : List NamedUser) (olds news : List (Seat D g)) → AreSeated script users olds → AreReopened schema world header T reads image faults olds news → Choices script users news
+    pub restart_all : (script : List ScriptEvent) (users : List NamedUser) (olds news : List (DeskSeat D g h)) → AreSeated script users olds → AreReopened schema world header T reads image faults olds news → Choices script users news
     restart_all script [] [] [] seated again = tt
     restart_all script [] [] (new ∷ news) seated again = absurd again
     restart_all script [] (old ∷ olds) news seated again = absurd seated
@@ -282,12 +303,12 @@ module _ (schema : DatabaseSchema) (world : FactSet) (header directory : List �
 
     module _ (S : Type 0) (s : S) (disk : Text → Option D) (count : Text → ℕ) (bytes_are : (name : Text) → bytes name ≡ bytes_on reads (disk (journal_name directory name))) (counts_are : (name : Text) → before name ≡ count (journal_name directory name)) where
       -- a user with the history with which his journal is opened
-      pub record Begun (user : User) (seat : Seat D g) : Type 0 where
+      pub record Begun (user : User) (seat : DeskSeat D g h) : Type 0 where
         pub opened : History
         pub opening : IsOpening schema world (profile_of user) header (bytes (string_bytes user.name)) opened
         pub choice : Choice (record { name = string_bytes user.name; profile = profile_of user; opened = opened }) [] seat
 
-      begin_with : (user : User) (seat : Seat D g) (opened : History) → IsOpening schema world (profile_of user) header (bytes (string_bytes user.name)) opened
+      begin_with : (user : User) (seat : DeskSeat D g h) (opened : History) → IsOpening schema world (profile_of user) header (bytes (string_bytes user.name)) opened
           → IsSeatOf S reads image faults T schema world header directory disk count user seat → Begun user seat
       begin_with user seat opened opening is =
           let name = string_bytes user.name in
@@ -296,17 +317,17 @@ module _ (schema : DatabaseSchema) (world : FactSet) (header directory : List �
           let same : reads (seat_disk seat) ≡ reads is.taken = is.left.reads_same in
           let read : reads (seat_disk seat) ≡ bytes name = same ∙ taken_reads reads image (disk (seat_journal seat)) is.taken (is.from s) ∙ ap (λ j. bytes_on reads (disk j)) is.journal_is ∙ sym (bytes_are name) in
           let counted : faults is.taken ≡ before name = is.counted ∙ ap count is.journal_is ∙ sym (counts_are name) in
-          let step : Restarted schema world (profile_of user) header (bytes name) (before name) opened [] (desk_standing seat.desk) (state_of seat.desk) (image (seat_disk seat)) (reads (seat_disk seat)) (faults (seat_disk seat)) (first_refusal None (desk_standing seat.desk)) =
+          let step : Restarted schema world (profile_of user) header (bytes name) (before name) opened [] (seat_standing seat) (seat_state seat) (image (seat_disk seat)) (reads (seat_disk seat)) (faults (seat_disk seat)) (first_refusal None (seat_standing seat)) =
           open_step schema world (profile_of user) header (bytes name) (before name) (exclusive (profile_of user)) T t opened [] (reads (seat_disk seat)) (faults is.taken) (faults (seat_disk seat)) None
-          (desk_history seat.desk) (entry_in_flight seat.desk) (desk_standing seat.desk) (image (seat_disk seat))
+          (seat_history seat) (flying (pairs_of_sole seat.desk)) (seat_standing seat) (image (seat_disk seat))
           (first_course schema world header bytes before (profile_of user) name opened (faults is.taken) (reads (seat_disk seat)) counted read opening)
           (record {
-            standing_is = subst (λ r. IsStanding schema world (profile_of user) T header r (desk_history seat.desk) (faults is.taken) (faults (seat_disk seat)) (desk_standing seat.desk)) (sym same)
-                (subst (λ p. IsStanding schema world p T header (reads is.taken) (desk_history seat.desk) (faults is.taken) (faults (seat_disk seat)) (desk_standing seat.desk)) profile from.standing);
-            restarted = λ state holds. subst (λ p. Restarts schema world p (IsIn seat.desk) state (faults is.taken) (faults (seat_disk seat))) profile
+            standing_is = subst (λ r. IsStanding schema world (profile_of user) T header r (seat_history seat) (faults is.taken) (faults (seat_disk seat)) (seat_standing seat)) (sym same)
+                (subst (λ p. IsStanding schema world p T header (reads is.taken) (seat_history seat) (faults is.taken) (faults (seat_disk seat)) (seat_standing seat)) profile from.standing);
+            restarted = λ state holds. subst (λ p. Restarts schema world p (IsSeatIn seat) state (faults is.taken) (faults (seat_disk seat))) profile
                 (from.restarted t state (subst (Holds schema world (profile_of (seat_user seat)) header state) same (subst (λ p. Holds schema world p header state (reads (seat_disk seat))) (sym profile) holds)));
             on = is.left.later;
-            holds = λ served c at. subst (λ p. Holds schema world p header (state_of seat.desk) c) profile (from.holds t served c at);
+            holds = λ served c at. subst (λ p. Holds schema world p header (seat_state seat) c) profile (from.holds t served c at);
             here = read_is_image (seat_disk seat) t;
           }) in
           record {
@@ -320,13 +341,14 @@ module _ (schema : DatabaseSchema) (world : FactSet) (header directory : List �
                 profile_is = profile;
                 journal_is = is.journal_is;
                 served = from.served;
-                running = subst (IsRunning schema world (profile_of user) header (bytes name) (before name) opened ([] ++ restart step.found step.opens ∷ []) (desk_standing seat.desk) (state_of seat.desk) (image (seat_disk seat)) (reads (seat_disk seat)) (faults (seat_disk seat))) (sym from.refusal) step.running;
+                living = subst (IsLiving schema world (profile_of user) header (bytes name) (before name) opened ([] ++ restart step.found step.opens ∷ []) (seat_standing seat) (seat_state seat) (reads (seat_disk seat)) (faults (seat_disk seat))) (sym from.refusal)
+                    (live schema world (profile_of user) header (bytes name) (before name) opened ([] ++ restart step.found step.opens ∷ []) (seat_standing seat) (seat_state seat) (image (seat_disk seat)) (reads (seat_disk seat)) (faults (seat_disk seat)) (first_refusal None (seat_standing seat)) step.running);
               },
             );
           }
 
       module _ (decided : (user : UserProfile) (c : List ℕ) → ((entries : History) × Opens schema world user header entries c) ⊎ OpensNone schema world user header c) where
-        begin_at : (user : User) (seat : Seat D g) → IsSeatOf S reads image faults T schema world header directory disk count user seat → Begun user seat
+        begin_at : (user : User) (seat : DeskSeat D g h) → IsSeatOf S reads image faults T schema world header directory disk count user seat → Begun user seat
         begin_at user seat is = by (decided (profile_of user) (bytes (string_bytes user.name)))
           where
             by : ((entries : History) × Opens schema world (profile_of user) header entries (bytes (string_bytes user.name))) ⊎ OpensNone schema world (profile_of user) header (bytes (string_bytes user.name)) → Begun user seat
@@ -334,13 +356,13 @@ module _ (schema : DatabaseSchema) (world : FactSet) (header directory : List �
             by (inr none) = begin_with user seat [] (inr (none, refl)) is
 
         -- the users of a policy, each with his opening history, and the choices of the first opening
-        pub record AreBegun (users : List User) (seats : List (Seat D g)) : Type 0 where
+        pub record AreBegun (users : List User) (seats : List (DeskSeat D g h)) : Type 0 where
           pub begun : List NamedUser
           pub of_policy : map unopened begun ≡ map named_user users
           pub openings : AllByRecursion (λ user. IsOpening schema world user.profile header (bytes user.name) user.opened) begun
           pub choices : Choices [] begun seats
 
-        pub begin_all : (users : List User) (seats : List (Seat D g)) → AreSeatsOf S reads image faults T schema world header directory disk count users seats → AreBegun users seats
+        pub begin_all : (users : List User) (seats : List (DeskSeat D g h)) → AreSeatsOf S reads image faults T schema world header directory disk count users seats → AreBegun users seats
         begin_all [] [] are = record { begun = []; of_policy = refl; openings = tt; choices = tt }
         begin_all [] (seat ∷ seats) are = absurd are
         begin_all (user ∷ users) [] are = absurd are

@@ -7,9 +7,9 @@ use Rattle.std.proofs.lemmas.Bool.{eqb-true}
 use Rattle.outside.specs.Shelf.{SameNames, SameOthers}
 use Rattle.cqe_base.specs.Schema.{Text, DatabaseSchema, has_duplicate}
 use Rattle.cqe_base.specs.Facts.{FactSet}
-use Rattle.batch_engine.specs.Crew.{seat_journal, seat_disk, IsLeft, IsReopened, AreReopened}
+use Rattle.batch_engine.specs.Crew.{seat_journal, seat_disk, IsLeft, IsClosed}
 use Rattle.batch_engine.specs.Shelved.{is_among, journals, SameBeside, AllOut, AllIn, NoneOut, AreOut, IsBack, AreBack, AreLater}
-use Rattle.batch_engine.specs.declared.seat.Seat.{Seat}
+use Rattle.batch_engine.specs.Seats.{DeskSeat}
 use Rattle.batch_engine.proofs.Seating.{left_false, right_false, text_is, other_text}
 
 -- ---- names
@@ -116,26 +116,26 @@ module _ {D : Type 0} (reads : D → List ℕ) (image : D → List ℕ → Type 
     later = omega (arith, first.later, second.later);
   }
 
-module _ {D : Type 0} {g : _} where
-  pub journals-append : (xs ys : List (Seat D g)) → journals (xs ++ ys) ≡ journals xs ++ journals ys
+module _ {D : Type 0} {g h : _} where
+  pub journals-append : (xs ys : List (DeskSeat D g h)) → journals (xs ++ ys) ≡ journals xs ++ journals ys
   journals-append xs ys = map-append seat_journal xs ys
 
   module _ (told : Type 0) (reads : D → List ℕ) (image : D → List ℕ → Type 0) (faults : D → ℕ) where
-    pub back-append : (disk : Text → Option D) (count : Text → ℕ) (xs ys : List (Seat D g)) → AreBack told reads image faults disk count xs → AreBack told reads image faults disk count ys
+    pub back-append : (disk : Text → Option D) (count : Text → ℕ) (xs ys : List (DeskSeat D g h)) → AreBack told reads image faults disk count xs → AreBack told reads image faults disk count ys
         → AreBack told reads image faults disk count (xs ++ ys)
     back-append disk count [] ys first second = second
     back-append disk count (x ∷ xs) ys first second = (first.0, back-append disk count xs ys first.1 second)
 
-    pub later-first : (count : Text → ℕ) (xs ys : List (Seat D g)) → AreLater faults count (xs ++ ys) → AreLater faults count xs
+    pub later-first : (count : Text → ℕ) (xs ys : List (DeskSeat D g h)) → AreLater faults count (xs ++ ys) → AreLater faults count xs
     later-first count [] ys are = tt
     later-first count (x ∷ xs) ys are = (are.0, later-first count xs ys are.1)
 
-    pub later-second : (count : Text → ℕ) (xs ys : List (Seat D g)) → AreLater faults count (xs ++ ys) → AreLater faults count ys
+    pub later-second : (count : Text → ℕ) (xs ys : List (DeskSeat D g h)) → AreLater faults count (xs ++ ys) → AreLater faults count ys
     later-second count [] ys are = are
     later-second count (x ∷ xs) ys are = later-second count xs ys are.1
 
     -- what is back stays so where its names have the same as before
-    pub back_on : (disk disk' : Text → Option D) (count count' : Text → ℕ) (seats : List (Seat D g)) → ((name : Text) → is_among (journals seats) name ≡ true → disk' name ≡ disk name) → ((name : Text) → is_among (journals seats) name ≡ true → count' name ≡ count name)
+    pub back_on : (disk disk' : Text → Option D) (count count' : Text → ℕ) (seats : List (DeskSeat D g h)) → ((name : Text) → is_among (journals seats) name ≡ true → disk' name ≡ disk name) → ((name : Text) → is_among (journals seats) name ≡ true → count' name ≡ count name)
         → AreBack told reads image faults disk count seats → AreBack told reads image faults disk' count' seats
     back_on disk disk' count count' [] disks counts back = tt
     back_on disk disk' count count' (seat ∷ seats) disks counts back =
@@ -149,7 +149,7 @@ module _ {D : Type 0} {g : _} where
           back_on disk disk' count count' seats (λ name is. disks name (or_right _ _ is)) (λ name is. counts name (or_right _ _ is)) back.1,
         )
 
-    pub later_on : (count count' : Text → ℕ) (seats : List (Seat D g)) → ((name : Text) → is_among (journals seats) name ≡ true → count' name ≡ count name) → AreLater faults count seats → AreLater faults count' seats
+    pub later_on : (count count' : Text → ℕ) (seats : List (DeskSeat D g h)) → ((name : Text) → is_among (journals seats) name ≡ true → count' name ≡ count name) → AreLater faults count seats → AreLater faults count' seats
     later_on count count' [] counts later = tt
     later_on count count' (seat ∷ seats) counts later =
         let same = counts (seat_journal seat) (or_left _ _ (text_is (seat_journal seat))) in
@@ -157,10 +157,10 @@ module _ {D : Type 0} {g : _} where
 
     -- ---- disks that are given back one after the other
 
-    module _ (all : List (Seat D g)) (disk0 : Text → Option D) (out0 : Text → Bool) (count0 : Text → ℕ) where
+    module _ (all : List (DeskSeat D g h)) (disk0 : Text → Option D) (out0 : Text → Bool) (count0 : Text → ℕ) where
       -- the disks of the last seats are back
-      pub record Given (seats : List (Seat D g)) (disk : Text → Option D) (is_out : Text → Bool) (count : Text → ℕ) : Type 0 where
-        pub given : List (Seat D g)
+      pub record Given (seats : List (DeskSeat D g h)) (disk : Text → Option D) (is_out : Text → Bool) (count : Text → ℕ) : Type 0 where
+        pub given : List (DeskSeat D g h)
         pub split : all ≡ seats ++ given
         pub back : AreBack told reads image faults disk count given
         pub inside : AllIn (journals given) is_out
@@ -172,12 +172,12 @@ module _ {D : Type 0} {g : _} where
       given_none = record { given = []; split = sym (append-nil all); back = tt; inside = λ name is. absurd cc; others_out = λ name none. refl; disks = λ name none. refl; counts = λ name none. refl }
 
       module _ (distinct : has_duplicate (journals all) ≡ false) (out : AllOut (journals all) out0) (later : AreLater faults count0 all) where
-        pub record Next (seats : List (Seat D g)) (seat : Seat D g) (given : List (Seat D g)) : Type 0 where
+        pub record Next (seats : List (DeskSeat D g h)) (seat : DeskSeat D g h) (given : List (DeskSeat D g h)) : Type 0 where
           pub apart : is_among (journals given) (seat_journal seat) ≡ false
           pub among : is_among (journals all) (seat_journal seat) ≡ true
           pub counted : count0 (seat_journal seat) ≤ faults (seat_disk seat)
 
-        pub next_of : (seats : List (Seat D g)) (seat : Seat D g) (given : List (Seat D g)) → all ≡ (seats ++ seat ∷ []) ++ given → Next seats seat given
+        pub next_of : (seats : List (DeskSeat D g h)) (seat : DeskSeat D g h) (given : List (DeskSeat D g h)) → all ≡ (seats ++ seat ∷ []) ++ given → Next seats seat given
         next_of seats seat given split =
             let whole : all ≡ seats ++ (seat ∷ given) = split ∙ append_assoc seats (seat ∷ []) given in
             let names : journals all ≡ journals seats ++ (seat_journal seat ∷ journals given) = ap journals whole ∙ journals-append seats (seat ∷ given) in
@@ -189,21 +189,21 @@ module _ {D : Type 0} {g : _} where
             }
 
         -- the next disk is out, and its count didn't fall
-        pub given_out : (seats before : List (Seat D g)) (seat : Seat D g) (disk : Text → Option D) (is_out : Text → Bool) (count : Text → ℕ) → before ≡ seats ++ seat ∷ [] → Given before disk is_out count → is_out (seat_journal seat) ≡ true
+        pub given_out : (seats before : List (DeskSeat D g h)) (seat : DeskSeat D g h) (disk : Text → Option D) (is_out : Text → Bool) (count : Text → ℕ) → before ≡ seats ++ seat ∷ [] → Given before disk is_out count → is_out (seat_journal seat) ≡ true
         given_out seats before seat disk is_out count is so_far =
             let next : Next seats seat so_far.given = next_of seats seat so_far.given (so_far.split ∙ ap (λ l. l ++ so_far.given) is) in
             so_far.others_out (seat_journal seat) next.apart ∙ out (seat_journal seat) next.among
 
-        pub given_later : (seats before : List (Seat D g)) (seat : Seat D g) (disk : Text → Option D) (is_out : Text → Bool) (count : Text → ℕ) → before ≡ seats ++ seat ∷ [] → Given before disk is_out count → count (seat_journal seat) ≤ faults (seat_disk seat)
+        pub given_later : (seats before : List (DeskSeat D g h)) (seat : DeskSeat D g h) (disk : Text → Option D) (is_out : Text → Bool) (count : Text → ℕ) → before ≡ seats ++ seat ∷ [] → Given before disk is_out count → count (seat_journal seat) ≤ faults (seat_disk seat)
         given_later seats before seat disk is_out count is so_far =
             let next : Next seats seat so_far.given = next_of seats seat so_far.given (so_far.split ∙ ap (λ l. l ++ so_far.given) is) in
             subst (λ n. n ≤ faults (seat_disk seat)) (sym (so_far.counts (seat_journal seat) next.apart)) next.counted
 
         -- one more is back
-        pub given_more : (seats before : List (Seat D g)) (seat : Seat D g) (disk disk' : Text → Option D) (is_out is_out' : Text → Bool) (count count' : Text → ℕ) (one : Text) → one ≡ seat_journal seat → before ≡ seats ++ seat ∷ [] → Given before disk is_out count
-            → (told → disk' one ≡ Some (seat_disk seat)) → SameOthers one disk disk' → is_out' one ≡ false → SameOthers one is_out is_out' → count' one ≡ faults (seat_disk seat) → SameOthers one count count'
+        pub given_more : (seats before : List (DeskSeat D g h)) (seat : DeskSeat D g h) (now : D) (closed : IsClosed told image faults seat.desk now) (disk disk' : Text → Option D) (is_out is_out' : Text → Bool) (count count' : Text → ℕ) (one : Text) → one ≡ seat_journal seat → before ≡ seats ++ seat ∷ [] → Given before disk is_out count
+            → (told → disk' one ≡ Some now) → SameOthers one disk disk' → is_out' one ≡ false → SameOthers one is_out is_out' → count' one ≡ faults now → SameOthers one count count'
             → Given seats disk' is_out' count'
-        given_more seats before seat disk disk' is_out is_out' count count' one named is so_far held disks inside outs counted counts =
+        given_more seats before seat now closed disk disk' is_out is_out' count count' one named is so_far held disks inside outs counted counts =
             let given = so_far.given in
             let split : all ≡ (seats ++ seat ∷ []) ++ given = so_far.split ∙ ap (λ l. l ++ given) is in
             let next : Next seats seat given = next_of seats seat given split in
@@ -212,7 +212,7 @@ module _ {D : Type 0} {g : _} where
               given = seat ∷ given;
               split = split ∙ append_assoc seats (seat ∷ []) given;
               back = (
-                record { now = seat_disk seat; left = left_same reads image faults (seat_disk seat); held = λ t. ap disk' (sym named) ∙ held t; counted = ap count' (sym named) ∙ counted },
+                record { now = now; left = record { closed = now; is_closed = closed; left = left_same reads image faults now }; held = λ t. ap disk' (sym named) ∙ held t; counted = ap count' (sym named) ∙ counted },
                 back_on disk disk' count count' given (beside_one one (journals given) disk disk' apart disks) (beside_one one (journals given) count count' apart counts) so_far.back,
               );
               inside = λ name among. by name (bytes_eq name (seat_journal seat)) refl among;

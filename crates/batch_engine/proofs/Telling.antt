@@ -12,7 +12,7 @@ use Rattle.batch_engine.specs.BatchLines.{BatchItem, asked, restarted}
 use Rattle.batch_engine.specs.Batch.{IsEventOf, AreEventsOf, line_bytes, is_broken_line, with_opening}
 use Rattle.batch_engine.specs.Crew.{Tells, AreReopened}
 use Rattle.batch_engine.specs.Steps.{Carries, is_broken_reply}
-use Rattle.batch_engine.specs.declared.seat.Seat.{Seat}
+use Rattle.batch_engine.specs.Seats.{DeskSeat}
 use Rattle.batch_engine.proofs.Courses.{IsExclusive, any-push}
 use Rattle.batch_engine.proofs.Seating.{flat_map-append, names, AreSeated, Next, told_next, Choices, restart_all, Chosen, choose}
 
@@ -63,22 +63,22 @@ module _ (schema : DatabaseSchema) (world : FactSet) (users : List NamedUser) wh
       ∙ ap (λ ls. list_any is_broken_line (transcript schema world users events ++ ls)) (sym one)
       ∙ ap (λ ls. list_any is_broken_line ls) (sym (transcript-push events event))
 
-  module _ (header directory : List ℕ) {D : Type 0} {g : _} (T : Type 0) (reads : D → List ℕ) (image : D → List ℕ → Type 0) (faults : D → ℕ) (t : T) (read_is_image : (d : D) → T → image d (reads d))
+  module _ (header directory : List ℕ) {D : Type 0} {g h : _} (T : Type 0) (reads : D → List ℕ) (image : D → List ℕ → Type 0) (faults : D → ℕ) (t : T) (read_is_image : (d : D) → T → image d (reads d))
       (bytes : Text → List ℕ) (before : Text → ℕ) (found opened : Text → Bool) where
     -- these items were answered with these lines, the users then sit at these desks, and it is known whether some line says that an append failed
-    pub record SoFar (items : List BatchItem) (output : List ℕ) (seats : List (Seat D g)) (is_broken : Bool) : Type 0 where
+    pub record SoFar (items : List BatchItem) (output : List ℕ) (seats : List (DeskSeat D g h)) (is_broken : Bool) : Type 0 where
       pub events : List ScriptEvent
       pub of_items : AreEventsOf items events
       pub lines : output ≡ line_bytes (transcript schema world users (with_opening found opened events))
       pub seated : AreSeated schema world header directory T reads image faults t read_is_image bytes before (with_opening found opened events) users seats
       pub broken : is_broken ≡ list_any is_broken_line (transcript schema world users (with_opening found opened events))
 
-    pub so_far_first : (seats : List (Seat D g)) → AreSeated schema world header directory T reads image faults t read_is_image bytes before (with_opening found opened []) users seats → SoFar [] [] seats false
+    pub so_far_first : (seats : List (DeskSeat D g h)) → AreSeated schema world header directory T reads image faults t read_is_image bytes before (with_opening found opened []) users seats → SoFar [] [] seats false
     unfolding transcript
     so_far_first seats seated = record { events = []; of_items = tt; lines = refl; seated = seated; broken = refl }
 
     pub so_far_more : ((user : UserProfile) → IsExclusive schema world user header) → has_duplicate (names users) ≡ false
-        → (items : List BatchItem) (output : List ℕ) (old new : List (Seat D g)) (is_broken says_broken : Bool) (item : BatchItem) (line : List ℕ)
+        → (items : List BatchItem) (output : List ℕ) (old new : List (DeskSeat D g h)) (is_broken says_broken : Bool) (item : BatchItem) (line : List ℕ)
         → SoFar items output old is_broken → Carries schema world header T reads image faults item old new line says_broken → SoFar (items ++ item ∷ []) (output ++ line) new (is_broken || says_broken)
     so_far_more exclusive distinct items output old new is_broken says_broken (asked ask) line so_far (told, tells, is, says) =
         let script = with_opening found opened so_far.events in

@@ -1,5 +1,6 @@
 -- The users of a batch at their desks, and their disks.
 use Rattle.std.specs.Prelude.{◌≡◌, ℕ, ◌≤◌, Bool, true, false, List, [], ◌∷◌, bytes_eq, Option, Some, None, Result, Ok, Err, map, string_bytes}
+use Rattle.outside.specs.Faults.{Rose}
 use Rattle.cqe_base.specs.Schema.{Text, DatabaseSchema}
 use Rattle.cqe_base.specs.Facts.{FactSet}
 use Rattle.cqe_base.specs.History.{UserProfile, History, profile_of}
@@ -8,12 +9,18 @@ use Rattle.cqe_base.specs.Transcript.{NamedUser}
 use Rattle.cqe_base.specs.declared.user.User.{User}
 use Rattle.user_desk.specs.Causes.{IsStanding}
 use Rattle.user_desk.specs.Standings.{is_sealed}
-use Rattle.user_desk.specs.Lives.{Holds, Settles, Restarts}
-use Rattle.user_desk.specs.Desks.{desk_schema, desk_world, desk_user, desk_header, desk_standing, desk_history, desk_disk, state_of, IsIn}
+use Rattle.user_desk.specs.Lives.{Holds, Restarts}
 use Rattle.user_desk.specs.declared.standing.DeskError.{DeskError}
 use Rattle.user_desk.specs.declared.standing.Standing.{Standing}
 use Rattle.user_desk.specs.declared.standing.Standing.TheVariants.{Open, Closed, Sealed}
-use Rattle.batch_engine.specs.declared.seat.Seat.{Seat}
+use Rattle.desk_counter.specs.declared.item.Fixed.{Fixed}
+use Rattle.desk_counter.specs.Lives.{IsAskOf}
+use Rattle.desk_counter.specs.Items.{history_of}
+use Rattle.desk_counter.specs.Sole.{kept_in, pairs_of_sole, sole_state, IsSoleIn, IsUntouched}
+use Rattle.desk_counter.specs.declared.sole.SoleOf.{SoleOf}
+use Rattle.desk_counter.specs.declared.ticketed_desk.TicketedDesk.{TicketedDesk}
+use Rattle.desk_counter.specs.declared.item.Item.{Item}
+use Rattle.batch_engine.specs.Seats.{DeskSeat}
 use Rattle.batch_engine.specs.declared.seat.Returned.{Returned}
 
 -- users as they begin a batch, before their journals are opened
@@ -32,32 +39,56 @@ first_refusal (Some why) standing = Some why
 first_refusal None standing = refusal_of standing
 
 -- a seat's user
-abbrev pub seat_user : {D : Type 0} {g : _} → Seat D g → User
+abbrev pub seat_user : {D : Type 0} {g h : _} → DeskSeat D g h → User
 seat_user seat = seat.user.now
 
 -- the name of its user
-abbrev pub seat_name : {D : Type 0} {g : _} → Seat D g → Text
+abbrev pub seat_name : {D : Type 0} {g h : _} → DeskSeat D g h → Text
 seat_name seat = string_bytes seat.user.now.name
 
 -- the name of its journal on the shelf
-abbrev pub seat_journal : {D : Type 0} {g : _} → Seat D g → Text
+abbrev pub seat_journal : {D : Type 0} {g h : _} → DeskSeat D g h → Text
 seat_journal seat = string_bytes seat.journal
 
--- its disk
-abbrev pub seat_disk : {D : Type 0} {g : _} → Seat D g → D
-seat_disk seat = desk_disk seat.desk
+-- what no ask changes of its desk
+abbrev pub seat_kept : {D : Type 0} {g h : _} → DeskSeat D g h → Fixed D
+seat_kept seat = kept_in seat.desk
+
+-- its desk's standing
+abbrev pub seat_standing : {D : Type 0} {g h : _} → DeskSeat D g h → Standing
+seat_standing seat = (seat_kept seat).standing
+
+-- its desk's entries
+abbrev pub seat_history : {D : Type 0} {g h : _} → DeskSeat D g h → History
+seat_history seat = history_of (pairs_of_sole seat.desk)
+
+-- the state that its desk shows
+abbrev pub seat_state : {D : Type 0} {g h : _} → DeskSeat D g h → UserState
+seat_state seat = sole_state seat.desk
+
+-- its desk is in this state
+abbrev pub IsSeatIn : {D : Type 0} {g h : _} → DeskSeat D g h → UserState → Type 0
+IsSeatIn seat state = IsSoleIn seat.desk state
+
+-- its disk as its desk was opened
+abbrev pub seat_disk : {D : Type 0} {g h : _} → DeskSeat D g h → D
+seat_disk seat = (seat_kept seat).disk
+
+-- nothing was appended since its desk was opened
+abbrev pub IsFresh : {D : Type 0} {g h : _} → DeskSeat D g h → Type 0
+IsFresh seat = IsUntouched (seat_kept seat) (pairs_of_sole seat.desk)
 
 -- whether its user has this name
-abbrev pub is_named : {D : Type 0} {g : _} → Text → Seat D g → Bool
+abbrev pub is_named : {D : Type 0} {g h : _} → Text → DeskSeat D g h → Bool
 is_named name seat = bytes_eq (seat_name seat) name
 
--- the disk of an opening, at a desk or handed back
-abbrev pub disk_seated : {D : Type 0} {g : _} → Result (Seat D g) (Returned D) → D
+-- the disk of an opening, as a desk was opened or handed back
+abbrev pub disk_seated : {D : Type 0} {g h : _} → Result (DeskSeat D g h) (Returned D) → D
 disk_seated (Ok seat) = seat_disk seat
 disk_seated (Err returned) = returned.disk
 
 -- the name of its journal
-abbrev pub journal_seated : {D : Type 0} {g : _} → Result (Seat D g) (Returned D) → Text
+abbrev pub journal_seated : {D : Type 0} {g h : _} → Result (DeskSeat D g h) (Returned D) → Text
 journal_seated (Ok seat) = seat_journal seat
 journal_seated (Err returned) = string_bytes returned.journal
 
@@ -67,61 +98,72 @@ pub record IsLeft {D : Type 0} (reads : D → List ℕ) (image : D → List ℕ 
   pub images : (c : List ℕ) → image new c → image old c
   pub later : faults old ≤ faults new
 
+-- A desk leaves this disk as it is closed: unless its journal was refused, each image holds the state that the desk showed;
+-- the count rose where an append failed; and where nothing was appended the disk is as it was at the opening.
+pub record IsClosed {D : Type 0} {g h : _} (told : Type 0) (image : D → List ℕ → Type 0) (faults : D → ℕ) (desk : SoleOf (TicketedDesk D g) Item (Fixed D) h) (disk : D) : Type 0 where
+  pub holds : told → is_sealed (kept_in desk).standing ≡ false → (c : List ℕ) → image disk c
+      → Holds (kept_in desk).schema (kept_in desk).world (kept_in desk).user (kept_in desk).header (sole_state desk) c
+  pub later : faults (kept_in desk).disk ≤ faults disk
+  pub cause : (sole_state desk).broken ≡ true → Rose (faults (kept_in desk).disk) (faults disk)
+  pub shut : is_sealed (kept_in desk).standing ≡ true → disk ≡ (kept_in desk).disk
+  pub still : IsUntouched (kept_in desk) (pairs_of_sole desk) → disk ≡ (kept_in desk).disk
+
+-- a desk was closed, and an opening left its disk as this one
+pub record IsLeftBy {D : Type 0} {g h : _} (told : Type 0) (reads : D → List ℕ) (image : D → List ℕ → Type 0) (faults : D → ℕ) (desk : SoleOf (TicketedDesk D g) Item (Fixed D) h) (now : D) : Type 0 where
+  pub closed : D
+  pub is_closed : IsClosed told image faults desk closed
+  pub left : IsLeft reads image faults closed now
+
+module _ (schema : DatabaseSchema) (world : FactSet) where
+  -- a seat's user was told this of a text
+  pub record IsToldAt {D : Type 0} {g h : _} (text : Text) (told_reply : Reply) (old new : DeskSeat D g h) : Type 0 where
+    pub user_is : seat_user new ≡ seat_user old
+    pub journal_is : seat_journal new ≡ seat_journal old
+    pub refusal_is : new.refusal ≡ old.refusal
+    pub kept_is : seat_kept new ≡ seat_kept old
+    pub settled : (state : UserState) → IsSeatIn old state → IsAskOf schema world (profile_of (seat_user old)) (IsSeatIn new) state text told_reply
+
+  -- an ask of a name is told to the first seat of that name, and to nobody else
+  pub data Tells {D : Type 0} {g h : _} (name text : Text) : List (DeskSeat D g h) → List (DeskSeat D g h) → Option Reply → Type 0 where
+    nobody : Tells name text [] [] None
+    here : {old new : DeskSeat D g h} {others : List (DeskSeat D g h)} {told_reply : Reply}
+        → is_named name old ≡ true → IsToldAt text told_reply old new
+        → Tells name text (old ∷ others) (new ∷ others) (Some told_reply)
+    further : {seat : DeskSeat D g h} {others after : List (DeskSeat D g h)} {told_reply : Option Reply}
+        → is_named name seat ≡ false → Tells name text others after told_reply
+        → Tells name text (seat ∷ others) (seat ∷ after) told_reply
+
 module _ (schema : DatabaseSchema) (world : FactSet) (header : List ℕ) where
   -- a seat's desk is of this schema, this world, this header, and of its user
-  pub record IsServed {D : Type 0} {g : _} (seat : Seat D g) : Type 0 where
-    pub schema_is : desk_schema seat.desk ≡ schema
-    pub world_is : desk_world seat.desk ≡ world
-    pub header_is : desk_header seat.desk ≡ header
-    pub user_is : desk_user seat.desk ≡ profile_of (seat_user seat)
+  pub record IsServed {D : Type 0} {g h : _} (seat : DeskSeat D g h) : Type 0 where
+    pub schema_is : (seat_kept seat).schema ≡ schema
+    pub world_is : (seat_kept seat).world ≡ world
+    pub header_is : (seat_kept seat).header ≡ header
+    pub user_is : (seat_kept seat).user ≡ profile_of (seat_user seat)
 
   module _ {D : Type 0} (told : Type 0) (reads : D → List ℕ) (image : D → List ℕ → Type 0) (faults : D → ℕ) where
-    -- each image of a seat's disk holds the state that its desk shows, unless its journal was refused
-    abbrev pub HoldsState : {g : _} → Seat D g → Type 0
-    HoldsState seat =
-        told → is_sealed (desk_standing seat.desk) ≡ false → (c : List ℕ) → image (seat_disk seat) c → Holds schema world (profile_of (seat_user seat)) header (state_of seat.desk) c
-
     -- a seat was opened from this disk, behind an earlier refusal if there was one: its standing has its cause, and it is a restart of each state that the disk holds
-    pub record IsOpenedFrom {g : _} (disk : D) (before : Option DeskError) (seat : Seat D g) : Type 0 where
+    pub record IsOpenedFrom {g h : _} (disk : D) (before : Option DeskError) (seat : DeskSeat D g h) : Type 0 where
       pub served : IsServed seat
-      pub standing : IsStanding schema world (profile_of (seat_user seat)) told header (reads disk) (desk_history seat.desk) (faults disk) (faults (seat_disk seat)) (desk_standing seat.desk)
+      pub standing : IsStanding schema world (profile_of (seat_user seat)) told header (reads disk) (seat_history seat) (faults disk) (faults (seat_disk seat)) (seat_standing seat)
       pub restarted : told → (state : UserState) → Holds schema world (profile_of (seat_user seat)) header state (reads disk)
-          → Restarts schema world (profile_of (seat_user seat)) (IsIn seat.desk) state (faults disk) (faults (seat_disk seat))
-      pub refusal : seat.refusal ≡ first_refusal before (desk_standing seat.desk)
-      pub holds : HoldsState seat
-
-    -- a seat's user was told this of a text
-    pub record IsToldAt {g : _} (text : Text) (told_reply : Reply) (old new : Seat D g) : Type 0 where
-      pub user_is : seat_user new ≡ seat_user old
-      pub journal_is : seat_journal new ≡ seat_journal old
-      pub refusal_is : new.refusal ≡ old.refusal
-      pub standing_is : desk_standing new.desk ≡ desk_standing old.desk
-      pub served : IsServed new
-      pub settled : (state : UserState) → IsIn old.desk state
-          → Settles schema world (profile_of (seat_user old)) (IsIn new.desk) state text told_reply (faults (seat_disk old)) (faults (seat_disk new))
-      pub later : faults (seat_disk old) ≤ faults (seat_disk new)
-      pub shut : is_sealed (desk_standing old.desk) ≡ true → seat_disk new ≡ seat_disk old
-      pub holds : HoldsState new
-
-    -- an ask of a name is told to the first seat of that name, and to nobody else
-    pub data Tells {g : _} (name text : Text) : List (Seat D g) → List (Seat D g) → Option Reply → Type 0 where
-      nobody : Tells name text [] [] None
-      here : {old new : Seat D g} {others : List (Seat D g)} {told_reply : Reply}
-          → is_named name old ≡ true → IsToldAt text told_reply old new
-          → Tells name text (old ∷ others) (new ∷ others) (Some told_reply)
-      further : {seat : Seat D g} {others after : List (Seat D g)} {told_reply : Option Reply}
-          → is_named name seat ≡ false → Tells name text others after told_reply
-          → Tells name text (seat ∷ others) (seat ∷ after) told_reply
+          → Restarts schema world (profile_of (seat_user seat)) (IsSeatIn seat) state (faults disk) (faults (seat_disk seat))
+      pub refusal : seat.refusal ≡ first_refusal before (seat_standing seat)
+      pub fresh : IsFresh seat
+      -- each image of its disk holds the state that its desk shows, unless its journal was refused
+      pub holds : told → is_sealed (seat_standing seat) ≡ false → (c : List ℕ) → image (seat_disk seat) c → Holds schema world (profile_of (seat_user seat)) header (seat_state seat) c
 
     -- a seat was closed and opened again
-    pub record IsReopened {g : _} (old new : Seat D g) : Type 0 where
+    pub record IsReopened {g h : _} (old new : DeskSeat D g h) : Type 0 where
       pub user_is : seat_user new ≡ seat_user old
       pub journal_is : seat_journal new ≡ seat_journal old
-      pub opened : IsOpenedFrom (seat_disk old) old.refusal new
-      pub left : IsLeft reads image faults (seat_disk old) (seat_disk new)
+      pub closed : D
+      pub is_closed : IsClosed told image faults old.desk closed
+      pub opened : IsOpenedFrom closed old.refusal new
+      pub left : IsLeft reads image faults closed (seat_disk new)
 
     -- all were
-    abbrev pub AreReopened : {g : _} → List (Seat D g) → List (Seat D g) → Type 0
+    abbrev pub AreReopened : {g h : _} → List (DeskSeat D g h) → List (DeskSeat D g h) → Type 0
     AreReopened [] [] = Unit {0}
     AreReopened (old ∷ olds) (new ∷ news) = IsReopened old new × AreReopened olds news
     AreReopened olds news = ⊥

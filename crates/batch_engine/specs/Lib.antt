@@ -4,6 +4,7 @@ pub mod Batches
 pub mod BatchOf
 pub mod Lives
 pub mod Batch
+pub mod Seats
 pub mod Crew
 pub mod Shelved
 pub mod Steps

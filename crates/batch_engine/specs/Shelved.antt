@@ -7,8 +7,8 @@ use Rattle.cqe_base.specs.Facts.{FactSet}
 use Rattle.cqe_base.specs.declared.user.User.{User}
 use Rattle.log_journal.specs.Names.{journal_name}
 use Rattle.batch_engine.specs.Batch.{Journals}
-use Rattle.batch_engine.specs.Crew.{seat_user, seat_journal, seat_disk, IsLeft, IsOpenedFrom}
-use Rattle.batch_engine.specs.declared.seat.Seat.{Seat}
+use Rattle.batch_engine.specs.Crew.{seat_user, seat_journal, seat_disk, IsLeft, IsLeftBy, IsOpenedFrom}
+use Rattle.batch_engine.specs.Seats.{DeskSeat}
 
 -- the bytes that a shelf's disk reads; none where there is no disk
 abbrev pub bytes_on : {D : Type 0} → (D → List ℕ) → Option D → List ℕ
@@ -35,7 +35,7 @@ abbrev pub is_among : List Text → Text → Bool
 is_among names name = list_any (bytes_eq name) names
 
 -- the names of the seats' journals
-abbrev pub journals : {D : Type 0} {g : _} → List (Seat D g) → List Text
+abbrev pub journals : {D : Type 0} {g h : _} → List (DeskSeat D g h) → List Text
 journals seats = map seat_journal seats
 
 -- each name but these has the same as before
@@ -66,27 +66,27 @@ NoneFell old new = (name : Text) → old name ≤ new name
 abbrev pub AreOut : List Text → (Text → Bool) → Type 0
 AreOut names is_out = (name : Text) → is_out name ≡ is_among names name
 
--- no seat's disk has a lower count than its name
-abbrev pub AreLater : {D : Type 0} {g : _} → (D → ℕ) → (Text → ℕ) → List (Seat D g) → Type 0
+-- no seat's disk had a lower count than its name as its desk was opened
+abbrev pub AreLater : {D : Type 0} {g h : _} → (D → ℕ) → (Text → ℕ) → List (DeskSeat D g h) → Type 0
 AreLater faults count [] = Unit {0}
 AreLater faults count (seat ∷ seats) = (count (seat_journal seat) ≤ faults (seat_disk seat)) × AreLater faults count seats
 
 module _ {D : Type 0} (told : Type 0) (reads : D → List ℕ) (image : D → List ℕ → Type 0) (faults : D → ℕ) where
   -- a seat's disk is back, as its desk left it or as one more opening did
-  pub record IsBack {g : _} (disk : Text → Option D) (count : Text → ℕ) (seat : Seat D g) : Type 0 where
+  pub record IsBack {g h : _} (disk : Text → Option D) (count : Text → ℕ) (seat : DeskSeat D g h) : Type 0 where
     pub now : D
-    pub left : IsLeft reads image faults (seat_disk seat) now
+    pub left : IsLeftBy told reads image faults seat.desk now
     pub held : told → disk (seat_journal seat) ≡ Some now
     pub counted : count (seat_journal seat) ≡ faults now
 
   -- all are
-  abbrev pub AreBack : {g : _} → (Text → Option D) → (Text → ℕ) → List (Seat D g) → Type 0
+  abbrev pub AreBack : {g h : _} → (Text → Option D) → (Text → ℕ) → List (DeskSeat D g h) → Type 0
   AreBack disk count [] = Unit {0}
   AreBack disk count (seat ∷ seats) = IsBack disk count seat × AreBack disk count seats
 
   module _ (disk_told : Type 0) (schema : DatabaseSchema) (world : FactSet) (header directory : List ℕ) where
     -- a user's journal was taken from the shelf and opened
-    pub record IsSeatOf {g : _} (disk : Text → Option D) (count : Text → ℕ) (user : User) (seat : Seat D g) : Type 0 where
+    pub record IsSeatOf {g h : _} (disk : Text → Option D) (count : Text → ℕ) (user : User) (seat : DeskSeat D g h) : Type 0 where
       pub user_is : seat_user seat ≡ user
       pub journal_is : seat_journal seat ≡ journal_name directory (string_bytes user.name)
       pub taken : D
@@ -96,7 +96,7 @@ module _ {D : Type 0} (told : Type 0) (reads : D → List ℕ) (image : D → Li
       pub left : IsLeft reads image faults taken (seat_disk seat)
 
     -- those of all users were
-    abbrev pub AreSeatsOf : {g : _} → (Text → Option D) → (Text → ℕ) → List User → List (Seat D g) → Type 0
+    abbrev pub AreSeatsOf : {g h : _} → (Text → Option D) → (Text → ℕ) → List User → List (DeskSeat D g h) → Type 0
     AreSeatsOf disk count [] [] = Unit {0}
     AreSeatsOf disk count (user ∷ users) (seat ∷ seats) = IsSeatOf disk count user seat × AreSeatsOf disk count users seats
     AreSeatsOf disk count users seats = ⊥

@@ -12,17 +12,17 @@ ghost use Rattle.cqe_base.specs.Limits.{KeepsLimits};
 ghost use Rattle.log_journal.specs.Opening.{header_bytes};
 ghost use Rattle.log_journal.specs.Names.{journal_name};
 ghost use Rattle.user_log.specs.Replies.{reply_of};
-ghost use Rattle.user_desk.specs.Desks.{desk_schema, desk_world, desk_user, desk_header};
-ghost use Rattle.batch_engine.specs.Crew.{named_user, seat_user, is_named, IsServed, IsToldAt, Tells, AreReopened};
+ghost use Rattle.batch_engine.specs.Crew.{named_user, seat_user, seat_kept, is_named, IsServed, Tells, AreReopened};
 ghost use Rattle.batch_engine.specs.Shelved.{journals, SameBeside, AllOut, AllIn, NoneOut, NoneFell, AreOut, AreLater, AreBack, IsSeatOf, AreSeatsOf, SameBytes};
 ghost use Rattle.batch_engine.specs.declared.crew.NotOpened.{NotOpened};
 
 use crate::registry::Registry;
-use crate::seat::{Seat, reopen, seat_at};
+use crate::seat::{DeskSeat, close_desk, reopen, seat_at, settle_at};
 use cqe_base::user::User;
 use log_journal::{journal_name, law_journals_differ};
-use outside::{Disk, Shelf, ShelfError};
+use outside::{Disk, Gate, Shelf, ShelfError};
 use std::alloc::{AllocError, Global};
+use std::sync::Wait;
 use user_log::Reply;
 
 /// Why the journals of a batch weren't opened.
@@ -43,7 +43,7 @@ pub(crate) fn room_for<T: Drop>(alloc: Global, count: usize) -> Result<Vec<T>, A
 }
 
 /// Closes all desks and gives their disks back.
-pub(crate) fn give_back<F: Shelf>(shelf: &mut F, seats: Vec<Seat<'_, F::D>>)
+pub(crate) fn give_back<F: Shelf>(shelf: &mut F, seats: Vec<DeskSeat<'_, F::D>>)
     requires distinct { has_duplicate (journals seats.items) ≡ false }
     requires out { AllOut (journals seats.items) (F.is_out shelf.old) }
     requires later { AreLater F.D.faults (F.disk_faults shelf.old) seats.items }
@@ -56,7 +56,7 @@ pub(crate) fn give_back<F: Shelf>(shelf: &mut F, seats: Vec<Seat<'_, F::D>>)
 {
     let mut seats = seats;
     while let Some(seat) = seats.pop() {
-        let disk = seat.desk.close();
+        let disk = close_desk(seat.desk);
         shelf.give_disk(seat.journal.as_str(), disk);
     }
 }
@@ -66,8 +66,8 @@ pub(crate) fn reopen_all<'w, F: Shelf>(
     alloc: Global,
     registry: &Registry<'w>,
     shelf: &mut F,
-    seats: Vec<Seat<'w, F::D>>,
-) -> Option<Vec<Seat<'w, F::D>>>
+    seats: Vec<DeskSeat<'w, F::D>>,
+) -> Option<Vec<DeskSeat<'w, F::D>>>
     requires limits { AllByRecursion (λ seat. KeepsLimits registry.now.schema.now (profile_of (seat_user seat))) seats.items }
     requires distinct { has_duplicate (journals seats.items) ≡ false }
     requires out { AllOut (journals seats.items) (F.is_out shelf.old) }
@@ -109,7 +109,7 @@ fn open_seat<'w, F: Shelf>(
     registry: &Registry<'w>,
     shelf: &mut F,
     user: &'w User,
-) -> Result<Seat<'w, F::D>, NotOpened>
+) -> Result<DeskSeat<'w, F::D>, NotOpened>
     requires limits { KeepsLimits registry.now.schema.now (profile_of user.now) }
     requires inside { F.is_out shelf.old (journal_name registry.now.directory.now (string_bytes user.now.name)) ≡ false }
     ensures opened { IfOk result (IsSeatOf F.told F.D.reads F.D.image F.D.faults F.D.told registry.now.schema.now registry.now.world.now (header_bytes registry.now.header.now) registry.now.directory.now (F.disk shelf.old) (F.disk_faults shelf.old) user.now) }
@@ -148,7 +148,7 @@ pub(crate) fn open_all<'w, F: Shelf>(
     alloc: Global,
     registry: &Registry<'w>,
     shelf: &mut F,
-) -> Result<Vec<Seat<'w, F::D>>, NotOpened>
+) -> Result<Vec<DeskSeat<'w, F::D>>, NotOpened>
     requires limits { All (λ user. KeepsLimits registry.now.schema.now (profile_of user)) registry.now.users.now }
     requires distinct { has_duplicate (map (λ user. user.name) (map named_user registry.now.users.now)) ≡ false }
     requires inside { NoneOut (F.is_out shelf.old) }
@@ -178,7 +178,7 @@ pub(crate) fn open_all<'w, F: Shelf>(
 }
 
 /// The place of the first user who has this name.
-fn place_of<D: Disk>(seats: &[Seat<'_, D>], name: &str) -> Option<usize>
+fn place_of<D: Disk>(seats: &[DeskSeat<'_, D>], name: &str) -> Option<usize>
     ensures place { result ≡ position (is_named name.now) seats.now }
     ensures within { IfSome result (λ place. place < length seats.now) }
 {
@@ -187,30 +187,21 @@ fn place_of<D: Disk>(seats: &[Seat<'_, D>], name: &str) -> Option<usize>
         .position(|seat| seat.user.name.as_str() == name)
 }
 
-/// The reply to a text of the user of a seat.
-fn settle_at<D: Disk>(alloc: Global, seat: &mut Seat<'_, D>, text: &str) -> Reply
-    requires short { length text.now ≤ 4096 }
-    requires user { desk_user seat.old.desk ≡ profile_of (seat_user seat.old) }
-    ensures { IsToldAt (desk_schema seat.old.desk) (desk_world seat.old.desk) (desk_header seat.old.desk) D.told D.reads D.image D.faults text.now (reply_of result) seat.old seat.new }
-{
-    let reply = seat.desk.settle(alloc, text);
-    seat.desk.known();
-    reply
-}
-
 /// The reply to a text of the user who has this name, if one has.
-pub(crate) fn answer<D: Disk>(
+pub(crate) fn answer<R: Wait, G: Gate, D: Disk>(
+    rt: &R,
     alloc: Global,
-    seats: &mut Vec<Seat<'_, D>>,
+    seats: &mut Vec<DeskSeat<'_, D>>,
     name: &str,
     text: &str,
+    gate: &G,
 ) -> Option<Reply>
     requires short { length text.now ≤ 4096 }
-    requires users { AllByRecursion (λ seat. desk_user seat.desk ≡ profile_of (seat_user seat)) seats.old.items }
+    requires users { AllByRecursion (λ seat. (seat_kept seat).user ≡ profile_of (seat_user seat)) seats.old.items }
     ensures told { (schema : DatabaseSchema) (world : FactSet) (header : List ℕ) → AllByRecursion (IsServed schema world header) seats.old.items
-        → Tells schema world header D.told D.reads D.image D.faults name.now text.now seats.old.items seats.new.items (option_map reply_of result) }
+        → Tells schema world name.now text.now seats.old.items seats.new.items (option_map reply_of result) }
 {
     let place = place_of(seats.as_slice(), name)?;
     let seat = &mut seats[place];
-    Some(settle_at(alloc, seat, text))
+    Some(settle_at(rt, alloc, seat, text, gate))
 }

@@ -22,15 +22,17 @@ ghost use Rattle.batch_engine.specs.declared.run.BatchEnd.{BatchEnd};
 use crate::batch::{Batch, BatchAsk, BatchItem};
 use crate::crew::{NotOpened, answer, give_back, open_all, reopen_all, room_for};
 use crate::registry::Registry;
-use crate::seat::Seat;
+use crate::seat::{DeskSeat, Seat};
 use case_engine::line_reply;
 use cqe_base::laws::{law_legal_grows, law_private, law_runs_legal, law_scripts_hide};
 use cqe_base::text::ScriptError;
+use desk_counter::{Owned, TicketedDesk};
 use line_protocol::{LineText, text_of};
 use log_journal::law_journals_differ;
-use outside::{Disk, Failed, Shelf, Sink, Source, write_all};
+use outside::{Disk, Failed, Gate, Shelf, Sink, Source, write_all};
 use script_lines::{Reading, read_script};
 use std::alloc::Global;
+use std::sync::Wait;
 use user_desk::DeskError;
 use user_desk::laws::law_openings;
 use user_log::Reply;
@@ -55,11 +57,11 @@ pub enum BatchEnd {
 
 /// How the items of a batch were answered.
 #[derive(Drop)]
-enum Answered<'w, D: Disk> {
+enum Answered<'w, V: Owned> {
     /// All were, and it says whether some line is that an append failed.
-    All(Vec<Seat<'w, D>>, bool),
+    All(Vec<Seat<'w, V>>, bool),
     /// A write failed.
-    Cut(Vec<Seat<'w, D>>),
+    Cut(Vec<Seat<'w, V>>),
     /// Memory was wanting at a restart. All disks are back.
     Memory,
 }
@@ -103,13 +105,15 @@ fn is_broken_reply(told: Option<Reply>) -> bool
 
 /// Does what an item says: the seats behind it, its line, and whether that says that an append failed. Where memory is
 /// wanting at a restart, all disks are back.
-fn carry_out<'w, F: Shelf>(
+fn carry_out<'w, R: Wait, G: Gate, F: Shelf>(
+    rt: &R,
     alloc: Global,
     registry: &Registry<'w>,
     shelf: &mut F,
-    seats: Vec<Seat<'w, F::D>>,
+    seats: Vec<DeskSeat<'w, F::D>>,
     item: &BatchItem,
-) -> Option<(Vec<Seat<'w, F::D>>, LineText, bool)>
+    gate: &G,
+) -> Option<(Vec<DeskSeat<'w, F::D>>, LineText, bool)>
     requires limits { AllByRecursion (λ seat. KeepsLimits registry.now.schema.now (profile_of (seat_user seat))) seats.items }
     requires served { AllByRecursion (IsServed registry.now.schema.now registry.now.world.now (header_bytes registry.now.header.now)) seats.items }
     requires distinct { has_duplicate (journals seats.items) ≡ false }
@@ -127,7 +131,8 @@ fn carry_out<'w, F: Shelf>(
     match item {
         BatchItem::Ask(ask) => {
             let mut seats = seats;
-            let told = answer(alloc, &mut seats, ask.name.as_str(), ask.text.as_str());
+            let (name, text) = (ask.name.as_str(), ask.text.as_str());
+            let told = answer(rt, alloc, &mut seats, name, text, gate);
             Some((seats, line_of(ask, told), is_broken_reply(told)))
         }
         BatchItem::Restart => {
@@ -138,14 +143,16 @@ fn carry_out<'w, F: Shelf>(
 }
 
 /// Answers the items of a batch, each in a line.
-fn answer_all<'w, F: Shelf, K: Sink>(
+fn answer_all<'w, R: Wait, G: Gate, F: Shelf, K: Sink>(
+    rt: &R,
     alloc: Global,
     registry: &Registry<'w>,
     shelf: &mut F,
-    seats: Vec<Seat<'w, F::D>>,
+    seats: Vec<DeskSeat<'w, F::D>>,
     batch: &Batch,
     sink: &mut K,
-) -> Answered<'w, F::D>
+    gate: &G,
+) -> Answered<'w, TicketedDesk<'w, F::D>>
     requires limits { AllByRecursion (λ seat. KeepsLimits registry.now.schema.now (profile_of (seat_user seat))) seats.items }
     requires served { AllByRecursion (IsServed registry.now.schema.now registry.now.world.now (header_bytes registry.now.header.now)) seats.items }
     requires distinct { has_duplicate (journals seats.items) ≡ false }
@@ -164,7 +171,7 @@ fn answer_all<'w, F: Shelf, K: Sink>(
     let mut seats = seats;
     let mut is_broken = false;
     for item in batch.items() {
-        let Some((next, line, says_broken)) = carry_out(alloc, registry, shelf, seats, item) else {
+        let Some((next, line, says_broken)) = carry_out(rt, alloc, registry, shelf, seats, item, gate) else {
             return Answered::Memory;
         };
         seats = next;
@@ -180,7 +187,7 @@ fn answer_all<'w, F: Shelf, K: Sink>(
 /// The first refusal of each seat, in a list with the room for them.
 fn refusals_of<D: Disk>(
     room: Vec<Option<DeskError>>,
-    seats: &[Seat<'_, D>],
+    seats: &[DeskSeat<'_, D>],
 ) -> Vec<Option<DeskError>>
     requires empty { room.items ≡ [] }
     requires room { length seats.now ≤ vec_capacity room }
@@ -194,14 +201,17 @@ fn refusals_of<D: Disk>(
 }
 
 /// Reads the whole script of a batch from the source, refuses it before the first ask, or opens the journals of all users
-/// and answers its asks with one line each. A restart closes every desk and opens it again from its disk. All disks are
-/// given back on every path.
-pub fn run_batch<F: Shelf, S: Source, K: Sink>(
+/// and answers its asks with one line each. Each desk stands under a counter, at which an ask is settled as those of
+/// threads are, and passes the gate. A restart closes every desk and opens it again from its disk. All disks are given
+/// back on every path. It may wait, at the counters and at the gate.
+pub fn run_batch<R: Wait, F: Shelf, S: Source, K: Sink, G: Gate>(
+    rt: &R,
     alloc: Global,
     registry: &Registry<'_>,
     shelf: &mut F,
     source: &mut S,
     sink: &mut K,
+    gate: &G,
 ) -> BatchEnd
     requires limits { All (λ user. KeepsLimits registry.now.schema.now (profile_of user)) registry.now.users.now }
     requires names { has_duplicate (map (λ user. user.name) (map named_user registry.now.users.now)) ≡ false }
@@ -241,7 +251,7 @@ pub fn run_batch<F: Shelf, S: Source, K: Sink>(
         Err(NotOpened::Shelf) => return BatchEnd::ShelfFault,
         Err(NotOpened::Memory) => return BatchEnd::Memory,
     };
-    match answer_all(alloc, registry, shelf, seats, &batch, sink) {
+    match answer_all(rt, alloc, registry, shelf, seats, &batch, sink, gate) {
         Answered::All(seats, is_broken) => {
             let refusals = refusals_of(room, seats.as_slice());
             give_back(shelf, seats);

@@ -2,7 +2,7 @@
 #![tactic(auto)]
 
 use cqe_top::top;
-use outside::write_all;
+use outside::{OpenGate, write_all};
 use real_edge::{FileShelf, StreamSink, StreamSource};
 use std::process::ExitCode;
 use std::{env, io};
@@ -19,12 +19,14 @@ fn main(rt: HostRuntime) -> ExitCode {
         return ExitCode::from(OUT_OF_MEMORY);
     };
     let status = top(
+        &rt,
         rt.alloc(),
         &words,
         &mut shelf,
         &mut source,
         &mut sink,
         &mut complaints,
+        &OpenGate,
     );
     ExitCode::from(status)
 }

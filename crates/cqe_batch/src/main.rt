@@ -3,6 +3,7 @@
 #![tactic(auto)]
 
 use cqe_top::top;
+use outside::OpenGate;
 use real_edge::{FileShelf, StreamSink, StreamSource};
 use std::alloc::{AllocError, Global};
 use std::process::ExitCode;
@@ -36,23 +37,27 @@ fn main(rt: HostRuntime) -> ExitCode {
         return ExitCode::from(13);
     };
     let made = top(
+        &rt,
         rt.alloc(),
         &init,
         &mut shelf,
         &mut source,
         &mut sink,
         &mut complaints,
+        &OpenGate,
     );
     if made != 0 {
         return ExitCode::from(made);
     }
     let status = top(
+        &rt,
         rt.alloc(),
         &batch,
         &mut shelf,
         &mut source,
         &mut sink,
         &mut complaints,
+        &OpenGate,
     );
     ExitCode::from(status)
 }

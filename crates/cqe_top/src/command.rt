@@ -24,8 +24,9 @@ use batch_engine::{Registry, run_batch};
 use case_engine::run_case;
 use command_words::{Command, read_words};
 use init_engine::run_init;
-use outside::{Shelf, Sink, Source};
+use outside::{Gate, Shelf, Sink, Source};
 use std::alloc::{AllocError, Global};
+use std::sync::Wait;
 
 /// Does all that the program does, and answers the status with which it ends: 0 done, 2 usage, 3 policy, 4 facts,
 /// 5 script, 6 read, 7 write, 8 missing file, 9 shelf, 10 journal, 11 disk, 13 memory.
@@ -33,16 +34,19 @@ use std::alloc::{AllocError, Global};
 /// The command `case` reads a script with one user from the source and writes one line for each ask to the sink. `init`
 /// reads a policy and facts from the shelf and makes an empty journal on the disk of each user, where that is empty.
 /// `batch` reads the same files and a script of many users from the source, over their journals; a user whose journal is
-/// refused doesn't stop the others. `audit` reads the same files and prints what the journal of one of the users holds.
-/// `selfrun` makes a workload, runs it over objects in memory, and prints how often each reply came. What can't be done is
-/// said to the complaints; where they fail too, nothing else changes.
-pub fn top<F: Shelf, S: Source, K: Sink, E: Sink>(
+/// refused doesn't stop the others, and each ask passes the gate. `audit` reads the same files and prints what the journal
+/// of one of the users holds. `selfrun` makes a workload, runs it over objects in memory, and prints how often each reply
+/// came. It may wait, at the desks and at the gate. What can't be done is said to the complaints; where they fail too,
+/// nothing else changes.
+pub fn top<R: Wait, F: Shelf, S: Source, K: Sink, E: Sink, G: Gate>(
+    rt: &R,
     alloc: Global,
     words: &[String],
     shelf: &mut F,
     source: &mut S,
     sink: &mut K,
     complaints: &mut E,
+    gate: &G,
 ) -> u8
     requires inside { NoneOut (F.is_out shelf.old) }
 
@@ -117,18 +121,20 @@ pub fn top<F: Shelf, S: Source, K: Sink, E: Sink>(
     ensures sink_later { K.faults sink.old ≤ K.faults sink.new }
     ensures complaints_later { E.faults complaints.old ≤ E.faults complaints.new }
 {
-    let end = run(alloc, words, shelf, source, sink);
+    let end = run(rt, alloc, words, shelf, source, sink, gate);
     complain(complaints, &end);
     status_of(&end)
 }
 
 /// Runs the command of the words.
-fn run<'w, F: Shelf, S: Source, K: Sink>(
+fn run<'w, R: Wait, F: Shelf, S: Source, K: Sink, G: Gate>(
+    rt: &R,
     alloc: Global,
     words: &'w [String],
     shelf: &mut F,
     source: &mut S,
     sink: &mut K,
+    gate: &G,
 ) -> CommandEnd<'w>
     requires inside { NoneOut (F.is_out shelf.old) }
     ensures as_case { S.told → K.told → IsCase words.now → CaseReaches result (S.left source.old) (S.left source.new) (K.written sink.old) (K.written sink.new) }
@@ -171,6 +177,7 @@ fn run<'w, F: Shelf, S: Source, K: Sink>(
             init(alloc, files.policy, files.facts, files.journals, shelf)
         }
         Ok(Some(Command::Batch(files))) => batch(
+            rt,
             alloc,
             files.policy,
             files.facts,
@@ -178,11 +185,12 @@ fn run<'w, F: Shelf, S: Source, K: Sink>(
             shelf,
             source,
             sink,
+            gate,
         ),
         Ok(Some(Command::Audit(words))) => {
             audit(alloc, &words.files, words.user, words.json, shelf, sink)
         }
-        Ok(Some(Command::Selfrun(words))) => selfrun(alloc, &words, sink),
+        Ok(Some(Command::Selfrun(words))) => selfrun(rt, alloc, &words, sink),
         Ok(None) => CommandEnd::Usage,
         Err(AllocError) => CommandEnd::Memory,
     }
@@ -218,7 +226,8 @@ fn init<'w, F: Shelf>(
 }
 
 /// Runs a batch over the files of these names and the journals in this directory.
-fn batch<'w, F: Shelf, S: Source, K: Sink>(
+fn batch<'w, R: Wait, F: Shelf, S: Source, K: Sink, G: Gate>(
+    rt: &R,
     alloc: Global,
     policy: &'w str,
     facts: &'w str,
@@ -226,6 +235,7 @@ fn batch<'w, F: Shelf, S: Source, K: Sink>(
     shelf: &mut F,
     source: &mut S,
     sink: &mut K,
+    gate: &G,
 ) -> CommandEnd<'w>
     requires inside { NoneOut (F.is_out shelf.old) }
     ensures reaches { F.told → S.told → K.told
@@ -253,6 +263,6 @@ fn batch<'w, F: Shelf, S: Source, K: Sink>(
         header: &inputs.header,
         directory: journals,
     };
-    let end = run_batch(alloc, &registry, shelf, source, sink);
+    let end = run_batch(rt, alloc, &registry, shelf, source, sink, gate);
     end_of_batch(inputs.policy.users, end)
 }

@@ -41,9 +41,7 @@ fn give<E: Sink>(complaints: &mut E, end: &CommandEnd<'_>) -> Result<(), Failed>
         CommandEnd::Script(refusal) => write_all(complaints, script_complaint(*refusal).bytes()),
         CommandEnd::ReadFault => write_all(complaints, b"cqe: read fault\n"),
         CommandEnd::WriteFault => write_all(complaints, b"cqe: write fault\n"),
-        CommandEnd::Journal(name, why) => {
-            give_journal(complaints, name.as_str(), *why)
-        }
+        CommandEnd::Journal(name, why) => { give_journal(complaints, name.as_str(), *why) }
         CommandEnd::Journals(users, refusals) => {
             give_journals(complaints, users.as_slice(), refusals.as_slice())
         }

@@ -9,9 +9,11 @@ use command_words::SelfrunWords;
 use outside::Sink;
 use selfrun_engine::{SelfrunEnd, run_selfrun};
 use std::alloc::Global;
+use std::sync::Wait;
 
 /// Runs the workload that the words say, and writes its summary.
-pub(crate) fn selfrun<'w, K: Sink>(
+pub(crate) fn selfrun<'w, R: Wait, K: Sink>(
+    rt: &R,
     alloc: Global,
     words: &SelfrunWords,
     sink: &mut K,
@@ -27,7 +29,7 @@ pub(crate) fn selfrun<'w, K: Sink>(
     ensures write_cause { result ≡ CommandEnd.WriteFault → Rose (K.faults sink.old) (K.faults sink.new) }
     ensures sink_later { K.faults sink.old ≤ K.faults sink.new }
 {
-    match run_selfrun(alloc, words.seed, words.users, words.asks, sink) {
+    match run_selfrun(rt, alloc, words.seed, words.users, words.asks, sink) {
         SelfrunEnd::Done => CommandEnd::Done,
         SelfrunEnd::WriteFault => CommandEnd::WriteFault,
         SelfrunEnd::Memory => CommandEnd::Memory,

@@ -4,7 +4,7 @@ ghost use Rattle.std.specs.Prelude.{◌≡◌, List, ℕ, false};
 ghost use Rattle.outside.specs.MemoryShelves.{is_disk_out};
 
 use crate::top;
-use outside::{MemoryShelf, MemorySink, MemorySource, Pieces, Plan};
+use outside::{MemoryShelf, MemorySink, MemorySource, OpenGate, Pieces, Plan};
 use std::alloc::{AllocError, Global};
 use std::process::Abort;
 
@@ -26,7 +26,7 @@ struct Run {
 
 // Calls the program over a shelf that has all its disks, and has them all again.
 fn run_over(
-    alloc: Global,
+    rt: &HostRuntime,
     words: &[&str],
     shelf: &mut MemoryShelf,
     source: MemorySource,
@@ -36,18 +36,21 @@ fn run_over(
     requires { (name : List ℕ) → is_disk_out shelf.old name ≡ false }
     ensures { (name : List ℕ) → is_disk_out shelf.new name ≡ false }
 {
+    let alloc = rt.alloc();
     let (mut source, mut sink, mut complaints) = (source, sink, complaints);
     let mut texts = Vec::new(alloc);
     for word in words {
         texts.push(String::from_str(alloc, word)?)?;
     }
     let status = top(
+        rt,
         alloc,
         &texts,
         shelf,
         &mut source,
         &mut sink,
         &mut complaints,
+        &OpenGate,
     );
     Ok(Run {
         status,
@@ -60,7 +63,7 @@ fn run_over(
 impl Run {
     /// The program over a shelf that nobody asks for afterwards.
     fn new(
-        alloc: Global,
+        rt: &HostRuntime,
         words: &[&str],
         mut shelf: MemoryShelf,
         source: MemorySource,
@@ -69,19 +72,20 @@ impl Run {
     ) -> Result<Run, AllocError>
         requires { (name : List ℕ) → is_disk_out shelf name ≡ false }
     {
-        run_over(alloc, words, &mut shelf, source, sink, complaints)
+        run_over(rt, words, &mut shelf, source, sink, complaints)
     }
 
     /// A case whose script has these parts.
-    fn case(alloc: Global, script: &[&str]) -> Result<Run, AllocError> {
-        Run::script(alloc, joined(alloc, script)?)
+    fn case(rt: &HostRuntime, script: &[&str]) -> Result<Run, AllocError> {
+        Run::script(rt, joined(rt.alloc(), script)?)
     }
 
-    fn script(alloc: Global, script: Vec<u8>) -> Result<Run, AllocError> {
+    fn script(rt: &HostRuntime, script: Vec<u8>) -> Result<Run, AllocError> {
+        let alloc = rt.alloc();
         let sink = MemorySink::new(alloc);
         let complaints = MemorySink::new(alloc);
         Run::new(
-            alloc,
+            rt,
             &["case"],
             MemoryShelf::new(alloc),
             MemorySource::new(script),
@@ -92,16 +96,17 @@ impl Run {
 
     /// The same, where the streams cut.
     fn cut_case(
-        alloc: Global,
+        rt: &HostRuntime,
         script: &[&str],
         taken: Pieces,
         given: Pieces,
     ) -> Result<Run, AllocError> {
+        let alloc = rt.alloc();
         let source = MemorySource::with_plan(joined(alloc, script)?, taken, Plan::Never);
         let sink = MemorySink::with_plan(alloc, given, Plan::Never);
         let complaints = MemorySink::new(alloc);
         Run::new(
-            alloc,
+            rt,
             &["case"],
             MemoryShelf::new(alloc),
             source,

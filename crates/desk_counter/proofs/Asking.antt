@@ -67,7 +67,7 @@ module _ {D : Type 0} (fixed : Fixed D) where
       ap (λ s. reply_by fixed.schema fixed.world fixed.user (history_of after) s (has_broke after) text (reading fixed.schema text)) served.0
       ∙ ap (λ (o : Option AnsweredQuery). reply_by fixed.schema fixed.world fixed.user (history_of after) standing_open (is_some o) text (reading fixed.schema text)) (flying_broke found ticket entry served.1)
 
-  served_replies : (found : Entries Item) (text : Text) (query : Formula) (mark : base.Mark) → IsServed fixed found → Answers fixed found text query mark
+  pub served_replies : (found : Entries Item) (text : Text) (query : Formula) (mark : base.Mark) → IsServed fixed found → Answers fixed found text query mark
       → reply_at fixed.schema fixed.world fixed.user (state_shown fixed found) text ≡ marked mark
   served_replies found text query mark served answer =
       ap (λ s. reply_by fixed.schema fixed.world fixed.user (history_of found) s (has_broke found) text (reading fixed.schema text)) served.0

@@ -2,3 +2,5 @@ pub mod Settling
 pub mod Pairs
 pub mod Asking
 pub mod DeskSettles
+mod Closing
+mod Lives

@@ -4,3 +4,5 @@ pub mod Desks
 pub mod Asks
 pub mod Tickets
 pub mod Counters
+pub mod Lives
+pub mod Sole

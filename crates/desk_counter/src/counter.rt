@@ -31,16 +31,21 @@ pub type Counter<'w, D> = CounterOf<'w, TicketedDesk<'w, D>>;
 pub type DeskPass<D> = Pass<Item, Fixed<D>>;
 
 impl<'w, D: Disk> CounterOf<'w, TicketedDesk<'w, D>> {
-    ghost use Rattle.std.specs.Prelude.{◌⊎◌, ℕ, ◌^◌, ◌+◌, ◌*◌, ◌≤◌, ◌<◌, ◌↔◌, IsTrue, [], length, IfOk, IfErr, OnOk};
+    ghost use Rattle.std.specs.Prelude.{◌⊎◌, ℕ, ◌^◌, ◌+◌, ◌*◌, ◌≤◌, ◌<◌, ◌↔◌, IsTrue, true, false, List, [], ◌++◌, length, option_to_list, None, IfOk, IfErr, OnOk};
+    ghost use Rattle.outside.specs.Disk.{Elapses};
+    ghost use Rattle.outside.specs.Faults.{Rose};
     ghost use Rattle.cqe_base.specs.Censor.{IsLegal};
     ghost use Rattle.cqe_base.specs.Limits.{KeepsSizes};
     ghost use Rattle.turnstile.specs.declared.pass.PassError.TheVariants.{TooMany};
     ghost use Rattle.turnstile.specs.History.{IsPrefix, IsOpening, Interleaves, IsRising, entries_with, turn_entries, count_of};
     ghost use Rattle.turnstile.specs.Views.{remaining_view, split_off_view, view_of_both, DrewEachOnce};
     ghost use Rattle.turnstile.specs.Passes.{view_of, seen, tickets, mine, shares, turns};
-    ghost use Rattle.user_desk.specs.Desks.{desk_history, entry_in_flight};
+    ghost use Rattle.user_desk.specs.Entries.{StandsFor, StandsWithin};
+    ghost use Rattle.user_desk.specs.Lives.{Holds};
+    ghost use Rattle.user_desk.specs.Standings.{is_sealed};
+    ghost use Rattle.user_desk.specs.Desks.{desk_history, desk_disk, entry_in_flight};
     ghost use Rattle.desk_counter.specs.Items.{history_of, flying, has_broke, BrokeIsLast};
-    ghost use Rattle.desk_counter.specs.Desks.{fixed_of};
+    ghost use Rattle.desk_counter.specs.Desks.{fixed_of, state_shown};
     ghost use Rattle.desk_counter.specs.Asks.{NoMark, Asked, IsReply, TellsMark, AddsNone};
     ghost use Rattle.desk_counter.specs.Counters.{kept_by, IsPassOf};
 
@@ -160,7 +165,28 @@ impl<'w, D: Disk> CounterOf<'w, TicketedDesk<'w, D>> {
         ensures in_flight { entry_in_flight result ≡ flying (seen pass) }
         ensures mine { turn_entries (seen pass) ≡ mine pass }
         ensures drew { DrewEachOnce (view_of pass) }
+
+        // What was seen is a legal history within the limits, and each crash leaves just that; where an append failed, that
+        // or one entry more, and the disk's count of faults rose since the desk's opening.
+        ensures legal { IsLegal (kept_by self.entry).schema (kept_by self.entry).world (kept_by self.entry).user (history_of (seen pass)) }
+        ensures sizes { KeepsSizes (kept_by self.entry).schema (kept_by self.entry).user (history_of (seen pass)) }
+        ensures whole { D.told → is_sealed (kept_by self.entry).standing ≡ false → has_broke (seen pass) ≡ false → (c : List ℕ) → D.image (desk_disk result) c
+            → StandsFor (kept_by self.entry).schema (kept_by self.entry).header (history_of (seen pass)) c }
+        ensures images { D.told → is_sealed (kept_by self.entry).standing ≡ false → (c : List ℕ) → D.image (desk_disk result) c
+            → Holds (kept_by self.entry).schema (kept_by self.entry).world (kept_by self.entry).user (kept_by self.entry).header (state_shown (kept_by self.entry) (seen pass)) c }
+        ensures cause { has_broke (seen pass) ≡ true → Rose (D.faults (kept_by self.entry).disk) (D.faults (desk_disk result)) }
+        ensures count { D.faults (kept_by self.entry).disk ≤ D.faults (desk_disk result) }
+
+        // Since the opening each image stood for a beginning of it that has all entries at the opening; and where the journal
+        // was refused, or nothing was appended, the disk is as it was.
+        ensures since { D.told → is_sealed (kept_by self.entry).standing ≡ false → (c : List ℕ) → D.image_since (desk_disk result) (D.moment (kept_by self.entry).disk) c
+            → StandsWithin (kept_by self.entry).schema (kept_by self.entry).header (length (kept_by self.entry).opening) (history_of (seen pass) ++ option_to_list (flying (seen pass))) c }
+        ensures refused { is_sealed (kept_by self.entry).standing ≡ true → desk_disk result ≡ (kept_by self.entry).disk }
+        ensures still { length (history_of (seen pass)) ≡ length (kept_by self.entry).opening → flying (seen pass) ≡ None → desk_disk result ≡ (kept_by self.entry).disk }
+        ensures time { Elapses (D.moment (kept_by self.entry).disk) (D.moment (desk_disk result)) (D.image_since (kept_by self.entry).disk) (D.image_since (desk_disk result)) }
     {
-        self.turnstile.close(pass).into_desk()
+        let desk = self.turnstile.close(pass).into_desk();
+        desk.known();
+        desk
     }
 }

@@ -12,8 +12,12 @@
 
 mod counter;
 mod item;
+mod sole;
+#[cfg(test)]
+mod tests;
 mod ticketed_desk;
 
 pub use counter::{Counter, CounterOf, DeskPass};
 pub use item::{Answered, Fixed, Item, Profile};
+pub use sole::{SoleCounter, SoleOf};
 pub use ticketed_desk::{Owned, TicketedDesk};

@@ -16,6 +16,8 @@ use user_log::Reply;
 /// A value under a turnstile that belongs to a user.
 pub trait Owned: Recorded {
     ghost owner: { Self → UserProfile };
+    // What no turn changes, as the turnstile has it.
+    ghost kept: { Self → Self.Fixed };
 }
 
 /// A desk under a turnstile. Each of its entries has the ticket of the turn that added it, or 0 where it was there before,
@@ -40,6 +42,8 @@ impl<'w, D: Disk> Recorded for TicketedDesk<'w, D> {
 
 impl<'w, D: Disk> Owned for TicketedDesk<'w, D> {
     ghost owner = { λ d. desk_user d.desk };
+
+    ghost kept = { λ d. fixed_of d.desk };
 }
 
 impl<'w, D: Disk> TicketedDesk<'w, D> {

@@ -10,3 +10,6 @@ pub mod MemoryShelves
 pub mod Shelf
 pub mod Places
 pub mod MemoryDisks
+pub mod Visits
+pub mod MemoryDoors
+pub mod MemoryLinks

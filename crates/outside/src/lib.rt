@@ -1,10 +1,10 @@
-//! What lies outside of the program: sources, sinks, disks, and shelves of files and disks, each a trait with an object
-//! in memory that meets it.
+//! What lies outside of the program: sources, sinks, disks, shelves of files and disks, doors through which connections
+//! come, and links that open them, each a trait with an object in memory that meets it.
 //!
 //! A call answers `Failed` only where the count of faults of its object rose, and code that is generic over a trait
 //! can't raise a count. What an object gives or holds is told over memory and isn't told over a real stream or file.
 //!
-//! Read `stream`, `disk` and `shelf` first, then the objects in memory, which keep to a `Plan` of the calls that are to fail.
+//! Read `stream`, `disk`, `shelf` and `links` first, then the objects in memory, which keep to a `Plan` of the calls that are to fail.
 #![tactic(auto)]
 
 mod disk;
@@ -12,7 +12,12 @@ mod disk;
 mod disk_tests;
 mod fault;
 mod gate;
+mod links;
+#[cfg(test)]
+mod links_tests;
 mod memory_disk;
+mod memory_door;
+mod memory_links;
 mod memory_shelf;
 mod memory_stream;
 mod places;
@@ -28,7 +33,10 @@ mod write;
 pub use disk::Disk;
 pub use fault::Failed;
 pub use gate::{Gate, OpenGate, Point};
+pub use links::{Door, Links, LinksError};
 pub use memory_disk::{Call, MemoryDisk, Operation};
+pub use memory_door::{Connection, DoorBack, Finished, MemoryDoor};
+pub use memory_links::MemoryLinks;
 pub use memory_shelf::{MemoryFile, MemoryShelf};
 pub use memory_stream::{MemorySink, MemorySource};
 pub use places::Places;

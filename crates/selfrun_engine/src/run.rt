@@ -26,17 +26,19 @@ use batch_engine::{BatchEnd, Registry, run_batch};
 use cqe_base::world::World;
 use init_engine::{InitEnd, run_init};
 use log_journal::Header;
-use outside::{Failed, MemoryShelf, MemorySink, MemorySource, Sink};
+use outside::{Failed, MemoryShelf, MemorySink, MemorySource, OpenGate, Sink};
 use policy_files::{Policy, read_facts, read_policy};
 use sha2::{Digest, Sha256};
 use std::alloc::{AllocError, Global};
+use std::sync::Wait;
 use user_desk::DeskError;
 use workload::{Workload, make};
 
 /// Makes the workload of a seed, for 1 to 256 users and 1 to 10,000 asks, runs it over objects in memory, and writes the
 /// summary: eight lines with the seed, how many users and asks there are, how often each mark came, and how often another
 /// reply. Want of memory in one of the objects ends the run as any other want of memory does.
-pub fn run_selfrun<K: Sink>(
+pub fn run_selfrun<R: Wait, K: Sink>(
+    rt: &R,
     alloc: Global,
     seed: u64,
     users: u32,
@@ -51,7 +53,7 @@ pub fn run_selfrun<K: Sink>(
     ensures later { K.faults sink.old ≤ K.faults sink.new }
     ensures cause { result ≡ SelfrunEnd.WriteFault → Rose (K.faults sink.old) (K.faults sink.new) }
 {
-    let Ok(tally) = run(alloc, seed, users, asks) else {
+    let Ok(tally) = run(rt, alloc, seed, users, asks) else {
         return SelfrunEnd::Memory;
     };
     let Ok(lines) = summary_lines(alloc, seed, users, asks, &tally) else {
@@ -64,7 +66,13 @@ pub fn run_selfrun<K: Sink>(
 }
 
 // Makes the workload, runs it, and counts the replies.
-fn run(alloc: Global, seed: u64, users: u32, asks: u32) -> Result<Tally, AllocError>
+fn run<R: Wait>(
+    rt: &R,
+    alloc: Global,
+    seed: u64,
+    users: u32,
+    asks: u32,
+) -> Result<Tally, AllocError>
     requires some_user { 1 ≤ users }
     requires few_users { users ≤ 256 }
     requires some_ask { 1 ≤ asks }
@@ -82,7 +90,7 @@ fn run(alloc: Global, seed: u64, users: u32, asks: u32) -> Result<Tally, AllocEr
         policy: Sha256::digest(&made.policy),
         facts: Sha256::digest(&made.facts),
     };
-    let output = answers(alloc, &policy, &world, &header, made.script)?;
+    let output = answers(rt, alloc, &policy, &world, &header, made.script)?;
     Ok(tally_in(output.bytes()))
 }
 
@@ -91,7 +99,8 @@ const JOURNALS: &str = "journals";
 
 // The lines of a script over the users of a policy, whose journals are made on a shelf in memory. Where a call of one of
 // the objects in memory fails, memory was wanting.
-fn answers(
+fn answers<R: Wait>(
+    rt: &R,
     alloc: Global,
     policy: &Policy,
     world: &World,
@@ -118,7 +127,15 @@ fn answers(
     };
     let mut source = MemorySource::new(script);
     let mut output = MemorySink::new(alloc);
-    match run_batch(alloc, &registry, &mut shelf, &mut source, &mut output) {
+    match run_batch(
+        rt,
+        alloc,
+        &registry,
+        &mut shelf,
+        &mut source,
+        &mut output,
+        &OpenGate,
+    ) {
         BatchEnd::Done(refusals, is_broken) => {
             if is_broken || has_refusal(&refusals) {
                 return Err(AllocError);

@@ -16,6 +16,10 @@ use Rattle.user_desk.specs.declared.standing.Standing.{Standing}
 use Rattle.user_desk.proofs.Bytes.{stands_either, within_more, within_all, within_longer, within_least}
 use Rattle.user_desk.proofs.Recording.{IsGrowing}
 
+-- something isn't nothing
+pub some_not_none : {X : Type 0} {x : X} → Some x ≡ None → ⊥
+some_not_none e = cc
+
 -- a count that rose later rose
 rose_since : (first before now : ℕ) → first ≤ before → Rose before now → Rose first now
 rose_since first before now le (inl more) = inl (omega (arith, le, more))

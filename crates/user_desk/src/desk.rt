@@ -36,6 +36,7 @@ pub struct Desk<'w, D: Disk> {
     pub(crate) opened: usize,
     ghost kept: { IsKept D.told (D.image (stored_disk store)) (kept_schema log) (kept_world log) (kept_user log) (header_bytes header) standing (kept_history log) (option_map answered_query_of in_flight) (has_journal store) (has_failed store) } by { IsKept-prop _ _ _ _ _ _ _ _ _ _ _ },
     ghost since: { StandsSince D.told (D.image_since (stored_disk store) (D.moment (opened_disk store))) (kept_schema log) (header_bytes header) standing opened (kept_history log) (option_map answered_query_of in_flight) (has_journal store) } by { StandsSince-prop _ _ _ _ _ _ _ _ _ },
+    ghost still: { opened ≡ length (kept_history log) → option_map answered_query_of in_flight ≡ None → stored_disk store ≡ opened_disk store },
 }
 
 impl<'w, D: Disk> Desk<'w, D> {
@@ -90,11 +91,12 @@ impl<'w, D: Disk> Desk<'w, D> {
         ensures idle { is_open (desk_standing self.now) ≡ false → is_broken_desk self.now ≡ false }
 
         // Since the opening each image stands for a beginning of the entries, with the one in flight, that has the entries at
-        // the opening; where the journal was refused the disk is as it was.
+        // the opening; where the journal was refused, or nothing was appended, the disk is as it was.
         ensures begins { opening_count self.now ≤ length (desk_history self.now) }
         ensures since { D.told → is_sealed (desk_standing self.now) ≡ false → (c : List ℕ) → D.image_since (desk_disk self.now) (D.moment (opening_disk self.now)) c
             → StandsWithin (desk_schema self.now) (desk_header self.now) (opening_count self.now) (desk_history self.now ++ option_to_list (entry_in_flight self.now)) c }
         ensures refused { is_sealed (desk_standing self.now) ≡ true → desk_disk self.now ≡ opening_disk self.now }
+        ensures still { opening_count self.now ≡ length (desk_history self.now) → entry_in_flight self.now ≡ None → desk_disk self.now ≡ opening_disk self.now }
         ensures rests { is_sealed (desk_standing self.now) ≡ true → (c : List ℕ) → D.image_since (desk_disk self.now) (D.moment (opening_disk self.now)) c → D.image (opening_disk self.now) c }
 
         // The clock has gone on since, the count of faults hasn't fallen, and it rose where an append failed.

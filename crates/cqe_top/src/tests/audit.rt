@@ -1,12 +1,14 @@
 //! Audits: what is printed of each user, and what isn't done.
-use super::ward::{audit, batch, journal, journal_bytes, put_journal, shelf_of, ward};
-use super::ward::{FACTS, POLICY};
+use super::ward::{
+    FACTS, POLICY, audit, batch, journal, journal_bytes, put_journal, shelf_of, ward,
+};
 use super::{Run, joined};
 use outside::{MemorySink, MemorySource, Pieces, Plan};
 use std::test::Fail;
 
 // Two asks of each of three users.
-const SCRIPT: &str = "eve 1 ask drug(ann)\nron 1 ask drug(ann)\nkim 1 ask hiv(ann) or hiv(bob)\neve 2 ask hiv(bob)\nkim 1 ask hiv(ann)\nron 1 ask hiv(bob)\n";
+const SCRIPT: &str =
+    "eve 1 ask drug(ann)\nron 1 ask drug(ann)\nkim 1 ask hiv(ann) or hiv(bob)\neve 2 ask hiv(bob)\nkim 1 ask hiv(ann)\nron 1 ask hiv(bob)\n";
 
 #[test]
 fn each_user_has_his_audit(rt: HostRuntime) -> Result<(), Fail> {

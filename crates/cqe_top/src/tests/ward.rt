@@ -90,32 +90,38 @@ pub(super) fn shelf_of(
 }
 
 /// A shelf with the ward's files, and empty journals.
-pub(super) fn ward(alloc: Global) -> Result<MemoryShelf, AllocError>
+pub(super) fn ward(rt: &HostRuntime) -> Result<MemoryShelf, AllocError>
     ensures { IfOk result (λ shelf. (name : List ℕ) → is_disk_out shelf name ≡ false) }
 {
-    let mut shelf = shelf_of(alloc, POLICY.as_bytes(), FACTS.as_bytes())?;
-    let _run = init(alloc, &mut shelf)?;
+    let mut shelf = shelf_of(rt.alloc(), POLICY.as_bytes(), FACTS.as_bytes())?;
+    let _run = init(rt, &mut shelf)?;
     Ok(shelf)
 }
 
 /// `init` on this shelf.
-pub(super) fn init(alloc: Global, shelf: &mut MemoryShelf) -> Result<Run, AllocError>
+pub(super) fn init(rt: &HostRuntime, shelf: &mut MemoryShelf) -> Result<Run, AllocError>
     requires { (name : List ℕ) → is_disk_out shelf.old name ≡ false }
     ensures { (name : List ℕ) → is_disk_out shelf.new name ≡ false }
 {
+    let alloc = rt.alloc();
     let source = MemorySource::new(joined(alloc, &["not read"])?);
     let (sink, complaints) = (MemorySink::new(alloc), MemorySink::new(alloc));
-    run_over(alloc, &INIT, shelf, source, sink, complaints)
+    run_over(rt, &INIT, shelf, source, sink, complaints)
 }
 
 /// `batch` of this script on this shelf.
-pub(super) fn batch(alloc: Global, shelf: &mut MemoryShelf, script: &str) -> Result<Run, AllocError>
+pub(super) fn batch(
+    rt: &HostRuntime,
+    shelf: &mut MemoryShelf,
+    script: &str,
+) -> Result<Run, AllocError>
     requires { (name : List ℕ) → is_disk_out shelf.old name ≡ false }
     ensures { (name : List ℕ) → is_disk_out shelf.new name ≡ false }
 {
+    let alloc = rt.alloc();
     let source = MemorySource::new(joined(alloc, &[script])?);
     let (sink, complaints) = (MemorySink::new(alloc), MemorySink::new(alloc));
-    run_over(alloc, &BATCH, shelf, source, sink, complaints)
+    run_over(rt, &BATCH, shelf, source, sink, complaints)
 }
 
 /// `audit` of this user on this shelf, as text or in JSON.
@@ -175,5 +181,25 @@ pub(super) fn journal_bytes<'s>(shelf: &'s MemoryShelf, name: &str) -> &'s [u8] 
     match shelf.disk(name) {
         Some(disk) => disk.bytes(),
         None => &[],
+    }
+}
+
+/// Puts the journals of these names in the place of those of another shelf.
+pub(super) fn put_same(
+    alloc: Global,
+    from: &MemoryShelf,
+    names: &[&str],
+    shelf: &mut MemoryShelf,
+) -> Result<(), AllocError>
+    requires { (name : List ℕ) → is_disk_out shelf.old name ≡ false }
+    ensures { (name : List ℕ) → is_disk_out shelf.new name ≡ false }
+{
+    match names {
+        [] => Ok(()),
+        [name, rest @ ..] => {
+            let bytes = journal_bytes(from, name).to_vec(alloc)?;
+            put_journal(alloc, shelf, name, bytes)?;
+            put_same(alloc, from, rest, shelf)
+        }
     }
 }

@@ -15,8 +15,8 @@ returns-in-Ask-clause-carried g c =
     subst (λ item. Carries c.args.registry.now.schema.now c.args.registry.now.world.now (header_bytes c.args.registry.now.header.now) g.F.D.Disk.told g.F.D.Disk.reads g.F.D.Disk.image g.F.D.Disk.faults (item_in item)
     c.args.seats.items c.answer-told.new.seats.items c.line_of.result c.is_broken_reply.result) (sym c.in-Ask.is) (
       option_map reply_of c.answer-told.result,
-      told_here g.F.D.Disk.told g.F.D.Disk.reads g.F.D.Disk.image g.F.D.Disk.faults c.args.registry.now.schema.now c.args.registry.now.world.now (header_bytes c.args.registry.now.header.now) c.as_str.result.now c.as_str-in-Ask.result.now
-          c.args.seats.items c.answer-told.new.seats.items (option_map reply_of c.answer-told.result) c.as_str.ensures.value c.as_str-in-Ask.ensures.value
+      told_here c.args.registry.now.schema.now c.args.registry.now.world.now c.as_str-name.result.now c.as_str-text.result.now
+          c.args.seats.items c.answer-told.new.seats.items (option_map reply_of c.answer-told.result) c.as_str-name.ensures.value c.as_str-text.ensures.value
           (c.answer-told.ensures.told c.args.registry.now.schema.now c.args.registry.now.world.now (header_bytes c.args.registry.now.header.now) c.requires.served),
       c.line_of.ensures,
       c.is_broken_reply.ensures,

@@ -1,5 +1,5 @@
 use Rattle.std.proofs.Common.{◌≡◌, ◌≤◌, ◌+◌, ◌++◌, ◌∷◌, [], map, sym, ap, ◌∙◌, arith}
-use Rattle.batch_engine.specs.declared.seat.Seat.{Seat}
+use Rattle.batch_engine.specs.Seats.{DeskSeat}
 use Rattle.batch_engine.proofs.Running.{map_more}
 use Rattle.batch_engine.proofs.run.refusals_of.Goals as goal
 
@@ -11,7 +11,7 @@ loop-seat-preserved g c =
     let space = c.push_reserved.ensures.capacity in
     record {
       so_far = c.push_reserved.ensures.items ∙ ap (λ l. l ++ c.seat-item.result.refusal ∷ []) c.loop-seat.invariant.so_far
-          ∙ sym (map_more (λ (s : Seat _ _). s.refusal) c.args.seats.now c.loop-seat.seat-index c.seat-item.result c.loop-seat-test.true c.seat-item.is);
+          ∙ sym (map_more (λ (s : DeskSeat _ _ _). s.refusal) c.args.seats.now c.loop-seat.seat-index c.seat-item.result c.loop-seat-test.true c.seat-item.is);
       room = omega (arith, room, space);
       count = omega (arith, count, grown);
     }

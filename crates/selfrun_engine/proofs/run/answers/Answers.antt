@@ -14,11 +14,11 @@ use Rattle.selfrun_engine.proofs.Undisturbed.{batch_undisturbed}
 use Rattle.selfrun_engine.proofs.run.answers.Goals as goal
 
 pub run_batch-requires-clause-names : goal.run_batch-requires-clause-names
-run_batch-requires-clause-names c =
+run_batch-requires-clause-names g c =
     ap has_duplicate (ap (λ users. map (λ user. user.name) (map named_user users)) c.as_slice-users.ensures.value ∙ batch_names_are c.args.policy.now.users.items) ∙ c.requires.names
 
 pub returns-in-Done-run_batch : goal.returns-in-Done-run_batch
-returns-in-Done-run_batch c = λ items read named.
+returns-in-Done-run_batch g c = λ items read named.
     let policy = c.args.policy.now in
     let users = policy.users.items in
     let same = c.as_slice-users.ensures.value in

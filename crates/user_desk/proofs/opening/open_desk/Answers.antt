@@ -38,6 +38,7 @@ invariant_of-result g c =
     (λ opened. c.new.ensures.journal ∙ c.kept_medium.ensures.served (open_not_sealed c.in-Ok-replay.standing opened)) c.new.ensures.whole in
     record {
       kept = kept;
+      still = λ count none. sym began;
       since = since_first g.D.Disk.told (λ i. g.D.Disk.image (stored_disk store) i) (λ i. g.D.Disk.image_since (stored_disk store) (g.D.Disk.moment (opened_disk store)) i) _ _ _ (header_bytes c.args.header.now) c.in-Ok-replay.standing _ (kept_history c.in-Ok-replay.log) _ _ kept
           (count_of c.entries-opened.result.now (kept_history c.in-Ok-replay.log) c.entries-opened.ensures)
           (λ i here. g.met.D.Disk.only_now (stored_disk store) i (subst (λ d. g.D.Disk.image_since (stored_disk store) (g.D.Disk.moment d) i) began here))

@@ -1,4 +1,4 @@
-use Rattle.std.proofs.Common.{◌++◌, ◌∷◌, [], ℕ, List, length, take, refl, ap, sym, ◌∙◌, subst}
+use Rattle.std.proofs.Common.{◌++◌, ◌∷◌, [], ℕ, List, length, take, refl, ap, sym, ◌∙◌, subst, arith, length-append}
 use Rattle.std.specs.Prelude.{Option, Some, is_some}
 use Rattle.std.proofs.lemmas.List.{take-append-le}
 use Rattle.outside.specs.Faults.{Rose}
@@ -13,7 +13,7 @@ use Rattle.user_desk.specs.Lives.{shown}
 use Rattle.user_desk.specs.Desks.{state_of}
 use Rattle.user_desk.proofs.Asking.{failure_settles}
 use Rattle.user_desk.proofs.Recording.{still_holds, record_of_answer, legal_back, sizes_back, growing, kept_added, kept_flying, moment_holds}
-use Rattle.user_desk.proofs.Since.{split_moments, since_added, since_flying}
+use Rattle.user_desk.proofs.Since.{split_moments, since_added, since_flying, some_not_none}
 use Rattle.user_desk.proofs.desk.Desk.record.Goals as goal
 
 pub returns-then-is_err-clause-moments : goal.returns-then-is_err-clause-moments
@@ -38,6 +38,7 @@ invariant_of-self-in-Ok-append g c =
     let again = c.commit.ensures.same in
     let grown = c.commit.ensures.added ∙ ap (λ (h : History). h ++ prepared_entry c.in-Ok.prepared ∷ []) c.in-Ok.ensures.unchanged ∙ ap (λ e. kept_history desk.log ++ e ∷ []) c.in-Ok.ensures.entry in
     record {
+      still = λ count none. absurd (omega (arith, count, desk.since.begins, ap length grown, length-append (kept_history desk.log) (entry ∷ [])));
       kept = kept_added _ _ _ _ _ _ _ _ _ entry next bytes grows _ _ _ _ _ _ _ (again.schema ∙ same.schema) (again.world ∙ same.world) (again.user ∙ same.user) grown
           c.append.ensures.journal c.in-Ok-append.ensures.whole c.in-Ok-append.ensures.added;
       since = since_added g.D.Disk.told (λ i. g.D.Disk.image (stored_disk desk.store) i) _ _ _ _ _ _ _ entry next bytes grows
@@ -61,6 +62,7 @@ invariant_of-self-in-Err g c =
     let is = record_of_answer (kept_schema desk.log) c.args.text.now c.as_bytes.result.now (formula_of c.args.query) c.args.mark c.kind_of.result c.as_bytes.ensures.value c.kind_of.ensures.back c.requires.answer.read in
     let grows = growing _ _ _ _ _ _ _ _ _ _ _ entry next bytes desk.kept c.requires.opened c.requires.whole c.known.ensures.legal c.known.ensures.sizes legal sizes read is in
     record {
+      still = λ count none. absurd (some_not_none none);
       kept = kept_flying _ _ _ _ _ _ _ _ _ entry next bytes grows _ _ _ _ _ _ _ _ same.schema same.world same.user c.in-Ok.ensures.unchanged (c.into_entry.ensures ∙ c.in-Ok.ensures.entry)
           c.append.ensures.journal c.in-Err.ensures.failed c.in-Err.ensures.either;
       since = since_flying g.D.Disk.told (λ i. g.D.Disk.image (stored_disk desk.store) i) _ _ _ _ _ _ _ entry next bytes grows

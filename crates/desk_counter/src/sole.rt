@@ -1,0 +1,95 @@
+//! A counter in one thread's hands.
+ghost use Rattle.std.specs.Prelude.{◌≡◌, ◌≤◌, ◌*◌, length, Some, IfOk, IfErr};
+ghost use Rattle.turnstile.specs.Passes.{IsOf, IsReady, first_value, fixed, shares, turns};
+
+use crate::counter::CounterOf;
+use crate::ticketed_desk::{Owned, TicketedDesk};
+use outside::{Disk, Gate};
+use std::alloc::Global;
+use std::sync::Wait;
+use turnstile::Pass;
+use user_desk::Desk;
+use user_log::Reply;
+
+/// So many asks are made at most; with a nanosecond each they take a hundred years.
+const MOST_ASKS: u64 = 1 << 62;
+
+/// A desk under a counter, with the pass that has all shares: one thread asks by it as many threads ask at a counter.
+#[derive(Drop)]
+pub struct SoleOf<'w, V: Owned> {
+    counter: CounterOf<'w, V>,
+    pass: Pass<V::Item, V::Fixed>,
+    asks_left: u64,
+    ghost place: { IsOf pass counter.turnstile },
+    ghost ready: { IsReady pass },
+    ghost kept: { fixed pass ≡ Some (V.kept (first_value counter.turnstile)) },
+    ghost all: { shares pass ≡ 65 },
+    ghost room: { 2 * asks_left ≤ turns pass },
+}
+
+/// A user's desk under a counter, with the pass that has all shares.
+pub type SoleCounter<'w, D> = SoleOf<'w, TicketedDesk<'w, D>>;
+
+impl<'w, D: Disk> SoleOf<'w, TicketedDesk<'w, D>> {
+    ghost use Rattle.std.specs.Prelude.{true, false, List, ℕ};
+    ghost use Rattle.outside.specs.Faults.{Rose};
+    ghost use Rattle.cqe_base.specs.Run.{UserState};
+    ghost use Rattle.user_log.specs.Replies.{reply_of};
+    ghost use Rattle.user_desk.specs.Lives.{Holds};
+    ghost use Rattle.user_desk.specs.Standings.{is_sealed};
+    ghost use Rattle.user_desk.specs.Desks.{desk_history, desk_disk, entry_in_flight};
+    ghost use Rattle.desk_counter.specs.Items.{history_of, flying, has_broke};
+    ghost use Rattle.desk_counter.specs.Desks.{fixed_of};
+    ghost use Rattle.desk_counter.specs.Lives.{IsAskOf};
+    ghost use Rattle.desk_counter.specs.Sole.{kept_in, pairs_of_sole, sole_state, IsSoleIn, IsUntouched};
+
+    /// Puts a desk under a counter. For want of memory the desk comes back.
+    pub fn new(alloc: Global, desk: Desk<'w, D>) -> Result<SoleCounter<'w, D>, Desk<'w, D>>
+        ensures kept { IfOk result (λ sole. kept_in sole ≡ fixed_of desk.entry) }
+        ensures history { IfOk result (λ sole. history_of (pairs_of_sole sole) ≡ desk_history desk.entry) }
+        ensures in_flight { IfOk result (λ sole. flying (pairs_of_sole sole) ≡ entry_in_flight desk.entry) }
+        ensures err { IfErr result (λ same. same ≡ desk.entry) }
+    {
+        let (counter, pass) = CounterOf::new(alloc, desk)?;
+        Ok(SoleOf {
+            counter,
+            pass,
+            asks_left: MOST_ASKS,
+        })
+    }
+
+    /// Asks a text, as `Counter::ask` does.
+    pub fn ask<R: Wait, G: Gate>(&mut self, rt: &R, alloc: Global, text: &str, gate: &G) -> Reply
+        requires { length text.now ≤ 4096 }
+        ensures kept { kept_in self.new ≡ kept_in self.old }
+        // It is an ask of the run, with its reply and its ending.
+        ensures settled { (state : UserState) → IsSoleIn self.old state
+            → IsAskOf (kept_in self.old).schema (kept_in self.old).world (kept_in self.old).user (IsSoleIn self.new) state text.now (reply_of result) }
+    {
+        if self.asks_left == 0 {
+            return Reply::Memory;
+        }
+        let reply = self
+            .counter
+            .ask(rt, alloc, &mut self.pass, text, gate);
+        self.asks_left -= 1;
+        reply
+    }
+
+    /// Takes the desk out, as `Counter::close` does.
+    pub fn close(self) -> Desk<'w, D>
+        ensures kept { fixed_of result ≡ kept_in self.entry }
+        ensures history { desk_history result ≡ history_of (pairs_of_sole self.entry) }
+        ensures in_flight { entry_in_flight result ≡ flying (pairs_of_sole self.entry) }
+
+        // What became of its disk since the opening.
+        ensures images { D.told → is_sealed (kept_in self.entry).standing ≡ false → (c : List ℕ) → D.image (desk_disk result) c
+            → Holds (kept_in self.entry).schema (kept_in self.entry).world (kept_in self.entry).user (kept_in self.entry).header (sole_state self.entry) c }
+        ensures count { D.faults (kept_in self.entry).disk ≤ D.faults (desk_disk result) }
+        ensures cause { has_broke (pairs_of_sole self.entry) ≡ true → Rose (D.faults (kept_in self.entry).disk) (D.faults (desk_disk result)) }
+        ensures refused { is_sealed (kept_in self.entry).standing ≡ true → desk_disk result ≡ (kept_in self.entry).disk }
+        ensures still { IsUntouched (kept_in self.entry) (pairs_of_sole self.entry) → desk_disk result ≡ (kept_in self.entry).disk }
+    {
+        self.counter.close(self.pass)
+    }
+}

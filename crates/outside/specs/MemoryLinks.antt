@@ -1,0 +1,36 @@
+-- What links in memory show.
+use Rattle.std.specs.Prelude.{ℕ, ◌+◌, List, [], ◌∷◌, ◌++◌, length}
+use Rattle.std.specs.List.{sum_by}
+use Rattle.outside.specs.Visits.{Visit}
+use Rattle.outside.specs.MemoryDoors.{visits_of}
+use Rattle.outside.specs.declared.memory_door.DoorBack.{DoorBack}
+use Rattle.outside.specs.declared.memory_links.MemoryLinks.{MemoryLinks}
+
+-- the visits of the doors that are back
+abbrev pub visits_among : List DoorBack → List Visit
+visits_among [] = []
+visits_among (door ∷ doors) = visits_of door ++ visits_among doors
+
+-- how many connections the doors gave that are back
+abbrev pub links_given : MemoryLinks → ℕ
+links_given links = sum_by (λ door. door.given) links.doors_back.items
+
+-- how many are still to be given
+abbrev pub links_left : MemoryLinks → ℕ
+links_left links = links.left
+
+-- how many of them are at no door
+abbrev pub links_at_hand : MemoryLinks → ℕ
+links_at_hand links = length links.waiting.items + sum_by (λ group. length group.items) links.groups.items
+
+-- the visits of the doors that are back
+abbrev pub links_back : MemoryLinks → List Visit
+links_back links = visits_among links.doors_back.items
+
+-- how many doors aren't back
+abbrev pub links_out : MemoryLinks → ℕ
+links_out links = links.out
+
+-- their count of faults
+abbrev pub links_faults : MemoryLinks → ℕ
+links_faults links = links.faults

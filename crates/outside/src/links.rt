@@ -1,0 +1,139 @@
+// Connections of clients: the doors through which they come, and the links that open doors at an address.
+ghost use Rattle.std.specs.Prelude.{◌≡◌, ◌≢◌, ◌⊎◌, ◌<◌, ◌≤◌, ◌+◌, ◌-◌, ◌++◌, ◌∷◌, [], List, ℕ, Option, Some, All, length, IfOk, OnOk, OnErr, IsErrOf};
+ghost use Rattle.std.specs.List.{sum_by};
+ghost use Rattle.outside.specs.Faults.{Rose, HasCause};
+ghost use Rattle.outside.specs.Visits.{Visit, visit_of, came, IfCame, OnEnd};
+
+use crate::{Failed, Sink, Source};
+use std::alloc::Global;
+
+/// Why links don't listen.
+#[derive(Clone, Copy, Debug, PartialEq, Eq)]
+pub enum LinksError {
+    /// The links failed. It comes only where their count of faults rose.
+    Failed,
+    /// Memory was wanting.
+    Memory,
+}
+
+/// Where connections come in, one after the other. Each has two ends, which go back once it is served.
+pub trait Door {
+    /// The end of a connection that its client's bytes come from.
+    type Src: Source + Drop + Send;
+
+    /// The end of a connection that answers go to.
+    type Snk: Sink + Drop + Send;
+
+    /// Whether clauses are told what comes in and goes back: over memory they are, over a real socket they are not.
+    ghost told: { Type 0 };
+
+    /// How many connections it gave, where clauses are told.
+    ghost given: { Self → ℕ };
+
+    /// How many connections it has still to give, where clauses are told.
+    ghost left: { Self → ℕ };
+
+    /// The connections that are back, in the order in which they came back, where clauses are told.
+    ghost back: { Self → List Visit };
+
+    /// What the source of the last connection held, where that connection isn't back and clauses are told.
+    ghost last: { Self → Option (List ℕ) };
+
+    /// How often it answered that no further connection will come. It doesn't fall.
+    ghost ends: { Self → ℕ };
+
+    /// The count of faults, which doesn't fall.
+    ghost faults: { Self → ℕ };
+
+    /// The ends of the next connection, or none where no further one will come. It may wait for a client.
+    fn next(&mut self) -> Result<Option<(Self::Src, Self::Snk)>, Failed>
+        ensures given { told → given self.new ≡ given self.old + came result }
+        ensures left { told → left self.old ≡ came result + left self.new }
+        ensures last { told → IfCame result (λ source sink. last self.new ≡ Some (Self.Src.held source)) }
+        ensures back { told → back self.new ≡ back self.old }
+
+        // Nothing is taken from the ends or written to them, and they haven't failed.
+        ensures whole { IfCame result (λ source sink. (Self.Src.faults source ≡ 0) × (Self.Snk.faults sink ≡ 0)) }
+        ensures untaken { IfCame result (λ source sink. Self.Src.told → Self.Src.left source ≡ Self.Src.held source) }
+        ensures unwritten { IfCame result (λ source sink. Self.Snk.told → Self.Snk.written sink ≡ []) }
+        ensures none_left { told → OnEnd result (left self.old ≡ 0) }
+        ensures end { OnEnd result (Rose (ends self.old) (ends self.new)) }
+        ensures later { ends self.old ≤ ends self.new }
+        ensures cause { HasCause (faults self.old) (faults self.new) result };
+
+    /// Takes both ends of the last connection back. It takes no memory.
+    fn done(&mut self, source: Self::Src, sink: Self::Snk)
+        requires { told → last self.old ≡ Some (Self.Src.held source) }
+        ensures back { told → back self.new ≡ back self.old ++ visit_of (Self.Src.held source) (Self.Snk.written sink) (Self.Src.faults source) (Self.Snk.faults sink) ∷ [] }
+        ensures given { told → given self.new ≡ given self.old }
+        ensures left { told → left self.new ≡ left self.old }
+        ensures ends { ends self.new ≡ ends self.old }
+        ensures faults { faults self.new ≡ faults self.old };
+
+    /// A door that tells its connections gives ends that tell their bytes.
+    ghost tells_ends: { told → Self.Src.told × Self.Snk.told };
+}
+
+/// What opens doors at an address. Several doors can be open there, so that several threads serve.
+pub trait Links {
+    /// The doors that they open.
+    type D: Door + Drop + Send;
+
+    /// Whether clauses are told what comes in and goes back: over memory they are, over real sockets they are not.
+    ghost told: { Type 0 };
+
+    /// How many connections the doors gave that are back, where clauses are told.
+    ghost given: { Self → ℕ };
+
+    /// How many connections are still to be given, those at doors that aren't back among them, where clauses are told.
+    ghost left: { Self → ℕ };
+
+    /// How many of them are at no door, where clauses are told.
+    ghost at_hand: { Self → ℕ };
+
+    /// The finished connections of the doors that are back, where clauses are told.
+    ghost back: { Self → List Visit };
+
+    /// How many doors aren't back.
+    ghost out: { Self → ℕ };
+
+    /// The count of faults, which doesn't fall.
+    ghost faults: { Self → ℕ };
+
+    /// Opens so many doors at an address and keeps the place of each.
+    fn listen(
+        &mut self,
+        alloc: Global,
+        address: &str,
+        doors: u32,
+    ) -> Result<Vec<Self::D>, LinksError>
+        ensures count { IfOk result (λ opened. length opened.items ≡ doors) }
+        ensures whole { IfOk result (λ opened. All (λ door. Self.D.faults door ≡ 0) opened.items) }
+        ensures fresh { told → IfOk result (λ opened. All (λ door. (Self.D.given door ≡ 0) × (Self.D.back door ≡ [])) opened.items) }
+
+        // The connections at hand are spread over the doors.
+        ensures spread { told → IfOk result (λ opened. sum_by Self.D.left opened.items + at_hand self.new ≡ at_hand self.old) }
+        ensures all { told → 0 < doors → OnOk result (at_hand self.new ≡ 0) }
+        ensures kept { told → OnErr result (at_hand self.new ≡ at_hand self.old) }
+        ensures out { OnOk result (out self.new ≡ out self.old + doors) }
+        ensures none_out { OnErr result (out self.new ≡ out self.old) }
+        ensures given { told → given self.new ≡ given self.old }
+        ensures left { told → left self.new ≡ left self.old }
+        ensures back { told → back self.new ≡ back self.old }
+        ensures later { faults self.old ≤ faults self.new }
+        ensures cause { IsErrOf result LinksError.Failed → Rose (faults self.old) (faults self.new) };
+
+    /// Takes a door back that `listen` gave. Where the door failed, the links' count rises. It takes no memory.
+    fn take_back(&mut self, door: Self::D)
+        requires { 0 < out self.old }
+        ensures out { out self.old ≡ out self.new + 1 }
+        ensures given { told → given self.new ≡ given self.old + Self.D.given door }
+        ensures left { told → left self.new ≡ left self.old - Self.D.given door }
+        ensures at_hand { told → at_hand self.new ≡ at_hand self.old + Self.D.left door }
+        ensures back { told → back self.new ≡ back self.old ++ Self.D.back door }
+        ensures whole { Self.D.faults door ≡ 0 → faults self.new ≡ faults self.old }
+        ensures failed { Self.D.faults door ≢ 0 → Rose (faults self.old) (faults self.new) };
+
+    /// Links that tell their connections open doors that tell theirs.
+    ghost tells_doors: { told → Self.D.told };
+}

@@ -1,0 +1,291 @@
+// Links in memory.
+ghost use Rattle.std.specs.Prelude.{◌≡◌, ◌≤◌, ◌<◌, ◌+◌, ◌-◌, ◌++◌, [], All, length, vec_len, vec_capacity, IfOk, OnOk, OnErr};
+ghost use Rattle.std.specs.List.{sum_by};
+ghost use Rattle.outside.specs.MemoryDoors.{door_given, door_left, door_back, door_faults};
+
+use crate::{Connection, DoorBack, Finished, Links, LinksError, MemoryDoor, Plan};
+use std::alloc::{AllocError, Global};
+
+/// Links that spread connections from memory over the doors of a `listen`, and whose calls fail by a plan.
+#[derive(Drop)]
+pub struct MemoryLinks {
+    // The last of them is given first.
+    waiting: Vec<Connection>,
+    // What the doors that are back had still to give.
+    groups: Vec<Vec<Connection>>,
+    doors_back: Vec<DoorBack>,
+    out: usize,
+    left: usize,
+    plan: Plan,
+    // The plans of the doors to come, the last of them first.
+    door_plans: Vec<Plan>,
+    calls: u64,
+    faults: u64,
+    ghost group_room: { length groups.items + out ≤ vec_capacity groups },
+    ghost door_room: { length doors_back.items + out ≤ vec_capacity doors_back },
+}
+
+impl MemoryLinks {
+    ghost use Rattle.outside.specs.MemoryLinks.{links_given, links_left, links_at_hand, links_back, links_out, links_faults};
+
+    /// Links with these connections, the first of them first, that never fail, nor do their doors.
+    pub fn new(alloc: Global, connections: Vec<Connection>) -> Self
+        ensures left { links_left result ≡ length connections.items }
+        ensures at_hand { links_at_hand result ≡ length connections.items }
+        ensures given { links_given result ≡ 0 }
+        ensures back { links_back result ≡ [] }
+        ensures out { links_out result ≡ 0 }
+        ensures faultless { links_faults result ≡ 0 }
+    {
+        Self::with_plans(alloc, connections, Plan::Never, Vec::new(alloc))
+    }
+
+    /// The same, where the calls of the plan fail. Each door that they open follows the next of the other plans, and
+    /// never fails where there is none. A call that takes a door back can't fail and isn't counted.
+    pub fn with_plans(
+        alloc: Global,
+        connections: Vec<Connection>,
+        plan: Plan,
+        door_plans: Vec<Plan>,
+    ) -> Self
+        ensures left { links_left result ≡ length connections.items }
+        ensures at_hand { links_at_hand result ≡ length connections.items }
+        ensures given { links_given result ≡ 0 }
+        ensures back { links_back result ≡ [] }
+        ensures out { links_out result ≡ 0 }
+        ensures faultless { links_faults result ≡ 0 }
+    {
+        let mut waiting = connections;
+        waiting.reverse();
+        let mut door_plans = door_plans;
+        door_plans.reverse();
+        let left = waiting.len();
+        MemoryLinks {
+            waiting,
+            groups: Vec::new(alloc),
+            doors_back: Vec::new(alloc),
+            out: 0,
+            left,
+            plan,
+            door_plans,
+            calls: 0,
+            faults: 0,
+        }
+    }
+
+    /// The doors that are back, in the order in which they came back.
+    pub fn doors_back(&self) -> &[DoorBack] {
+        &self.doors_back
+    }
+
+    /// How many connections are still to be given.
+    pub fn left(&self) -> usize
+        ensures { result ≡ links_left self.now }
+    {
+        self.left
+    }
+
+    /// The count of faults.
+    pub fn faults(&self) -> u64
+        ensures { result ≡ links_faults self.now }
+    {
+        self.faults
+    }
+
+    // Opens so many doors, over which the connections are spread.
+    fn open(&mut self, alloc: Global, count: usize) -> Result<Vec<MemoryDoor>, AllocError>
+        ensures count { IfOk result (λ opened. length opened.items ≡ count) }
+        ensures whole { IfOk result (λ opened. All (λ door. door_faults door ≡ 0) opened.items) }
+        ensures fresh { IfOk result (λ opened. All (λ door. (door_given door ≡ 0) × (door_back door ≡ [])) opened.items) }
+        ensures spread { IfOk result (λ opened. sum_by door_left opened.items + links_at_hand self.new ≡ links_at_hand self.old) }
+        ensures all { 0 < count → OnOk result (links_at_hand self.new ≡ 0) }
+        ensures kept { OnErr result (links_at_hand self.new ≡ links_at_hand self.old) }
+        ensures out { OnOk result (links_out self.new ≡ links_out self.old + count) }
+        ensures none_out { OnErr result (links_out self.new ≡ links_out self.old) }
+        ensures given { links_given self.new ≡ links_given self.old }
+        ensures left { links_left self.new ≡ links_left self.old }
+        ensures back { links_back self.new ≡ links_back self.old }
+        ensures faults { links_faults self.new ≡ links_faults self.old }
+    {
+        gather(&mut self.waiting, &mut self.groups)?;
+        let rooms = make_rooms(alloc, count, self.waiting.len())?;
+        let mut opened = Vec::with_capacity(alloc, count)?;
+        let Some(out) = self.out.checked_add(count) else {
+            return Err(AllocError);
+        };
+        self.groups.reserve(out)?;
+        self.doors_back.reserve(out)?;
+        self.out = out;
+        spread(&mut self.waiting, rooms, &mut self.door_plans, &mut opened);
+        Ok(opened)
+    }
+}
+
+impl Links for MemoryLinks {
+    ghost use Rattle.outside.specs.MemoryLinks.{links_given, links_left, links_at_hand, links_back, links_out, links_faults};
+
+    type D = MemoryDoor;
+
+    ghost told = { Unit {0} };
+
+    ghost given = { links_given };
+
+    ghost left = { links_left };
+
+    ghost at_hand = { links_at_hand };
+
+    ghost back = { links_back };
+
+    ghost out = { links_out };
+
+    ghost faults = { links_faults };
+
+    ghost tells_doors = { λ told. told };
+
+    fn listen(
+        &mut self,
+        alloc: Global,
+        _address: &str,
+        doors: u32,
+    ) -> Result<Vec<MemoryDoor>, LinksError> {
+        let call = self.calls;
+        self.calls = call.saturating_add(1);
+        if self.plan.fails(call) {
+            self.faults = self.faults.saturating_add(1);
+            return Err(LinksError::Failed);
+        }
+        match self.open(alloc, doors as usize) {
+            Ok(opened) => Ok(opened),
+            Err(AllocError) => Err(LinksError::Memory),
+        }
+    }
+
+    fn take_back(&mut self, door: MemoryDoor) {
+        if door.faults() > 0 {
+            self.faults = self.faults.saturating_add(1);
+        }
+        let (waiting, back) = door.closed();
+        self.left = self.left.saturating_sub(back.given);
+        self.out -= 1;
+        self.groups.push_reserved(waiting);
+        self.doors_back.push_reserved(back);
+    }
+}
+
+// Moves so many connections from the end of one list to the end of another.
+fn move_some(from: &mut Vec<Connection>, to: &mut Vec<Connection>, count: usize)
+    requires enough { count ≤ length from.old.items }
+    requires room { length to.old.items + count ≤ vec_capacity to.old }
+    ensures taken { length from.new.items + count ≡ length from.old.items }
+    ensures moved { length to.new.items ≡ length to.old.items + count }
+    ensures capacity { vec_capacity to.new ≡ vec_capacity to.old }
+{
+    for _ in 0..count {
+        if let Some(connection) = from.pop() {
+            to.push_reserved(connection);
+        }
+    }
+}
+
+// Moves the connections of all groups to the others, so that they are given before those and in their order.
+fn gather(
+    waiting: &mut Vec<Connection>,
+    groups: &mut Vec<Vec<Connection>>,
+) -> Result<(), AllocError>
+    ensures all { OnOk result (groups.new.items ≡ []) }
+    ensures kept { length waiting.new.items + sum_by (λ group. length group.items) groups.new.items ≡ length waiting.old.items + sum_by (λ group. length group.items) groups.old.items }
+    ensures fewer { length groups.new.items ≤ length groups.old.items }
+    ensures capacity { vec_capacity groups.new ≡ vec_capacity groups.old }
+{
+    while let Some(group) = groups.pop() {
+        let mut group = group;
+        let count = group.len();
+        if waiting.reserve(count).is_err() {
+            groups.push_reserved(group);
+            return Err(AllocError);
+        }
+        group.reverse();
+        move_some(&mut group, waiting, count);
+    }
+    Ok(())
+}
+
+// The room for the connections of a door.
+#[derive(Drop)]
+struct Room {
+    size: usize,
+    waiting: Vec<Connection>,
+    finished: Vec<Finished>,
+    ghost empty: { (waiting.items ≡ []) × (finished.items ≡ []) },
+    ghost room: { (size ≤ vec_capacity waiting) × (size ≤ vec_capacity finished) },
+}
+
+impl Room {
+    fn new(alloc: Global, size: usize) -> Result<Room, AllocError>
+        ensures { IfOk result (λ room. room.size ≡ size) }
+    {
+        let waiting = Vec::with_capacity(alloc, size)?;
+        let finished = Vec::with_capacity(alloc, size)?;
+        Ok(Room {
+            size,
+            waiting,
+            finished,
+        })
+    }
+
+    // A door for so many of these connections.
+    fn filled(self, from: &mut Vec<Connection>, count: usize, plan: Plan) -> MemoryDoor
+        requires enough { count ≤ length from.old.items }
+        requires room { count ≤ self.size }
+        ensures taken { door_left result + length from.new.items ≡ length from.old.items }
+        ensures count { door_left result ≡ count }
+        ensures given { door_given result ≡ 0 }
+        ensures back { door_back result ≡ [] }
+        ensures faults { door_faults result ≡ 0 }
+    {
+        let Room {
+            size: _,
+            mut waiting,
+            finished,
+        } = self;
+        move_some(from, &mut waiting, count);
+        MemoryDoor::over(waiting, finished, plan)
+    }
+}
+
+// So many rooms of this size.
+fn make_rooms(alloc: Global, count: usize, size: usize) -> Result<Vec<Room>, AllocError>
+    ensures count { IfOk result (λ rooms. length rooms.items ≡ count) }
+    ensures size { IfOk result (λ rooms. All (λ room. room.size ≡ size) rooms.items) }
+{
+    let mut rooms = Vec::with_capacity(alloc, count)?;
+    for _ in 0..count {
+        let room = Room::new(alloc, size)?;
+        rooms.push(room)?;
+    }
+    Ok(rooms)
+}
+
+// Spreads the connections over doors, each with one of the rooms and the next of the plans.
+fn spread(
+    waiting: &mut Vec<Connection>,
+    rooms: Vec<Room>,
+    plans: &mut Vec<Plan>,
+    opened: &mut Vec<MemoryDoor>,
+)
+    requires sizes { All (λ room. room.size ≡ length waiting.old.items) rooms.items }
+    requires empty { opened.old.items ≡ [] }
+    requires room { length rooms.items ≤ vec_capacity opened.old }
+    ensures count { length opened.new.items ≡ length rooms.items }
+    ensures whole { All (λ door. door_faults door ≡ 0) opened.new.items }
+    ensures fresh { All (λ door. (door_given door ≡ 0) × (door_back door ≡ [])) opened.new.items }
+    ensures spread { sum_by door_left opened.new.items + length waiting.new.items ≡ length waiting.old.items }
+    ensures all { 0 < length rooms.items → length waiting.new.items ≡ 0 }
+{
+    let mut rooms = rooms;
+    while let Some(room) = rooms.pop() {
+        let share = waiting.len() / (rooms.len() + 1);
+        let plan = plans.pop().unwrap_or(Plan::Never);
+        opened.push_reserved(room.filled(waiting, share, plan));
+    }
+}
