@@ -1,0 +1,20 @@
+use Rattle.std.proofs.Common.{◌∙◌, ap, sym, string_bytes}
+use Rattle.std.specs.Prelude.{position}
+use Rattle.log_journal.specs.Opening.{header_bytes}
+use Rattle.cqe_top.specs.Files.{files_say}
+use Rattle.cqe_top.proofs.Auditing.{is_named, audit_over, nobody_over, named_at, looked_over, looked_at_none, refused_audit, not_usage, not_read, write_fault, shelf_fault}
+use Rattle.cqe_top.proofs.audit.audit.Goals as goal
+
+pub returns-clause-reaches : goal.returns-clause-reaches
+returns-clause-reaches g c = λ told sink_told.
+    let files = c.args.files.now in
+    let read = c.in-Ok in
+    let policy = read.inputs.policy in
+    let name = c.args.name.now in
+    let found = c.in-Some.ensures.place ∙ ap (position (is_named name)) c.as_slice.ensures.value in
+    audit_over g.F.D.Disk.reads g.F.D.Disk.image files.journals.now (g.F.Shelf.disk c.args.shelf.now) (g.F.Shelf.disk c.read_files.new.shelf) (g.F.Shelf.disk c.run_audit-end.new.shelf)
+    (g.F.Shelf.disk_faults c.args.shelf.now) (g.F.Shelf.disk_faults c.read_files.new.shelf) (g.F.Shelf.disk_faults c.run_audit-end.new.shelf)
+    c.args.json (g.K.Sink.written c.args.sink.now) (g.K.Sink.written c.run_audit-end.new.sink) files.policy.now files.facts.now name
+    (files_say (g.F.Shelf.file c.args.shelf.now files.policy.now) (g.F.Shelf.file c.args.shelf.now files.facts.now)) policy read.inputs.world (header_bytes read.inputs.header)
+    c.in-Some.place c.index-user.result.now c.run_audit-end.result c.end_of_audit.result read.ensures.disks read.ensures.counts (read.ensures.read told)
+    found c.in-Some.ensures.within c.index-user.ensures c.end_of_audit.ensures (c.run_audit-end.ensures.ends told sink_told)
