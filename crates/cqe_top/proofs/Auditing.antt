@@ -280,3 +280,8 @@ shelf_fault users number (audit_end.Refused why) end (owner, owned, is) same = l
 shelf_fault users number audit_end.WriteFault end is same = let clash : ends.WriteFault ≡ ends.ShelfFault = sym is ∙ same in absurd cc
 shelf_fault users number audit_end.ShelfFault end is same = refl
 shelf_fault users number audit_end.Memory end is same = let clash : ends.Memory ≡ ends.ShelfFault = sym is ∙ same in absurd cc
+
+-- a count that rose, rose from an earlier one too
+pub rose_longer : (before middle now : ℕ) → before ≤ middle → Rose middle now → Rose before now
+rose_longer before middle now later (inl less) = inl (omega (arith, later, less))
+rose_longer before middle now later (inr full) = inr full
