@@ -1,6 +1,7 @@
 use Rattle.std.proofs.Common.{◌∙◌, ap, sym, string_bytes}
 use Rattle.std.specs.Prelude.{position}
 use Rattle.log_journal.specs.Opening.{header_bytes}
+use Rattle.batch_engine.specs.Shelved.{journals_on}
 use Rattle.cqe_top.specs.Files.{files_say}
 use Rattle.cqe_top.proofs.Auditing.{is_named, audit_over, nobody_over, named_at, looked_over, looked_at_none, refused_audit, not_usage, not_read, write_fault, shelf_fault, rose_longer}
 use Rattle.cqe_top.proofs.audit.audit.Goals as goal
@@ -42,3 +43,13 @@ pub returns-clause-shelf_cause : goal.returns-clause-shelf_cause
 returns-clause-shelf_cause g c = λ is.
     rose_longer (g.F.Shelf.faults c.args.shelf.now) (g.F.Shelf.faults c.read_files.new.shelf) (g.F.Shelf.faults c.run_audit-end.new.shelf) c.in-Ok.ensures.later
     (c.run_audit-end.ensures.shelf_cause (shelf_fault c.in-Ok.inputs.policy.users.items c.in-Some.place c.run_audit-end.result c.end_of_audit.result c.end_of_audit.ensures is))
+
+pub returns-in_default-clause-reaches : goal.returns-in_default-clause-reaches
+returns-in_default-clause-reaches g c = λ told sink_told.
+    let files = c.args.files.now in
+    let read = c.in-Ok in
+    nobody_over (journals_on g.F.D.Disk.reads g.F.D.Disk.image files.journals.now (g.F.Shelf.disk c.args.shelf.now) (g.F.Shelf.disk c.read_files.new.shelf)
+    (g.F.Shelf.disk_faults c.args.shelf.now) (g.F.Shelf.disk_faults c.read_files.new.shelf))
+    c.args.json (g.K.Sink.written c.args.sink.now) files.policy.now files.facts.now c.args.name.now
+    (files_say (g.F.Shelf.file c.args.shelf.now files.policy.now) (g.F.Shelf.file c.args.shelf.now files.facts.now)) read.inputs.policy read.inputs.world (header_bytes read.inputs.header)
+    (read.ensures.read told) (c.in_default.ensures.place ∙ ap (position (is_named c.args.name.now)) c.as_slice.ensures.value)
