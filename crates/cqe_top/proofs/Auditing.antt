@@ -4,6 +4,7 @@ use Rattle.std.specs.Prelude.{find, cond, position, nat_lt, bytes_eq, option_map
 use Rattle.std.specs.List.{prefix_len}
 use Rattle.std.specs.declared.alloc.Global.{Global}
 use Rattle.std.proofs.lemmas.Bool.{lt-ltb, false≢true}
+use Rattle.std.proofs.lemmas.Option.{slice_get-map, slice_get_read}
 use Rattle.std.proofs.lemmas.Slice.Eq.{bytes_eq-Decides}
 use Rattle.outside.specs.Faults.{Rose}
 use Rattle.outside.specs.Shelf.{SameNames, SameOthers}
@@ -23,7 +24,8 @@ use Rattle.batch_engine.specs.Shelved.{journals_on, bytes_on, image_on, SameByte
 use Rattle.audit_engine.specs.Ends.{IsEnd, NoNewImages}
 use Rattle.audit_engine.specs.declared.end.AuditEnd.{AuditEnd}
 use Rattle.audit_engine.specs.declared.end.AuditEnd.TheVariants as audit_end
-use Rattle.policy_files.specs.Memory.{named_user_of}
+use Rattle.policy_files.specs.Memory.{named_user_of, policy_value_of}
+use Rattle.policy_files.specs.declared.policy.Policy.{Policy}
 use Rattle.policy_files.specs.Policies.{NamedUser, PolicyValue}
 use Rattle.policy_files.specs.Users.{names_of}
 use Rattle.cqe_top.specs.declared.end.CommandEnd.{CommandEnd}
@@ -32,6 +34,7 @@ use Rattle.cqe_top.specs.Files.{FilesSay, both, Say}
 use Rattle.cqe_top.specs.Statuses.{status_of, IsAt, IsEndOfAudit}
 use Rattle.cqe_top.specs.Refusals.{RefusesFiles, IsFileEnd}
 use Rattle.cqe_top.specs.Audited.{user_named, NamesNobody, Audits, AuditReaches, CanBeAudited, LooksAt}
+use Rattle.cqe_top.proofs.Users.{names_are}
 use Rattle.cqe_top.proofs.Good.{agree, IsBoth, not_missing}
 
 -- ---- the user of a name
@@ -218,3 +221,62 @@ looked_at_none reads image journal disk disk' same = record {
   bytes = λ other. ap (bytes_on reads) (same other);
   images = λ other c left. subst (λ d. image_on image d c) (same other) left;
 }
+
+-- ---- the user at a place
+
+-- he has the name
+pub named_at : (name : Text) (users : List User) (place : ℕ) (user : User) → Some place ≡ position (is_named name) users → place < length users → user ≡ get_or users place user → string_bytes user.name ≡ name
+named_at name users place user found low is = has_name name (map named_user_of users) (named_user_of user) (one_named name users place user user found is low)
+
+at_place : (users : List User) (place : ℕ) (user : User) (name : Text) → place < length users → user ≡ get_or users place user → string_bytes user.name ≡ name → IsAt (init.names_of users) place name
+at_place users place user name low is named =
+    slice_get-map (λ (u : User). string_bytes u.name) users place ∙ ap (λ o. option_map (λ (u : User). string_bytes u.name) o) (slice_get_read users (length users) place user refl low is) ∙ ap (λ (t : Text). Some t) named
+
+-- the audit of the user at the place of the name, over a shelf that was the same before the files were read
+pub audit_over : {D : Type 0} (reads : D → List ℕ) (image : D → List ℕ → Type 0) (directory : Text) (disk mid disk' : Text → Option D) (count mid_count count' : Text → ℕ)
+    (json : Bool) (old new policy_name facts_name : List ℕ) (name : Text) (files : FilesSay) (policy : Policy) (world : FactSet) (header : List ℕ) (place : ℕ) (user : User) (audited : AuditEnd) (end : CommandEnd)
+    → SameNames disk mid → SameNames count mid_count → files ≡ both (policy_value_of policy) world header
+    → Some place ≡ position (is_named name) policy.users.items → place < length policy.users.items → user ≡ get_or policy.users.items place user → IsEndOfAudit policy.users.items place audited end
+    → IsEnd policy.schema world header (string_bytes user.name) (profile_of user) (bytes_on reads (mid (journal_name directory (string_bytes user.name))))
+    (mid_count (journal_name directory (string_bytes user.name))) (count' (journal_name directory (string_bytes user.name))) json audited old new
+    → AuditReaches (journals_on reads image directory disk disk' count count') json old new policy_name facts_name name files end
+audit_over reads image directory disk mid disk' count mid_count count' json old new policy_name facts_name name files policy world header place user audited end same_disks same_counts say found low is ends_so ended =
+    let users = policy.users.items in
+    audit_reaches (journals_on reads image directory disk disk' count count') json old new policy_name facts_name name files (policy_value_of policy) world header users say (names_are users) (named_user_of user)
+    (one_named name users place user user found is low) place (at_place users place user name low is (named_at name users place user found low is)) audited end ends_so
+    (ended_over reads image disk mid disk' same_disks policy.schema world header directory (string_bytes user.name) (profile_of user) count mid_count count' json audited old new same_counts ended)
+
+-- nobody has the name
+pub nobody_over : (journals : Journals) (json : Bool) (old policy_name facts_name : List ℕ) (name : Text) (files : FilesSay) (policy : Policy) (world : FactSet) (header : List ℕ)
+    → files ≡ both (policy_value_of policy) world header → None ≡ position (is_named name) policy.users.items → AuditReaches journals json old old policy_name facts_name name files ends.Usage
+nobody_over journals json old policy_name facts_name name files policy world header say none = ((policy_value_of policy, world, header, say, nobody_named name policy.users.items none), refl)
+
+-- the audit of a user is never usage, and reads nothing
+pub not_usage : (users : List User) (number : ℕ) (audited : AuditEnd) (end : CommandEnd) → IsEndOfAudit users number audited end → end ≡ ends.Usage → ⊥
+not_usage users number audit_end.Done end is same = let clash : ends.Done ≡ ends.Usage = sym is ∙ same in cc
+not_usage users number (audit_end.Refused why) end (owner, owned, is) same = let clash : ends.Journal owner why ≡ ends.Usage = sym is ∙ same in cc
+not_usage users number audit_end.WriteFault end is same = let clash : ends.WriteFault ≡ ends.Usage = sym is ∙ same in cc
+not_usage users number audit_end.ShelfFault end is same = let clash : ends.ShelfFault ≡ ends.Usage = sym is ∙ same in cc
+not_usage users number audit_end.Memory end is same = let clash : ends.Memory ≡ ends.Usage = sym is ∙ same in cc
+
+pub not_read : (users : List User) (number : ℕ) (audited : AuditEnd) (end : CommandEnd) → IsEndOfAudit users number audited end → end ≡ ends.ReadFault → ⊥
+not_read users number audit_end.Done end is same = let clash : ends.Done ≡ ends.ReadFault = sym is ∙ same in cc
+not_read users number (audit_end.Refused why) end (owner, owned, is) same = let clash : ends.Journal owner why ≡ ends.ReadFault = sym is ∙ same in cc
+not_read users number audit_end.WriteFault end is same = let clash : ends.WriteFault ≡ ends.ReadFault = sym is ∙ same in cc
+not_read users number audit_end.ShelfFault end is same = let clash : ends.ShelfFault ≡ ends.ReadFault = sym is ∙ same in cc
+not_read users number audit_end.Memory end is same = let clash : ends.Memory ≡ ends.ReadFault = sym is ∙ same in cc
+
+-- a fault of the sink or of the shelf is that of the audit
+pub write_fault : (users : List User) (number : ℕ) (audited : AuditEnd) (end : CommandEnd) → IsEndOfAudit users number audited end → end ≡ ends.WriteFault → audited ≡ audit_end.WriteFault
+write_fault users number audit_end.Done end is same = let clash : ends.Done ≡ ends.WriteFault = sym is ∙ same in absurd cc
+write_fault users number (audit_end.Refused why) end (owner, owned, is) same = let clash : ends.Journal owner why ≡ ends.WriteFault = sym is ∙ same in absurd cc
+write_fault users number audit_end.WriteFault end is same = refl
+write_fault users number audit_end.ShelfFault end is same = let clash : ends.ShelfFault ≡ ends.WriteFault = sym is ∙ same in absurd cc
+write_fault users number audit_end.Memory end is same = let clash : ends.Memory ≡ ends.WriteFault = sym is ∙ same in absurd cc
+
+pub shelf_fault : (users : List User) (number : ℕ) (audited : AuditEnd) (end : CommandEnd) → IsEndOfAudit users number audited end → end ≡ ends.ShelfFault → audited ≡ audit_end.ShelfFault
+shelf_fault users number audit_end.Done end is same = let clash : ends.Done ≡ ends.ShelfFault = sym is ∙ same in absurd cc
+shelf_fault users number (audit_end.Refused why) end (owner, owned, is) same = let clash : ends.Journal owner why ≡ ends.ShelfFault = sym is ∙ same in absurd cc
+shelf_fault users number audit_end.WriteFault end is same = let clash : ends.WriteFault ≡ ends.ShelfFault = sym is ∙ same in absurd cc
+shelf_fault users number audit_end.ShelfFault end is same = refl
+shelf_fault users number audit_end.Memory end is same = let clash : ends.Memory ≡ ends.ShelfFault = sym is ∙ same in absurd cc
