@@ -290,11 +290,7 @@ fn a_crash_leaves_what_was_told(rt: HostRuntime) -> Result<(), Fail> {
         let mut shelf = ward(&rt)?;
         let disk = MemoryDisk::with_plan(alloc, journal(alloc, &[0])?, Plan::From(3 + stop))?;
         shelf.put_disk(alloc, "d/eve.log", disk)?;
-        let run = batch(
-            &rt,
-            &mut shelf,
-            "eve 1 ask drug(ann)\neve 1 ask hiv(bob)\n",
-        )?;
+        let run = batch(&rt, &mut shelf, "eve 1 ask drug(ann)\neve 1 ask hiv(bob)\n")?;
         let (status, output, complaint) = match stop {
             0..4 => (11, "eve 1 error 40\neve 1 error 40\n", "cqe: disk fault\n"),
             4..8 => (11, "eve 1 no\neve 1 error 40\n", "cqe: disk fault\n"),

@@ -110,7 +110,11 @@ pub(super) fn init(rt: &HostRuntime, shelf: &mut MemoryShelf) -> Result<Run, All
 }
 
 /// `batch` of this script on this shelf.
-pub(super) fn batch(rt: &HostRuntime, shelf: &mut MemoryShelf, script: &str) -> Result<Run, AllocError>
+pub(super) fn batch(
+    rt: &HostRuntime,
+    shelf: &mut MemoryShelf,
+    script: &str,
+) -> Result<Run, AllocError>
     requires { (name : List ℕ) → is_disk_out shelf.old name ≡ false }
     ensures { (name : List ℕ) → is_disk_out shelf.new name ≡ false }
 {
