@@ -272,7 +272,10 @@ fn two_threads_ask_one_desk(rt: HostRuntime) -> Result<(), Fail> {
     let (counter, pass) = counter_of(&rt, alloc, &clinic, &clinic.eve)?;
     let texts = ("drug(ann)", "not hiv(bob)");
     let (desk, told) = ask_by_two(&rt, alloc, counter, pass, texts).ok_or("not split")?;
-    assert_eq!(rt; (told, desk.entries().len(), desk.broken()), (200, 200, false));
+    assert_eq!(rt;
+        (told, desk.entries().len(), desk.broken()),
+        (200, 200, false)
+    );
     let mut lies = 0u64;
     for entry in desk.entries() {
         match entry.query {
@@ -348,10 +351,7 @@ impl Gate for Hold {
         if point == Point::Settled {
             self.settled.fetch_add(1, Ordering::SeqCst);
         }
-        if point == self.point
-            && user == "eve"
-            && self.passed.fetch_add(1, Ordering::SeqCst) == 0
-        {
+        if point == self.point && user == "eve" && self.passed.fetch_add(1, Ordering::SeqCst) == 0 {
             self.hold();
         }
     }
