@@ -2,5 +2,5 @@ pub mod Replying
 pub mod Passing
 pub mod Talking
 pub mod Hearing
-pub mod Making
 pub mod Serving
+pub mod Meeting

@@ -35,7 +35,7 @@ part_behind before middle after texts text is part =
     let longer = ap length more ∙ length-append first (text ++ codes "\n") in (
       length first + part.0,
       omega (arith, longer, part.1),
-      part.2.1 ∙ ap (λ m. m ++ take part.0 (text ++ codes "\n")) is ∙ append_assoc before first (take part.0 (text ++ codes "\n"))
+      part.2 ∙ ap (λ m. m ++ take part.0 (text ++ codes "\n")) is ∙ append_assoc before first (take part.0 (text ++ codes "\n"))
           ∙ ap (λ l. before ++ l) (sym (ap (take (length first + part.0)) more ∙ take_past first (text ++ codes "\n") part.0 (length first + part.0) refl)),
     )
   where

@@ -5,14 +5,10 @@ use Rattle.turnstile.specs.declared.pass.Pass.{Pass}
 use Rattle.turnstile.specs.History.{IsPrefix}
 use Rattle.turnstile.specs.Views.{remaining_view, split_off_view, view_of_both}
 use Rattle.turnstile.specs.Passes.{view_of, seen, mine, shares, turns}
-use Rattle.user_desk.specs.declared.desk.Desk.{Desk}
-use Rattle.user_desk.specs.Desks.{desk_history, entry_in_flight}
 use Rattle.desk_counter.specs.declared.item.Item.{Item}
 use Rattle.desk_counter.specs.declared.item.Fixed.{Fixed}
 use Rattle.desk_counter.specs.declared.ticketed_desk.TicketedDesk.{TicketedDesk}
 use Rattle.desk_counter.specs.declared.counter.CounterOf.{CounterOf}
-use Rattle.desk_counter.specs.Desks.{fixed_of}
-use Rattle.desk_counter.specs.Items.{history_of, flying}
 use Rattle.desk_counter.specs.Counters.{kept_by, IsPassOf}
 use Rattle.session_core.specs.declared.counters.CountersOf.{CountersOf}
 use Rattle.session_core.specs.declared.counters.Passes.{Passes}
@@ -20,19 +16,6 @@ use Rattle.session_core.specs.declared.counters.Passes.{Passes}
 -- the passes
 abbrev pub passes_in : {D : Type 0} → Passes D → List (Pass Item (Fixed D))
 passes_in passes = passes.passes.items
-
-module _ {D : Type 0} {g : _} where
-  -- a desk that was under a counter is as it was
-  pub record IsBack (old new : Desk D g) : Type 0 where
-    pub kept : fixed_of new ≡ fixed_of old
-    pub history : desk_history new ≡ desk_history old
-    pub in_flight : entry_in_flight new ≡ entry_in_flight old
-
-  -- all are
-  abbrev pub AreBack : List (Desk D g) → List (Desk D g) → Type 0
-  AreBack [] [] = Unit {0}
-  AreBack (old ∷ olds) (new ∷ news) = IsBack old new × AreBack olds news
-  AreBack olds news = ⊥
 
 module _ {D : Type 0} {g h : _} where
   -- a pass at each counter, in order
@@ -52,34 +35,6 @@ module _ {D : Type 0} {g h : _} where
   -- the passes are at these counters
   abbrev pub ArePassesOf : Passes D → CountersOf (TicketedDesk D g) Item (Fixed D) h → Type 0
   ArePassesOf passes counters = ArePasses (passes_in passes) counters.counters.items
-
-  -- A counter with a pass that has all shares and has seen what the desk has, and no more.
-  pub record IsFresh (desk : Desk D g) (pass : Pass Item (Fixed D)) (counter : CounterOf (TicketedDesk D g) Item (Fixed D) h) : Type 0 where
-    pub pass_is : IsPassOf pass counter
-    pub kept : kept_by counter ≡ fixed_of desk
-    pub history : history_of (seen pass) ≡ desk_history desk
-    pub in_flight : flying (seen pass) ≡ entry_in_flight desk
-    pub mine_is : mine pass ≡ []
-    pub all : shares pass ≡ 65
-    pub turns_is : turns pass ≡ 65 * 2 ^ 57
-
-  -- each desk got one
-  abbrev pub AreFresh : List (Desk D g) → List (Pass Item (Fixed D)) → List (CounterOf (TicketedDesk D g) Item (Fixed D) h) → Type 0
-  AreFresh [] [] [] = Unit {0}
-  AreFresh (desk ∷ desks) (pass ∷ passes) (counter ∷ counters) = IsFresh desk pass counter × AreFresh desks passes counters
-  AreFresh desks passes counters = ⊥
-
-  -- A counter was closed, with the pass at it, and this is its desk.
-  pub record IsClosed (pass : Pass Item (Fixed D)) (counter : CounterOf (TicketedDesk D g) Item (Fixed D) h) (desk : Desk D g) : Type 0 where
-    pub kept : fixed_of desk ≡ kept_by counter
-    pub history : desk_history desk ≡ history_of (seen pass)
-    pub in_flight : entry_in_flight desk ≡ flying (seen pass)
-
-  -- all were
-  abbrev pub AreClosed : List (Pass Item (Fixed D)) → List (CounterOf (TicketedDesk D g) Item (Fixed D) h) → List (Desk D g) → Type 0
-  AreClosed [] [] [] = Unit {0}
-  AreClosed (pass ∷ passes) (counter ∷ counters) (desk ∷ desks) = IsClosed pass counter desk × AreClosed passes counters desks
-  AreClosed passes counters desks = ⊥
 
   -- A pass was split: one has the rest, and the other one share.
   pub record IsSplit (counter : CounterOf (TicketedDesk D g) Item (Fixed D) h) (old new part : Pass Item (Fixed D)) : Type 0 where
@@ -107,20 +62,6 @@ module _ {D : Type 0} {g h : _} where
   AreMet [] [] [] [] = Unit {0}
   AreMet (counter ∷ counters) (old ∷ olds) (other ∷ others) (new ∷ news) = IsMet counter old other new × AreMet counters olds others news
   AreMet counters olds others news = ⊥
-
-  -- The last counter was closed, and this is its desk.
-  pub record IsTaken (counters left : List (CounterOf (TicketedDesk D g) Item (Fixed D) h)) (passes passes_left : List (Pass Item (Fixed D))) (desk : Desk D g) : Type 0 where
-    pub counter : CounterOf (TicketedDesk D g) Item (Fixed D) h
-    pub pass : Pass Item (Fixed D)
-    pub counters_were : counters ≡ left ++ counter ∷ []
-    pub passes_were : passes ≡ passes_left ++ pass ∷ []
-    pub closed : IsClosed pass counter desk
-
-  -- these desks came back behind others
-  pub record ComeBack (passes : List (Pass Item (Fixed D))) (counters : List (CounterOf (TicketedDesk D g) Item (Fixed D) h)) (old new : List (Desk D g)) : Type 0 where
-    pub back : List (Desk D g)
-    pub behind : new ≡ old ++ back
-    pub closed : AreClosed passes counters back
 
 -- a pass can be split
 abbrev pub CanSplit : {D : Type 0} → Pass Item (Fixed D) → Type 0

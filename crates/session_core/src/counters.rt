@@ -1,14 +1,10 @@
 //! The counters of all users, and a thread's passes at them.
-ghost use Rattle.std.specs.Prelude.{◌≡◌, ◌≤◌, ◌+◌, reverse, vec_len, vec_capacity};
-ghost use Rattle.std.specs.List.{AllByRecursion};
-ghost use Rattle.turnstile.specs.Passes.{shares, turns};
-ghost use Rattle.session_core.specs.Members.{ArePasses, ComeBack};
+ghost use Rattle.std.specs.Prelude.{◌≡◌};
 
 use cqe_base::user::User;
 use desk_counter::{Counter, CounterOf, DeskPass, Owned, TicketedDesk};
 use outside::Disk;
 use std::alloc::{AllocError, Global};
-use user_desk::Desk;
 
 /// A counter for each user. It stands for `Counters` wherever a thread is to take it, since it says nothing of what is
 /// under the counters.
@@ -27,44 +23,33 @@ pub struct Passes<D> {
     pub(crate) passes: Vec<DeskPass<D>>,
 }
 
-impl<'w, D: Disk + Drop> CountersOf<'w, TicketedDesk<'w, D>> {
-    ghost use Rattle.std.specs.Prelude.{◌*◌, ◌^◌, [], IfOk, IfErr, IfSome, IfNone, OnSome, OnErr};
-    ghost use Rattle.session_core.specs.Members.{ArePassesOf, AreFresh, AreBack, AreSplit, AreMet, CanSplit, IsTaken, users_of, passes_in};
+impl<'w, D: Disk> CountersOf<'w, TicketedDesk<'w, D>> {
+    ghost use Rattle.std.specs.Prelude.{IfOk, OnErr};
+    ghost use Rattle.std.specs.List.{AllByRecursion};
+    ghost use Rattle.session_core.specs.Members.{ArePasses, ArePassesOf, AreSplit, AreMet, CanSplit, users_of, passes_in};
 
-    /// Puts the desks of these users, each his own, under counters. The passes have all shares. For want of memory the desks
-    /// come back.
+    /// Puts counters together, each of one of these users, in their order, with a pass at each.
     pub fn new(
-        alloc: Global,
         users: &'w [User],
-        desks: Vec<Desk<'w, D>>,
-    ) -> Result<(Counters<'w, D>, Passes<D>), Vec<Desk<'w, D>>>
-        ensures users { IfOk result (λ c. users_of c.0 ≡ users.now) }
-        ensures ready { IfOk result (λ c. ArePassesOf c.1 c.0 × AllByRecursion (λ pass. (shares pass ≡ 65) × (turns pass ≡ 65 * 2 ^ 57)) (passes_in c.1)) }
-        ensures fresh { IfOk result (λ c. AreFresh desks.entry.items (passes_in c.1) c.0.counters.items) }
-        ensures back { IfErr result (λ back. AreBack desks.entry.items back.items) }
+        counters: Vec<Counter<'w, D>>,
+        passes: Vec<DeskPass<D>>,
+    ) -> (Counters<'w, D>, Passes<D>)
+        requires passes { ArePasses passes.items counters.items }
+        ensures users { users_of result.0 ≡ users.now }
+        ensures counters { result.0.counters.items ≡ counters.entry.items }
+        ensures passes { passes_in result.1 ≡ passes.items }
     {
-        let mut desks = desks;
-        let mut counters = Vec::new(alloc);
-        let mut passes = Vec::new(alloc);
-        if counters.reserve(desks.len()).is_err() || passes.reserve(desks.len()).is_err() {
-            return Err(desks);
-        }
-        while let Some(desk) = desks.pop() {
-            match Counter::new(alloc, desk) {
-                Ok((counter, pass)) => {
-                    counters.push_reserved(counter);
-                    passes.push_reserved(pass);
-                }
-                Err(desk) => {
-                    desks.push_reserved(desk);
-                    take_off(&mut desks, counters, passes);
-                    return Err(desks);
-                }
-            }
-        }
-        counters.reverse();
-        passes.reverse();
-        Ok((CountersOf { users, counters }, Passes { passes }))
+        (CountersOf { users, counters }, Passes { passes })
+    }
+
+    /// Takes the counters and the passes at them apart again.
+    pub fn into_parts(self, passes: Passes<D>) -> (Vec<Counter<'w, D>>, Vec<DeskPass<D>>)
+        ensures counters { result.0.items ≡ self.entry.counters.items }
+        ensures passes { result.1.items ≡ passes_in passes }
+    {
+        let CountersOf { users: _, counters } = self;
+        let Passes { passes } = passes;
+        (counters, passes)
     }
 
     /// Splits off a pass at each counter, with one share and 2^57 turns. For want of memory nothing changes.
@@ -96,37 +81,5 @@ impl<'w, D: Disk + Drop> CountersOf<'w, TicketedDesk<'w, D>> {
             let place = others.len();
             self.counters[place].meet(&mut passes.passes[place], other);
         }
-    }
-
-    /// Takes the desk of the last user out, with the pass at its counter, which has all shares; none where there is no
-    /// counter any more.
-    pub fn close_last(&mut self, passes: &mut Passes<D>) -> Option<Desk<'w, D>>
-        requires passes { ArePassesOf passes.old self.old }
-        requires all { AllByRecursion (λ pass. shares pass ≡ 65) (passes_in passes.old) }
-        ensures taken { IfSome result (IsTaken self.old.counters.items self.new.counters.items (passes_in passes.old) (passes_in passes.new)) }
-        ensures left { OnSome result (ArePassesOf passes.new self.new × AllByRecursion (λ pass. shares pass ≡ 65) (passes_in passes.new)) }
-        ensures none { IfNone result (self.old.counters.items ≡ []) }
-    {
-        let counter = self.counters.pop()?;
-        let pass = passes.passes.pop()?;
-        Some(counter.close(pass))
-    }
-}
-
-// Takes desks from under their counters again, the last first, and puts them behind the others.
-fn take_off<'w, D: Disk + Drop>(
-    desks: &mut Vec<Desk<'w, D>>,
-    counters: Vec<Counter<'w, D>>,
-    passes: Vec<DeskPass<D>>,
-)
-    requires room { vec_len desks.old + vec_len counters ≤ vec_capacity desks.old }
-    requires passes { ArePasses (reverse passes.items) (reverse counters.items) }
-    requires all { AllByRecursion (λ pass. shares pass ≡ 65) (reverse passes.items) }
-    ensures back { ComeBack (reverse passes.items) (reverse counters.entry.items) desks.old.items desks.new.items }
-{
-    let (mut counters, mut passes) = (counters, passes);
-    while let Some(counter) = counters.pop() {
-        let pass = passes.pop().unwrap();
-        desks.push_reserved(counter.close(pass));
     }
 }
