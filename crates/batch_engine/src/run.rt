@@ -171,7 +171,9 @@ fn answer_all<'w, R: Wait, G: Gate, F: Shelf, K: Sink>(
     let mut seats = seats;
     let mut is_broken = false;
     for item in batch.items() {
-        let Some((next, line, says_broken)) = carry_out(rt, alloc, registry, shelf, seats, item, gate) else {
+        let Some((next, line, says_broken)) = carry_out(
+            rt, alloc, registry, shelf, seats, item, gate,
+        ) else {
             return Answered::Memory;
         };
         seats = next;

@@ -5,9 +5,10 @@
 //! seen as pairs of a ticket and an item, an entry of the journal or the one entry whose append failed.
 //!
 //! `Counter::ask` promises the reply of the rule for what the pass has seen, a mark's entry once, and a legal history;
-//! `Counter::close` gives the desk with just the entries that the passes have seen.
+//! `Counter::close` gives the desk with just the entries that the passes have seen, and tells what each crash leaves of
+//! them. `SoleCounter` is a counter with the pass that has all shares, for one thread.
 //!
-//! Read `specs/Items.antt`, `specs/Desks.antt` and `specs/Asks.antt` first, then `item` and `counter`.
+//! Read `specs/Items.antt`, `specs/Desks.antt` and `specs/Asks.antt` first, then `item`, `counter` and `sole`.
 #![tactic(auto)]
 
 mod counter;

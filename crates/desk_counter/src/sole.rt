@@ -69,9 +69,7 @@ impl<'w, D: Disk> SoleOf<'w, TicketedDesk<'w, D>> {
         if self.asks_left == 0 {
             return Reply::Memory;
         }
-        let reply = self
-            .counter
-            .ask(rt, alloc, &mut self.pass, text, gate);
+        let reply = self.counter.ask(rt, alloc, &mut self.pass, text, gate);
         self.asks_left -= 1;
         reply
     }

@@ -175,7 +175,7 @@ impl<'a, 'w, D: Disk, G: Gate> Session<'a, 'w, TicketedDesk<'w, D>, G> {
     // One ask.
     fn ask<R: Wait>(&mut self, rt: &R)
         requires { 1 ≤ self.old.asks }
-        ensures counter { self.new.counter ≡ self.old.counter }
+        ensures counter { self.new.counter.now ≡ self.old.counter.now }
         ensures asks { self.new.asks + 1 ≡ self.old.asks }
     {
         let reply = self
@@ -189,7 +189,7 @@ impl<'a, 'w, D: Disk, G: Gate> Session<'a, 'w, TicketedDesk<'w, D>, G> {
 }
 
 impl<'a, 'w, D: Disk, G: Gate> Job for Session<'a, 'w, TicketedDesk<'w, D>, G> {
-    ghost same = { λ before after. after.counter ≡ before.counter };
+    ghost same = { λ before after. after.counter.now ≡ before.counter.now };
 
     fn finish<R: Wait>(self, rt: &R) -> Self {
         let mut session = self;
@@ -209,23 +209,23 @@ fn finish_both<J: Job + Drop + Send, R: Threads + Wait + Sync>(rt: &R, one: J, t
 }
 
 /// A session that makes so many asks.
-fn session_at<'a, 'w, V: Owned, G>(
+fn session_at<'a, 'w, V: Owned, G: Gate>(
     alloc: Global,
-    at: (&'a CounterOf<'w, V>, Pass<V::Item, V::Fixed>),
+    counter: &'a CounterOf<'w, V>,
+    pass: Pass<V::Item, V::Fixed>,
     shares: u64,
     text: &'a str,
     asks: u64,
     gate: &'a G,
 ) -> Session<'a, 'w, V, G>
-    requires place { IsOf at.1 at.0.now.turnstile × IsReady at.1 }
-    requires kept { fixed at.1 ≡ Some (V.kept (first_value at.0.now.turnstile)) }
-    requires shares { shares ≡ shares_of at.1 }
-    requires turns { 2 * asks ≤ turns at.1 }
+    requires place { IsOf pass counter.now.turnstile × IsReady pass }
+    requires kept { fixed pass ≡ Some (V.kept (first_value counter.now.turnstile)) }
+    requires shares { shares ≡ shares_of pass }
+    requires turns { 2 * asks ≤ turns pass }
     requires short { length text.now ≤ 4096 }
     requires few { asks ≤ 1000 }
-    ensures { result.counter ≡ at.0 }
+    ensures { result.counter.now ≡ counter.now }
 {
-    let (counter, pass) = at;
     Session {
         counter,
         pass,
@@ -252,8 +252,8 @@ fn ask_by_two<'w, R: Threads + Wait + Sync>(
 {
     let mut first = pass;
     let second = counter.split(&mut first).ok()?;
-    let one = session_at(alloc, (&counter, first), 64, texts.0, 100, &OpenGate);
-    let two = session_at(alloc, (&counter, second), 1, texts.1, 100, &OpenGate);
+    let one = session_at(alloc, &counter, first, 64, texts.0, 100, &OpenGate);
+    let two = session_at(alloc, &counter, second, 1, texts.1, 100, &OpenGate);
     let (one, two) = finish_both(rt, one, two);
     let told = one.told + two.told;
     if one.shares != 64 || two.shares != 1 {
@@ -272,7 +272,10 @@ fn two_threads_ask_one_desk(rt: HostRuntime) -> Result<(), Fail> {
     let (counter, pass) = counter_of(&rt, alloc, &clinic, &clinic.eve)?;
     let texts = ("drug(ann)", "not hiv(bob)");
     let (desk, told) = ask_by_two(&rt, alloc, counter, pass, texts).ok_or("not split")?;
-    assert_eq!(rt; (told, desk.entries().len(), desk.broken()), (200, 200, false));
+    assert_eq!(rt;
+        (told, desk.entries().len(), desk.broken()),
+        (200, 200, false)
+    );
     let mut lies = 0u64;
     for entry in desk.entries() {
         match entry.query {
@@ -348,10 +351,7 @@ impl Gate for Hold {
         if point == Point::Settled {
             self.settled.fetch_add(1, Ordering::SeqCst);
         }
-        if point == self.point
-            && user == "eve"
-            && self.passed.fetch_add(1, Ordering::SeqCst) == 0
-        {
+        if point == self.point && user == "eve" && self.passed.fetch_add(1, Ordering::SeqCst) == 0 {
             self.hold();
         }
     }
@@ -369,8 +369,8 @@ fn ask_beside<'a, 'w, R: Threads + Wait + Sync>(
     requires one { IsPassOf one.1 one.0.now × (2 ≤ turns one.1) × (shares ≡ shares_of one.1) }
     requires two { IsPassOf two.1 two.0.now × (2 ≤ turns two.1) × (shares_of two.1 ≡ 1) }
 {
-    let one = session_at(alloc, one, shares, "drug(ann)", 1, gate);
-    let two = session_at(alloc, two, 1, "drug(ann)", 1, gate);
+    let one = session_at(alloc, one.0, one.1, shares, "drug(ann)", 1, gate);
+    let two = session_at(alloc, two.0, two.1, 1, "drug(ann)", 1, gate);
     let (one, two) = finish_both(rt, one, two);
     one.told + two.told
 }

@@ -1,10 +1,10 @@
 -- Each step keeps the rule of the numbers.
-use Rattle.std.proofs.Common.{◌≡◌, ◌≢◌, ◌⊎◌, ℕ, zero, suc, ◌+◌, ◌*◌, ◌%◌, ◌^◌, ◌<◌, ◌≤◌, List, [], ◌∷◌, ◌++◌, length, set, slice_index, sum_by, refl, sym, ap, ◌∙◌, subst, ⊎_elim, arith, mod-eq_of_lt, append-nil}
+use Rattle.std.proofs.Common.{◌≡◌, ◌≢◌, ℕ, zero, suc, ◌+◌, ◌*◌, ◌%◌, ◌^◌, ◌<◌, ◌≤◌, List, [], ◌∷◌, ◌++◌, set, slice_index, sum_by, refl, sym, ap, ◌∙◌, subst, ⊎_elim, arith, mod-eq_of_lt}
 use Rattle.std.proofs.lemmas.List.Sums.{sum_by-cons, sum_by-append}
 use mathlib.Core.Option.{none, some, some-injective, some-ne-none}
 use lib.ListN.{get_elem?}
 use Rattle.atomic_table.specs.Table.{State, Me, step, keeps, Allows, Splits, Joins, opening, Seen, Final}
-use Rattle.atomic_table.proofs.Lists.{at_set, set_else, at_snoc}
+use Rattle.atomic_table.proofs.Lists.{at_set, at_snoc}
 use Rattle.worker_pool.specs.declared.hand.Hand.{Hand}
 use Rattle.worker_pool.specs.Hands.{sum_below, is_below, first_hand, spent_hand, drawing_hand, remaining_hand, split_off_hand, joined_hand}
 use Rattle.worker_pool.specs.NumberRule.{NumberRule, Drew}
@@ -46,7 +46,7 @@ word_add : (n : ℕ) → n < 65 * 2 ^ 31 + 1 → (n + 1) % 2 ^ 64 ≡ n + 1
 word_add n small = mod-eq_of_lt (omega arith)
 
 -- one more number weighs what it weighs
-drawn_more : (f : ℕ → ℕ) (numbers : List ℕ) (n : ℕ) → sum_by f (numbers ++ n ∷ []) ≡ sum_by f numbers + f n
+pub drawn_more : (f : ℕ → ℕ) (numbers : List ℕ) (n : ℕ) → sum_by f (numbers ++ n ∷ []) ≡ sum_by f numbers + f n
 drawn_more f numbers n = omega (arith, sum_by-append f numbers (n ∷ []), sum_by-cons f n [])
 
 below_more : (f : ℕ → ℕ) (n : ℕ) → sum_below f (n + 1) ≡ sum_below f n + f n
@@ -64,9 +64,9 @@ draws slots id m live more s r _ at _ =
     let own = sum_at (λ (h : Hand). h.turns) s.views id hand at in
     let small : n < 65 * 2 ^ 31 + 1 = omega arith in
     let drawn' : (f : ℕ → ℕ) → sum_by (λ (h : Hand). sum_by f h.drawn) (set s.views id new) ≡ sum_below f (n + 1) = λ f.
-        (let e = sum_set (λ (h : Hand). sum_by f h.drawn) s.views id hand new at in
-        let before : sum_by (λ (h : Hand). sum_by f h.drawn) s.views ≡ sum_below f n = r.drawn f ∙ ap (sum_below f) (sym is) in
-        omega (arith, e, before, drawn_more f hand.drawn n, below_more f n)) in (
+    (let e = sum_set (λ (h : Hand). sum_by f h.drawn) s.views id hand new at in
+    let before : sum_by (λ (h : Hand). sum_by f h.drawn) s.views ≡ sum_below f n = r.drawn f ∙ ap (sum_below f) (sym is) in
+    omega (arith, e, before, drawn_more f hand.drawn n, below_more f n)) in (
       new,
       keeps,
       tt,
@@ -78,8 +78,11 @@ draws slots id m live more s r _ at _ =
         idle = idle_set s.views id new r.idle (λ none. absurd (omega arith));
         turns = omega arith;
       },
-      (refl, λ k. let here = sum_at (λ (h : Hand). sum_by (is_below k) h.drawn) (set s.views id new) id new (set_there s.views id hand new at) in
-          omega (arith, here, drawn' (is_below k), below_min k (n + 1))),
+      (
+        refl,
+        λ k. let here = sum_at (λ (h : Hand). sum_by (is_below k) h.drawn) (set s.views id new) id new (set_there s.views id hand new at) in
+            omega (arith, here, drawn' (is_below k), below_min k (n + 1)),
+      ),
     )
 
 pub parts : (id : ℕ) (hand : Hand) → 1 < hand.parts → 2 ^ 31 ≤ hand.turns → Splits NumberRule id hand (remaining_hand hand) split_off_hand
@@ -115,7 +118,9 @@ ends id hand words values final all =
     let parts' = sum_set (λ (h : Hand). h.parts) s.views id hand spent_hand at in
     let sum = r.parts in
     let no_parts : sum_by (λ (h : Hand). h.parts) others ≡ 0 = omega arith in
-    let still = idle_set s.views id spent_hand r.idle (λ none. refl) in
-    (r.next, λ f. let e = sum_set (λ (h : Hand). sum_by f h.drawn) s.views id hand spent_hand at in
-        let rest = sum_idle (λ (h : Hand). sum_by f h.drawn) others no_parts (λ k other there none. ap (sum_by f) (still k other there none)) in
-        omega (arith, e, rest, r.drawn f))
+    let still = idle_set s.views id spent_hand r.idle (λ none. refl) in (
+      r.next,
+      λ f. let e = sum_set (λ (h : Hand). sum_by f h.drawn) s.views id hand spent_hand at in
+          let rest = sum_idle (λ (h : Hand). sum_by f h.drawn) others no_parts (λ k other there none. ap (sum_by f) (still k other there none)) in
+          omega (arith, e, rest, r.drawn f),
+    )

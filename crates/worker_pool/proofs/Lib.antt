@@ -1,2 +1,5 @@
 pub mod Sums
 pub mod Keeps
+pub mod Running
+pub mod Seating
+pub mod Serving

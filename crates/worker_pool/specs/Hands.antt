@@ -1,5 +1,5 @@
 -- What a drawer of numbers knows, and how the steps change it.
-use Rattle.std.specs.Prelude.{ℕ, zero, suc, ◌+◌, ◌-◌, ◌*◌, ◌^◌, cond, ltb, List, [], ◌∷◌, ◌++◌}
+use Rattle.std.specs.Prelude.{ℕ, zero, suc, ◌+◌, ◌-◌, ◌*◌, ◌^◌, cond, ltb, [], ◌∷◌, ◌++◌}
 use Rattle.worker_pool.specs.declared.hand.Hand.{Hand}
 
 -- the sum of f over the numbers below n

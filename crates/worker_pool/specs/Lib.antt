@@ -4,3 +4,4 @@ pub mod Drawers
 pub mod Jobs
 pub mod Workers
 pub mod Runs
+pub mod Seats

@@ -1,6 +1,5 @@
 -- What a worker did so far, and how that goes on.
 use Rattle.std.specs.Prelude.{◌≡◌, ℕ, ◌+◌, ◌≤◌, List, [], ◌∷◌, ◌++◌, length, sum_by, Some, IsSome}
-use Rattle.std.specs.List.{AllByRecursion}
 use Rattle.outside.specs.Faults.{Rose}
 use Rattle.outside.specs.Visits.{Visit}
 use Rattle.worker_pool.specs.declared.worker.Worker.{Worker}

@@ -1,11 +1,10 @@
 -- What workers did.
-use Rattle.std.specs.Prelude.{◌≡◌, ℕ, ◌+◌, ◌<◌, ◌≤◌, ◌==◌, List, [], ◌∷◌, ◌++◌, length, drop, All, Option, Some, IsSome, count_by}
+use Rattle.std.specs.Prelude.{◌≡◌, ℕ, ◌+◌, ◌<◌, ◌≤◌, ◌==◌, List, [], ◌∷◌, ◌++◌, length, drop, All, Some, IsSome, count_by}
 use Rattle.std.specs.List.{AllByRecursion}
 use Rattle.outside.specs.Faults.{Rose}
 use Rattle.outside.specs.Visits.{Visit}
 use Rattle.worker_pool.specs.declared.worker.Worker.{Worker}
-use Rattle.worker_pool.specs.declared.worker.WorkerEnd.{WorkerEnd}
-use Rattle.worker_pool.specs.declared.worker.WorkerEnd.TheVariants.{LinksEnded, LimitReached, LinksFailed}
+use Rattle.worker_pool.specs.declared.worker.WorkerEnd.TheVariants.{LinksEnded, LinksFailed}
 
 -- these numbers are below the limit, and no two are the same
 pub record AreDifferentBelow (limit : ℕ) (numbers : List ℕ) : Type 0 where
@@ -42,10 +41,3 @@ module _ {J O : Type 0} (door_told : Type 0) (given_of left_of ends_of faults_of
     pub ended : IsSome after.ended
     pub at_end : after.ended ≡ Some LinksEnded → Rose (ends_of before.door) (ends_of after.door) × (door_told → left_of after.door ≡ 0)
     pub at_failure : after.ended ≡ Some LinksFailed → Rose (faults_of before.door) (faults_of after.door)
-
-  -- each of the workers, in their order
-  abbrev pub AllServed : List (Worker J O) → List (Worker J O) → Type 0
-  AllServed [] [] = Unit {0}
-  AllServed (before ∷ workers) (after ∷ others) = IsServed before after × AllServed workers others
-  AllServed [] (after ∷ others) = ⊥
-  AllServed (before ∷ workers) [] = ⊥

@@ -2,7 +2,7 @@
 use std::collections::LinkedList;
 
 /// What a drawer knows.
-pub struct Hand {
+pub(crate) struct Hand {
     /// How many parts of the right to know the whole it has.
     pub parts: u64,
     /// How many numbers it may still draw.

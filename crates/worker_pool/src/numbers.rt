@@ -6,7 +6,7 @@ use atomic_table::{Join, Play, Seat, Split, Table, TableRule};
 use std::alloc::{AllocError, Global};
 
 /// The rule between any two steps.
-pub struct EachOnce;
+pub(crate) struct EachOnce;
 
 impl TableRule<(), Hand, ()> for EachOnce {
     ghost use Rattle.worker_pool.specs.NumberRule.{NumberRule};
@@ -18,7 +18,7 @@ impl TableRule<(), Hand, ()> for EachOnce {
 }
 
 /// A number is drawn.
-pub struct Draw;
+pub(crate) struct Draw;
 
 impl Play<(), Hand> for Draw {
     ghost use Rattle.worker_pool.specs.NumberRule.{Drew};
@@ -27,7 +27,7 @@ impl Play<(), Hand> for Draw {
 }
 
 /// A drawer is split.
-pub struct Part;
+pub(crate) struct Part;
 
 impl Split<Hand> for Part {
     ghost use Rattle.worker_pool.specs.Hands.{remaining_hand, split_off_hand};
@@ -38,7 +38,7 @@ impl Split<Hand> for Part {
 }
 
 /// Two drawers are joined.
-pub struct Meet;
+pub(crate) struct Meet;
 
 impl Join<Hand> for Meet {
     ghost use Rattle.worker_pool.specs.Hands.{joined_hand, spent_hand};
@@ -50,14 +50,14 @@ impl Join<Hand> for Meet {
 
 /// Numbers from 0 on. The one word is the number that is drawn next.
 #[derive(Drop)]
-pub struct Numbers {
+pub(crate) struct Numbers {
     table: Table<(), Hand, (), EachOnce, Global>,
     ghost sized: { (table.shared.table_id.words ≡ 1) × (table.shared.table_id.slots ≡ 0) },
 }
 
 /// What a thread draws with.
 #[derive(Drop)]
-pub struct Drawer {
+pub(crate) struct Drawer {
     seat: Seat<(), Hand>,
     ghost empty: { seat.me.1 ≡ [] },
 }
@@ -68,7 +68,7 @@ impl Numbers {
     ghost use Rattle.worker_pool.specs.Drawers.{hand_of, drawn, IsAt};
 
     /// Numbers of which none was drawn. The drawer has all parts.
-    pub fn new(alloc: Global) -> Result<(Numbers, Drawer), AllocError>
+    pub(crate) fn new(alloc: Global) -> Result<(Numbers, Drawer), AllocError>
         ensures place { IfOk result (λ new. IsAt new.0 new.1) }
         ensures hand { IfOk result (λ new. hand_of new.1 ≡ first_hand) }
     {
@@ -77,7 +77,7 @@ impl Numbers {
     }
 
     /// Splits off a drawer with one part. It takes no memory.
-    pub fn split(&self, drawer: &mut Drawer) -> Drawer
+    pub(crate) fn split(&self, drawer: &mut Drawer) -> Drawer
         requires place { IsAt self.now drawer.old }
         requires parts { 1 < (hand_of drawer.old).parts }
         requires turns { 2 ^ 31 ≤ (hand_of drawer.old).turns }
@@ -90,7 +90,7 @@ impl Numbers {
     }
 
     /// Draws the next number, which nobody else draws.
-    pub fn draw(&self, drawer: &mut Drawer) -> u64
+    pub(crate) fn draw(&self, drawer: &mut Drawer) -> u64
         requires place { IsAt self.now drawer.old }
         requires parts { 0 < (hand_of drawer.old).parts }
         requires turns { 0 < (hand_of drawer.old).turns }
@@ -102,7 +102,7 @@ impl Numbers {
     }
 
     /// Joins another drawer to this one.
-    pub fn join(&self, drawer: &mut Drawer, other: Drawer)
+    pub(crate) fn join(&self, drawer: &mut Drawer, other: Drawer)
         requires this { IsAt self.now drawer.old }
         requires that { IsAt self.now other }
         requires parts { 0 < (hand_of drawer.old).parts }
@@ -114,7 +114,7 @@ impl Numbers {
     }
 
     /// Ends with the drawer that has all parts: the numbers that were drawn are those below some number, each once.
-    pub fn end(self, drawer: Drawer)
+    pub(crate) fn end(self, drawer: Drawer)
         requires place { IsAt self drawer }
         requires parts { (hand_of drawer).parts ≡ 65 }
         ensures { (next : ℕ) × ((f : ℕ → ℕ) → sum_by f (drawn drawer) ≡ sum_below f next) }

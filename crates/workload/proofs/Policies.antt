@@ -131,8 +131,8 @@ module _ (law : CanonicalFormsRead) where
       let b = secret_person seed k 1 in
       let c = secret_person seed k 2 in
       (λ i. name_step earlier number k low new i >>= λ name. method_step number k i >>= λ method. known_step number i >>= λ know.
-          secrets_step number a b c (below seed (620 + 3 * k + 0)) (below seed (620 + 3 * k + 1)) (below seed (620 + 3 * k + 2)) i >>= λ secrets.
-          with_small_view workload_schema number (record { name = name; profile = record { method = method; know = know; secrets = secrets; budget = 1000000 }; token = None }))
+      secrets_step number a b c (below seed (620 + 3 * k + 0)) (below seed (620 + 3 * k + 1)) (below seed (620 + 3 * k + 2)) i >>= λ secrets.
+      with_small_view workload_schema number (record { name = name; profile = record { method = method; know = know; secrets = secrets; budget = 1000000 }; token = None }))
       ∙ small number (user_name k) (method_at k) a b c (workload_user seed k) refl
 
   users_read : (seed a n : ℕ) → a + n ≤ 256
@@ -183,9 +183,9 @@ module _ (law : CanonicalFormsRead) where
   tree_means seed users some few =
       let trees = map (user_tree seed) (range_with_len 0 users) in
       ap (λ r. r >>= λ tables. schema_in (declarations domain_members) (declarations relation_members) >>= λ schema. within 1 256 (key_place None (codes "users")) (length tables) >>= λ count.
-          users_behind schema [] tables >>= λ users. Ok (record { schema = schema; users = users })) (tables_step seed (range_with_len 0 users))
+      users_behind schema [] tables >>= λ users. Ok (record { schema = schema; users = users })) (tables_step seed (range_with_len 0 users))
       ∙ (λ i. schema_step i >>= λ schema. count_step users trees some few (length-map-range_with_len (user_tree seed) 0 users) i >>= λ count.
-          users_behind schema [] trees >>= λ users. Ok (record { schema = schema; users = users }))
+      users_behind schema [] trees >>= λ users. Ok (record { schema = schema; users = users }))
       ∙ ap (λ r. r >>= λ users. Ok (record { schema = workload_schema; users = users })) (users_read seed 0 users (omega (arith, few)) ∙ ap (λ n. Ok (map (workload_user seed) (range_with_len 0 n))) (all users))
     where
       all : (n : ℕ) → 0 + n ≡ n

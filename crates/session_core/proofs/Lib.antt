@@ -1,0 +1,6 @@
+pub mod Replying
+pub mod Passing
+pub mod Talking
+pub mod Hearing
+pub mod Serving
+pub mod Meeting

@@ -1,0 +1,88 @@
+use Rattle.std.proofs.Common.{◌≡◌, ◌≤◌, ◌<◌, ◌++◌, length, refl, sym, ap, subst, ◌∙◌, arith}
+use Rattle.line_protocol.specs.Buffer.{unread}
+use Rattle.line_protocol.specs.Replies.{text_of}
+use Rattle.line_protocol.specs.Requests.{request_of}
+use Rattle.session_core.specs.Heard.{is_quit}
+use Rattle.session_core.specs.Members.{users_of, fixeds_of, passes_in}
+use Rattle.session_core.specs.Asked.{Replies, IsShort}
+use Rattle.session_core.proofs.Talking.{short_request}
+use Rattle.session_core.proofs.Passing.{passes_kept}
+use Rattle.session_core.proofs.Serving.{nothing_yet, turns_left, ends_input, ends_read, ends_many, ends_long, goes_on_more, ends_quit, ends_cut, rose_from}
+use Rattle.session_core.proofs.session.serve_session.Goals as goal
+
+pub loop-init : goal.loop-init
+loop-init g c =
+    let counters = c.args.counters.now in
+    let left = g.S.Source.left c.args.source.now in
+    record {
+      so_far = nothing_yet g.S.Source.told g.K.Sink.told (users_of counters) (fixeds_of counters) left (passes_in c.args.passes.now) (g.K.Sink.written c.args.sink.now) (unread c.new-buffer.result left) (ap (λ a. a ++ left) c.new-buffer.ensures.ahead);
+      passes = c.requires.passes;
+      place = tt;
+      held = refl;
+      source_later = omega arith;
+      sink_later = omega arith;
+    }
+
+pub returns-in-End-clause-session : goal.returns-in-End-clause-session
+returns-in-End-clause-session g c = ends_input _ _ _ _ _ _ _ _ _ _ _ _ c.loop.invariant.so_far (omega (arith, c.loop-test.true)) (λ s. (c.in-End.ensures.reads s).0)
+
+pub returns-in-TooLong-clause-session : goal.returns-in-TooLong-clause-session
+returns-in-TooLong-clause-session g c =
+    let long = c.end_too_long.ensures in
+    ends_long _ _ _ _ _ _ _ _ _ _ _ _ c.loop.invariant.so_far (g.K.Sink.written c.end_too_long.new.sink) c.loop.invariant.place (passes_kept (passes_in c.args.passes.now) c.args.counters.now.counters.items c.requires.passes) (omega (arith, c.loop-test.true))
+    (λ s. (c.in-TooLong.ensures.reads s).0) c.end_too_long.result long.ends long.written
+
+pub returns-in-TooLong-clause-write_cause : goal.returns-in-TooLong-clause-write_cause
+returns-in-TooLong-clause-write_cause g c = λ is. rose_from c.loop.invariant.sink_later (c.end_too_long.ensures.cause is)
+
+pub returns-in-ReadFault-clause-session : goal.returns-in-ReadFault-clause-session
+returns-in-ReadFault-clause-session g c = ends_read _ _ _ _ _ _ _ _ _ _ _ _ c.loop.invariant.so_far (omega (arith, c.loop-test.true))
+
+pub returns-in-ReadFault-clause-read_cause : goal.returns-in-ReadFault-clause-read_cause
+returns-in-ReadFault-clause-read_cause g c = λ is. rose_from c.loop.invariant.source_later (c.in-ReadFault.ensures.cause refl)
+
+pub reply_to-next-requires-clause-turns : goal.reply_to-next-requires-clause-turns
+reply_to-next-requires-clause-turns g c = turns_left _ _ _ _ _ _ _ _ _ _ _ _ c.loop.invariant.so_far (omega (arith, c.loop-test.true)) c.requires.turns
+
+pub reply_to-next-requires-clause-short : goal.reply_to-next-requires-clause-short
+reply_to-next-requires-clause-short g c = subst IsShort (sym c.read_request-request.ensures) (short_request c.line.result.now c.line.ensures.short)
+
+pub returns-in-Err-clause-session : goal.returns-in-Err-clause-session
+returns-in-Err-clause-session g c =
+    let counters = c.args.counters.now in
+    let same = c.read_request-request.ensures ∙ ap (λ l. request_of l) c.line.ensures.line in
+    ends_cut _ _ _ _ _ _ _ _ _ _ _ _ c.loop.invariant.so_far (unread c.read_line.new.buffer (g.S.Source.left c.read_line.new.source)) c.read_line.new.buffer.line c.reply_to-next.result.0 (text_of c.reply_to-next.result.1) (passes_in c.reply_to-next.new.passes)
+    (g.K.Sink.written c.write_reply.new.sink) c.requires.counted (passes_kept (passes_in c.args.passes.now) counters.counters.items c.requires.passes) (omega (arith, c.loop-test.true)) (λ s. c.in-Line.ensures.reads s)
+    (subst (λ r. Replies (users_of counters) (fixeds_of counters) c.loop.who r c.reply_to-next.result.0 (text_of c.reply_to-next.result.1) (passes_in c.loop.passes) (passes_in c.reply_to-next.new.passes)) same c.reply_to-next.ensures.replies) c.in-Err.ensures.part
+
+pub returns-in-Err-clause-write_cause : goal.returns-in-Err-clause-write_cause
+returns-in-Err-clause-write_cause g c = λ is. rose_from c.loop.invariant.sink_later (c.in-Err.ensures.cause.failed refl)
+
+pub returns-then-is_quit-clause-session : goal.returns-then-is_quit-clause-session
+returns-then-is_quit-clause-session g c =
+    let counters = c.args.counters.now in
+    let same = c.read_request-request.ensures ∙ ap (λ l. request_of l) c.line.ensures.line in
+    ends_quit _ _ _ _ _ _ _ _ _ _ _ _ c.loop.invariant.so_far (unread c.read_line.new.buffer (g.S.Source.left c.read_line.new.source)) c.read_line.new.buffer.line c.reply_to-next.result.0 (text_of c.reply_to-next.result.1) (passes_in c.reply_to-next.new.passes)
+    (g.K.Sink.written c.write_reply.new.sink) c.requires.counted (passes_kept (passes_in c.args.passes.now) counters.counters.items c.requires.passes) (omega (arith, c.loop-test.true)) (λ s. c.in-Line.ensures.reads s)
+    (subst (λ r. Replies (users_of counters) (fixeds_of counters) c.loop.who r c.reply_to-next.result.0 (text_of c.reply_to-next.result.1) (passes_in c.loop.passes) (passes_in c.reply_to-next.new.passes)) same c.reply_to-next.ensures.replies) c.in-Ok.ensures.all
+    (sym (ap is_quit same) ∙ sym c.is_quit.ensures ∙ c.if-is_quit.true)
+
+pub loop-preserved : goal.loop-preserved
+loop-preserved g c =
+    let counters = c.args.counters.now in
+    let same = c.read_request-request.ensures ∙ ap (λ l. request_of l) c.line.ensures.line in
+    let before = c.loop.invariant in
+    record {
+      so_far = goes_on_more _ _ _ _ _ _ _ _ _ _ _ _ before.so_far (unread c.read_line.new.buffer (g.S.Source.left c.read_line.new.source)) c.read_line.new.buffer.line c.reply_to-next.result.0 (text_of c.reply_to-next.result.1) (passes_in c.reply_to-next.new.passes)
+          (g.K.Sink.written c.write_reply.new.sink) c.requires.counted (passes_kept (passes_in c.args.passes.now) counters.counters.items c.requires.passes) (omega (arith, c.loop-test.true)) (λ s. c.in-Line.ensures.reads s)
+          (subst (λ r. Replies (users_of counters) (fixeds_of counters) c.loop.who r c.reply_to-next.result.0 (text_of c.reply_to-next.result.1) (passes_in c.loop.passes) (passes_in c.reply_to-next.new.passes)) same c.reply_to-next.ensures.replies) c.in-Ok.ensures.all
+          (sym (ap is_quit same) ∙ sym c.is_quit.ensures ∙ c.if-is_quit.false);
+      passes = c.reply_to-next.ensures.passes;
+      place = c.reply_to-next.ensures.place;
+      held = c.in-Line.ensures.held ∙ before.held;
+      source_later = omega (arith, before.source_later, c.in-Line.ensures.later);
+      sink_later = omega (arith, before.sink_later, c.in-Ok.ensures.cause.later);
+    }
+
+pub returns-clause-session : goal.returns-clause-session
+returns-clause-session g c = ends_many _ _ _ _ _ _ _ _ _ _ _ _ c.loop.invariant.so_far (omega (arith, c.loop-test.false)) (omega (arith, c.loop.auto.counter-end))

@@ -1,0 +1,43 @@
+-- What a session does with the passes.
+use Rattle.std.specs.Prelude.{◌≡◌, ℕ, zero, suc, ◌≤◌, ◌+◌, ◌*◌, true, List, [], ◌∷◌, ◌++◌, length, Option, Some, None}
+use Rattle.cqe_base.specs.Schema.{Text}
+use Rattle.cqe_base.specs.History.{History}
+use Rattle.cqe_base.specs.Censor.{IsLegal}
+use Rattle.cqe_base.specs.Run.{Reply}
+use Rattle.turnstile.specs.declared.pass.Pass.{Pass}
+use Rattle.turnstile.specs.History.{IsPrefix}
+use Rattle.turnstile.specs.Passes.{seen, mine, shares, turns}
+use Rattle.user_desk.specs.Standings.{standing_of}
+use Rattle.desk_counter.specs.declared.item.Item.{Item}
+use Rattle.desk_counter.specs.declared.item.Fixed.{Fixed}
+use Rattle.desk_counter.specs.Items.{history_of, has_broke}
+use Rattle.session_core.specs.Replied.{Replied}
+
+module _ {D : Type 0} where
+  -- the replies to these asks are by what the pass has seen after them, in the order of the asks
+  abbrev pub AreReplied : Fixed D → Pass Item (Fixed D) → Pass Item (Fixed D) → List (Text × Reply) → History → Type 0
+  AreReplied fixed old new asks entries =
+      Replied fixed.schema fixed.world fixed.user (standing_of fixed.standing) (history_of (seen new)) (has_broke (seen new)) (length (history_of (seen old))) (has_broke (seen old)) asks entries
+
+  -- What asks do with a pass: they were replied to by what it has seen since; it has the entries of their marks more of its
+  -- own, in order, each once; and a legal history stays legal.
+  pub record Asks (fixed : Fixed D) (old new : Pass Item (Fixed D)) (asks : List (Text × Reply)) : Type 0 where
+    pub entries : History
+    pub replied : AreReplied fixed old new asks entries
+    pub own : history_of (mine new) ≡ history_of (mine old) ++ entries
+    pub later : IsPrefix (seen old) (seen new)
+    pub legal : IsLegal fixed.schema fixed.world fixed.user (history_of (seen old)) → IsLegal fixed.schema fixed.world fixed.user (history_of (seen new))
+    pub same_shares : shares new ≡ shares old
+    pub used : turns old ≤ turns new + 2 * length asks
+
+  -- The pass at a place was used for these asks, and no other changed.
+  pub data AsksAt : ℕ → List (Fixed D) → List (Pass Item (Fixed D)) → List (Pass Item (Fixed D)) → List (Text × Reply) → Type 0 where
+    here : {fixed : Fixed D} {others : List (Fixed D)} {old new : Pass Item (Fixed D)} {rest : List (Pass Item (Fixed D))} {asks : List (Text × Reply)}
+        → Asks fixed old new asks → AsksAt zero (fixed ∷ others) (old ∷ rest) (new ∷ rest) asks
+    further : {place : ℕ} {fixed : Fixed D} {others : List (Fixed D)} {same : Pass Item (Fixed D)} {old new : List (Pass Item (Fixed D))} {asks : List (Text × Reply)}
+        → AsksAt place others old new asks → AsksAt (suc place) (fixed ∷ others) (same ∷ old) (same ∷ new) asks
+
+  -- the passes of a session of which this is logged in at its end: without a login none changed
+  abbrev pub AsksOf : Option ℕ → List (Fixed D) → List (Pass Item (Fixed D)) → List (Pass Item (Fixed D)) → List (Text × Reply) → Type 0
+  AsksOf None fixeds old new asks = (new ≡ old) × (asks ≡ [])
+  AsksOf (Some place) fixeds old new asks = AsksAt place fixeds old new asks

@@ -1,0 +1,8 @@
+pub mod Heard
+pub mod Talks
+pub mod Replied
+pub mod Desks
+pub mod Members
+pub mod Asked
+pub mod Sessions
+pub mod Served

@@ -1,0 +1,68 @@
+-- The counters of all users, and the passes at them.
+use Rattle.std.specs.Prelude.{◌≡◌, ℕ, zero, suc, ◌≤◌, ◌*◌, ◌^◌, List, [], ◌∷◌, ◌++◌, map}
+use Rattle.cqe_base.specs.declared.user.User.{User}
+use Rattle.turnstile.specs.declared.pass.Pass.{Pass}
+use Rattle.turnstile.specs.History.{IsPrefix}
+use Rattle.turnstile.specs.Views.{remaining_view, split_off_view, view_of_both}
+use Rattle.turnstile.specs.Passes.{view_of, seen, mine, shares, turns}
+use Rattle.desk_counter.specs.declared.item.Item.{Item}
+use Rattle.desk_counter.specs.declared.item.Fixed.{Fixed}
+use Rattle.desk_counter.specs.declared.ticketed_desk.TicketedDesk.{TicketedDesk}
+use Rattle.desk_counter.specs.declared.counter.CounterOf.{CounterOf}
+use Rattle.desk_counter.specs.Counters.{kept_by, IsPassOf}
+use Rattle.session_core.specs.declared.counters.CountersOf.{CountersOf}
+use Rattle.session_core.specs.declared.counters.Passes.{Passes}
+
+-- the passes
+abbrev pub passes_in : {D : Type 0} → Passes D → List (Pass Item (Fixed D))
+passes_in passes = passes.passes.items
+
+module _ {D : Type 0} {g h : _} where
+  -- a pass at each counter, in order
+  abbrev pub ArePasses : List (Pass Item (Fixed D)) → List (CounterOf (TicketedDesk D g) Item (Fixed D) h) → Type 0
+  ArePasses [] [] = Unit {0}
+  ArePasses (pass ∷ passes) (counter ∷ counters) = IsPassOf pass counter × ArePasses passes counters
+  ArePasses passes counters = ⊥
+
+  -- the users, in order
+  abbrev pub users_of : CountersOf (TicketedDesk D g) Item (Fixed D) h → List User
+  users_of counters = counters.users.now
+
+  -- what no turn changes of each user's desk
+  abbrev pub fixeds_of : CountersOf (TicketedDesk D g) Item (Fixed D) h → List (Fixed D)
+  fixeds_of counters = map kept_by counters.counters.items
+
+  -- the passes are at these counters
+  abbrev pub ArePassesOf : Passes D → CountersOf (TicketedDesk D g) Item (Fixed D) h → Type 0
+  ArePassesOf passes counters = ArePasses (passes_in passes) counters.counters.items
+
+  -- A pass was split: one has the rest, and the other one share.
+  pub record IsSplit (counter : CounterOf (TicketedDesk D g) Item (Fixed D) h) (old new part : Pass Item (Fixed D)) : Type 0 where
+    pub rest_is : IsPassOf new counter
+    pub rest : view_of new ≡ remaining_view (view_of old)
+    pub part_is : IsPassOf part counter
+    pub part_view : view_of part ≡ split_off_view (view_of old)
+    pub mine_is : mine part ≡ []
+
+  -- all were
+  abbrev pub AreSplit : List (CounterOf (TicketedDesk D g) Item (Fixed D) h) → List (Pass Item (Fixed D)) → List (Pass Item (Fixed D)) → List (Pass Item (Fixed D)) → Type 0
+  AreSplit [] [] [] [] = Unit {0}
+  AreSplit (counter ∷ counters) (old ∷ olds) (new ∷ news) (part ∷ parts) = IsSplit counter old new part × AreSplit counters olds news parts
+  AreSplit counters olds news parts = ⊥
+
+  -- Two passes met: each had seen a beginning of what both have seen.
+  pub record IsMet (counter : CounterOf (TicketedDesk D g) Item (Fixed D) h) (old other new : Pass Item (Fixed D)) : Type 0 where
+    pub pass_is : IsPassOf new counter
+    pub view : view_of new ≡ view_of_both (view_of old) (view_of other)
+    pub this : IsPrefix (seen old) (seen new)
+    pub that : IsPrefix (seen other) (seen new)
+
+  -- all did
+  abbrev pub AreMet : List (CounterOf (TicketedDesk D g) Item (Fixed D) h) → List (Pass Item (Fixed D)) → List (Pass Item (Fixed D)) → List (Pass Item (Fixed D)) → Type 0
+  AreMet [] [] [] [] = Unit {0}
+  AreMet (counter ∷ counters) (old ∷ olds) (other ∷ others) (new ∷ news) = IsMet counter old other new × AreMet counters olds others news
+  AreMet counters olds others news = ⊥
+
+-- a pass can be split
+abbrev pub CanSplit : {D : Type 0} → Pass Item (Fixed D) → Type 0
+CanSplit pass = (2 ≤ shares pass) × (2 ^ 57 ≤ turns pass)

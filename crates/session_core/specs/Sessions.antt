@@ -1,0 +1,48 @@
+-- A session: the lines that were read, the lines that were written, and the passes before and after.
+use Rattle.std.specs.Prelude.{◌≡◌, ℕ, true, List, [], ◌∷◌, ◌++◌, length, Option, Some, None}
+use Rattle.std.specs.List.{list_all}
+use Rattle.outside.specs.Streams.{AppendsPart}
+use Rattle.cqe_base.specs.Schema.{Text}
+use Rattle.cqe_base.specs.Lines.{text_lines}
+use Rattle.cqe_base.specs.Run.{Reply}
+use Rattle.cqe_base.specs.declared.user.User.{User}
+use Rattle.turnstile.specs.declared.pass.Pass.{Pass}
+use Rattle.line_protocol.specs.Requests.{quit_session, request_of}
+use Rattle.desk_counter.specs.declared.item.Item.{Item}
+use Rattle.desk_counter.specs.declared.item.Fixed.{Fixed}
+use Rattle.session_core.specs.Heard.{HeardLine, heard, overlong, goes_on, session_lines}
+use Rattle.session_core.specs.Talks.{Talks, written_lines}
+use Rattle.session_core.specs.Desks.{AsksOf}
+use Rattle.session_core.specs.declared.session.Ended.{Ended}
+use Rattle.session_core.specs.declared.session.Ended.TheVariants.{Quit, InputEnd, TooLong, TooMany, ReadFault, WriteFault}
+
+-- What each end says of the lines that were answered: they are all that a session hears of the bytes, up to the word that
+-- ends it, the longer line, the end of the input or the greatest number; where a stream failed, the first of these.
+abbrev pub Hears : Ended → List ℕ → List HeardLine → Type 0
+Hears Quit bytes lines = (lines ≡ session_lines bytes) × (front : List HeardLine) × (line : Text) × (lines ≡ front ++ heard line ∷ []) × (request_of line ≡ quit_session)
+Hears InputEnd bytes lines = (lines ≡ session_lines bytes) × (list_all goes_on lines ≡ true) × (length lines ≡ length (text_lines bytes))
+Hears TooLong bytes lines = (lines ≡ session_lines bytes) × (front : List HeardLine) × (lines ≡ front ++ overlong ∷ [])
+Hears TooMany bytes lines = (lines ≡ session_lines bytes) × (list_all goes_on lines ≡ true) × (length lines ≡ 100000)
+Hears ReadFault bytes lines = (rest : List HeardLine) × (session_lines bytes ≡ lines ++ rest)
+Hears WriteFault bytes lines = (rest : List HeardLine) × (session_lines bytes ≡ lines ++ rest)
+
+-- What was written: a line for each text; where the sink failed, the beginning of these lines.
+abbrev pub Writes : Ended → List ℕ → List ℕ → List Text → Type 0
+Writes WriteFault old new texts = AppendsPart old new (written_lines texts)
+Writes Quit old new texts = new ≡ old ++ written_lines texts
+Writes InputEnd old new texts = new ≡ old ++ written_lines texts
+Writes TooLong old new texts = new ≡ old ++ written_lines texts
+Writes TooMany old new texts = new ≡ old ++ written_lines texts
+Writes ReadFault old new texts = new ≡ old ++ written_lines texts
+
+-- A session of these users, where the source tells its bytes and the sink what was written.
+pub record Session {D : Type 0} (source_tells sink_tells : Type 0) (users : List User) (fixeds : List (Fixed D)) (ended : Ended) (bytes : List ℕ)
+    (old new : List (Pass Item (Fixed D))) (before after : List ℕ) : Type 0 where
+  pub lines : List HeardLine
+  pub who : Option ℕ
+  pub asks : List (Text × Reply)
+  pub texts : List Text
+  pub talks : Talks users None lines who asks texts
+  pub desks : AsksOf who fixeds old new asks
+  pub hears : source_tells → Hears ended bytes lines
+  pub writes : sink_tells → Writes ended before after texts

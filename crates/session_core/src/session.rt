@@ -1,0 +1,194 @@
+//! One session over lines.
+ghost use Rattle.std.specs.Prelude.{◌≡◌, ◌⊎◌, ◌≤◌, ◌<◌, ◌^◌, ◌∷◌, [], length, IfSome, IfNone};
+ghost use Rattle.std.specs.List.{AllByRecursion};
+ghost use Rattle.outside.specs.Faults.{Rose};
+ghost use Rattle.turnstile.specs.Passes.{turns};
+ghost use Rattle.user_log.specs.Replies.{reply_of};
+ghost use Rattle.line_protocol.specs.Replies.{text_of};
+ghost use Rattle.line_protocol.specs.Requests.{meaning_of};
+ghost use Rattle.session_core.specs.Heard.{is_quit};
+ghost use Rattle.session_core.specs.Talks.{LogsIn, NobodyLogsIn, Says};
+ghost use Rattle.session_core.specs.Desks.{AsksAt, AsksOf};
+ghost use Rattle.session_core.specs.Members.{ArePassesOf, users_of, fixeds_of, passes_in};
+ghost use Rattle.session_core.specs.Asked.{Replies, IsShort};
+ghost use Rattle.session_core.specs.Sessions.{Session, Writes};
+
+use crate::counters::{Counters, Passes};
+use case_engine::line_reply;
+use cqe_base::user::User;
+use line_protocol::{
+    LineBuffer, LineOutcome, Reply, Request, login_ok, read_line, read_request, write_reply,
+};
+use outside::{Disk, Failed, Gate, Sink, Source};
+use std::alloc::Global;
+use std::sync::Wait;
+
+/// A session ends behind the reply to so many lines.
+const LINES: u32 = 100_000;
+
+/// How a session ends.
+#[derive(Clone, Copy, Debug, PartialEq, Eq)]
+pub enum Ended {
+    /// The user said so.
+    Quit,
+    /// The input was over.
+    InputEnd,
+    /// A line had more than 4,096 bytes.
+    TooLong,
+    /// 100,000 lines were answered.
+    TooMany,
+    /// The source failed.
+    ReadFault,
+    /// The sink failed.
+    WriteFault,
+}
+
+/// The place of the user of this name, if the phrase is his.
+fn login_place(users: &[User], name: &str, phrase: &str) -> Option<usize>
+    ensures place { IfSome result (LogsIn name.now phrase.now users.now) }
+    ensures within { IfSome result (λ place. place < length users.now) }
+    ensures nobody { IfNone result (NobodyLogsIn users.now name.now phrase.now) }
+{
+    match users {
+        [] => None,
+        [user, others @ ..] => {
+            if user.name.as_str() == name {
+                if login_ok(user, phrase) {
+                    Some(0)
+                } else {
+                    None
+                }
+            } else {
+                match login_place(others, name, phrase) {
+                    Some(place) => Some(place + 1),
+                    None => None,
+                }
+            }
+        }
+    }
+}
+
+/// Asks a text at the desk of the user at this place.
+fn ask_at<R: Wait, D: Disk, G: Gate>(
+    rt: &R,
+    alloc: Global,
+    counters: &Counters<'_, D>,
+    passes: &mut Passes<D>,
+    place: usize,
+    text: &str,
+    gate: &G,
+) -> user_log::Reply
+    requires passes { ArePassesOf passes.old counters.now }
+    requires place { place < length (fixeds_of counters.now) }
+    requires turns { AllByRecursion (λ pass. 2 ≤ turns pass) (passes_in passes.old) }
+    requires short { length text.now ≤ 4096 }
+    ensures passes { ArePassesOf passes.new counters.now }
+    ensures asked { AsksAt place (fixeds_of counters.now) (passes_in passes.old) (passes_in passes.new) ((text.now, reply_of result) ∷ []) }
+{
+    let counter = &counters.counters[place];
+    let pass = &mut passes.passes[place];
+    counter.ask(rt, alloc, pass, text, gate)
+}
+
+/// The reply to a request, and who is logged in behind it.
+fn reply_to<R: Wait, D: Disk, G: Gate>(
+    rt: &R,
+    alloc: Global,
+    counters: &Counters<'_, D>,
+    passes: &mut Passes<D>,
+    who: Option<usize>,
+    request: Request<'_>,
+    gate: &G,
+) -> (Option<usize>, Reply)
+    requires passes { ArePassesOf passes.old counters.now }
+    requires counted { length (users_of counters.now) ≡ length (fixeds_of counters.now) }
+    requires place { IfSome who (λ place. place < length (fixeds_of counters.now)) }
+    requires turns { AllByRecursion (λ pass. 2 ≤ turns pass) (passes_in passes.old) }
+    requires short { IsShort (meaning_of request) }
+    ensures passes { ArePassesOf passes.new counters.now }
+    ensures place { IfSome result.0 (λ place. place < length (fixeds_of counters.now)) }
+    ensures replies { Replies (users_of counters.now) (fixeds_of counters.now) who (meaning_of request.entry) result.0 (text_of result.1) (passes_in passes.old) (passes_in passes.new) }
+{
+    match (request, who) {
+        (Request::Login { user, phrase }, None) => match login_place(counters.users, user, phrase) {
+            Some(place) => (Some(place), Reply::Welcome),
+            None => (None, Reply::Code(25)),
+        },
+        (Request::Login { .. }, Some(_)) => (who, Reply::Code(26)),
+        (Request::Ask(_), None) => (None, Reply::Code(25)),
+        (Request::Ask(text), Some(place)) => {
+            let reply = ask_at(rt, alloc, counters, passes, place, text, gate);
+            (who, line_reply(reply))
+        }
+        (Request::Quit, _) => (who, Reply::Bye),
+        (Request::Other, _) => (who, Reply::Code(26)),
+    }
+}
+
+fn is_quit(request: &Request<'_>) -> bool
+    ensures { result ≡ is_quit (meaning_of request.now) }
+{
+    match request {
+        Request::Quit => true,
+        Request::Login { .. } | Request::Ask(_) | Request::Other => false,
+    }
+}
+
+/// Serves a session: reads lines from the source up to `quit`, the end of the input, a line that is too long or the
+/// 100,000th, and writes a reply to each. An ask is replied to by the history of the user who logged in, and only his pass
+/// changes. It waits for other sessions of that user, and makes at most 2^26 turns.
+pub fn serve_session<R: Wait, D: Disk, S: Source, K: Sink, G: Gate>(
+    rt: &R,
+    alloc: Global,
+    counters: &Counters<'_, D>,
+    passes: &mut Passes<D>,
+    source: &mut S,
+    sink: &mut K,
+    gate: &G,
+) -> Ended
+    requires passes { ArePassesOf passes.old counters.now }
+    requires counted { length (users_of counters.now) ≡ length (fixeds_of counters.now) }
+    requires turns { AllByRecursion (λ pass. 2 ^ 26 ≤ turns pass) (passes_in passes.old) }
+    ensures passes { ArePassesOf passes.new counters.now }
+    ensures session { Session S.told K.told (users_of counters.now) (fixeds_of counters.now) result (S.left source.old) (passes_in passes.old) (passes_in passes.new) (K.written sink.old) (K.written sink.new) }
+    ensures held { S.held source.new ≡ S.held source.old }
+    ensures source_later { S.faults source.old ≤ S.faults source.new }
+    ensures sink_later { K.faults sink.old ≤ K.faults sink.new }
+    ensures read_cause { result ≡ Ended.ReadFault → Rose (S.faults source.old) (S.faults source.new) }
+    ensures write_cause { result ≡ Ended.WriteFault → Rose (K.faults sink.old) (K.faults sink.new) }
+{
+    let mut buffer = LineBuffer::new();
+    let mut who = None;
+    for _ in 0..LINES {
+        match read_line(source, &mut buffer) {
+            LineOutcome::Line => (),
+            LineOutcome::End => return Ended::InputEnd,
+            LineOutcome::TooLong => return end_too_long(sink),
+            LineOutcome::ReadFault => return Ended::ReadFault,
+        }
+        let request = read_request(buffer.line());
+        let (next, reply) = reply_to(rt, alloc, counters, passes, who, request, gate);
+        who = next;
+        match write_reply(sink, &reply) {
+            Ok(()) => (),
+            Err(Failed) => return Ended::WriteFault,
+        }
+        if is_quit(&request) {
+            return Ended::Quit;
+        }
+    }
+    Ended::TooMany
+}
+
+/// Replies to a line that is too long.
+fn end_too_long<K: Sink>(sink: &mut K) -> Ended
+    ensures ends { (result ≡ Ended.TooLong) ⊎ (result ≡ Ended.WriteFault) }
+    ensures written { K.told → Writes result (K.written sink.old) (K.written sink.new) (text_of (Reply.Code 26) ∷ []) }
+    ensures later { K.faults sink.old ≤ K.faults sink.new }
+    ensures cause { result ≡ Ended.WriteFault → Rose (K.faults sink.old) (K.faults sink.new) }
+{
+    match write_reply(sink, &Reply::Code(26)) {
+        Ok(()) => Ended::TooLong,
+        Err(Failed) => Ended::WriteFault,
+    }
+}
