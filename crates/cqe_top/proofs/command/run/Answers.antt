@@ -41,7 +41,15 @@ returns-in-Ok-Some-Audit-clause-usage g c = λ is.
     let policy = audit.files.policy.now in
     let facts = audit.files.facts.now in
     let journals = audit.files.journals.now in
-    inr (policy, facts, journals, audit.user.now, audit.json, sym c.in-Ok-Some-Audit.ensures, λ both.
-    (subst (AuditReaches (journals_on g.F.D.Disk.reads g.F.D.Disk.image journals (g.F.Shelf.disk c.args.shelf.now) (g.F.Shelf.disk c.audit.new.shelf) (g.F.Shelf.disk_faults c.args.shelf.now) (g.F.Shelf.disk_faults c.audit.new.shelf))
-    audit.json (g.K.Sink.written c.args.sink.now) (g.K.Sink.written c.audit.new.sink) policy facts audit.user.now (files_say (g.F.Shelf.file c.args.shelf.now policy) (g.F.Shelf.file c.args.shelf.now facts))) is
-    (c.audit.ensures.reaches both.0 both.1)).0)
+    inr (
+      policy,
+      facts,
+      journals,
+      audit.user.now,
+      audit.json,
+      sym c.in-Ok-Some-Audit.ensures,
+      λ both.
+          (subst (AuditReaches (journals_on g.F.D.Disk.reads g.F.D.Disk.image journals (g.F.Shelf.disk c.args.shelf.now) (g.F.Shelf.disk c.audit.new.shelf) (g.F.Shelf.disk_faults c.args.shelf.now) (g.F.Shelf.disk_faults c.audit.new.shelf))
+          audit.json (g.K.Sink.written c.args.sink.now) (g.K.Sink.written c.audit.new.sink) policy facts audit.user.now (files_say (g.F.Shelf.file c.args.shelf.now policy) (g.F.Shelf.file c.args.shelf.now facts))) is
+          (c.audit.ensures.reaches both.0 both.1)).0,
+    )
