@@ -1,4 +1,4 @@
-use Rattle.std.proofs.Common.{◌∙◌, ap, sym, string_bytes}
+use Rattle.std.proofs.Common.{◌<◌, length, subst, ◌∙◌, ap, string_bytes}
 use Rattle.std.specs.Prelude.{position}
 use Rattle.log_journal.specs.Opening.{header_bytes}
 use Rattle.batch_engine.specs.Shelved.{journals_on}
@@ -18,7 +18,7 @@ returns-clause-reaches g c = λ told sink_told.
     c.args.json (g.K.Sink.written c.args.sink.now) (g.K.Sink.written c.run_audit-end.new.sink) files.policy.now files.facts.now name
     (files_say (g.F.Shelf.file c.args.shelf.now files.policy.now) (g.F.Shelf.file c.args.shelf.now files.facts.now)) policy read.inputs.world (header_bytes read.inputs.header)
     c.in-Some.place c.index-user.result.now c.run_audit-end.result c.end_of_audit.result read.ensures.disks read.ensures.counts (read.ensures.read told)
-    found c.in-Some.ensures.within c.index-user.ensures c.end_of_audit.ensures (c.run_audit-end.ensures.ends told sink_told)
+    found (subst (λ users. c.in-Some.place < length users) c.as_slice.ensures.value c.in-Some.ensures.within) c.index-user.ensures c.end_of_audit.ensures (c.run_audit-end.ensures.ends told sink_told)
 
 pub returns-clause-looks : goal.returns-clause-looks
 returns-clause-looks g c = λ told.
@@ -27,7 +27,7 @@ returns-clause-looks g c = λ told.
     let user = c.index-user.result.now in
     let found = c.in-Some.ensures.place ∙ ap (position (is_named name)) c.as_slice.ensures.value in
     looked_over g.F.D.Disk.reads g.F.D.Disk.image (g.F.Shelf.disk c.args.shelf.now) (g.F.Shelf.disk c.read_files.new.shelf) (g.F.Shelf.disk c.run_audit-end.new.shelf) c.in-Ok.ensures.disks
-    c.args.files.now.journals.now name (string_bytes user.name) (named_at name policy.users.items c.in-Some.place user found c.in-Some.ensures.within c.index-user.ensures)
+    c.args.files.now.journals.now name (string_bytes user.name) (named_at name policy.users.items c.in-Some.place user found (subst (λ users. c.in-Some.place < length users) c.as_slice.ensures.value c.in-Some.ensures.within) c.index-user.ensures)
     c.run_audit-end.ensures.disks (c.run_audit-end.ensures.bytes told) (c.run_audit-end.ensures.images told)
 
 pub returns-clause-nobody : goal.returns-clause-nobody
