@@ -153,8 +153,8 @@ pub(super) fn audit(
         user,
         "--json",
     ];
-    let words = if json { &words[..] } else { &words[..9] };
-    run_over(rt, alloc, words, shelf, source, sink, complaints)
+    let count = if json { 10 } else { 9 };
+    run_over(rt, alloc, &words[..count], shelf, source, sink, complaints)
 }
 
 /// A journal of the ward: the header, and from byte 72 on these bytes.
