@@ -1,9 +1,10 @@
 //! Audits: what is printed of each user, and what isn't done.
 use super::ward::{
-    FACTS, POLICY, audit, batch, journal, journal_bytes, put_journal, shelf_of, ward,
+    FACTS, POLICY, audit, batch, init, journal, journal_bytes, put_journal, shelf_of, ward,
 };
 use super::{Run, joined};
 use outside::{MemorySink, MemorySource, Pieces, Plan};
+use std::alloc::{AllocError, Global};
 use std::test::Fail;
 
 // Two asks of each of three users.
@@ -134,5 +135,68 @@ fn an_audit_may_be_cut(rt: HostRuntime) -> Result<(), Fail> {
         "cqe: write fault\n",
         "a sink that fails at its second call",
     );
+    Ok(())
+}
+
+// The facts that an audit's line of a secret names, as a facts file.
+fn facts_in(alloc: Global, line: &str) -> Result<Vec<u8>, AllocError> {
+    let mut bytes = Vec::new(alloc);
+    if let Some((_, facts)) = line.rsplit_once(" world ") {
+        for fact in facts.split(' ') {
+            if fact != "-" {
+                bytes.extend_from_slice(fact.as_bytes())?;
+                bytes.push(b'\n')?;
+            }
+        }
+    }
+    Ok(bytes)
+}
+
+// In each world that an audit prints, the same asks get the same lines.
+#[test]
+fn a_printed_world_gives_the_same_lines(rt: HostRuntime) -> Result<(), Fail> {
+    let alloc = rt.alloc();
+    let rows = [
+        (
+            "eve",
+            "eve 1 ask drug(ann)\neve 2 ask hiv(bob)\n",
+            "eve 1 no\neve 2 no\n",
+            1,
+        ),
+        (
+            "ron",
+            "ron 1 ask drug(ann)\nron 1 ask hiv(bob)\n",
+            "ron 1 refused\nron 1 no\n",
+            1,
+        ),
+        (
+            "kim",
+            "kim 1 ask hiv(ann) or hiv(bob)\nkim 1 ask hiv(ann)\n",
+            "kim 1 yes\nkim 1 refused\n",
+            2,
+        ),
+    ];
+    for (name, script, output, secrets) in rows {
+        let mut shelf = ward(&rt, alloc)?;
+        let run = batch(&rt, alloc, &mut shelf, script)?;
+        run.check(&rt, 0, output, "", name);
+        let printed = audit(&rt, alloc, &mut shelf, name, false)?;
+        let Ok(text) = str::from_utf8(printed.sink.bytes()) else {
+            return Err(Fail::from(AllocError));
+        };
+        let mut worlds = 0u8;
+        for line in text.lines() {
+            if line.starts_with("secret ") {
+                let facts = facts_in(alloc, line)?;
+                let mut other = shelf_of(alloc, POLICY.as_bytes(), &facts)?;
+                let made = init(&rt, alloc, &mut other)?;
+                assert_eq!(rt; made.status, 0, "{line}");
+                let run = batch(&rt, alloc, &mut other, script)?;
+                run.check(&rt, 0, output, "", line);
+                worlds = worlds.saturating_add(1);
+            }
+        }
+        assert_eq!(rt; worlds, secrets, "{name}");
+    }
     Ok(())
 }
