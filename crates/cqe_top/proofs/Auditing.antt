@@ -46,28 +46,28 @@ module _ {X : Type 0} (p : X → Bool) where
 
   first_at : (xs : List X) (k : ℕ) (d : X) → before xs ≡ k → k < length xs → find p xs ≡ Some (get_or xs k d)
   first_at [] k d is low = absurd (omega (arith, low))
-  first_at (x ∷ xs) k d is low = by (p x) refl
+  first_at (x ∷ xs) k d is low = by (p x) refl (first_at xs (before xs) d refl)
     where
-      by : (b : Bool) → p x ≡ b → find p (x ∷ xs) ≡ Some (get_or (x ∷ xs) k d)
-      by true passes =
+      by : (b : Bool) → p x ≡ b → (before xs < length xs → find p xs ≡ Some (get_or xs (before xs) d)) → find p (x ∷ xs) ≡ Some (get_or (x ∷ xs) k d)
+      by true passes further =
           let none : k ≡ 0 = sym is ∙ ap (λ b. cond (not b) (1 + before xs) 0) passes in
           ap (λ b. cond b (Some x) (find p xs)) passes ∙ ap (λ n. Some (get_or (x ∷ xs) n d)) (sym none)
-      by false fails =
+      by false fails further =
           let more : k ≡ 1 + before xs = sym is ∙ ap (λ b. cond (not b) (1 + before xs) 0) fails in
           let next : k ≡ suc (before xs) = omega (arith, more) in
-          ap (λ b. cond b (Some x) (find p xs)) fails ∙ first_at xs (before xs) d refl (omega (arith, more, low)) ∙ ap (λ n. Some (get_or (x ∷ xs) n d)) (sym next)
+          ap (λ b. cond b (Some x) (find p xs)) fails ∙ further (omega (arith, more, low)) ∙ ap (λ n. Some (get_or (x ∷ xs) n d)) (sym next)
 
   none_before : (xs : List X) → nat_lt (before xs) (length xs) ≡ false → find p xs ≡ None
   none_before [] none = refl
-  none_before (x ∷ xs) none = by (p x) refl
+  none_before (x ∷ xs) none = by (p x) refl (none_before xs)
     where
-      by : (b : Bool) → p x ≡ b → find p (x ∷ xs) ≡ None
-      by true passes =
+      by : (b : Bool) → p x ≡ b → (nat_lt (before xs) (length xs) ≡ false → find p xs ≡ None) → find p (x ∷ xs) ≡ None
+      by true passes further =
           let first : before (x ∷ xs) ≡ 0 = ap (λ b. cond (not b) (1 + before xs) 0) passes in
           absurd (false≢true (sym none ∙ lt-ltb (before (x ∷ xs)) (length (x ∷ xs)) (omega (arith, first))))
-      by false fails =
+      by false fails further =
           let first : before (x ∷ xs) ≡ 1 + before xs = ap (λ b. cond (not b) (1 + before xs) 0) fails in
-          ap (λ b. cond b (Some x) (find p xs)) fails ∙ none_before xs (later (nat_lt (before xs) (length xs)) refl first)
+          ap (λ b. cond b (Some x) (find p xs)) fails ∙ further (later (nat_lt (before xs) (length xs)) refl first)
         where
           later : (t : Bool) → nat_lt (before xs) (length xs) ≡ t → before (x ∷ xs) ≡ 1 + before xs → nat_lt (before xs) (length xs) ≡ false
           later false is first = is
@@ -75,7 +75,7 @@ module _ {X : Type 0} (p : X → Bool) where
               absurd (false≢true (sym none ∙ lt-ltb (before (x ∷ xs)) (length (x ∷ xs)) (let low : before xs < length xs = grind (arith, is) in omega (arith, first, low))))
 
 -- whether a user in memory has the name
-abbrev is_named : Text → User → Bool
+abbrev pub is_named : Text → User → Bool
 is_named name user = bytes_eq (string_bytes user.name) name
 
 named_among : (name : Text) (users : List User) → user_named name (map named_user_of users) ≡ option_map named_user_of (find (is_named name) users)
@@ -110,11 +110,11 @@ nobody_named name users none =
 -- he who is found has the name
 pub has_name : (name : Text) (users : List NamedUser) (user : NamedUser) → user_named name users ≡ Some user → user.name ≡ name
 has_name name [] user found = let clash : None ≡ Some user = found in absurd cc
-has_name name (one ∷ users) user found = by (bytes_eq one.name name) refl found
+has_name name (one ∷ users) user found = by (bytes_eq one.name name) refl (has_name name users user) found
   where
-    by : (b : Bool) → bytes_eq one.name name ≡ b → cond b (Some one) (user_named name users) ≡ Some user → user.name ≡ name
-    by true is same = let here : one ≡ user = cc in ap (λ u. u.name) (sym here) ∙ (bytes_eq-Decides one.name name).0 is
-    by false is further = has_name name users user further
+    by : (b : Bool) → bytes_eq one.name name ≡ b → (user_named name users ≡ Some user → user.name ≡ name) → cond b (Some one) (user_named name users) ≡ Some user → user.name ≡ name
+    by true is later same = let here : one ≡ user = cc in ap (λ u. u.name) (sym here) ∙ (bytes_eq-Decides one.name name).0 is
+    by false is later further = later further
 
 -- ---- what an end reaches
 
@@ -280,3 +280,8 @@ shelf_fault users number (audit_end.Refused why) end (owner, owned, is) same = l
 shelf_fault users number audit_end.WriteFault end is same = let clash : ends.WriteFault ≡ ends.ShelfFault = sym is ∙ same in absurd cc
 shelf_fault users number audit_end.ShelfFault end is same = refl
 shelf_fault users number audit_end.Memory end is same = let clash : ends.Memory ≡ ends.ShelfFault = sym is ∙ same in absurd cc
+
+-- a count that rose, rose from an earlier one too
+pub rose_longer : (before middle now : ℕ) → before ≤ middle → Rose middle now → Rose before now
+rose_longer before middle now later (inl less) = inl (omega (arith, later, less))
+rose_longer before middle now later (inr full) = inr full

@@ -7,3 +7,5 @@ mod Failing
 mod Good
 mod Auditing
 mod Numbers
+mod Saying
+mod Selfrunning

@@ -67,7 +67,7 @@ pub fn top<R: Wait, F: Shelf, S: Source, K: Sink, E: Sink, G: Gate>(
 
     // Words without a reading, and the audit of a user whom the policy doesn't have, alone have the status of usage, and then
     // nothing is written.
-    ensures usage { result ≡ 2 → IsUsage words.now ⊎ AuditsNobody F.told words.now (F.file shelf.old) }
+    ensures usage { result ≡ 2 → IsUsage words.now ⊎ AuditsNobody (F.told × K.told) words.now (F.file shelf.old) }
     ensures is_usage { IsUsage words.now → (result ≡ 2) ⊎ (result ≡ 13) }
     ensures usage_takes_nothing { IsUsage words.now → shelf.new ≡ shelf.old }
     ensures usage_reads_nothing { result ≡ 2 → source.new ≡ source.old }
@@ -148,7 +148,7 @@ fn run<'w, R: Wait, F: Shelf, S: Source, K: Sink, G: Gate>(
         → AuditReaches (journals_on F.D.reads F.D.image journals (F.disk shelf.old) (F.disk shelf.new) (F.disk_faults shelf.old) (F.disk_faults shelf.new))
         json (K.written sink.old) (K.written sink.new) policy facts user (files_say (F.file shelf.old policy) (F.file shelf.old facts)) result }
     ensures as_selfrun { K.told → (seed users asks : ℕ) → IsSelfrun words.now seed users asks → SelfrunReaches seed users asks result (K.written sink.old) (K.written sink.new) }
-    ensures usage { result ≡ CommandEnd.Usage → IsUsage words.now ⊎ AuditsNobody F.told words.now (F.file shelf.old) }
+    ensures usage { result ≡ CommandEnd.Usage → IsUsage words.now ⊎ AuditsNobody (F.told × K.told) words.now (F.file shelf.old) }
     ensures is_usage { IsUsage words.now → (result ≡ CommandEnd.Usage) ⊎ (result ≡ CommandEnd.Memory) }
     ensures usage_takes_nothing { IsUsage words.now → shelf.new ≡ shelf.old }
     ensures usage_reads_nothing { result ≡ CommandEnd.Usage → source.new ≡ source.old }

@@ -1,4 +1,4 @@
-//! Desks on disks in memory, which threads share. Marks were worked out by hand.
+//! Desks on disks in memory, which sessions share. Marks were worked out by hand.
 ghost use Rattle.std.specs.Prelude.{◌≡◌, ◌+◌, ◌*◌, ◌^◌, ◌≤◌, true, length, Some, IfOk};
 ghost use Rattle.cqe_base.specs.Formula.{formula_of, nodes, is_sentence_of};
 ghost use Rattle.cqe_base.specs.History.{profile_of};
@@ -13,15 +13,12 @@ use cqe_base::sentence::{Sentence, nodes};
 use cqe_base::user::{Mark, Method, User};
 use cqe_base::world::{Fact, World};
 use log_journal::{Header, format};
-use outside::{Disk, Gate, MemoryDisk, OpenGate, Point};
+use outside::{Disk, Gate, MemoryDisk, OpenGate};
 use sentence_text::read_sentence;
 use std::alloc::Global;
 use std::process::Abort;
 use std::sync::Wait;
-use std::sync::atomic::{AtomicU64, Ordering};
 use std::test::Fail;
-use std::thread;
-use std::thread::{Threads, join};
 use turnstile::{Pass, PassError};
 use user_desk::{Desk, open_desk};
 use user_log::Reply;
@@ -32,17 +29,12 @@ const HEADER: Header = Header {
     facts: [9; 32],
 };
 
-/// How often a gate looks before it gives up.
-const LOOKS: u64 = 10_000_000;
-
-/// Two persons; Ann takes the drug and is infected. Two liars keep that secret, who know that who takes the drug is
-/// infected.
+/// Two persons; Ann takes the drug and is infected. A liar keeps that secret, who knows that who takes the drug is infected.
 #[derive(Drop)]
 struct Clinic {
     schema: Schema,
     world: World,
     eve: User,
-    kim: User,
 }
 
 fn names(alloc: Global, texts: &[&str]) -> Result<Vec<String>, Fail> {
@@ -97,8 +89,7 @@ fn liar(rt: &impl Abort, alloc: Global, schema: &Schema, name: &str) -> Result<U
 }
 
 fn make_clinic(rt: &impl Abort, alloc: Global) -> Result<Clinic, Fail>
-    ensures eve { IfOk result (λ c. KeepsLimits c.schema (profile_of c.eve)) }
-    ensures kim { IfOk result (λ c. KeepsLimits c.schema (profile_of c.kim)) }
+    ensures { IfOk result (λ c. KeepsLimits c.schema (profile_of c.eve)) }
 {
     let schema = schema(alloc)?;
     let mut world = World::new(alloc);
@@ -110,13 +101,7 @@ fn make_clinic(rt: &impl Abort, alloc: Global) -> Result<Clinic, Fail>
         assert!(rt; world.insert(&schema, fact).is_ok());
     }
     let eve = liar(rt, alloc, &schema, "eve")?;
-    let kim = liar(rt, alloc, &schema, "kim")?;
-    Ok(Clinic {
-        schema,
-        world,
-        eve,
-        kim,
-    })
+    Ok(Clinic { schema, world, eve })
 }
 
 /// A user's desk on an empty journal, under a counter.
@@ -142,16 +127,7 @@ fn counter_of<'w>(
     }
 }
 
-/// Work that a thread does.
-trait Job {
-    // What work leaves as it was.
-    ghost same: { Self → Self → Type 0 };
-
-    fn finish<R: Wait>(self, rt: &R) -> Self
-        ensures { same self result };
-}
-
-/// A session at a counter, which asks one text so often. It says nothing of the value's type, so that a thread can take it.
+/// A session at a counter, which asks one text so often.
 #[derive(Drop)]
 struct Session<'a, 'w, V: Owned, G> {
     counter: &'a CounterOf<'w, V>,
@@ -175,7 +151,7 @@ impl<'a, 'w, D: Disk, G: Gate> Session<'a, 'w, TicketedDesk<'w, D>, G> {
     // One ask.
     fn ask<R: Wait>(&mut self, rt: &R)
         requires { 1 ≤ self.old.asks }
-        ensures counter { self.new.counter ≡ self.old.counter }
+        ensures counter { self.new.counter.now ≡ self.old.counter.now }
         ensures asks { self.new.asks + 1 ≡ self.old.asks }
     {
         let reply = self
@@ -188,44 +164,24 @@ impl<'a, 'w, D: Disk, G: Gate> Session<'a, 'w, TicketedDesk<'w, D>, G> {
     }
 }
 
-impl<'a, 'w, D: Disk, G: Gate> Job for Session<'a, 'w, TicketedDesk<'w, D>, G> {
-    ghost same = { λ before after. after.counter ≡ before.counter };
-
-    fn finish<R: Wait>(self, rt: &R) -> Self {
-        let mut session = self;
-        while session.asks > 0 {
-            session.ask(rt);
-        }
-        session
-    }
-}
-
-// Two threads do a job each.
-fn finish_both<J: Job + Drop + Send, R: Threads + Wait + Sync>(rt: &R, one: J, two: J) -> (J, J)
-    ensures one { J.same one result.0 }
-    ensures two { J.same two result.1 }
-{
-    join(rt, move || one.finish(rt), move || two.finish(rt))
-}
-
 /// A session that makes so many asks.
-fn session_at<'a, 'w, V: Owned, G>(
+fn session_at<'a, 'w, V: Owned, G: Gate>(
     alloc: Global,
-    at: (&'a CounterOf<'w, V>, Pass<V::Item, V::Fixed>),
+    counter: &'a CounterOf<'w, V>,
+    pass: Pass<V::Item, V::Fixed>,
     shares: u64,
     text: &'a str,
     asks: u64,
     gate: &'a G,
 ) -> Session<'a, 'w, V, G>
-    requires place { IsOf at.1 at.0.now.turnstile × IsReady at.1 }
-    requires kept { fixed at.1 ≡ Some (V.kept (first_value at.0.now.turnstile)) }
-    requires shares { shares ≡ shares_of at.1 }
-    requires turns { 2 * asks ≤ turns at.1 }
+    requires place { IsOf pass counter.now.turnstile × IsReady pass }
+    requires kept { fixed pass ≡ Some (V.kept (first_value counter.now.turnstile)) }
+    requires shares { shares ≡ shares_of pass }
+    requires turns { 2 * asks ≤ turns pass }
     requires short { length text.now ≤ 4096 }
     requires few { asks ≤ 1000 }
-    ensures { result.counter ≡ at.0 }
+    ensures { result.counter.now ≡ counter.now }
 {
-    let (counter, pass) = at;
     Session {
         counter,
         pass,
@@ -238,8 +194,28 @@ fn session_at<'a, 'w, V: Owned, G>(
     }
 }
 
-// Two threads ask one desk, each with a pass and a text of its own. The passes meet, and the counter is closed.
-fn ask_by_two<'w, R: Threads + Wait + Sync>(
+// Two sessions ask by turns, so often.
+fn ask_in_turns<'a, 'w, R: Wait, D: Disk, G: Gate>(
+    rt: &R,
+    one: Session<'a, 'w, TicketedDesk<'w, D>, G>,
+    two: Session<'a, 'w, TicketedDesk<'w, D>, G>,
+) -> (
+    Session<'a, 'w, TicketedDesk<'w, D>, G>,
+    Session<'a, 'w, TicketedDesk<'w, D>, G>,
+)
+    ensures one { result.0.counter.now ≡ one.entry.counter.now }
+    ensures two { result.1.counter.now ≡ two.entry.counter.now }
+{
+    let (mut one, mut two) = (one, two);
+    while one.asks > 0 && two.asks > 0 {
+        one.ask(rt);
+        two.ask(rt);
+    }
+    (one, two)
+}
+
+// Two sessions ask one desk by turns, each with a pass and a text of its own. The passes meet, and the counter is closed.
+fn ask_by_two<'w, R: Wait>(
     rt: &R,
     alloc: Global,
     counter: Counter<'w, MemoryDisk>,
@@ -252,9 +228,9 @@ fn ask_by_two<'w, R: Threads + Wait + Sync>(
 {
     let mut first = pass;
     let second = counter.split(&mut first).ok()?;
-    let one = session_at(alloc, (&counter, first), 64, texts.0, 100, &OpenGate);
-    let two = session_at(alloc, (&counter, second), 1, texts.1, 100, &OpenGate);
-    let (one, two) = finish_both(rt, one, two);
+    let one = session_at(alloc, &counter, first, 64, texts.0, 100, &OpenGate);
+    let two = session_at(alloc, &counter, second, 1, texts.1, 100, &OpenGate);
+    let (one, two) = ask_in_turns(rt, one, two);
     let told = one.told + two.told;
     if one.shares != 64 || two.shares != 1 {
         return None;
@@ -266,7 +242,7 @@ fn ask_by_two<'w, R: Threads + Wait + Sync>(
 
 // A liar who keeps `hiv(ann)` secret is told `no` of `drug(ann)`, a lie, and `yes` of `not hiv(bob)`, the truth.
 #[test]
-fn two_threads_ask_one_desk(rt: HostRuntime) -> Result<(), Fail> {
+fn two_sessions_ask_one_desk(rt: HostRuntime) -> Result<(), Fail> {
     let alloc = rt.alloc();
     let clinic = make_clinic(&rt, alloc)?;
     let (counter, pass) = counter_of(&rt, alloc, &clinic, &clinic.eve)?;
@@ -311,97 +287,5 @@ fn a_pass_splits_sixty_four_times(rt: HostRuntime) -> Result<(), Fail> {
     let clinic = make_clinic(&rt, alloc)?;
     let (counter, mut pass) = counter_of(&rt, alloc, &clinic, &clinic.eve)?;
     assert_eq!(rt; split_all(&counter, &mut pass), 64);
-    Ok(())
-}
-
-/// A gate that holds the first ask of eve that passes this point until so many asks are settled.
-#[derive(Drop)]
-struct Hold {
-    point: Point,
-    until: u64,
-    passed: AtomicU64,
-    settled: AtomicU64,
-    released: AtomicU64,
-}
-
-impl Hold {
-    fn new(point: Point, until: u64) -> Hold {
-        Hold {
-            point,
-            until,
-            passed: AtomicU64::new(0),
-            settled: AtomicU64::new(0),
-            released: AtomicU64::new(0),
-        }
-    }
-
-    fn hold(&self) {
-        for _ in 0..LOOKS {
-            if self.settled.load(Ordering::SeqCst) >= self.until {
-                self.released.fetch_add(1, Ordering::SeqCst);
-                return;
-            }
-            thread::yield_now();
-        }
-    }
-}
-
-impl Gate for Hold {
-    fn pass(&self, user: &str, point: Point) {
-        if point == Point::Settled {
-            self.settled.fetch_add(1, Ordering::SeqCst);
-        }
-        if point == self.point && user == "eve" && self.passed.fetch_add(1, Ordering::SeqCst) == 0 {
-            self.hold();
-        }
-    }
-}
-
-// Two threads ask once each, at these counters, and it says how many marks they were told.
-fn ask_beside<'a, 'w, R: Threads + Wait + Sync>(
-    rt: &R,
-    alloc: Global,
-    one: (&'a Counter<'w, MemoryDisk>, DeskPass<MemoryDisk>),
-    two: (&'a Counter<'w, MemoryDisk>, DeskPass<MemoryDisk>),
-    shares: u64,
-    gate: &'a Hold,
-) -> u64
-    requires one { IsPassOf one.1 one.0.now × (2 ≤ turns one.1) × (shares ≡ shares_of one.1) }
-    requires two { IsPassOf two.1 two.0.now × (2 ≤ turns two.1) × (shares_of two.1 ≡ 1) }
-{
-    let one = session_at(alloc, one, shares, "drug(ann)", 1, gate);
-    let two = session_at(alloc, two, 1, "drug(ann)", 1, gate);
-    let (one, two) = finish_both(rt, one, two);
-    one.told + two.told
-}
-
-#[test]
-fn an_ask_in_its_turn_holds_no_other_desk(rt: HostRuntime) -> Result<(), Fail> {
-    let alloc = rt.alloc();
-    let clinic = make_clinic(&rt, alloc)?;
-    let (eve, eve_pass) = counter_of(&rt, alloc, &clinic, &clinic.eve)?;
-    let (kim, mut kim_pass) = counter_of(&rt, alloc, &clinic, &clinic.kim)?;
-    let Ok(kim_part) = kim.split(&mut kim_pass) else {
-        panic!(rt; "not split");
-    };
-    let gate = Hold::new(Point::Examined, 1);
-    let told = ask_beside(&rt, alloc, (&eve, eve_pass), (&kim, kim_part), 65, &gate);
-    assert_eq!(rt; told, 2);
-    assert_eq!(rt; gate.released.load(Ordering::SeqCst), 1);
-    Ok(())
-}
-
-#[test]
-fn a_settled_ask_holds_nobody(rt: HostRuntime) -> Result<(), Fail> {
-    let alloc = rt.alloc();
-    let clinic = make_clinic(&rt, alloc)?;
-    let (counter, mut first) = counter_of(&rt, alloc, &clinic, &clinic.eve)?;
-    let Ok(second) = counter.split(&mut first) else {
-        panic!(rt; "not split");
-    };
-    let gate = Hold::new(Point::Settled, 2);
-    let told = ask_beside(&rt, alloc, (&counter, first), (&counter, second), 64, &gate);
-    assert_eq!(rt; told, 2);
-    assert_eq!(rt; gate.released.load(Ordering::SeqCst), 1);
     Ok(())
 }

@@ -5,6 +5,8 @@ use Rattle.real_edge.specs.declared.streams.StreamSource.{StreamSource}
 use Rattle.real_edge.specs.declared.streams.StreamSink.{StreamSink}
 use Rattle.real_edge.specs.declared.disks.FileDisk.{FileDisk}
 use Rattle.real_edge.specs.declared.files.FileShelf.{FileShelf}
+use Rattle.real_edge.specs.declared.sockets.TcpDoor.{TcpDoor}
+use Rattle.real_edge.specs.declared.sockets.TcpLinks.{TcpLinks}
 use Rattle.real_edge.specs.Kept.{out_kept, faults_kept}
 
 -- how often a reader failed
@@ -30,3 +32,15 @@ is_file_out shelf name = out_kept (at_name shelf.disks name)
 -- how often the disk of a name failed
 abbrev pub file_faults : {R : Type 0} → FileShelf R → List ℕ → ℕ
 file_faults shelf name = faults_kept (at_name shelf.disks name)
+
+-- how often a listening socket failed
+abbrev pub door_faults : {L : Type 0} → TcpDoor L → ℕ
+door_faults door = door.faults
+
+-- how often opening sockets failed, and how many doors came back that had failed
+abbrev pub links_faults : {R : Type 0} → TcpLinks R → ℕ
+links_faults links = links.faults
+
+-- how many doors aren't back
+abbrev pub links_out : {R : Type 0} → TcpLinks R → ℕ
+links_out links = links.out

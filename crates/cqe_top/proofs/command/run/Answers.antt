@@ -1,0 +1,60 @@
+use Rattle.std.proofs.Common.{inr, sym, ap, ◌∙◌, subst, map, string_bytes}
+use Rattle.std.specs.Prelude.{Some, option_map}
+use Rattle.batch_engine.specs.Shelved.{journals_on}
+use Rattle.command_words.specs.Readings.{reading_of, reading_in}
+use Rattle.cqe_top.specs.Files.{files_say}
+use Rattle.cqe_top.specs.Audited.{AuditReaches}
+use Rattle.cqe_top.proofs.Numbers.{in_bounds}
+use Rattle.cqe_top.proofs.Saying.{by_audit}
+use Rattle.cqe_top.proofs.command.run.Goals as goal
+
+pub selfrun-requires-clause-some_user : goal.selfrun-requires-clause-some_user
+selfrun-requires-clause-some_user g c =
+    let read = c.in-Ok-Some-Selfrun in
+    let run = read.words in
+    (in_bounds run.seed run.users run.asks (map string_bytes c.args.words.now) (sym read.ensures ∙ ap (option_map reading_in) (read.field-0-is ∙ ap Some read.field-0-0-is))).some_user
+
+pub selfrun-requires-clause-few_users : goal.selfrun-requires-clause-few_users
+selfrun-requires-clause-few_users g c =
+    let read = c.in-Ok-Some-Selfrun in
+    let run = read.words in
+    (in_bounds run.seed run.users run.asks (map string_bytes c.args.words.now) (sym read.ensures ∙ ap (option_map reading_in) (read.field-0-is ∙ ap Some read.field-0-0-is))).few_users
+
+pub selfrun-requires-clause-some_ask : goal.selfrun-requires-clause-some_ask
+selfrun-requires-clause-some_ask g c =
+    let read = c.in-Ok-Some-Selfrun in
+    let run = read.words in
+    (in_bounds run.seed run.users run.asks (map string_bytes c.args.words.now) (sym read.ensures ∙ ap (option_map reading_in) (read.field-0-is ∙ ap Some read.field-0-0-is))).some_ask
+
+pub selfrun-requires-clause-few_asks : goal.selfrun-requires-clause-few_asks
+selfrun-requires-clause-few_asks g c =
+    let read = c.in-Ok-Some-Selfrun in
+    let run = read.words in
+    (in_bounds run.seed run.users run.asks (map string_bytes c.args.words.now) (sym read.ensures ∙ ap (option_map reading_in) (read.field-0-is ∙ ap Some read.field-0-0-is))).few_asks
+
+pub returns-in-Ok-Some-Audit-clause-as_audit : goal.returns-in-Ok-Some-Audit-clause-as_audit
+returns-in-Ok-Some-Audit-clause-as_audit g c = λ told sink_told policy facts journals user json is.
+    let audit = c.in-Ok-Some-Audit.words in
+    by_audit (reading_of (map string_bytes c.args.words.now)) audit.files.policy.now audit.files.facts.now audit.files.journals.now policy facts journals audit.user.now user audit.json json
+    (λ p f j u s. AuditReaches (journals_on g.F.D.Disk.reads g.F.D.Disk.image j (g.F.Shelf.disk c.args.shelf.now) (g.F.Shelf.disk c.audit.new.shelf) (g.F.Shelf.disk_faults c.args.shelf.now) (g.F.Shelf.disk_faults c.audit.new.shelf))
+    s (g.K.Sink.written c.args.sink.now) (g.K.Sink.written c.audit.new.sink) p f u (files_say (g.F.Shelf.file c.args.shelf.now p) (g.F.Shelf.file c.args.shelf.now f)) c.audit.result)
+    (ap (option_map reading_in) (sym (c.in-Ok-Some-Audit.field-0-is ∙ ap Some c.in-Ok-Some-Audit.field-0-0-is)) ∙ c.in-Ok-Some-Audit.ensures) is (c.audit.ensures.reaches told sink_told)
+
+pub returns-in-Ok-Some-Audit-clause-usage : goal.returns-in-Ok-Some-Audit-clause-usage
+returns-in-Ok-Some-Audit-clause-usage g c = λ is.
+    let audit = c.in-Ok-Some-Audit.words in
+    let policy = audit.files.policy.now in
+    let facts = audit.files.facts.now in
+    let journals = audit.files.journals.now in
+    inr (
+      policy,
+      facts,
+      journals,
+      audit.user.now,
+      audit.json,
+      sym c.in-Ok-Some-Audit.ensures ∙ ap (option_map reading_in) (c.in-Ok-Some-Audit.field-0-is ∙ ap Some c.in-Ok-Some-Audit.field-0-0-is),
+      λ both.
+          (subst (AuditReaches (journals_on g.F.D.Disk.reads g.F.D.Disk.image journals (g.F.Shelf.disk c.args.shelf.now) (g.F.Shelf.disk c.audit.new.shelf) (g.F.Shelf.disk_faults c.args.shelf.now) (g.F.Shelf.disk_faults c.audit.new.shelf))
+          audit.json (g.K.Sink.written c.args.sink.now) (g.K.Sink.written c.audit.new.sink) policy facts audit.user.now (files_say (g.F.Shelf.file c.args.shelf.now policy) (g.F.Shelf.file c.args.shelf.now facts))) is
+          (c.audit.ensures.reaches both.0 both.1)).0,
+    )
