@@ -7,6 +7,7 @@ use crate::top;
 use outside::{MemoryShelf, MemorySink, MemorySource, OpenGate, Pieces, Plan};
 use std::alloc::{AllocError, Global};
 use std::process::Abort;
+use std::sync::Wait;
 
 mod audit;
 mod batch;
@@ -26,7 +27,8 @@ struct Run {
 
 // Calls the program over a shelf that has all its disks, and has them all again.
 fn run_over(
-    rt: &HostRuntime,
+    rt: &impl Wait,
+    alloc: Global,
     words: &[&str],
     shelf: &mut MemoryShelf,
     source: MemorySource,
@@ -36,7 +38,6 @@ fn run_over(
     requires { (name : List ℕ) → is_disk_out shelf.old name ≡ false }
     ensures { (name : List ℕ) → is_disk_out shelf.new name ≡ false }
 {
-    let alloc = rt.alloc();
     let (mut source, mut sink, mut complaints) = (source, sink, complaints);
     let mut texts = Vec::new(alloc);
     for word in words {
@@ -63,7 +64,8 @@ fn run_over(
 impl Run {
     /// The program over a shelf that nobody asks for afterwards.
     fn new(
-        rt: &HostRuntime,
+        rt: &impl Wait,
+        alloc: Global,
         words: &[&str],
         mut shelf: MemoryShelf,
         source: MemorySource,
@@ -72,20 +74,20 @@ impl Run {
     ) -> Result<Run, AllocError>
         requires { (name : List ℕ) → is_disk_out shelf name ≡ false }
     {
-        run_over(rt, words, &mut shelf, source, sink, complaints)
+        run_over(rt, alloc, words, &mut shelf, source, sink, complaints)
     }
 
     /// A case whose script has these parts.
-    fn case(rt: &HostRuntime, script: &[&str]) -> Result<Run, AllocError> {
-        Run::script(rt, joined(rt.alloc(), script)?)
+    fn case(rt: &impl Wait, alloc: Global, script: &[&str]) -> Result<Run, AllocError> {
+        Run::script(rt, alloc, joined(alloc, script)?)
     }
 
-    fn script(rt: &HostRuntime, script: Vec<u8>) -> Result<Run, AllocError> {
-        let alloc = rt.alloc();
+    fn script(rt: &impl Wait, alloc: Global, script: Vec<u8>) -> Result<Run, AllocError> {
         let sink = MemorySink::new(alloc);
         let complaints = MemorySink::new(alloc);
         Run::new(
             rt,
+            alloc,
             &["case"],
             MemoryShelf::new(alloc),
             MemorySource::new(script),
@@ -96,17 +98,18 @@ impl Run {
 
     /// The same, where the streams cut.
     fn cut_case(
-        rt: &HostRuntime,
+        rt: &impl Wait,
+        alloc: Global,
         script: &[&str],
         taken: Pieces,
         given: Pieces,
     ) -> Result<Run, AllocError> {
-        let alloc = rt.alloc();
         let source = MemorySource::with_plan(joined(alloc, script)?, taken, Plan::Never);
         let sink = MemorySink::with_plan(alloc, given, Plan::Never);
         let complaints = MemorySink::new(alloc);
         Run::new(
             rt,
+            alloc,
             &["case"],
             MemoryShelf::new(alloc),
             source,

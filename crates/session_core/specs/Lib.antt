@@ -5,4 +5,3 @@ pub mod Desks
 pub mod Members
 pub mod Asked
 pub mod Sessions
-pub mod Served

@@ -37,13 +37,13 @@ fn each_user_has_his_audit(rt: HostRuntime) -> Result<(), Fail> {
             "{\"entries\":[],\"method\":\"lying\",\"name\":\"lou\",\"secrets\":[],\"standing\":\"closed\"}\n",
         ),
     ];
-    let mut shelf = ward(alloc)?;
-    let _run = batch(alloc, &mut shelf, SCRIPT)?;
+    let mut shelf = ward(&rt, alloc)?;
+    let _run = batch(&rt, alloc, &mut shelf, SCRIPT)?;
     for (name, text, json) in rows {
-        let run = audit(alloc, &mut shelf, name, false)?;
+        let run = audit(&rt, alloc, &mut shelf, name, false)?;
         run.check(&rt, 0, text, "", name);
         assert_eq!(rt; run.source.left(), run.source.held());
-        let run = audit(alloc, &mut shelf, name, true)?;
+        let run = audit(&rt, alloc, &mut shelf, name, true)?;
         run.check(&rt, 0, json, "", name);
     }
     Ok(())
@@ -52,15 +52,15 @@ fn each_user_has_his_audit(rt: HostRuntime) -> Result<(), Fail> {
 #[test]
 fn a_name_that_no_user_has_is_usage(rt: HostRuntime) -> Result<(), Fail> {
     let alloc = rt.alloc();
-    let mut shelf = ward(alloc)?;
-    let run = audit(alloc, &mut shelf, "zoe", false)?;
+    let mut shelf = ward(&rt, alloc)?;
+    let run = audit(&rt, alloc, &mut shelf, "zoe", false)?;
     run.check(&rt, 2, "", "cqe: usage\n", "zoe");
     // the files are tested before the name
     let mut shelf = shelf_of(alloc, b"version = 2", FACTS.as_bytes())?;
-    let run = audit(alloc, &mut shelf, "zoe", false)?;
+    let run = audit(&rt, alloc, &mut shelf, "zoe", false)?;
     run.check(&rt, 3, "", "cqe: policy 9\n", "a policy of version 2");
     let mut shelf = shelf_of(alloc, POLICY.as_bytes(), b"hiv(zoe)\n")?;
-    let run = audit(alloc, &mut shelf, "zoe", false)?;
+    let run = audit(&rt, alloc, &mut shelf, "zoe", false)?;
     run.check(&rt, 4, "", "cqe: facts 1 1\n", "no fact");
     Ok(())
 }
@@ -72,9 +72,9 @@ fn a_refused_journal_is_said_and_stays(rt: HostRuntime) -> Result<(), Fail> {
         1, 9, 0, 9, 0x64, 0x72, 0x75, 0x67, 0x28, 0x61, 0x6e, 0x6e, 0x29, 0,
     ];
     let bytes = journal(alloc, &record)?;
-    let mut shelf = ward(alloc)?;
+    let mut shelf = ward(&rt, alloc)?;
     put_journal(alloc, &mut shelf, "d/eve.log", bytes.to_vec(alloc)?)?;
-    let run = audit(alloc, &mut shelf, "eve", false)?;
+    let run = audit(&rt, alloc, &mut shelf, "eve", false)?;
     run.check(
         &rt,
         10,
@@ -82,7 +82,7 @@ fn a_refused_journal_is_said_and_stays(rt: HostRuntime) -> Result<(), Fail> {
         "cqe: journal eve damaged 0\n",
         "eve",
     );
-    let run = audit(alloc, &mut shelf, "eve", true)?;
+    let run = audit(&rt, alloc, &mut shelf, "eve", true)?;
     run.check(
         &rt,
         10,
@@ -92,7 +92,7 @@ fn a_refused_journal_is_said_and_stays(rt: HostRuntime) -> Result<(), Fail> {
     );
     assert_eq!(rt; journal_bytes(&shelf, "d/eve.log"), bytes.as_slice());
     // the others' journals aren't looked at
-    let run = audit(alloc, &mut shelf, "ron", false)?;
+    let run = audit(&rt, alloc, &mut shelf, "ron", false)?;
     run.check(
         &rt,
         0,
@@ -106,9 +106,10 @@ fn a_refused_journal_is_said_and_stays(rt: HostRuntime) -> Result<(), Fail> {
 #[test]
 fn an_audit_may_be_cut(rt: HostRuntime) -> Result<(), Fail> {
     let alloc = rt.alloc();
-    let mut shelf = ward(alloc)?;
-    let _run = batch(alloc, &mut shelf, SCRIPT)?;
+    let mut shelf = ward(&rt, alloc)?;
+    let _run = batch(&rt, alloc, &mut shelf, SCRIPT)?;
     let run = Run::new(
+        &rt,
         alloc,
         &[
             "audit",

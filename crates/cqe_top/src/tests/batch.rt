@@ -32,8 +32,8 @@ fn each_user_is_answered_by_his_own_log(rt: HostRuntime) -> Result<(), Fail> {
         ("", ""),
     ];
     for (script, output) in rows {
-        let mut shelf = ward(&rt)?;
-        let run = batch(&rt, &mut shelf, script)?;
+        let mut shelf = ward(&rt, alloc)?;
+        let run = batch(&rt, alloc, &mut shelf, script)?;
         run.check(&rt, 0, output, "", script);
     }
     Ok(())
@@ -68,7 +68,7 @@ fn a_batch_is_refused_before_its_first_ask(rt: HostRuntime) -> Result<(), Fail> 
     for (script, refusal) in rows {
         let complaint = format!(in alloc; "cqe: script {refusal}\n")?;
         let mut shelf = shelf_of(alloc, POLICY.as_bytes(), FACTS.as_bytes())?;
-        let run = batch(&rt, &mut shelf, script)?;
+        let run = batch(&rt, alloc, &mut shelf, script)?;
         run.check(&rt, 5, "", &complaint, script);
         for name in JOURNALS {
             assert!(rt; shelf.disk(name).is_none(), "{name}");
@@ -149,6 +149,7 @@ fn each_refused_file_has_its_place(rt: HostRuntime) -> Result<(), Fail> {
             let shelf = shelf_of(alloc, &policy, facts.as_bytes())?;
             let run = Run::new(
                 &rt,
+                alloc,
                 &words,
                 shelf,
                 MemorySource::new(joined(alloc, &["hello"])?),
@@ -174,6 +175,7 @@ fn a_file_may_be_missing(rt: HostRuntime) -> Result<(), Fail> {
             shelf.put(alloc, put, bytes.as_bytes())?;
             let run = Run::new(
                 &rt,
+                alloc,
                 &words,
                 shelf,
                 MemorySource::new(joined(alloc, &["hello"])?),
@@ -197,6 +199,7 @@ fn a_shelf_may_fail_at_any_call(rt: HostRuntime) -> Result<(), Fail> {
             shelf.put(alloc, "f", FACTS.as_bytes())?;
             let run = Run::new(
                 &rt,
+                alloc,
                 &words,
                 shelf,
                 MemorySource::new(Vec::new(alloc)),
@@ -222,8 +225,16 @@ fn what_a_failing_sink_took_begins_the_lines(rt: HostRuntime) -> Result<(), Fail
     let alloc = rt.alloc();
     let source = MemorySource::new(joined(alloc, &["eve 1 ask drug(ann)\neve 1 ask hiv(bob)\n"])?);
     let sink = MemorySink::with_plan(alloc, outside::Pieces::Whole, Plan::From(1));
-    let shelf = ward(&rt)?;
-    let run = Run::new(&rt, &BATCH, shelf, source, sink, MemorySink::new(alloc))?;
+    let shelf = ward(&rt, alloc)?;
+    let run = Run::new(
+        &rt,
+        alloc,
+        &BATCH,
+        shelf,
+        source,
+        sink,
+        MemorySink::new(alloc),
+    )?;
     run.check(
         &rt,
         7,

@@ -233,7 +233,7 @@ fn each_ask_is_answered_however_the_streams_cut(rt: HostRuntime) -> Result<(), F
     let alloc = rt.alloc();
     for (script, output) in answered() {
         for most in [1, 2, 7, 4096] {
-            let run = Run::cut_case(&rt, script, Pieces::UpTo(most), Pieces::UpTo(most))?;
+            let run = Run::cut_case(&rt, alloc, script, Pieces::UpTo(most), Pieces::UpTo(most))?;
             run.check(&rt, 0, output, "", output);
             assert!(rt; run.source.left().is_empty());
         }
@@ -257,7 +257,7 @@ fn a_query_has_at_most_20000_nodes(rt: HostRuntime) -> Result<(), Fail> {
         script.extend_from_slice(name.as_bytes())?;
     }
     script.extend_from_slice(GRID.as_bytes())?;
-    let run = Run::script(&rt, script)?;
+    let run = Run::script(&rt, alloc, script)?;
     run.check(&rt, 0, "error 21\n", "", "a negation");
     Ok(())
 }
@@ -268,7 +268,7 @@ fn the_entry_behind_the_last_is_refused(rt: HostRuntime) -> Result<(), Fail> {
     let mut script = joined(alloc, &[CLINIC, RULE, "method refusal\nsecret hiv(ann)\n"])?;
     script.extend_from_slice(&repeated(alloc, "", "ask drug(ann)\n", 4097, "")?)?;
     let wanted = repeated(alloc, "", "refused\n", 4096, "error 22\n")?;
-    let run = Run::script(&rt, script)?;
+    let run = Run::script(&rt, alloc, script)?;
     assert_eq!(rt; run.status, 0);
     assert_eq!(rt; run.sink.bytes(), wanted.as_slice());
     Ok(())
@@ -291,6 +291,7 @@ fn other_words_have_no_reading(rt: HostRuntime) -> Result<(), Fail> {
         let source = MemorySource::new(joined(alloc, &[CLINIC, LIAR])?);
         let run = Run::new(
             &rt,
+            alloc,
             words,
             MemoryShelf::new(alloc),
             source,
@@ -375,7 +376,7 @@ fn each_refusal_has_its_kind_and_its_line(rt: HostRuntime) -> Result<(), Fail> {
     let alloc = rt.alloc();
     for (above, last, refusal) in refused() {
         let complaint = format!(in alloc; "cqe: script {refusal}\n")?;
-        let run = Run::case(&rt, &[above, last])?;
+        let run = Run::case(&rt, alloc, &[above, last])?;
         run.check(&rt, 5, "", &complaint, last);
     }
     Ok(())
@@ -417,11 +418,11 @@ fn each_limit_may_be_reached_and_not_passed(rt: HostRuntime) -> Result<(), Fail>
     let alloc = rt.alloc();
     for (head, part, most, tail, refusal) in at_a_limit() {
         let enough = repeated(alloc, head, part, most, tail)?;
-        let run = Run::script(&rt, enough)?;
+        let run = Run::script(&rt, alloc, enough)?;
         run.check(&rt, 0, "", "", part);
         let complaint = format!(in alloc; "cqe: script {refusal}\n")?;
         let too_much = repeated(alloc, head, part, most.saturating_add(1), tail)?;
-        let run = Run::script(&rt, too_much)?;
+        let run = Run::script(&rt, alloc, too_much)?;
         run.check(&rt, 5, "", &complaint, part);
     }
     Ok(())
@@ -437,6 +438,7 @@ fn a_stream_may_fail_at_any_call(rt: HostRuntime) -> Result<(), Fail> {
         let source = MemorySource::with_plan(script, Pieces::UpTo(7), plan);
         let run = Run::new(
             &rt,
+            alloc,
             &["case"],
             MemoryShelf::new(alloc),
             source,
@@ -454,6 +456,7 @@ fn a_stream_may_fail_at_any_call(rt: HostRuntime) -> Result<(), Fail> {
         let sink = MemorySink::with_plan(alloc, Pieces::UpTo(1), plan);
         let run = Run::new(
             &rt,
+            alloc,
             &["case"],
             MemoryShelf::new(alloc),
             source,
@@ -469,6 +472,7 @@ fn a_stream_may_fail_at_any_call(rt: HostRuntime) -> Result<(), Fail> {
     let sink = MemorySink::with_plan(alloc, Pieces::Whole, Plan::At(vec![in alloc; 1]?));
     let run = Run::new(
         &rt,
+        alloc,
         &["case"],
         MemoryShelf::new(alloc),
         source,
@@ -499,6 +503,7 @@ fn failing_complaints_change_nothing_else(rt: HostRuntime) -> Result<(), Fail> {
         let complaints = MemorySink::with_plan(alloc, Pieces::UpTo(8), Plan::From(first));
         let run = Run::new(
             &rt,
+            alloc,
             words,
             MemoryShelf::new(alloc),
             source,
@@ -522,13 +527,13 @@ method lying\nsecret in(p0, h0)\nask true\n";
 fn a_user_whose_admission_is_spent_is_closed(rt: HostRuntime) -> Result<(), Fail> {
     let alloc = rt.alloc();
     let few = "domain p = p0, p1, p2\ndomain h = h0, h1\ndomain l = l0\n";
-    let run = Run::case(&rt, &[few, PIGEONS])?;
+    let run = Run::case(&rt, alloc, &[few, PIGEONS])?;
     run.check(&rt, 0, "yes\n", "", "three pigeons");
     // a search of more than 4,000,000
     let many = "domain p = p0, p1, p2, p3, p4, p5, p6, p7, p8, p9, p10, p11, p12
 domain h = h0, h1, h2, h3, h4, h5, h6, h7, h8, h9, h10, h11
 domain l = l0, l1, l2, l3, l4, l5, l6, l7, l8, l9, l10, l11, l12, l13, l14, l15, l16, l17, l18, l19\n";
-    let run = Run::case(&rt, &[many, PIGEONS])?;
+    let run = Run::case(&rt, alloc, &[many, PIGEONS])?;
     run.check(&rt, 0, "error 24\n", "", "thirteen pigeons");
     Ok(())
 }

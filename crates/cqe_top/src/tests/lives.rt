@@ -33,15 +33,15 @@ fn a_restart_finds_what_was_told(rt: HostRuntime) -> Result<(), Fail> {
         ),
     ];
     for (script, output) in rows {
-        let mut shelf = ward(&rt)?;
-        let run = batch(&rt, &mut shelf, script)?;
+        let mut shelf = ward(&rt, alloc)?;
+        let run = batch(&rt, alloc, &mut shelf, script)?;
         run.check(&rt, 0, output, "", script);
     }
     // two lives of the program
-    let mut shelf = ward(&rt)?;
-    let first = batch(&rt, &mut shelf, "kim 1 ask hiv(ann) or hiv(bob)\n")?;
+    let mut shelf = ward(&rt, alloc)?;
+    let first = batch(&rt, alloc, &mut shelf, "kim 1 ask hiv(ann) or hiv(bob)\n")?;
     first.check(&rt, 0, "kim 1 yes\n", "", "the first life");
-    let second = batch(&rt, &mut shelf, "kim 1 ask hiv(ann)\n")?;
+    let second = batch(&rt, alloc, &mut shelf, "kim 1 ask hiv(ann)\n")?;
     second.check(&rt, 0, "kim 1 refused\n", "", "the second life");
     Ok(())
 }
@@ -52,30 +52,30 @@ fn journals_are_made_once(rt: HostRuntime) -> Result<(), Fail> {
     let empty = journal(alloc, &[0])?;
     assert_eq!(rt; empty.len(), 73);
     let mut shelf = shelf_of(alloc, POLICY.as_bytes(), FACTS.as_bytes())?;
-    let run = init(&rt, &mut shelf)?;
+    let run = init(&rt, alloc, &mut shelf)?;
     run.check(&rt, 0, "", "", "on empty disks");
     assert_eq!(rt; run.source.left(), run.source.held());
     for name in JOURNALS {
         assert_eq!(rt; journal_bytes(&shelf, name), empty.as_slice(), "{name}");
     }
-    let run = init(&rt, &mut shelf)?;
+    let run = init(&rt, alloc, &mut shelf)?;
     run.check(&rt, 0, "", "", "again");
     for name in JOURNALS {
         assert_eq!(rt; journal_bytes(&shelf, name), empty.as_slice(), "{name}");
     }
     // a record stays
-    let run = batch(&rt, &mut shelf, "eve 1 ask drug(ann)\n")?;
+    let run = batch(&rt, alloc, &mut shelf, "eve 1 ask drug(ann)\n")?;
     run.check(&rt, 0, "eve 1 no\n", "", "a record");
     let recorded = journal(alloc, &DRUG)?;
     assert_eq!(rt; recorded.len(), 86);
     assert_eq!(rt; journal_bytes(&shelf, "d/eve.log"), recorded.as_slice());
-    let run = init(&rt, &mut shelf)?;
+    let run = init(&rt, alloc, &mut shelf)?;
     run.check(&rt, 0, "", "", "with a record");
     assert_eq!(rt; journal_bytes(&shelf, "d/eve.log"), recorded.as_slice());
     // other facts, with the same journals
     let mut other = shelf_of(alloc, POLICY.as_bytes(), b"hiv(ann)\n")?;
     put_same(alloc, &shelf, &JOURNALS, &mut other)?;
-    let run = init(&rt, &mut other)?;
+    let run = init(&rt, alloc, &mut other)?;
     run.check(
         &rt,
         10,
@@ -84,7 +84,7 @@ fn journals_are_made_once(rt: HostRuntime) -> Result<(), Fail> {
         "other facts",
     );
     assert_eq!(rt; journal_bytes(&other, "d/eve.log"), recorded.as_slice());
-    let run = batch(&rt, &mut other, "")?;
+    let run = batch(&rt, alloc, &mut other, "")?;
     let complaint =
         "cqe: journal eve other policy\ncqe: journal ron other policy\ncqe: journal kim other policy\ncqe: journal lou other policy\ncqe: journal max other policy\ncqe: journal tom other policy\n";
     run.check(&rt, 10, "", complaint, "a batch with other facts");
@@ -97,7 +97,7 @@ fn init_stops_at_the_first_user_who_cannot_be_served(rt: HostRuntime) -> Result<
     let mut shelf = shelf_of(alloc, POLICY.as_bytes(), FACTS.as_bytes())?;
     put_journal(alloc, &mut shelf, "d/ron.log", joined(alloc, &["abc"])?)?;
     put_journal(alloc, &mut shelf, "d/tom.log", joined(alloc, &["abc"])?)?;
-    let run = init(&rt, &mut shelf)?;
+    let run = init(&rt, alloc, &mut shelf)?;
     run.check(&rt, 10, "", "cqe: journal ron not a journal\n", "ron");
     assert_eq!(rt; journal_bytes(&shelf, "d/ron.log"), b"abc".as_slice());
     assert_eq!(rt; journal_bytes(&shelf, "d/eve.log").len(), 73);
@@ -107,7 +107,7 @@ fn init_stops_at_the_first_user_who_cannot_be_served(rt: HostRuntime) -> Result<
         let plan = Plan::At(vec![in alloc; call]?);
         let disk = MemoryDisk::with_plan(alloc, Vec::new(alloc), plan)?;
         shelf.put_disk(alloc, "d/kim.log", disk)?;
-        let run = init(&rt, &mut shelf)?;
+        let run = init(&rt, alloc, &mut shelf)?;
         run.check(&rt, 11, "", "cqe: disk fault\n", "kim's disk");
         assert!(rt; shelf.disk("d/lou.log").is_none());
     }
@@ -180,7 +180,7 @@ fn a_journal_is_refused_by_name_and_cause(rt: HostRuntime) -> Result<(), Fail> {
         ("lou", &[0, 1, 2, 3], "error 24", ""),
     ];
     for (user, behind, reply, complaint) in rows {
-        let mut shelf = ward(&rt)?;
+        let mut shelf = ward(&rt, alloc)?;
         let name = format!(in alloc; "d/{user}.log")?;
         let bytes = journal(alloc, behind)?;
         put_journal(alloc, &mut shelf, name.as_str(), bytes)?;
@@ -188,7 +188,7 @@ fn a_journal_is_refused_by_name_and_cause(rt: HostRuntime) -> Result<(), Fail> {
         let script = format!(in alloc; "{user} 1 ask hiv(ann)\nmax 1 ask hiv(ann)\n")?;
         let output = format!(in alloc; "{user} 1 {reply}\nmax 1 refused\n")?;
         let status = if complaint.is_empty() { 0 } else { 10 };
-        let run = batch(&rt, &mut shelf, script.as_str())?;
+        let run = batch(&rt, alloc, &mut shelf, script.as_str())?;
         run.check(&rt, status, output.as_str(), complaint, complaint);
     }
     Ok(())
@@ -197,7 +197,7 @@ fn a_journal_is_refused_by_name_and_cause(rt: HostRuntime) -> Result<(), Fail> {
 #[test]
 fn refused_users_are_named_in_the_order_of_the_policy(rt: HostRuntime) -> Result<(), Fail> {
     let alloc = rt.alloc();
-    let mut shelf = ward(&rt)?;
+    let mut shelf = ward(&rt, alloc)?;
     put_journal(alloc, &mut shelf, "d/tom.log", Vec::new(alloc))?;
     let damaged = journal(alloc, &[1])?;
     put_journal(alloc, &mut shelf, "d/kim.log", damaged)?;
@@ -209,6 +209,7 @@ fn refused_users_are_named_in_the_order_of_the_policy(rt: HostRuntime) -> Result
     put_journal(alloc, &mut shelf, "d/ron.log", other)?;
     let run = batch(
         &rt,
+        alloc,
         &mut shelf,
         "tom 1 ask true\nkim 1 ask true\nron 1 ask true\neve 1 ask true\n* restart\nkim 1 ask true\n",
     )?;
@@ -272,10 +273,10 @@ fn a_disk_that_fails_is_told_to_its_user_alone(rt: HostRuntime) -> Result<(), Fa
         ),
     ];
     for (plan, script, status, output, complaint) in rows {
-        let mut shelf = ward(&rt)?;
+        let mut shelf = ward(&rt, alloc)?;
         let disk = MemoryDisk::with_plan(alloc, journal(alloc, &[0])?, plan)?;
         shelf.put_disk(alloc, "d/eve.log", disk)?;
-        let run = batch(&rt, &mut shelf, script)?;
+        let run = batch(&rt, alloc, &mut shelf, script)?;
         run.check(&rt, status, output, complaint, output);
     }
     Ok(())
@@ -287,10 +288,15 @@ fn a_disk_that_fails_is_told_to_its_user_alone(rt: HostRuntime) -> Result<(), Fa
 fn a_crash_leaves_what_was_told(rt: HostRuntime) -> Result<(), Fail> {
     let alloc = rt.alloc();
     for stop in 0..9 {
-        let mut shelf = ward(&rt)?;
+        let mut shelf = ward(&rt, alloc)?;
         let disk = MemoryDisk::with_plan(alloc, journal(alloc, &[0])?, Plan::From(3 + stop))?;
         shelf.put_disk(alloc, "d/eve.log", disk)?;
-        let run = batch(&rt, &mut shelf, "eve 1 ask drug(ann)\neve 1 ask hiv(bob)\n")?;
+        let run = batch(
+            &rt,
+            alloc,
+            &mut shelf,
+            "eve 1 ask drug(ann)\neve 1 ask hiv(bob)\n",
+        )?;
         let (status, output, complaint) = match stop {
             0..4 => (11, "eve 1 error 40\neve 1 error 40\n", "cqe: disk fault\n"),
             4..8 => (11, "eve 1 no\neve 1 error 40\n", "cqe: disk fault\n"),
@@ -324,9 +330,9 @@ fn a_crash_leaves_what_was_told(rt: HostRuntime) -> Result<(), Fail> {
                 want.extend_from_slice(b"\x01\x02\x00\x08hiv(bob)")?;
             }
             want.extend_from_slice(b"\x01\x01\x00\x04true\x00")?;
-            let mut life = ward(&rt)?;
+            let mut life = ward(&rt, alloc)?;
             put_journal(alloc, &mut life, "d/eve.log", image)?;
-            let run = batch(&rt, &mut life, "eve 1 ask true\n")?;
+            let run = batch(&rt, alloc, &mut life, "eve 1 ask true\n")?;
             run.check(&rt, 0, "eve 1 yes\n", "", "a new life");
             let found = journal_bytes(&life, "d/eve.log");
             assert_eq!(rt;

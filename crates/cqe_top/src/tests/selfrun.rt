@@ -2,12 +2,14 @@
 use super::Run;
 use outside::{MemoryShelf, MemorySink, MemorySource, Pieces, Plan};
 use std::alloc::{AllocError, Global};
+use std::sync::Wait;
 use std::test::Fail;
 
 const WORDS: [&str; 7] = ["selfrun", "--seed", "7", "--users", "3", "--asks", "60"];
 
-fn selfrun(alloc: Global, sink: MemorySink) -> Result<Run, AllocError> {
+fn selfrun(rt: &impl Wait, alloc: Global, sink: MemorySink) -> Result<Run, AllocError> {
     Run::new(
+        rt,
         alloc,
         &WORDS,
         MemoryShelf::new(alloc),
@@ -28,8 +30,8 @@ fn number_in(line: &str) -> u64 {
 #[test]
 fn the_replies_of_a_workload_are_counted(rt: HostRuntime) -> Result<(), Fail> {
     let alloc = rt.alloc();
-    let run = selfrun(alloc, MemorySink::new(alloc))?;
-    let again = selfrun(alloc, MemorySink::new(alloc))?;
+    let run = selfrun(&rt, alloc, MemorySink::new(alloc))?;
+    let again = selfrun(&rt, alloc, MemorySink::new(alloc))?;
     assert_eq!(rt; run.status, 0);
     assert_eq!(rt; run.sink.bytes(), again.sink.bytes());
     let Ok(text) = str::from_utf8(run.sink.bytes()) else {
@@ -50,7 +52,7 @@ fn the_replies_of_a_workload_are_counted(rt: HostRuntime) -> Result<(), Fail> {
 fn a_summary_may_be_cut(rt: HostRuntime) -> Result<(), Fail> {
     let alloc = rt.alloc();
     let sink = MemorySink::with_plan(alloc, Pieces::Whole, Plan::From(2));
-    let run = selfrun(alloc, sink)?;
+    let run = selfrun(&rt, alloc, sink)?;
     run.check(
         &rt,
         7,

@@ -5,6 +5,7 @@ ghost use Rattle.outside.specs.MemoryShelves.{is_disk_out};
 use super::{Run, joined, run_over};
 use outside::{MemoryDisk, MemoryShelf, MemorySink, MemorySource};
 use std::alloc::{AllocError, Global};
+use std::sync::Wait;
 
 // Two persons, and six users: one is lied to, one refused, one both; and three of whom each knows too much.
 pub(super) const POLICY: &str = "version = 1\n
@@ -90,42 +91,46 @@ pub(super) fn shelf_of(
 }
 
 /// A shelf with the ward's files, and empty journals.
-pub(super) fn ward(rt: &HostRuntime) -> Result<MemoryShelf, AllocError>
+pub(super) fn ward(rt: &impl Wait, alloc: Global) -> Result<MemoryShelf, AllocError>
     ensures { IfOk result (λ shelf. (name : List ℕ) → is_disk_out shelf name ≡ false) }
 {
-    let mut shelf = shelf_of(rt.alloc(), POLICY.as_bytes(), FACTS.as_bytes())?;
-    let _run = init(rt, &mut shelf)?;
+    let mut shelf = shelf_of(alloc, POLICY.as_bytes(), FACTS.as_bytes())?;
+    let _run = init(rt, alloc, &mut shelf)?;
     Ok(shelf)
 }
 
 /// `init` on this shelf.
-pub(super) fn init(rt: &HostRuntime, shelf: &mut MemoryShelf) -> Result<Run, AllocError>
+pub(super) fn init(
+    rt: &impl Wait,
+    alloc: Global,
+    shelf: &mut MemoryShelf,
+) -> Result<Run, AllocError>
     requires { (name : List ℕ) → is_disk_out shelf.old name ≡ false }
     ensures { (name : List ℕ) → is_disk_out shelf.new name ≡ false }
 {
-    let alloc = rt.alloc();
     let source = MemorySource::new(joined(alloc, &["not read"])?);
     let (sink, complaints) = (MemorySink::new(alloc), MemorySink::new(alloc));
-    run_over(rt, &INIT, shelf, source, sink, complaints)
+    run_over(rt, alloc, &INIT, shelf, source, sink, complaints)
 }
 
 /// `batch` of this script on this shelf.
 pub(super) fn batch(
-    rt: &HostRuntime,
+    rt: &impl Wait,
+    alloc: Global,
     shelf: &mut MemoryShelf,
     script: &str,
 ) -> Result<Run, AllocError>
     requires { (name : List ℕ) → is_disk_out shelf.old name ≡ false }
     ensures { (name : List ℕ) → is_disk_out shelf.new name ≡ false }
 {
-    let alloc = rt.alloc();
     let source = MemorySource::new(joined(alloc, &[script])?);
     let (sink, complaints) = (MemorySink::new(alloc), MemorySink::new(alloc));
-    run_over(rt, &BATCH, shelf, source, sink, complaints)
+    run_over(rt, alloc, &BATCH, shelf, source, sink, complaints)
 }
 
 /// `audit` of this user on this shelf, as text or in JSON.
 pub(super) fn audit(
+    rt: &impl Wait,
     alloc: Global,
     shelf: &mut MemoryShelf,
     user: &str,
@@ -148,8 +153,8 @@ pub(super) fn audit(
         user,
         "--json",
     ];
-    let words = if json { &words[..] } else { &words[..9] };
-    run_over(alloc, words, shelf, source, sink, complaints)
+    let count = if json { 10 } else { 9 };
+    run_over(rt, alloc, &words[..count], shelf, source, sink, complaints)
 }
 
 /// A journal of the ward: the header, and from byte 72 on these bytes.
