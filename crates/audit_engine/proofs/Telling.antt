@@ -12,7 +12,7 @@ use Rattle.user_desk.specs.declared.standing.DeskError.{DeskError}
 use Rattle.user_desk.specs.declared.standing.DeskError.TheVariants.{Journal, Stale, Unlawful, Size, NotAdmitted}
 use Rattle.user_desk.specs.declared.standing.Standing.{Standing}
 use Rattle.user_desk.specs.declared.standing.Standing.TheVariants.{Open, Closed, Sealed}
-use Rattle.batch_engine.specs.Lives.{IsOpening}
+use Rattle.desk_crew.specs.Openings.{IsOpening}
 use Rattle.audit_text.specs.Said.{AuditSaid}
 use Rattle.audit_print.specs.Audits.{Audits}
 use Rattle.audit_engine.specs.Printed.{IsPrinted, end_of}

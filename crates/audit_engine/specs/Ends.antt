@@ -12,8 +12,8 @@ use Rattle.user_desk.specs.Standings.{is_sealed}
 use Rattle.user_desk.specs.declared.standing.DeskError.{DeskError}
 use Rattle.user_desk.specs.declared.standing.Standing.{Standing}
 use Rattle.user_desk.specs.declared.standing.Standing.TheVariants.{Open, Closed, Sealed}
-use Rattle.batch_engine.specs.Lives.{IsOpening}
-use Rattle.batch_engine.specs.Shelved.{image_on}
+use Rattle.desk_crew.specs.Openings.{IsOpening}
+use Rattle.desk_crew.specs.Shelved.{image_on}
 use Rattle.audit_text.specs.Said.{AuditSaid}
 use Rattle.audit_text.specs.Json.{audit_text}
 use Rattle.audit_print.specs.Audits.{Audits}

@@ -11,7 +11,7 @@ ghost use Rattle.audit_engine.specs.declared.end.AuditEnd.{AuditEnd};
 
 use crate::end::{AuditEnd, end_of};
 use audit_print::{AuditError, audit};
-use batch_engine::Registry;
+use desk_crew::Registry;
 use cqe_base::schema::Schema;
 use cqe_base::user::User;
 use outside::{Disk, Sink};

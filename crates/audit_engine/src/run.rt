@@ -6,13 +6,13 @@ ghost use Rattle.cqe_base.specs.History.{profile_of};
 ghost use Rattle.cqe_base.specs.Limits.{KeepsLimits};
 ghost use Rattle.log_journal.specs.Names.{journal_name};
 ghost use Rattle.log_journal.specs.Opening.{header_bytes};
-ghost use Rattle.batch_engine.specs.Shelved.{bytes_on, image_on, NoneOut, NoneFell, SameBytes};
+ghost use Rattle.desk_crew.specs.Shelved.{bytes_on, image_on, NoneOut, NoneFell, SameBytes};
 ghost use Rattle.audit_engine.specs.Ends.{IsEnd, NoNewImages};
 ghost use Rattle.audit_engine.specs.declared.end.AuditEnd.{AuditEnd};
 
 use crate::end::AuditEnd;
 use crate::print::audit_disk;
-use batch_engine::Registry;
+use desk_crew::Registry;
 use cqe_base::user::User;
 use log_journal::journal_name;
 use outside::{Shelf, ShelfError, Sink};

@@ -21,13 +21,16 @@ use Rattle.user_desk.specs.declared.standing.Standing.{Standing}
 use Rattle.user_desk.specs.declared.standing.Standing.TheVariants.{Open, Closed, Sealed}
 use Rattle.log_journal.specs.Names.{journal_name}
 use Rattle.batch_engine.specs.BatchLines.{BatchItem}
-use Rattle.batch_engine.specs.Lives.{RoseBy, is_opened, failures, OpensNone, IsOpening, IsRefusal}
-use Rattle.batch_engine.specs.Batch.{Journals, Serves, Answers, AreRefusals, AppendsAll, AppendsSome, unopened, with_opening, line_bytes}
-use Rattle.batch_engine.specs.Crew.{named_user, seat_name, seat_journal, seat_standing, seat_state, IsLeft, IsClosed}
-use Rattle.batch_engine.specs.Shelved.{bytes_on, image_on, journals_on, IsBack, AreBack}
-use Rattle.batch_engine.specs.Seats.{DeskSeat}
+use Rattle.desk_crew.specs.Openings.{OpensNone, IsOpening}
+use Rattle.batch_engine.specs.Lives.{RoseBy, is_opened, failures, IsRefusal}
+use Rattle.desk_crew.specs.Shelved.{Journals}
+use Rattle.batch_engine.specs.Batch.{Serves, Answers, AreRefusals, AppendsAll, AppendsSome, unopened, with_opening, line_bytes}
+use Rattle.desk_crew.specs.Crew.{named_user, seat_name, seat_journal, seat_standing, seat_state, IsLeft, IsClosed}
+use Rattle.desk_crew.specs.Shelved.{bytes_on, image_on, journals_on, IsBack, AreBack}
+use Rattle.desk_crew.specs.Seats.{DeskSeat}
 use Rattle.batch_engine.proofs.Courses.{Course, course_on, Fits, IsRunning}
-use Rattle.batch_engine.proofs.Seating.{left_false, right_false, text_is, names, IsSeated, AreSeated, close_at}
+use Rattle.desk_crew.proofs.Taken.{left_false, right_false, text_is}
+use Rattle.batch_engine.proofs.Seating.{names, IsSeated, AreSeated, close_at}
 use Rattle.batch_engine.proofs.Telling.{SoFar}
 
 -- ---- users by their names

@@ -20,19 +20,15 @@ use Rattle.user_desk.specs.declared.standing.DeskError.{DeskError}
 use Rattle.user_desk.specs.declared.standing.DeskError.TheVariants.{Journal, Stale, Unlawful, Size, NotAdmitted}
 use Rattle.user_desk.specs.declared.standing.Standing.{Standing}
 use Rattle.user_desk.specs.declared.standing.Standing.TheVariants.{Open, Closed, Sealed}
-use Rattle.batch_engine.specs.Crew.{first_refusal}
-use Rattle.batch_engine.specs.Lives.{RoseBy, is_opened, is_refused, failures_in, failures, IsCaused, AreCaused, OpensNone, IsOpening, IsRefusal}
+use Rattle.desk_crew.specs.Crew.{first_refusal}
+use Rattle.desk_crew.specs.Openings.{OpensNone, IsOpening}
+use Rattle.batch_engine.specs.Lives.{RoseBy, is_opened, is_refused, failures_in, failures, IsCaused, AreCaused, IsRefusal}
 
 -- ---- counts and lists
 
 pub rose_more : (n before now later : ℕ) → RoseBy n before now → now ≤ later → RoseBy n before later
 rose_more n before now later (inl some) on = inl (omega (arith, some, on))
 rose_more n before now later (inr full) on = inr (omega (arith, full, on))
-
--- a count that rose within a longer time rose in it
-pub rose_wide : (first before now last : ℕ) → first ≤ before → now ≤ last → Rose before now → Rose first last
-rose_wide first before now last on more (inl some) = inl (omega (arith, some, on, more))
-rose_wide first before now last on more (inr full) = inr (omega (arith, full, more))
 
 rose_again : (n before now later : ℕ) → RoseBy n before now → now ≤ later → Rose now later → RoseBy (n + 1) before later
 rose_again n before now later (inl some) on (inl once) = inl (omega (arith, some, once))

@@ -16,12 +16,12 @@ use Rattle.user_desk.specs.Causes.{Opens}
 use Rattle.log_journal.specs.Opening.{header_bytes}
 use Rattle.log_journal.specs.declared.header.Header.{Header}
 use Rattle.batch_engine.specs.BatchLines.{BatchItem, with_line, batch_of}
-use Rattle.batch_engine.specs.Lives.{OpensNone, IsOpening}
+use Rattle.desk_crew.specs.Openings.{OpensNone, IsOpening}
 use Rattle.batch_engine.specs.Batch.{AppendsAll, AppendsSome, unopened}
-use Rattle.batch_engine.specs.Crew.{named_user}
-use Rattle.batch_engine.specs.Shelved.{journals_on, AreBack, AreSeatsOf}
+use Rattle.desk_crew.specs.Crew.{named_user}
+use Rattle.desk_crew.specs.Shelved.{journals_on, AreBack, AreSeatsOf}
 use Rattle.batch_engine.specs.Steps.{Runs, nothing, more, RunsAll, RunsSome}
-use Rattle.batch_engine.specs.Seats.{DeskSeat}
+use Rattle.desk_crew.specs.Seats.{DeskSeat}
 use Rattle.batch_engine.proofs.Courses.{IsExclusive}
 use Rattle.batch_engine.proofs.Seating.{names, AreSeated, AreBegun, begin_all, Chosen, choose}
 use Rattle.batch_engine.proofs.Telling.{SoFar, so_far_first, so_far_more}

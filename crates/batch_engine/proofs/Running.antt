@@ -8,17 +8,18 @@ use Rattle.cqe_base.specs.Facts.{FactSet}
 use Rattle.cqe_base.specs.History.{profile_of}
 use Rattle.cqe_base.specs.Limits.{KeepsLimits}
 use Rattle.cqe_base.specs.Run.{Reply}
+use Rattle.desk_crew.proofs.Taken.{map_more}
 use Rattle.batch_engine.specs.BatchLines.{BatchItem, asked, restarted}
 use Rattle.batch_engine.specs.Said.{is_short_item}
 use Rattle.batch_engine.specs.Batches.{item_in}
 use Rattle.desk_counter.specs.declared.item.Fixed.{Fixed}
-use Rattle.batch_engine.specs.Crew.{seat_user, seat_journal, seat_disk, IsServed, IsToldAt, IsReopened, AreReopened, Tells, nobody, here, further}
-use Rattle.batch_engine.specs.Shelved.{journals, AreLater}
+use Rattle.desk_crew.specs.Crew.{seat_user, seat_journal, seat_disk, IsServed, IsToldAt, IsReopened, AreReopened, Tells, nobody, here, further}
+use Rattle.desk_crew.specs.Shelved.{journals, AreLater}
 use Rattle.outside.specs.Streams.{AppendsPart}
 use Rattle.batch_engine.specs.Steps.{Carries, Runs, nothing, more, RunsAll, RunsSome}
-use Rattle.batch_engine.specs.Seats.{DeskSeat}
+use Rattle.desk_crew.specs.Seats.{DeskSeat}
 use Rattle.batch_engine.specs.declared.batch.BatchItem as memory
-use Rattle.batch_engine.proofs.Shelving.{map-append}
+use Rattle.desk_crew.proofs.Shelving.{map-append}
 
 both : (a b : Bool) → (a && b) ≡ true → (a ≡ true) × (b ≡ true)
 both true b e = (refl, e)
@@ -33,10 +34,6 @@ item_short items i item low is short = ap (λ a. is_short_item (item_in a)) is �
     short_at [] n d small all_short = absurd (omega (arith, small))
     short_at (x ∷ all) zero d small all_short = (both _ _ all_short).0
     short_at (x ∷ all) (suc n) d small all_short = short_at all n d (omega (arith, small)) (both _ _ all_short).1
-
--- the first of a list with one more, as something of each
-pub map_more : {X Y : Type 0} (f : X → Y) (xs : List X) (i : ℕ) (x : X) → i < length xs → x ≡ get_or xs i x → map f (take (i + 1) xs) ≡ map f (take i xs) ++ f x ∷ []
-map_more f xs i x low is = ap (map f) (take_more xs i x low ∙ ap (λ a. take i xs ++ a ∷ []) (sym is)) ∙ map-append f (take i xs) (x ∷ [])
 
 pub items_more : (items : List memory.BatchItem) (i : ℕ) (item : memory.BatchItem) → i < length items → item ≡ get_or items i item → map item_in (take (i + 1) items) ≡ map item_in (take i items) ++ item_in item ∷ []
 items_more items i item low is = map_more item_in items i item low is

@@ -20,11 +20,11 @@ use Rattle.desk_counter.specs.Lives.{IsAskOf}
 use Rattle.desk_counter.specs.Sole.{pairs_of_sole}
 use Rattle.user_desk.specs.declared.standing.DeskError.{DeskError}
 use Rattle.log_journal.specs.Names.{journal_name}
-use Rattle.batch_engine.specs.Lives.{OpensNone, IsOpening}
+use Rattle.desk_crew.specs.Openings.{OpensNone, IsOpening}
 use Rattle.batch_engine.specs.Batch.{unopened}
-use Rattle.batch_engine.specs.Shelved.{bytes_on, IsSeatOf, AreSeatsOf}
-use Rattle.batch_engine.specs.Crew.{named_user, first_refusal, seat_user, seat_name, seat_journal, seat_kept, seat_standing, seat_history, seat_state, seat_disk, IsSeatIn, is_named, IsLeft, IsClosed, IsServed, IsOpenedFrom, IsToldAt, IsReopened, AreReopened, Tells, nobody, here, further}
-use Rattle.batch_engine.specs.Seats.{DeskSeat}
+use Rattle.desk_crew.specs.Shelved.{bytes_on, IsSeatOf, AreSeatsOf}
+use Rattle.desk_crew.specs.Crew.{named_user, first_refusal, seat_user, seat_name, seat_journal, seat_kept, seat_standing, seat_history, seat_state, seat_disk, IsSeatIn, is_named, IsLeft, IsClosed, IsServed, IsOpenedFrom, IsToldAt, IsReopened, AreReopened, Tells, nobody, here, further}
+use Rattle.desk_crew.specs.Seats.{DeskSeat}
 use Rattle.batch_engine.proofs.Courses.{Course, course_on, IsRunning, IsLiving, live, closing, Asked, ask_step, Restarted, IsExclusive, Known, open_step}
 
 -- ---- lists and texts
@@ -35,27 +35,6 @@ flat_map-append f (x ∷ xs) ys = ap (λ zs. f x ++ zs) (flat_map-append f xs ys
 
 pub own-push : (name : Text) (script : List ScriptEvent) (event : ScriptEvent) → own_events name (script ++ event ∷ []) ≡ own_events name script ++ own_event name event
 own-push name script event = flat_map-append (own_event name) script (event ∷ []) ∙ ap (λ es. own_events name script ++ es) (append-nil (own_event name event))
-
-pub left_false : (a b : Bool) → (a || b) ≡ false → a ≡ false
-left_false true b e = e
-left_false false b e = refl
-
-pub right_false : (a b : Bool) → (a || b) ≡ false → b ≡ false
-right_false true b e = absurd cc
-right_false false b e = e
-
--- a text is equal to itself
-pub text_is : (a : Text) → bytes_eq a a ≡ true
-text_is [] = refl
-text_is (x ∷ a) = let rest = text_is a in grind (arith, rest)
-
--- two texts are compared alike from both sides
-pub other_text : (a b : Text) → bytes_eq a b ≡ false → bytes_eq b a ≡ false
-other_text a b differ = by (bytes_eq b a) refl
-  where
-    by : (t : Bool) → bytes_eq b a ≡ t → t ≡ false
-    by false e = refl
-    by true e = sym e ∙ (λ i. bytes_eq (same_text b a (sym e) i) (sym (same_text b a (sym e)) i)) ∙ differ
 
 abbrev pub names : List NamedUser → List Text
 names users = map (λ u. u.name) users
@@ -69,11 +48,6 @@ module _ (event : (Text → Bool) → (Text → Bool) → ScriptEvent) (own : (n
   own-opening name script found opens f o is_found is_open =
       own-push name script (event found opens) ∙ ap (λ es. own_events name script ++ es) (own name found opens)
       ∙ ap (λ b. own_events name script ++ restart b (opens name) ∷ []) is_found ∙ ap (λ b. own_events name script ++ restart f b ∷ []) is_open
-
--- what a disk that was taken reads
-pub taken_reads : {D : Type 0} (reads : D → List ℕ) (image : D → List ℕ → Type 0) (held : Option D) (taken : D) → IsTaken reads image held taken → reads taken ≡ bytes_on reads held
-taken_reads reads image None taken is = is.0
-taken_reads reads image (Some one) taken is = ap reads is
 
 -- the course of a user whose journal wasn't opened yet
 module _ (schema : DatabaseSchema) (world : FactSet) (header : List ℕ) (bytes : Text → List ℕ) (before : Text → ℕ) where

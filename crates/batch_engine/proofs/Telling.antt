@@ -10,9 +10,9 @@ use Rattle.cqe_base.specs.Run.{Reply, restart}
 use Rattle.cqe_base.specs.Transcript.{NamedUser, ScriptEvent, script_ask, script_restart, script_opening, Line, reply_line, restart_line, own_event, told_after, written_after, lines_after, transcript, line_text}
 use Rattle.batch_engine.specs.BatchLines.{BatchItem, asked, restarted}
 use Rattle.batch_engine.specs.Batch.{IsEventOf, AreEventsOf, line_bytes, is_broken_line, with_opening}
-use Rattle.batch_engine.specs.Crew.{Tells, AreReopened}
+use Rattle.desk_crew.specs.Crew.{Tells, AreReopened}
 use Rattle.batch_engine.specs.Steps.{Carries, is_broken_reply}
-use Rattle.batch_engine.specs.Seats.{DeskSeat}
+use Rattle.desk_crew.specs.Seats.{DeskSeat}
 use Rattle.batch_engine.proofs.Courses.{IsExclusive, any-push}
 use Rattle.batch_engine.proofs.Seating.{flat_map-append, names, AreSeated, Next, told_next, Choices, restart_all, Chosen, choose}
 

@@ -10,8 +10,10 @@ use Rattle.cqe_base.specs.Transcript.{NamedUser, ScriptEvent, script_ask, script
 use Rattle.user_desk.specs.Causes.{Opens}
 use Rattle.user_desk.specs.Lives.{Holds}
 use Rattle.user_desk.specs.declared.standing.DeskError.{DeskError}
+use Rattle.desk_crew.specs.Shelved.{Journals}
 use Rattle.batch_engine.specs.BatchLines.{BatchItem, asked, restarted, batch_of}
-use Rattle.batch_engine.specs.Lives.{RoseBy, is_opened, failures, AreCaused, OpensNone, IsOpening, IsRefusal}
+use Rattle.desk_crew.specs.Openings.{OpensNone, IsOpening}
+use Rattle.batch_engine.specs.Lives.{RoseBy, is_opened, failures, AreCaused, IsRefusal}
 use Rattle.batch_engine.specs.declared.run.BatchEnd.{BatchEnd}
 use Rattle.batch_engine.specs.declared.run.BatchEnd.TheVariants.{Done, Script as Refused, ReadFault, WriteFault, ShelfFault, Memory}
 
@@ -35,15 +37,6 @@ line_bytes lines = flat_map (λ line. line_text line ++ 10 ∷ []) lines
 abbrev pub is_broken_line : Line → Bool
 is_broken_line (reply_line name session (Some desk_broken)) = true
 is_broken_line line = false
-
--- The journals of users by their names, in a call: the bytes that were read of each as the call began, none where there was no disk; the count of its
--- disk's faults then, and as the call ended; the bytes that are read then, and what a crash may leave.
-pub record Journals : Type 1 where
-  pub bytes : Text → List ℕ
-  pub before : Text → ℕ
-  pub now : Text → ℕ
-  pub reads : Text → List ℕ
-  pub image : Text → List ℕ → Type 0
 
 -- a user before his journal is opened
 abbrev pub unopened : NamedUser → NamedUser

@@ -4,8 +4,6 @@ pub mod Batches
 pub mod BatchOf
 pub mod Lives
 pub mod Batch
-pub mod Seats
-pub mod Crew
-pub mod Shelved
+pub mod DeskAnswers
 pub mod Steps
 pub mod ToldTexts

@@ -5,7 +5,7 @@ use Rattle.cqe_base.specs.Schema.{DatabaseSchema, Text}
 use Rattle.cqe_base.specs.Facts.{FactSet}
 use Rattle.cqe_base.specs.History.{UserProfile, History}
 use Rattle.cqe_base.specs.Run.{Event, ask, stop, restart, want, kept, failed, UserState, entry_at, after_event}
-use Rattle.user_desk.specs.Causes.{Opens, IsSealedBy}
+use Rattle.user_desk.specs.Causes.{IsSealedBy}
 use Rattle.user_desk.specs.declared.standing.DeskError.{DeskError}
 
 -- a count rose by at least so many, or stands at the greatest number that fits it
@@ -54,14 +54,6 @@ module _ (schema : DatabaseSchema) (world : FactSet) (user : UserProfile) where
   AreCaused state (event ∷ events) = IsCaused state event × AreCaused (after_event schema world user state event) events
 
   module _ (header : List ℕ) where
-    -- the bytes open a desk with no entries whatever
-    abbrev pub OpensNone : List ℕ → Type 0
-    OpensNone bytes = (entries : History) → Opens schema world user header entries bytes → ⊥
-
-    -- the history with which a user's journal is opened, by its bytes: the legal one that they stand for, and the empty one where they open no desk
-    abbrev pub IsOpening : List ℕ → History → Type 0
-    IsOpening bytes opened = Opens schema world user header opened bytes ⊎ (OpensNone bytes × (opened ≡ []))
-
     -- the first refusal among a user's openings, by the bytes that his journal had and by the count of its disk's faults before and now
     abbrev pub IsRefusal : List ℕ → ℕ → ℕ → List Event → Option DeskError → Type 0
     IsRefusal bytes before now events None = list_any is_refused events ≡ false

@@ -5,9 +5,9 @@ use Rattle.cqe_base.specs.Facts.{FactSet}
 use Rattle.cqe_base.specs.Run.{Reply, desk_broken}
 use Rattle.cqe_base.specs.Transcript.{reply_line, restart_line, line_text}
 use Rattle.batch_engine.specs.BatchLines.{BatchItem, asked, restarted}
-use Rattle.batch_engine.specs.Crew.{Tells, AreReopened}
-use Rattle.batch_engine.specs.Seats.{DeskSeat}
-use Rattle.batch_engine.specs.Seats.{DeskAnswered}
+use Rattle.desk_crew.specs.Crew.{Tells, AreReopened}
+use Rattle.desk_crew.specs.Seats.{DeskSeat}
+use Rattle.batch_engine.specs.DeskAnswers.{DeskAnswered}
 use Rattle.batch_engine.specs.declared.run.Answered.TheVariants.{All, Cut, Memory}
 
 -- whether what is told says that an append failed

@@ -11,8 +11,8 @@ ghost use Rattle.log_journal.specs.Opening.{header_bytes};
 ghost use Rattle.user_log.specs.Replies.{reply_of};
 ghost use Rattle.batch_engine.specs.Said.{is_short_ask, is_short_item};
 ghost use Rattle.batch_engine.specs.Batches.{named_ask, item_in};
-ghost use Rattle.batch_engine.specs.Crew.{named_user, seat_user, IsServed};
-ghost use Rattle.batch_engine.specs.Shelved.{journals, journals_on, AllOut, AllIn, NoneOut, NoneFell, AreLater, AreBack, SameBeside};
+ghost use Rattle.desk_crew.specs.Crew.{named_user, seat_user, IsServed};
+ghost use Rattle.desk_crew.specs.Shelved.{journals, journals_on, AllOut, AllIn, NoneOut, NoneFell, AreLater, AreBack, SameBeside};
 ghost use Rattle.batch_engine.specs.BatchOf.{items_of};
 ghost use Rattle.batch_engine.specs.ToldTexts.{told_text};
 ghost use Rattle.batch_engine.specs.Steps.{Carries, is_broken_reply, IsAnswered, HasSeats, IsCut};
@@ -20,13 +20,14 @@ ghost use Rattle.batch_engine.specs.Batch.{Ends, IsUnopened};
 ghost use Rattle.batch_engine.specs.declared.run.BatchEnd.{BatchEnd};
 
 use crate::batch::{Batch, BatchAsk, BatchItem};
-use crate::crew::{NotOpened, answer, give_back, open_all, reopen_all, room_for};
-use crate::registry::Registry;
-use crate::seat::{DeskSeat, Seat};
 use case_engine::line_reply;
 use cqe_base::laws::{law_legal_grows, law_private, law_runs_legal, law_scripts_hide};
 use cqe_base::text::ScriptError;
 use desk_counter::{Owned, TicketedDesk};
+use desk_crew::{
+    DeskSeat, NotOpened, Registry, Seat, answer, give_back, open_all, refusals_of, reopen_all,
+    room_for,
+};
 use line_protocol::{LineText, text_of};
 use log_journal::law_journals_differ;
 use outside::{Disk, Failed, Gate, Shelf, Sink, Source, write_all};
@@ -184,22 +185,6 @@ fn answer_all<'w, R: Wait, G: Gate, F: Shelf, K: Sink>(
         }
     }
     Answered::All(seats, is_broken)
-}
-
-/// The first refusal of each seat, in a list with the room for them.
-fn refusals_of<D: Disk>(
-    room: Vec<Option<DeskError>>,
-    seats: &[DeskSeat<'_, D>],
-) -> Vec<Option<DeskError>>
-    requires empty { room.items ≡ [] }
-    requires room { length seats.now ≤ vec_capacity room }
-    ensures { result.items ≡ map (λ seat. seat.refusal) seats.now }
-{
-    let mut refusals = room;
-    for seat in seats {
-        refusals.push_reserved(seat.refusal);
-    }
-    refusals
 }
 
 /// Reads the whole script of a batch from the source, refuses it before the first ask, or opens the journals of all users

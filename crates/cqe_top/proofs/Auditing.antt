@@ -18,9 +18,9 @@ use Rattle.user_desk.specs.declared.standing.DeskError.{DeskError}
 use Rattle.user_desk.specs.declared.standing.Standing.{Standing}
 use Rattle.user_desk.specs.declared.standing.Standing.TheVariants.{Sealed}
 use Rattle.init_engine.specs.Disks as init
-use Rattle.batch_engine.specs.Batch.{Journals}
-use Rattle.batch_engine.specs.Lives.{IsOpening}
-use Rattle.batch_engine.specs.Shelved.{journals_on, bytes_on, image_on, SameBytes}
+use Rattle.desk_crew.specs.Shelved.{Journals}
+use Rattle.desk_crew.specs.Openings.{IsOpening}
+use Rattle.desk_crew.specs.Shelved.{journals_on, bytes_on, image_on, SameBytes}
 use Rattle.audit_engine.specs.Ends.{IsEnd, NoNewImages}
 use Rattle.audit_engine.specs.declared.end.AuditEnd.{AuditEnd}
 use Rattle.audit_engine.specs.declared.end.AuditEnd.TheVariants as audit_end

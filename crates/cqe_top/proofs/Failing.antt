@@ -15,8 +15,10 @@ use Rattle.cqe_base.specs.Run.{Reply, marked, no_sentence, history_full, too_lar
 use Rattle.cqe_base.specs.Transcript.{NamedUser, ScriptEvent, script_ask, script_stop, script_restart, script_opening, Line, reply_line, restart_line, own_events, own_reply, own_replies, told_after, lines_after, transcript}
 use Rattle.user_desk.specs.Causes.{Opens}
 use Rattle.user_desk.specs.declared.standing.DeskError.{DeskError}
-use Rattle.batch_engine.specs.Lives.{RoseBy, is_refused, failures, failures_in, AreCaused, IsOpening}
-use Rattle.batch_engine.specs.Batch.{Journals, Serves, AreRefusals, is_broken_line}
+use Rattle.desk_crew.specs.Openings.{IsOpening}
+use Rattle.batch_engine.specs.Lives.{RoseBy, is_refused, failures, failures_in, AreCaused}
+use Rattle.desk_crew.specs.Shelved.{Journals}
+use Rattle.batch_engine.specs.Batch.{Serves, AreRefusals, is_broken_line}
 use Rattle.cqe_top.specs.Statuses.{has_refusal}
 
 -- ---- tests of lists

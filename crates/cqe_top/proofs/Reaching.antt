@@ -15,8 +15,8 @@ use Rattle.case_engine.specs.Case as case
 use Rattle.case_engine.specs.declared.case.CaseEnd.{CaseEnd}
 use Rattle.case_engine.specs.declared.case.CaseEnd.TheVariants as case_end
 use Rattle.batch_engine.specs.Batch as batch
-use Rattle.batch_engine.specs.Batch.{Journals}
-use Rattle.batch_engine.specs.Shelved.{journals_on}
+use Rattle.desk_crew.specs.Shelved.{Journals}
+use Rattle.desk_crew.specs.Shelved.{journals_on}
 use Rattle.batch_engine.specs.declared.run.BatchEnd.{BatchEnd}
 use Rattle.batch_engine.specs.declared.run.BatchEnd.TheVariants as batch_end
 use Rattle.cqe_top.specs.declared.end.CommandEnd.{CommandEnd}

@@ -7,7 +7,7 @@ use Rattle.policy_files.specs.Users.{names_of}
 use Rattle.policy_files.specs.Memory.{named_user_of, policy_value_of}
 use Rattle.policy_files.specs.Laws.{IsKeptPolicy}
 use Rattle.policy_files.specs.declared.policy.Policy.{Policy}
-use Rattle.batch_engine.specs.Crew.{named_user}
+use Rattle.desk_crew.specs.Crew.{named_user}
 use Rattle.cqe_top.specs.Files.{new_user, new_users}
 
 -- their names are those that the policy says

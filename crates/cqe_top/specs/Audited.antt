@@ -8,8 +8,8 @@ use Rattle.cqe_base.specs.Facts.{FactSet}
 use Rattle.cqe_base.specs.History.{History}
 use Rattle.log_journal.specs.Names.{journal_name}
 use Rattle.user_desk.specs.Causes.{Opens}
-use Rattle.batch_engine.specs.Batch.{Journals}
-use Rattle.batch_engine.specs.Shelved.{SameBytes}
+use Rattle.desk_crew.specs.Shelved.{Journals}
+use Rattle.desk_crew.specs.Shelved.{SameBytes}
 use Rattle.audit_engine.specs.Ends.{IsEnd, NoNewImages}
 use Rattle.audit_engine.specs.declared.end.AuditEnd.{AuditEnd}
 use Rattle.audit_engine.specs.declared.end.AuditEnd.TheVariants as audit_end

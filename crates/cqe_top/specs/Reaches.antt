@@ -11,7 +11,7 @@ use Rattle.init_engine.specs.declared.end.InitEnd.{InitEnd}
 use Rattle.init_engine.specs.declared.end.InitEnd.TheVariants as init_end
 use Rattle.batch_engine.specs.BatchLines.{batch_of, BatchItem}
 use Rattle.batch_engine.specs.Batch as batch
-use Rattle.batch_engine.specs.Batch.{Journals}
+use Rattle.desk_crew.specs.Shelved.{Journals}
 use Rattle.cqe_base.specs.Facts.{FactSet}
 use Rattle.policy_files.specs.Policies.{PolicyValue}
 use Rattle.policy_files.specs.Users.{names_of}

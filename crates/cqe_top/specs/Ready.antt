@@ -7,7 +7,7 @@ use Rattle.cqe_base.specs.History.{History}
 use Rattle.log_journal.specs.Opening.{Refuses}
 use Rattle.log_journal.specs.declared.header.OpenError.{OpenError}
 use Rattle.user_desk.specs.Causes.{Opens}
-use Rattle.batch_engine.specs.Batch.{Journals}
+use Rattle.desk_crew.specs.Shelved.{Journals}
 use Rattle.policy_files.specs.Policies.{PolicyValue}
 
 -- each user's disk is empty or shows no reason to refuse it as a journal with this header, and its count of faults didn't rise

@@ -2,7 +2,7 @@
 ghost use Rattle.std.specs.Prelude.{◌≡◌, ◌≤◌, ◌<◌, List, ℕ, bytes_eq, length, position, string_bytes, IfSome};
 ghost use Rattle.outside.specs.Faults.{Rose};
 ghost use Rattle.log_journal.specs.Names.{journal_name};
-ghost use Rattle.batch_engine.specs.Shelved.{journals_on, NoneOut, NoneFell};
+ghost use Rattle.desk_crew.specs.Shelved.{journals_on, NoneOut, NoneFell};
 ghost use Rattle.cqe_top.specs.declared.end.CommandEnd.{CommandEnd};
 ghost use Rattle.cqe_top.specs.Files.{files_say};
 ghost use Rattle.cqe_top.specs.Audited.{AuditReaches, LooksAt};
@@ -10,7 +10,7 @@ ghost use Rattle.cqe_top.specs.Audited.{AuditReaches, LooksAt};
 use crate::end::{CommandEnd, end_of_audit};
 use crate::files::read_files;
 use audit_engine::run_audit;
-use batch_engine::Registry;
+use desk_crew::Registry;
 use command_words::Files;
 use cqe_base::user::User;
 use outside::{Shelf, Sink};

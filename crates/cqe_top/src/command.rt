@@ -3,7 +3,7 @@ ghost use Rattle.std.specs.Prelude.{◌≡◌, ◌≤◌, ◌⊎◌, List, ℕ, 
 ghost use Rattle.outside.specs.Faults.{Rose};
 ghost use Rattle.case_engine.specs.Script.{script_of};
 ghost use Rattle.batch_engine.specs.BatchLines.{batch_of};
-ghost use Rattle.batch_engine.specs.Shelved.{journals_on, NoneOut, NoneFell};
+ghost use Rattle.desk_crew.specs.Shelved.{journals_on, NoneOut, NoneFell};
 ghost use Rattle.cqe_top.specs.declared.end.CommandEnd.{CommandEnd};
 ghost use Rattle.log_journal.specs.Names.{journal_name};
 ghost use Rattle.cqe_top.specs.Words.{IsUsage, IsCase, IsInit, IsBatch, IsAudit, IsSelfrun};
@@ -20,7 +20,8 @@ use crate::complaint::complain;
 use crate::end::{CommandEnd, end_of_batch, end_of_case, end_of_init, status_of};
 use crate::files::read_files;
 use crate::selfrun::selfrun;
-use batch_engine::{Registry, run_batch};
+use batch_engine::run_batch;
+use desk_crew::Registry;
 use case_engine::run_case;
 use command_words::{Command, read_words};
 use init_engine::run_init;

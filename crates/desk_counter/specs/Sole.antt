@@ -2,15 +2,25 @@
 use Rattle.std.specs.Prelude.{◌≡◌, ℕ, length, None}
 use Rattle.cqe_base.specs.Run.{UserState}
 use Rattle.turnstile.specs.History.{Entries}
+use Rattle.turnstile.specs.declared.pass.Pass.{Pass}
 use Rattle.turnstile.specs.Passes.{seen}
 use Rattle.user_desk.specs.Lives.{IsState}
 use Rattle.desk_counter.specs.declared.item.Item.{Item}
 use Rattle.desk_counter.specs.declared.item.Fixed.{Fixed}
+use Rattle.desk_counter.specs.declared.counter.CounterOf.{CounterOf}
 use Rattle.desk_counter.specs.declared.sole.SoleOf.{SoleOf}
 use Rattle.desk_counter.specs.declared.ticketed_desk.TicketedDesk.{TicketedDesk}
 use Rattle.desk_counter.specs.Items.{history_of, flying}
 use Rattle.desk_counter.specs.Desks.{state_shown}
 use Rattle.desk_counter.specs.Counters.{kept_by}
+
+-- its counter
+abbrev pub counter_in : {D : Type 0} {g h : _} → SoleOf (TicketedDesk D g) Item (Fixed D) h → CounterOf (TicketedDesk D g) Item (Fixed D) h
+counter_in sole = sole.counter
+
+-- its pass
+abbrev pub pass_in : {D : Type 0} {g h : _} → SoleOf (TicketedDesk D g) Item (Fixed D) h → Pass Item (Fixed D)
+pass_in sole = sole.pass
 
 -- what no turn changes of its desk
 abbrev pub kept_in : {D : Type 0} {g h : _} → SoleOf (TicketedDesk D g) Item (Fixed D) h → Fixed D

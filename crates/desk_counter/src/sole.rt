@@ -2,7 +2,7 @@
 ghost use Rattle.std.specs.Prelude.{◌≡◌, ◌≤◌, ◌*◌, length, Some, IfOk, IfErr};
 ghost use Rattle.turnstile.specs.Passes.{IsOf, IsReady, first_value, fixed, shares, turns};
 
-use crate::counter::CounterOf;
+use crate::counter::{Counter, CounterOf, DeskPass};
 use crate::ticketed_desk::{Owned, TicketedDesk};
 use outside::{Disk, Gate};
 use std::alloc::Global;
@@ -31,7 +31,7 @@ pub struct SoleOf<'w, V: Owned> {
 pub type SoleCounter<'w, D> = SoleOf<'w, TicketedDesk<'w, D>>;
 
 impl<'w, D: Disk> SoleOf<'w, TicketedDesk<'w, D>> {
-    ghost use Rattle.std.specs.Prelude.{true, false, List, ℕ};
+    ghost use Rattle.std.specs.Prelude.{true, false, List, ℕ, ◌^◌};
     ghost use Rattle.outside.specs.Faults.{Rose};
     ghost use Rattle.cqe_base.specs.Run.{UserState};
     ghost use Rattle.user_log.specs.Replies.{reply_of};
@@ -41,13 +41,15 @@ impl<'w, D: Disk> SoleOf<'w, TicketedDesk<'w, D>> {
     ghost use Rattle.desk_counter.specs.Items.{history_of, flying, has_broke};
     ghost use Rattle.desk_counter.specs.Desks.{fixed_of};
     ghost use Rattle.desk_counter.specs.Lives.{IsAskOf};
-    ghost use Rattle.desk_counter.specs.Sole.{kept_in, pairs_of_sole, sole_state, IsSoleIn, IsUntouched};
+    ghost use Rattle.desk_counter.specs.Counters.{IsPassOf};
+    ghost use Rattle.desk_counter.specs.Sole.{counter_in, pass_in, kept_in, pairs_of_sole, sole_state, IsSoleIn, IsUntouched};
 
     /// Puts a desk under a counter. For want of memory the desk comes back.
     pub fn new(alloc: Global, desk: Desk<'w, D>) -> Result<SoleCounter<'w, D>, Desk<'w, D>>
         ensures kept { IfOk result (λ sole. kept_in sole ≡ fixed_of desk.entry) }
         ensures history { IfOk result (λ sole. history_of (pairs_of_sole sole) ≡ desk_history desk.entry) }
         ensures in_flight { IfOk result (λ sole. flying (pairs_of_sole sole) ≡ entry_in_flight desk.entry) }
+        ensures turns { IfOk result (λ sole. turns (pass_in sole) ≡ 65 * 2 ^ 57) }
         ensures err { IfErr result (λ same. same ≡ desk.entry) }
     {
         let (counter, pass) = CounterOf::new(alloc, desk)?;
@@ -72,6 +74,35 @@ impl<'w, D: Disk> SoleOf<'w, TicketedDesk<'w, D>> {
         let reply = self.counter.ask(rt, alloc, &mut self.pass, text, gate);
         self.asks_left -= 1;
         reply
+    }
+
+    /// Takes the counter and its pass apart, for threads that share it.
+    pub fn into_parts(self) -> (Counter<'w, D>, DeskPass<D>)
+        ensures counter { result.0 ≡ counter_in self.entry }
+        ensures pass { result.1 ≡ pass_in self.entry }
+        ensures place { IsPassOf result.1 result.0 }
+        ensures all { shares result.1 ≡ 65 }
+    {
+        let SoleOf {
+            counter,
+            pass,
+            asks_left: _,
+        } = self;
+        (counter, pass)
+    }
+
+    /// Puts a counter and the pass that has all shares together, to be closed: no ask is left to it.
+    pub fn from_parts(counter: Counter<'w, D>, pass: DeskPass<D>) -> SoleCounter<'w, D>
+        requires place { IsPassOf pass counter }
+        requires all { shares pass ≡ 65 }
+        ensures counter { counter_in result ≡ counter }
+        ensures pass { pass_in result ≡ pass }
+    {
+        SoleOf {
+            counter,
+            pass,
+            asks_left: 0,
+        }
     }
 
     /// Takes the desk out, as `Counter::close` does.

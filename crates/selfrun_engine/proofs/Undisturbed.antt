@@ -13,8 +13,10 @@ use Rattle.log_journal.specs.Records.{records}
 use Rattle.user_desk.specs.Entries.{entry_of}
 use Rattle.user_desk.specs.declared.standing.DeskError.{DeskError}
 use Rattle.batch_engine.specs.BatchLines.{BatchItem, asked, restarted, batch_of}
-use Rattle.batch_engine.specs.Batch.{Journals, Serves, AreEventsOf, AreRefusals, AppendsAll, is_broken_line, unopened, line_bytes, with_opening}
-use Rattle.batch_engine.specs.Lives.{is_refused, AreCaused, IsOpening}
+use Rattle.desk_crew.specs.Shelved.{Journals}
+use Rattle.batch_engine.specs.Batch.{Serves, AreEventsOf, AreRefusals, AppendsAll, is_broken_line, unopened, line_bytes, with_opening}
+use Rattle.desk_crew.specs.Openings.{IsOpening}
+use Rattle.batch_engine.specs.Lives.{is_refused, AreCaused}
 use Rattle.selfrun_engine.specs.Outputs.{IsKeptOrWant, IsOfUser, IsOutput}
 
 -- ---- lists

@@ -14,8 +14,8 @@ use Rattle.log_journal.specs.Names.{journal_name}
 use Rattle.init_engine.specs.Disks.{names_of, bytes_held, Readies}
 use Rattle.batch_engine.specs.BatchLines.{BatchItem, asked, restarted, batch_of}
 use Rattle.batch_engine.specs.Batch.{AreEventsOf, with_opening}
-use Rattle.batch_engine.specs.Crew.{named_user}
-use Rattle.batch_engine.specs.Shelved.{bytes_on}
+use Rattle.desk_crew.specs.Crew.{named_user}
+use Rattle.desk_crew.specs.Shelved.{bytes_on}
 use Rattle.policy_files.specs.declared.error.PolicyError.{PolicyError}
 use Rattle.policy_files.specs.declared.error.FactsError.{FactsError}
 use Rattle.policy_files.specs.Policy.{policy_in}

@@ -4,7 +4,7 @@ use Rattle.log_journal.specs.Opening.{header_bytes}
 use Rattle.user_log.specs.Replies.{reply_of}
 use Rattle.batch_engine.specs.Batches.{item_in}
 use Rattle.batch_engine.specs.Steps.{Carries}
-use Rattle.batch_engine.proofs.Asking.{told_here, served_users}
+use Rattle.desk_crew.proofs.Asking.{told_here, served_users}
 use Rattle.batch_engine.proofs.run.carry_out.Goals as goal
 
 pub answer-told-requires-clause-users : goal.answer-told-requires-clause-users

@@ -7,10 +7,10 @@ use Rattle.cqe_base.specs.Limits.{KeepsLimits}
 use Rattle.log_journal.specs.Opening.{header_bytes}
 use Rattle.batch_engine.specs.BatchOf.{items_of}
 use Rattle.batch_engine.specs.Batch.{AppendsAll}
-use Rattle.batch_engine.specs.Crew.{named_user}
-use Rattle.batch_engine.specs.Shelved.{journals, journals_on, SameBeside, AllOut, AreLater, AreOut}
+use Rattle.desk_crew.specs.Crew.{named_user}
+use Rattle.desk_crew.specs.Shelved.{journals, journals_on, SameBeside, AllOut, AreLater, AreOut}
 use Rattle.batch_engine.proofs.Running.{Stay, stay_run}
-use Rattle.batch_engine.proofs.Opening.{seats_distinct, seats_later, seats_served, seats_limits, same_length, length-journals, all_out, none_out, none_fell}
+use Rattle.desk_crew.proofs.Opening.{seats_distinct, seats_later, seats_served, seats_limits, same_length, length-journals, all_out, none_out, none_fell}
 use Rattle.batch_engine.proofs.Ending.{batch_begins, all_of, finish_all, finish_some}
 use Rattle.batch_engine.proofs.run.run_batch.Goals as goal
 

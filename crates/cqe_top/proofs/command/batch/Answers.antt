@@ -1,8 +1,8 @@
 use Rattle.std.proofs.Common.{sym, ap, subst, ◌∙◌, map}
 use Rattle.cqe_base.specs.Schema.{has_duplicate}
 use Rattle.log_journal.specs.Opening.{header_bytes}
-use Rattle.batch_engine.specs.Crew.{named_user}
-use Rattle.batch_engine.specs.Shelved.{journals_on}
+use Rattle.desk_crew.specs.Crew.{named_user}
+use Rattle.desk_crew.specs.Shelved.{journals_on}
 use Rattle.policy_files.specs.Memory.{policy_value_of}
 use Rattle.cqe_top.specs.Files.{files_say}
 use Rattle.cqe_top.specs.Reaches.{BatchReaches}

@@ -1,6 +1,6 @@
 use Rattle.std.proofs.Common.{inr, sym, ap, ◌∙◌, subst, map, string_bytes}
 use Rattle.std.specs.Prelude.{Some, option_map}
-use Rattle.batch_engine.specs.Shelved.{journals_on}
+use Rattle.desk_crew.specs.Shelved.{journals_on}
 use Rattle.command_words.specs.Readings.{reading_of, reading_in}
 use Rattle.cqe_top.specs.Files.{files_say}
 use Rattle.cqe_top.specs.Audited.{AuditReaches}

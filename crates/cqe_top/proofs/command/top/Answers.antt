@@ -1,5 +1,5 @@
 use Rattle.std.proofs.Common.{◌≡◌, ◌⊎◌, ℕ, sym, subst}
-use Rattle.batch_engine.specs.Shelved.{journals_on}
+use Rattle.desk_crew.specs.Shelved.{journals_on}
 use Rattle.cqe_top.specs.Files.{files_say}
 use Rattle.cqe_top.proofs.Good.{good_init, good_batch}
 use Rattle.cqe_top.proofs.Auditing.{good_audit}

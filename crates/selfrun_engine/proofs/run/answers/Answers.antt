@@ -7,8 +7,8 @@ use Rattle.outside.specs.MemoryStreams.{sink_written, source_left}
 use Rattle.cqe_base.specs.Schema.{has_duplicate}
 use Rattle.log_journal.specs.Opening.{header_bytes}
 use Rattle.init_engine.specs.Disks.{names_of, Readies}
-use Rattle.batch_engine.specs.Crew.{named_user}
-use Rattle.batch_engine.specs.Shelved.{journals_on}
+use Rattle.desk_crew.specs.Crew.{named_user}
+use Rattle.desk_crew.specs.Shelved.{journals_on}
 use Rattle.selfrun_engine.proofs.Workloads.{batch_names_are, all_empty}
 use Rattle.selfrun_engine.proofs.Undisturbed.{batch_undisturbed}
 use Rattle.selfrun_engine.proofs.run.answers.Goals as goal

@@ -1,0 +1,6 @@
+pub mod Taken
+pub mod Shelving
+pub mod Reopening
+pub mod Opening
+pub mod Asking
+pub mod Seated

@@ -1,0 +1,241 @@
+-- The journals of all users, taken and opened one after the other.
+use Rattle.std.proofs.Common.{◌≡◌, ℕ, suc, ◌≤◌, ◌<◌, ◌+◌, Bool, true, false, List, [], ◌∷◌, ◌++◌, length, take, drop, get_or, map, refl, sym, ap, subst, ◌∙◌, arith}
+use Rattle.std.specs.Prelude.{Option, Some, None, ◌||◌, bytes_eq, string_bytes, All}
+use Rattle.std.specs.List.{list_any, AllByRecursion}
+use Rattle.std.specs.Cmp.Lexicographic.{same_text}
+use Rattle.std.proofs.lemmas.List.{take_more, take-append-drop}
+use Rattle.outside.specs.Shelf.{IsTaken, SameNames, SameOthers}
+use Rattle.cqe_base.specs.Schema.{Text, DatabaseSchema, has_duplicate}
+use Rattle.cqe_base.specs.Facts.{FactSet}
+use Rattle.cqe_base.specs.History.{profile_of}
+use Rattle.cqe_base.specs.Limits.{KeepsLimits}
+use Rattle.cqe_base.specs.declared.user.User.{User}
+use Rattle.log_journal.specs.Names.{journal_name, JournalsDiffer}
+use Rattle.desk_crew.specs.Crew.{named_user, seat_user, seat_journal, seat_disk, IsServed, IsLeft}
+use Rattle.desk_crew.specs.Shelved.{bytes_on, is_among, journals, SameBeside, SameBytes, AllOut, AllIn, NoneOut, NoneFell, AreOut, IsBack, AreBack, AreLater, IsSeatOf, AreSeatsOf}
+use Rattle.desk_crew.specs.Seats.{DeskSeat}
+use Rattle.desk_crew.proofs.Taken.{left_false, right_false, text_is, taken_reads}
+use Rattle.desk_crew.proofs.Shelving.{Parts, parts, among-append, journals-append}
+
+abbrev pub names : List User → List Text
+names users = map (λ user. user.name) (map named_user users)
+
+-- a name of the first users isn't that of the next
+next_apart : (users : List User) (i : ℕ) (user : User) → i < length users → user ≡ get_or users i user → has_duplicate (names users) ≡ false → is_among (names (take i users)) (string_bytes user.name) ≡ false
+next_apart users i user low is distinct =
+    let whole : users ≡ take (i + 1) users ++ drop (i + 1) users = sym (take-append-drop (i + 1) users) in
+    let more : take (i + 1) users ≡ take i users ++ user ∷ [] = take_more users i user low ∙ ap (λ u. take i users ++ u ∷ []) (sym is) in
+    let all : names users ≡ (names (take i users) ++ string_bytes user.name ∷ []) ++ names (drop (i + 1) users) =
+    ap names (whole ∙ ap (λ l. l ++ drop (i + 1) users) more) ∙ names-append (take i users ++ user ∷ []) (drop (i + 1) users) ∙ ap (λ l. l ++ names (drop (i + 1) users)) (names-append (take i users) (user ∷ [])) in
+    let first : Parts (names (take i users) ++ string_bytes user.name ∷ []) (names (drop (i + 1) users)) = parts _ _ (ap has_duplicate (sym all) ∙ distinct) in
+    let two : Parts (names (take i users)) (string_bytes user.name ∷ []) = parts _ _ first.first in
+    two.apart_back (string_bytes user.name) (ap (λ b. b || false) (text_is (string_bytes user.name)))
+  where
+    names-append : (xs ys : List User) → names (xs ++ ys) ≡ names xs ++ names ys
+    names-append [] ys = refl
+    names-append (x ∷ xs) ys = ap (λ l. string_bytes x.name ∷ l) (names-append xs ys)
+
+pub first_distinct : (users : List User) (i : ℕ) → has_duplicate (names users) ≡ false → has_duplicate (names (take i users)) ≡ false
+first_distinct users i distinct =
+    let all : names users ≡ names (take i users) ++ names (drop i users) = ap names (sym (take-append-drop i users)) ∙ names-append (take i users) (drop i users) in
+    (parts (names (take i users)) (names (drop i users)) (ap has_duplicate (sym all) ∙ distinct)).first
+  where
+    names-append : (xs ys : List User) → names (xs ++ ys) ≡ names xs ++ names ys
+    names-append [] ys = refl
+    names-append (x ∷ xs) ys = ap (λ l. string_bytes x.name ∷ l) (names-append xs ys)
+
+-- as many names as seats
+pub length-journals : {D : Type 0} {g h : _} (seats : List (DeskSeat D g h)) → length (journals seats) ≡ length seats
+length-journals [] = refl
+length-journals (s ∷ seats) = ap (λ n. suc n) (length-journals seats)
+
+module _ (directory : Text) where
+  journal_among : JournalsDiffer → (ns : List Text) (name : Text) → is_among (map (journal_name directory) ns) (journal_name directory name) ≡ is_among ns name
+  journal_among differ [] name = refl
+  journal_among differ (n ∷ ns) name = ap (λ b. b || is_among (map (journal_name directory) ns) (journal_name directory name)) (differ directory name n) ∙ ap (λ b. bytes_eq name n || b) (journal_among differ ns name)
+
+  journals_distinct : JournalsDiffer → (ns : List Text) → has_duplicate (map (journal_name directory) ns) ≡ has_duplicate ns
+  journals_distinct differ [] = refl
+  journals_distinct differ (n ∷ ns) = ap (λ b. b || has_duplicate (map (journal_name directory) ns)) (journal_among differ ns n) ∙ ap (λ b. is_among ns n || b) (journals_distinct differ ns)
+
+  module _ (schema : DatabaseSchema) (world : FactSet) (header : List ℕ) {D : Type 0} {g h : _} (told disk_told : Type 0) (reads : D → List ℕ) (image : D → List ℕ → Type 0) (faults : D → ℕ) (disk0 : Text → Option D) (count0 : Text → ℕ) where
+    abbrev Seats : List User → List (DeskSeat D g h) → Type 0
+    Seats users seats = AreSeatsOf told reads image faults disk_told schema world header directory disk0 count0 users seats
+
+    -- the journals of seats are those of their users
+    pub seat_journals : (users : List User) (seats : List (DeskSeat D g h)) → Seats users seats → journals seats ≡ map (journal_name directory) (names users)
+    seat_journals [] [] are = refl
+    seat_journals [] (s ∷ seats) are = absurd are
+    seat_journals (u ∷ users) [] are = absurd are
+    seat_journals (u ∷ users) (s ∷ seats) are = ap (λ j. j ∷ journals seats) are.0.journal_is ∙ ap (λ js. journal_name directory (string_bytes u.name) ∷ js) (seat_journals users seats are.1)
+
+    pub seats_distinct : JournalsDiffer → (users : List User) (seats : List (DeskSeat D g h)) → Seats users seats → has_duplicate (names users) ≡ false → has_duplicate (journals seats) ≡ false
+    seats_distinct differ users seats are distinct = ap has_duplicate (seat_journals users seats are) ∙ journals_distinct differ (names users) ∙ distinct
+
+    pub seats_later : (count : Text → ℕ) (users : List User) (seats : List (DeskSeat D g h)) → SameNames count0 count → Seats users seats → AreLater faults count seats
+    seats_later count [] [] same are = tt
+    seats_later count [] (s ∷ seats) same are = absurd are
+    seats_later count (u ∷ users) [] same are = absurd are
+    seats_later count (u ∷ users) (s ∷ seats) same are =
+        let on = are.0.left.later in
+        let counted = are.0.counted in
+        let now = same (seat_journal s) in
+        (omega (arith, on, counted, now), seats_later count users seats same are.1)
+
+    pub seats_served : (users : List User) (seats : List (DeskSeat D g h)) → Seats users seats → AllByRecursion (IsServed schema world header) seats
+    seats_served [] [] are = tt
+    seats_served [] (s ∷ seats) are = absurd are
+    seats_served (u ∷ users) [] are = absurd are
+    seats_served (u ∷ users) (s ∷ seats) are = (are.0.opened.served, seats_served users seats are.1)
+
+    pub seats_limits : (users : List User) (seats : List (DeskSeat D g h)) → Seats users seats → AllByRecursion (λ (u : User). KeepsLimits schema (profile_of u)) users → AllByRecursion (λ (s : DeskSeat D g h). KeepsLimits schema (profile_of (seat_user s))) seats
+    seats_limits [] [] are limits = tt
+    seats_limits [] (s ∷ seats) are limits = absurd are
+    seats_limits (u ∷ users) [] are limits = absurd are
+    seats_limits (u ∷ users) (s ∷ seats) are limits = (subst (λ v. KeepsLimits schema (profile_of v)) (sym are.0.user_is) limits.0, seats_limits users seats are.1 limits.1)
+
+    pub same_length : (users : List User) (seats : List (DeskSeat D g h)) → Seats users seats → length seats ≡ length users
+    same_length [] [] are = refl
+    same_length [] (s ∷ seats) are = absurd are
+    same_length (u ∷ users) [] are = absurd are
+    same_length (u ∷ users) (s ∷ seats) are = ap (λ n. suc n) (same_length users seats are.1)
+
+    seats-push : (users : List User) (seats : List (DeskSeat D g h)) (user : User) (seat : DeskSeat D g h) → Seats users seats → IsSeatOf told reads image faults disk_told schema world header directory disk0 count0 user seat → Seats (users ++ user ∷ []) (seats ++ seat ∷ [])
+    seats-push [] [] user seat are is = (is, tt)
+    seats-push [] (s ∷ seats) user seat are is = absurd are
+    seats-push (u ∷ users) [] user seat are is = absurd are
+    seats-push (u ∷ users) (s ∷ seats) user seat are is = (are.0, seats-push users seats user seat are.1 is)
+
+    -- ---- one user after the other
+
+    -- the journals of the first users are open
+    pub record Opened (users : List User) (i : ℕ) (seats : List (DeskSeat D g h)) (disk : Text → Option D) (is_out : Text → Bool) (count : Text → ℕ) : Type 0 where
+      pub are : Seats (take i users) seats
+      pub out : AreOut (journals seats) is_out
+      pub disks : SameBeside (journals seats) disk0 disk
+      pub counts : SameNames count0 count
+
+    pub opened_none : (users : List User) (seats : List (DeskSeat D g h)) (is_out : Text → Bool) → seats ≡ [] → NoneOut is_out → Opened users 0 seats disk0 is_out count0
+    opened_none users seats is_out none inside = record {
+      are = subst (Seats (take 0 users)) (sym none) (first users);
+      out = λ name. inside name ∙ ap (λ s. is_among (journals s) name) (sym none);
+      disks = λ name not. refl;
+      counts = λ name. refl;
+    }
+      where
+        first : (us : List User) → Seats (take 0 us) []
+        first [] = tt
+        first (u ∷ us) = tt
+
+    module _ (differ : JournalsDiffer) (users : List User) (distinct : has_duplicate (names users) ≡ false) (i : ℕ) (user : User) (low : i < length users) (is : user ≡ get_or users i user) (seats : List (DeskSeat D g h))
+        (disk : Text → Option D) (is_out : Text → Bool) (count : Text → ℕ) (so_far : Opened users i seats disk is_out count) where
+      abbrev one : Text
+      one = journal_name directory (string_bytes user.name)
+
+      -- the next journal isn't out
+      pub next_none : is_among (journals seats) one ≡ false
+      next_none = ap (λ ns. is_among ns one) (seat_journals (take i users) seats so_far.are) ∙ journal_among differ (names (take i users)) (string_bytes user.name) ∙ next_apart users i user low is distinct
+
+      pub next_in : is_out one ≡ false
+      next_in = so_far.out one ∙ next_none
+
+      seat_here : (seat : DeskSeat D g h) → IsSeatOf told reads image faults disk_told schema world header directory disk count user seat → IsSeatOf told reads image faults disk_told schema world header directory disk0 count0 user seat
+      seat_here seat at = record {
+        user_is = at.user_is;
+        journal_is = at.journal_is;
+        taken = at.taken;
+        from = λ t. subst (λ o. IsTaken reads image o at.taken) (so_far.disks (seat_journal seat) (ap (is_among (journals seats)) at.journal_is ∙ next_none)) (at.from t);
+        counted = at.counted ∙ so_far.counts (seat_journal seat);
+        opened = at.opened;
+        left = at.left;
+      }
+
+      pub opened_more : (seat : DeskSeat D g h) (disk' : Text → Option D) (is_out' : Text → Bool) (count' : Text → ℕ) → IsSeatOf told reads image faults disk_told schema world header directory disk count user seat
+          → is_out' one ≡ true → SameOthers one is_out is_out' → SameOthers one disk disk' → SameNames count count' → Opened users (i + 1) (seats ++ seat ∷ []) disk' is_out' count'
+      opened_more seat disk' is_out' count' at out outs disks counts =
+          let more : take (i + 1) users ≡ take i users ++ user ∷ [] = take_more users i user low ∙ ap (λ u. take i users ++ u ∷ []) (sym is) in
+          let names_are : journals (seats ++ seat ∷ []) ≡ journals seats ++ one ∷ [] = journals-append seats (seat ∷ []) ∙ ap (λ j. journals seats ++ j ∷ []) at.journal_is in
+          record {
+            are = subst (λ us. Seats us (seats ++ seat ∷ [])) (sym more) (seats-push (take i users) seats user seat so_far.are (seat_here seat at));
+            out = λ name. by_out name (bytes_eq name one) refl ∙ sym (ap (λ ns. is_among ns name) names_are ∙ among-append (journals seats) (one ∷ []) name);
+            disks = λ name none.
+                let apart = sym (among-append (journals seats) (one ∷ []) name) ∙ sym (ap (λ ns. is_among ns name) names_are) ∙ none in
+                disks name (left_false _ _ (right_false (is_among (journals seats) name) (bytes_eq name one || false) apart)) ∙ so_far.disks name (left_false (is_among (journals seats) name) (bytes_eq name one || false) apart);
+            counts = λ name. counts name ∙ so_far.counts name;
+          }
+        where
+          or_end : (a : Bool) → (a || (true || false)) ≡ true
+          or_end true = refl
+          or_end false = refl
+
+          or_none : (a : Bool) → (a || (false || false)) ≡ a
+          or_none true = refl
+          or_none false = refl
+
+          by_out : (name : Text) (b : Bool) → bytes_eq name one ≡ b → is_out' name ≡ (is_among (journals seats) name || (bytes_eq name one || false))
+          by_out name true same = ap is_out' (same_text name one (sym same)) ∙ out ∙ sym (ap (λ b. is_among (journals seats) name || (b || false)) same ∙ or_end (is_among (journals seats) name))
+          by_out name false differs = outs name differs ∙ so_far.out name ∙ sym (ap (λ b. is_among (journals seats) name || (b || false)) differs ∙ or_none (is_among (journals seats) name))
+
+    -- ---- one was refused, and the disks of those before are given back
+
+    pub all_out : (seats : List (DeskSeat D g h)) (is_out : Text → Bool) → AreOut (journals seats) is_out → AllOut (journals seats) is_out
+    all_out seats is_out are name among = are name ∙ among
+
+    -- none is out once all are back
+    pub none_out : (seats : List (DeskSeat D g h)) (is_out is_out' : Text → Bool) → AreOut (journals seats) is_out → AllIn (journals seats) is_out' → SameBeside (journals seats) is_out is_out' → NoneOut is_out'
+    none_out seats is_out is_out' are inside others name = by (is_among (journals seats) name) refl
+      where
+        by : (b : Bool) → is_among (journals seats) name ≡ b → is_out' name ≡ false
+        by true among = inside name among
+        by false none = others name none ∙ are name ∙ none
+
+    by_later : (count count' : Text → ℕ) (disk' : Text → Option D) (name : Text) (s : DeskSeat D g h) → count (seat_journal s) ≤ faults (seat_disk s) → IsBack told reads image faults disk' count' s → (b : Bool) → bytes_eq name (seat_journal s) ≡ b
+        → (bytes_eq name (seat_journal s) ≡ false → count name ≤ count' name) → count name ≤ count' name
+    by_later count count' disk' name s first back true same more =
+        let at : name ≡ seat_journal s = same_text name (seat_journal s) (sym same) in
+        let closed = back.left.is_closed.later in
+        let on = back.left.left.later in
+        let counted = back.counted in
+        subst (λ n. count n ≤ count' n) (sym at) (omega (arith, first, closed, on, counted))
+    by_later count count' disk' name s first back false differs more = more differs
+
+    among_later : (count count' : Text → ℕ) (disk' : Text → Option D) (name : Text) (ss : List (DeskSeat D g h)) → AreLater faults count ss → AreBack told reads image faults disk' count' ss → is_among (journals ss) name ≡ true → count name ≤ count' name
+    among_later count count' disk' name [] later back among = absurd cc
+    among_later count count' disk' name (s ∷ ss) later back among =
+        by_later count count' disk' name s later.0 back.0 (bytes_eq name (seat_journal s)) refl
+        (λ differs. among_later count count' disk' name ss later.1 back.1 (sym (ap (λ b. b || is_among (journals ss) name) differs) ∙ among))
+
+    -- no count fell
+    pub none_fell : (count count' : Text → ℕ) (seats : List (DeskSeat D g h)) → AreLater faults count seats → (disk' : Text → Option D) → AreBack told reads image faults disk' count' seats → SameBeside (journals seats) count count'
+        → NoneFell count count'
+    none_fell count count' seats later disk' back others name = by (is_among (journals seats) name) refl
+      where
+        by : (b : Bool) → is_among (journals seats) name ≡ b → count name ≤ count' name
+        by true among = among_later count count' disk' name seats later back among
+        by false none = subst (λ n. count name ≤ n) (sym (others name none)) (omega arith)
+
+    by_same : told → (disk' : Text → Option D) (count' : Text → ℕ) (name : Text) (u : User) (s : DeskSeat D g h) → IsSeatOf told reads image faults disk_told schema world header directory disk0 count0 u s → IsBack told reads image faults disk' count' s
+        → (b : Bool) → bytes_eq name (seat_journal s) ≡ b → (bytes_eq name (seat_journal s) ≡ false → bytes_on reads (disk' name) ≡ bytes_on reads (disk0 name)) → bytes_on reads (disk' name) ≡ bytes_on reads (disk0 name)
+    by_same t disk' count' name u s are back true same more =
+        let at : name ≡ seat_journal s = same_text name (seat_journal s) (sym same) in
+        ap (λ n. bytes_on reads (disk' n)) at ∙ ap (bytes_on reads) (back.held t) ∙ back.left.left.reads_same ∙ ap reads (back.left.is_closed.still are.opened.fresh) ∙ are.left.reads_same ∙ taken_reads reads image (disk0 (seat_journal s)) are.taken (are.from t)
+        ∙ ap (λ n. bytes_on reads (disk0 n)) (sym at)
+    by_same t disk' count' name u s are back false differs more = more differs
+
+    among_same : told → (disk' : Text → Option D) (count' : Text → ℕ) (name : Text) (us : List User) (ss : List (DeskSeat D g h)) → Seats us ss → AreBack told reads image faults disk' count' ss → is_among (journals ss) name ≡ true
+        → bytes_on reads (disk' name) ≡ bytes_on reads (disk0 name)
+    among_same t disk' count' name [] [] are back among = absurd cc
+    among_same t disk' count' name [] (s ∷ ss) are back among = absurd are
+    among_same t disk' count' name (u ∷ us) [] are back among = absurd cc
+    among_same t disk' count' name (u ∷ us) (s ∷ ss) are back among =
+        by_same t disk' count' name u s are.0 back.0 (bytes_eq name (seat_journal s)) refl
+        (λ differs. among_same t disk' count' name us ss are.1 back.1 (sym (ap (λ b. b || is_among (journals ss) name) differs) ∙ among))
+
+    -- the disks read the same as at the beginning
+    pub same_bytes : told → (users : List User) (seats : List (DeskSeat D g h)) → Seats users seats → (disk' : Text → Option D) (count' : Text → ℕ) → AreBack told reads image faults disk' count' seats
+        → ((name : Text) → is_among (journals seats) name ≡ false → bytes_on reads (disk' name) ≡ bytes_on reads (disk0 name)) → SameBytes reads disk0 disk'
+    same_bytes t users seats are disk' count' back others name = by (is_among (journals seats) name) refl
+      where
+        by : (b : Bool) → is_among (journals seats) name ≡ b → bytes_on reads (disk' name) ≡ bytes_on reads (disk0 name)
+        by true among = among_same t disk' count' name users seats are back among
+        by false none = others name none

@@ -1,0 +1,212 @@
+-- Desks that are closed and opened again, and their disks where memory was wanting.
+use Rattle.std.proofs.Common.{◌≡◌, ℕ, ◌≤◌, Bool, true, false, List, [], ◌∷◌, ◌++◌, map, refl, sym, ap, subst, ◌∙◌, append_assoc, append-nil, arith}
+use Rattle.std.specs.Prelude.{Option, Some, None, ◌||◌, bytes_eq}
+use Rattle.std.specs.Cmp.Lexicographic.{same_text}
+use Rattle.outside.specs.Shelf.{SameOthers}
+use Rattle.cqe_base.specs.Schema.{Text, DatabaseSchema, has_duplicate}
+use Rattle.cqe_base.specs.Facts.{FactSet}
+use Rattle.desk_crew.specs.Crew.{seat_journal, seat_disk, IsLeft, IsLeftBy, IsClosed, IsReopened, AreReopened}
+use Rattle.desk_crew.specs.Shelved.{is_among, journals, SameBeside, AllOut, AllIn, IsBack, AreBack, AreLater}
+use Rattle.desk_crew.specs.Seats.{DeskSeat}
+use Rattle.desk_crew.proofs.Taken.{left_false, right_false, text_is}
+use Rattle.desk_crew.proofs.Shelving.{Parts, parts, among-append, journals-append, back-append, back_on, later-first, later-second, later_on, left_on, among_first, among_second, among_none_first, among_none_second, beside_one}
+
+module _ (schema : DatabaseSchema) (world : FactSet) (header : List ℕ) {D : Type 0} {g h : _} (told shelf_told : Type 0) (reads : D → List ℕ) (image : D → List ℕ → Type 0) (faults : D → ℕ) where
+  -- these seats were closed and opened again, and those are still to be
+  pub record Halfway (all seats reopened : List (DeskSeat D g h)) : Type 0 where
+    pub done : List (DeskSeat D g h)
+    pub split : all ≡ done ++ seats
+    pub are : AreReopened schema world header told reads image faults done reopened
+
+  pub halfway_first : (all reopened : List (DeskSeat D g h)) → reopened ≡ [] → Halfway all all reopened
+  halfway_first all reopened none = record { done = []; split = refl; are = subst (AreReopened schema world header told reads image faults []) (sym none) tt }
+
+  reopened-push : (done news : List (DeskSeat D g h)) (old new : DeskSeat D g h) → AreReopened schema world header told reads image faults done news → IsReopened schema world header told reads image faults old new
+      → AreReopened schema world header told reads image faults (done ++ old ∷ []) (news ++ new ∷ [])
+  reopened-push [] [] old new are is = (is, tt)
+  reopened-push [] (n ∷ news) old new are is = absurd are
+  reopened-push (d ∷ done) [] old new are is = absurd are
+  reopened-push (d ∷ done) (n ∷ news) old new are is = (are.0, reopened-push done news old new are.1 is)
+
+  pub halfway_more : (all seats rest reopened : List (DeskSeat D g h)) (old new : DeskSeat D g h) → seats ≡ old ∷ rest → Halfway all seats reopened → IsReopened schema world header told reads image faults old new → Halfway all rest (reopened ++ new ∷ [])
+  halfway_more all seats rest reopened old new is half again = record {
+    done = half.done ++ old ∷ [];
+    split = half.split ∙ ap (λ l. half.done ++ l) is ∙ sym (append_assoc half.done (old ∷ []) rest);
+    are = reopened-push half.done reopened old new half.are again;
+  }
+
+  pub halfway_all : (all seats reopened : List (DeskSeat D g h)) → seats ≡ [] → Halfway all seats reopened → AreReopened schema world header told reads image faults all reopened
+  halfway_all all seats reopened none half =
+      subst (λ l. AreReopened schema world header told reads image faults l reopened) (sym (half.split ∙ ap (λ l. half.done ++ l) none ∙ append-nil half.done)) half.are
+
+  -- a seat's names go on
+  pub same_journals : (olds news : List (DeskSeat D g h)) → AreReopened schema world header told reads image faults olds news → journals news ≡ journals olds
+  same_journals [] [] are = refl
+  same_journals [] (n ∷ news) are = absurd are
+  same_journals (o ∷ olds) [] are = absurd are
+  same_journals (o ∷ olds) (n ∷ news) are = ap (λ j. j ∷ journals news) are.0.journal_is ∙ ap (λ js. seat_journal o ∷ js) (same_journals olds news are.1)
+
+  pub later_reopened : (count : Text → ℕ) (olds news : List (DeskSeat D g h)) → AreReopened schema world header told reads image faults olds news → AreLater faults count olds → AreLater faults count news
+  later_reopened count [] [] are later = tt
+  later_reopened count [] (n ∷ news) are later = absurd are
+  later_reopened count (o ∷ olds) [] are later = absurd are
+  later_reopened count (o ∷ olds) (n ∷ news) are later =
+      let first = later.0 in
+      let closed = are.0.is_closed.later in
+      let on = are.0.left.later in
+      (subst (λ j. count j ≤ faults (seat_disk n)) (sym are.0.journal_is) (omega (arith, first, closed, on)), later_reopened count olds news are.1 later.1)
+
+  -- what a closed desk shows where the shelf tells its disks
+  closed_told : (shelf_told → told) → (seat : DeskSeat D g h) (disk : D) → IsClosed told image faults seat.desk disk → IsClosed shelf_told image faults seat.desk disk
+  closed_told tells seat disk closed = record { holds = λ t. closed.holds (tells t); later = closed.later; cause = closed.cause; shut = closed.shut; still = closed.still }
+
+  -- where the disks of reopened seats are back, those of the seats before are
+  back_before : (shelf_told → told) → (disk : Text → Option D) (count : Text → ℕ) (olds news : List (DeskSeat D g h)) → AreReopened schema world header told reads image faults olds news → AreBack shelf_told reads image faults disk count news → AreBack shelf_told reads image faults disk count olds
+  back_before tells disk count [] [] are back = tt
+  back_before tells disk count [] (n ∷ news) are back = absurd are
+  back_before tells disk count (o ∷ olds) [] are back = absurd are
+  back_before tells disk count (o ∷ olds) (n ∷ news) are back = (
+    record {
+      now = back.0.now;
+      left = record {
+        closed = are.0.closed;
+        is_closed = closed_told tells o are.0.closed are.0.is_closed;
+        left = left_on reads image faults are.0.closed (seat_disk n) back.0.now are.0.left (subst (λ d. IsLeft reads image faults d back.0.now) (back.0.left.is_closed.still are.0.opened.fresh) back.0.left.left);
+      };
+      held = λ t. ap disk (sym are.0.journal_is) ∙ back.0.held t;
+      counted = ap count (sym are.0.journal_is) ∙ back.0.counted;
+    },
+    back_before tells disk count olds news are.1 back.1,
+  )
+
+  -- ---- memory was wanting at one seat
+
+  module _ (all seats rest reopened : List (DeskSeat D g h)) (seat : DeskSeat D g h) (is : seats ≡ seat ∷ rest) (half : Halfway all seats reopened)
+      (disk0 : Text → Option D) (out0 : Text → Bool) (count0 : Text → ℕ) (distinct : has_duplicate (journals all) ≡ false) (out : AllOut (journals all) out0) (later : AreLater faults count0 all) where
+    abbrev here : Text
+    here = seat_journal seat
+
+    names : journals all ≡ journals half.done ++ (here ∷ journals rest)
+    names = ap journals (half.split ∙ ap (λ l. half.done ++ l) is) ∙ journals-append half.done (seat ∷ rest)
+
+    two : Parts (journals half.done) (here ∷ journals rest)
+    two = parts (journals half.done) (here ∷ journals rest) (ap has_duplicate (sym names) ∙ distinct)
+
+    among_all : (name : Text) → is_among (journals half.done ++ (here ∷ journals rest)) name ≡ true → is_among (journals all) name ≡ true
+    among_all name is = ap (λ ns. is_among ns name) names ∙ is
+
+    among_here : is_among (here ∷ journals rest) here ≡ true
+    among_here = ap (λ b. b || is_among (journals rest) here) (text_is here)
+
+    among_rest : (name : Text) → is_among (journals rest) name ≡ true → is_among (here ∷ journals rest) name ≡ true
+    among_rest name is = among_second (here ∷ []) (journals rest) name is
+
+    all_later : AreLater faults count0 (half.done ++ (seat ∷ rest))
+    all_later = subst (AreLater faults count0) (half.split ∙ ap (λ l. half.done ++ l) is) later
+
+    pub fail_out : out0 here ≡ true
+    fail_out = out here (among_all here (among_second (journals half.done) (here ∷ journals rest) here among_here))
+
+    pub fail_later : count0 here ≤ faults (seat_disk seat)
+    fail_later = (later-second shelf_told reads image faults count0 half.done (seat ∷ rest) all_later).0
+
+    here_apart : is_among (journals rest) here ≡ false
+    here_apart = left_false _ _ two.second
+
+    module _ (returned : D) (disk1 : Text → Option D) (out1 : Text → Bool) (count1 : Text → ℕ) (one : Text) (named : one ≡ here) (tells : shelf_told → told) (left : IsLeftBy told reads image faults seat.desk returned)
+        (held1 : shelf_told → disk1 one ≡ Some returned) (disks1 : SameOthers one disk0 disk1) (in1 : out1 one ≡ false) (outs1 : SameOthers one out0 out1) (counted1 : count1 one ≡ faults returned) (counts1 : SameOthers one count0 count1) where
+      one_apart : is_among (journals rest) one ≡ false
+      one_apart = ap (is_among (journals rest)) named ∙ here_apart
+
+      pub rest_distinct : has_duplicate (journals rest) ≡ false
+      rest_distinct = right_false _ _ two.second
+
+      pub rest_out : AllOut (journals rest) out1
+      rest_out name among = beside_one one (journals rest) out0 out1 one_apart outs1 name among ∙ out name (among_all name (among_second (journals half.done) (here ∷ journals rest) name (among_rest name among)))
+
+      pub rest_later : AreLater faults count1 rest
+      rest_later = later_on shelf_told reads image faults count0 count1 rest (beside_one one (journals rest) count0 count1 one_apart counts1) (later-second shelf_told reads image faults count0 half.done (seat ∷ rest) all_later).1
+
+      module _ (disk2 : Text → Option D) (out2 : Text → Bool) (count2 : Text → ℕ) (back2 : AreBack shelf_told reads image faults disk2 count2 rest) (in2 : AllIn (journals rest) out2)
+          (outs2 : SameBeside (journals rest) out1 out2) (disks2 : SameBeside (journals rest) disk1 disk2) (counts2 : SameBeside (journals rest) count1 count2) where
+        done_apart : is_among (journals half.done) one ≡ false
+        done_apart = ap (is_among (journals half.done)) named ∙ two.apart_back here among_here
+
+        done_rest : (name : Text) → is_among (journals half.done) name ≡ true → is_among (journals rest) name ≡ false
+        done_rest name among = right_false _ _ (two.apart name among)
+
+        done_same : {A : Type 0} (f0 f1 f2 : Text → A) → SameOthers one f0 f1 → SameBeside (journals rest) f1 f2 → (name : Text) → is_among (journals half.done) name ≡ true → f2 name ≡ f0 name
+        done_same f0 f1 f2 first second name among = second name (done_rest name among) ∙ beside_one one (journals half.done) f0 f1 done_apart first name among
+
+        pub done_distinct : has_duplicate (journals reopened) ≡ false
+        done_distinct = ap has_duplicate (same_journals half.done reopened half.are) ∙ two.first
+
+        pub done_out : AllOut (journals reopened) out2
+        done_out name among =
+            let was : is_among (journals half.done) name ≡ true = ap (λ ns. is_among ns name) (sym (same_journals half.done reopened half.are)) ∙ among in
+            done_same out0 out1 out2 outs1 outs2 name was ∙ out name (among_all name (among_first (journals half.done) (here ∷ journals rest) name was))
+
+        pub done_later : AreLater faults count2 reopened
+        done_later = later_reopened count2 half.done reopened half.are
+            (later_on shelf_told reads image faults count0 count2 half.done (done_same count0 count1 count2 counts1 counts2) (later-first shelf_told reads image faults count0 half.done (seat ∷ rest) all_later))
+
+        module _ (disk3 : Text → Option D) (out3 : Text → Bool) (count3 : Text → ℕ) (back3 : AreBack shelf_told reads image faults disk3 count3 reopened) (in3 : AllIn (journals reopened) out3)
+            (outs3 : SameBeside (journals reopened) out2 out3) (disks3 : SameBeside (journals reopened) disk2 disk3) (counts3 : SameBeside (journals reopened) count2 count3) where
+          beside_done : {A : Type 0} (f2 f3 : Text → A) → SameBeside (journals reopened) f2 f3 → SameBeside (journals half.done) f2 f3
+          beside_done f2 f3 same = subst (λ ns. SameBeside ns f2 f3) (same_journals half.done reopened half.are) same
+
+          rest_same : {A : Type 0} (f2 f3 : Text → A) → SameBeside (journals reopened) f2 f3 → (name : Text) → is_among (journals rest) name ≡ true → f3 name ≡ f2 name
+          rest_same f2 f3 same name among = beside_done f2 f3 same name (two.apart_back name (among_rest name among))
+
+          here_same : {A : Type 0} (f1 f2 f3 : Text → A) → SameBeside (journals rest) f1 f2 → SameBeside (journals reopened) f2 f3 → f3 here ≡ f1 here
+          here_same f1 f2 f3 first second = beside_done f2 f3 second here (two.apart_back here among_here) ∙ first here here_apart
+
+          beside_all : {A : Type 0} (f0 f1 f2 f3 : Text → A) → SameOthers one f0 f1 → SameBeside (journals rest) f1 f2 → SameBeside (journals reopened) f2 f3 → SameBeside (journals all) f0 f3
+          beside_all f0 f1 f2 f3 first second third name none =
+              let none_all : is_among (journals half.done ++ (here ∷ journals rest)) name ≡ false = ap (λ ns. is_among ns name) (sym names) ∙ none in
+              let none_tail = among_none_second (journals half.done) (here ∷ journals rest) name none_all in
+              beside_done f2 f3 third name (among_none_first (journals half.done) (here ∷ journals rest) name none_all)
+              ∙ second name (right_false _ _ none_tail)
+              ∙ first name (ap (bytes_eq name) named ∙ left_false _ _ none_tail)
+
+          -- all disks are back
+          pub record Failed : Type 0 where
+            pub back : AreBack shelf_told reads image faults disk3 count3 all
+            pub inside : AllIn (journals all) out3
+            pub others_out : SameBeside (journals all) out0 out3
+            pub disks : SameBeside (journals all) disk0 disk3
+            pub counts : SameBeside (journals all) count0 count3
+
+          in_all : (name : Text) → is_among (journals half.done ++ (here ∷ journals rest)) name ≡ true → out3 name ≡ false
+          in_all name among = by_done (is_among (journals half.done) name) refl
+            where
+              by_here : (b : Bool) → bytes_eq name here ≡ b → is_among (journals half.done) name ≡ false → out3 name ≡ false
+              by_here true same none =
+                  let at : name ≡ here = same_text name here (sym same) in
+                  ap out3 at ∙ here_same out1 out2 out3 outs2 outs3 ∙ ap out1 (sym named) ∙ in1
+              by_here false differ none =
+                  let tail : is_among (here ∷ journals rest) name ≡ true = sym (ap (λ b. b || is_among (here ∷ journals rest) name) none) ∙ sym (among-append (journals half.done) (here ∷ journals rest) name) ∙ among in
+                  let inner : is_among (journals rest) name ≡ true = sym (ap (λ b. b || is_among (journals rest) name) differ) ∙ tail in
+                  rest_same out2 out3 outs3 name inner ∙ in2 name inner
+
+              by_done : (b : Bool) → is_among (journals half.done) name ≡ b → out3 name ≡ false
+              by_done true was = in3 name (ap (λ ns. is_among ns name) (same_journals half.done reopened half.are) ∙ was)
+              by_done false none = by_here (bytes_eq name here) refl none
+
+          pub failed : Failed
+          failed = record {
+            back = subst (AreBack shelf_told reads image faults disk3 count3) (sym (half.split ∙ ap (λ l. half.done ++ l) is))
+                (back-append shelf_told reads image faults disk3 count3 half.done (seat ∷ rest) (back_before tells disk3 count3 half.done reopened half.are back3) (
+                  record {
+                    now = returned;
+                    left = record { closed = left.closed; is_closed = closed_told tells seat left.closed left.is_closed; left = left.left };
+                    held = λ t. here_same disk1 disk2 disk3 disks2 disks3 ∙ ap disk1 (sym named) ∙ held1 t;
+                    counted = here_same count1 count2 count3 counts2 counts3 ∙ ap count1 (sym named) ∙ counted1;
+                  },
+                  back_on shelf_told reads image faults disk2 disk3 count2 count3 rest (rest_same disk2 disk3 disks3) (rest_same count2 count3 counts3) back2,
+                ));
+            inside = λ name among. in_all name (sym (ap (λ ns. is_among ns name) names) ∙ among);
+            others_out = beside_all out0 out1 out2 out3 outs1 outs2 outs3;
+            disks = beside_all disk0 disk1 disk2 disk3 disks1 disks2 disks3;
+            counts = beside_all count0 count1 count2 count3 counts1 counts2 counts3;
+          }

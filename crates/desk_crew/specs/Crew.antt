@@ -1,0 +1,176 @@
+-- The users of a batch at their desks, and their disks.
+use Rattle.std.specs.Prelude.{◌≡◌, ℕ, ◌≤◌, ◌*◌, ◌^◌, Bool, true, false, List, [], ◌∷◌, bytes_eq, Option, Some, None, Result, Ok, Err, map, string_bytes}
+use Rattle.outside.specs.Faults.{Rose}
+use Rattle.cqe_base.specs.Schema.{Text, DatabaseSchema}
+use Rattle.cqe_base.specs.Facts.{FactSet}
+use Rattle.cqe_base.specs.History.{UserProfile, History, profile_of}
+use Rattle.cqe_base.specs.Run.{Reply, UserState}
+use Rattle.cqe_base.specs.Transcript.{NamedUser}
+use Rattle.cqe_base.specs.declared.user.User.{User}
+use Rattle.user_desk.specs.Causes.{IsStanding}
+use Rattle.user_desk.specs.Standings.{is_sealed}
+use Rattle.user_desk.specs.Lives.{Holds, Restarts}
+use Rattle.user_desk.specs.declared.standing.DeskError.{DeskError}
+use Rattle.user_desk.specs.declared.standing.Standing.{Standing}
+use Rattle.user_desk.specs.declared.standing.Standing.TheVariants.{Open, Closed, Sealed}
+use Rattle.desk_counter.specs.declared.item.Fixed.{Fixed}
+use Rattle.desk_counter.specs.Lives.{IsAskOf}
+use Rattle.desk_counter.specs.Items.{history_of, has_broke}
+use Rattle.turnstile.specs.Passes.{turns}
+use Rattle.desk_counter.specs.Sole.{pass_in, kept_in, pairs_of_sole, sole_state, IsSoleIn, IsUntouched}
+use Rattle.desk_counter.specs.declared.sole.SoleOf.{SoleOf}
+use Rattle.desk_counter.specs.declared.ticketed_desk.TicketedDesk.{TicketedDesk}
+use Rattle.desk_counter.specs.declared.item.Item.{Item}
+use Rattle.desk_crew.specs.Seats.{DeskSeat}
+use Rattle.desk_crew.specs.declared.seat.Returned.{Returned}
+
+-- users as they begin a batch, before their journals are opened
+abbrev pub named_user : User → NamedUser
+named_user user = record { name = string_bytes user.name; profile = profile_of user; opened = [] }
+
+-- why a journal is refused at an opening with this standing
+abbrev pub refusal_of : Standing → Option DeskError
+refusal_of Open = None
+refusal_of (Closed admission) = None
+refusal_of (Sealed why) = Some why
+
+-- the first refusal, of those before and the one of this standing
+abbrev pub first_refusal : Option DeskError → Standing → Option DeskError
+first_refusal (Some why) standing = Some why
+first_refusal None standing = refusal_of standing
+
+-- a seat's user
+abbrev pub seat_user : {D : Type 0} {g h : _} → DeskSeat D g h → User
+seat_user seat = seat.user.now
+
+-- the name of its user
+abbrev pub seat_name : {D : Type 0} {g h : _} → DeskSeat D g h → Text
+seat_name seat = string_bytes seat.user.now.name
+
+-- the name of its journal on the shelf
+abbrev pub seat_journal : {D : Type 0} {g h : _} → DeskSeat D g h → Text
+seat_journal seat = string_bytes seat.journal
+
+-- what no ask changes of its desk
+abbrev pub seat_kept : {D : Type 0} {g h : _} → DeskSeat D g h → Fixed D
+seat_kept seat = kept_in seat.desk
+
+-- its desk's standing
+abbrev pub seat_standing : {D : Type 0} {g h : _} → DeskSeat D g h → Standing
+seat_standing seat = (seat_kept seat).standing
+
+-- its desk's entries
+abbrev pub seat_history : {D : Type 0} {g h : _} → DeskSeat D g h → History
+seat_history seat = history_of (pairs_of_sole seat.desk)
+
+-- the state that its desk shows
+abbrev pub seat_state : {D : Type 0} {g h : _} → DeskSeat D g h → UserState
+seat_state seat = sole_state seat.desk
+
+-- whether an append failed
+abbrev pub seat_broke : {D : Type 0} {g h : _} → DeskSeat D g h → Bool
+seat_broke seat = has_broke (pairs_of_sole seat.desk)
+
+-- its desk is in this state
+abbrev pub IsSeatIn : {D : Type 0} {g h : _} → DeskSeat D g h → UserState → Type 0
+IsSeatIn seat state = IsSoleIn seat.desk state
+
+-- its disk as its desk was opened
+abbrev pub seat_disk : {D : Type 0} {g h : _} → DeskSeat D g h → D
+seat_disk seat = (seat_kept seat).disk
+
+-- nothing was appended since its desk was opened
+abbrev pub IsFresh : {D : Type 0} {g h : _} → DeskSeat D g h → Type 0
+IsFresh seat = IsUntouched (seat_kept seat) (pairs_of_sole seat.desk)
+
+-- whether its user has this name
+abbrev pub is_named : {D : Type 0} {g h : _} → Text → DeskSeat D g h → Bool
+is_named name seat = bytes_eq (seat_name seat) name
+
+-- the disk of an opening, as a desk was opened or handed back
+abbrev pub disk_seated : {D : Type 0} {g h : _} → Result (DeskSeat D g h) (Returned D) → D
+disk_seated (Ok seat) = seat_disk seat
+disk_seated (Err returned) = returned.disk
+
+-- the name of its journal
+abbrev pub journal_seated : {D : Type 0} {g h : _} → Result (DeskSeat D g h) (Returned D) → Text
+journal_seated (Ok seat) = seat_journal seat
+journal_seated (Err returned) = string_bytes returned.journal
+
+-- an opening leaves a disk as it was: it reads the same, no crash leaves anything new, and its count didn't fall
+pub record IsLeft {D : Type 0} (reads : D → List ℕ) (image : D → List ℕ → Type 0) (faults : D → ℕ) (old new : D) : Type 0 where
+  pub reads_same : reads new ≡ reads old
+  pub images : (c : List ℕ) → image new c → image old c
+  pub later : faults old ≤ faults new
+
+-- A desk leaves this disk as it is closed: unless its journal was refused, each image holds the state that the desk showed;
+-- the count rose where an append failed; and where nothing was appended the disk is as it was at the opening.
+pub record IsClosed {D : Type 0} {g h : _} (told : Type 0) (image : D → List ℕ → Type 0) (faults : D → ℕ) (desk : SoleOf (TicketedDesk D g) Item (Fixed D) h) (disk : D) : Type 0 where
+  pub holds : told → is_sealed (kept_in desk).standing ≡ false → (c : List ℕ) → image disk c
+      → Holds (kept_in desk).schema (kept_in desk).world (kept_in desk).user (kept_in desk).header (sole_state desk) c
+  pub later : faults (kept_in desk).disk ≤ faults disk
+  pub cause : (sole_state desk).broken ≡ true → Rose (faults (kept_in desk).disk) (faults disk)
+  pub shut : is_sealed (kept_in desk).standing ≡ true → disk ≡ (kept_in desk).disk
+  pub still : IsUntouched (kept_in desk) (pairs_of_sole desk) → disk ≡ (kept_in desk).disk
+
+-- a desk was closed, and an opening left its disk as this one
+pub record IsLeftBy {D : Type 0} {g h : _} (told : Type 0) (reads : D → List ℕ) (image : D → List ℕ → Type 0) (faults : D → ℕ) (desk : SoleOf (TicketedDesk D g) Item (Fixed D) h) (now : D) : Type 0 where
+  pub closed : D
+  pub is_closed : IsClosed told image faults desk closed
+  pub left : IsLeft reads image faults closed now
+
+module _ (schema : DatabaseSchema) (world : FactSet) where
+  -- a seat's user was told this of a text
+  pub record IsToldAt {D : Type 0} {g h : _} (text : Text) (told_reply : Reply) (old new : DeskSeat D g h) : Type 0 where
+    pub user_is : seat_user new ≡ seat_user old
+    pub journal_is : seat_journal new ≡ seat_journal old
+    pub refusal_is : new.refusal ≡ old.refusal
+    pub kept_is : seat_kept new ≡ seat_kept old
+    pub settled : (state : UserState) → IsSeatIn old state → IsAskOf schema world (profile_of (seat_user old)) (IsSeatIn new) state text told_reply
+
+  -- an ask of a name is told to the first seat of that name, and to nobody else
+  pub data Tells {D : Type 0} {g h : _} (name text : Text) : List (DeskSeat D g h) → List (DeskSeat D g h) → Option Reply → Type 0 where
+    nobody : Tells name text [] [] None
+    here : {old new : DeskSeat D g h} {others : List (DeskSeat D g h)} {told_reply : Reply}
+        → is_named name old ≡ true → IsToldAt text told_reply old new
+        → Tells name text (old ∷ others) (new ∷ others) (Some told_reply)
+    further : {seat : DeskSeat D g h} {others after : List (DeskSeat D g h)} {told_reply : Option Reply}
+        → is_named name seat ≡ false → Tells name text others after told_reply
+        → Tells name text (seat ∷ others) (seat ∷ after) told_reply
+
+module _ (schema : DatabaseSchema) (world : FactSet) (header : List ℕ) where
+  -- a seat's desk is of this schema, this world, this header, and of its user
+  pub record IsServed {D : Type 0} {g h : _} (seat : DeskSeat D g h) : Type 0 where
+    pub schema_is : (seat_kept seat).schema ≡ schema
+    pub world_is : (seat_kept seat).world ≡ world
+    pub header_is : (seat_kept seat).header ≡ header
+    pub user_is : (seat_kept seat).user ≡ profile_of (seat_user seat)
+
+  module _ {D : Type 0} (told : Type 0) (reads : D → List ℕ) (image : D → List ℕ → Type 0) (faults : D → ℕ) where
+    -- a seat was opened from this disk, behind an earlier refusal if there was one: its standing has its cause, and it is a restart of each state that the disk holds
+    pub record IsOpenedFrom {g h : _} (disk : D) (before : Option DeskError) (seat : DeskSeat D g h) : Type 0 where
+      pub served : IsServed seat
+      pub standing : IsStanding schema world (profile_of (seat_user seat)) told header (reads disk) (seat_history seat) (faults disk) (faults (seat_disk seat)) (seat_standing seat)
+      pub restarted : told → (state : UserState) → Holds schema world (profile_of (seat_user seat)) header state (reads disk)
+          → Restarts schema world (profile_of (seat_user seat)) (IsSeatIn seat) state (faults disk) (faults (seat_disk seat))
+      pub refusal : seat.refusal ≡ first_refusal before (seat_standing seat)
+      pub fresh : IsFresh seat
+      -- its pass has all turns
+      pub turns_are : turns (pass_in seat.desk) ≡ 65 * 2 ^ 57
+      -- each image of its disk holds the state that its desk shows, unless its journal was refused
+      pub holds : told → is_sealed (seat_standing seat) ≡ false → (c : List ℕ) → image (seat_disk seat) c → Holds schema world (profile_of (seat_user seat)) header (seat_state seat) c
+
+    -- a seat was closed and opened again
+    pub record IsReopened {g h : _} (old new : DeskSeat D g h) : Type 0 where
+      pub user_is : seat_user new ≡ seat_user old
+      pub journal_is : seat_journal new ≡ seat_journal old
+      pub closed : D
+      pub is_closed : IsClosed told image faults old.desk closed
+      pub opened : IsOpenedFrom closed old.refusal new
+      pub left : IsLeft reads image faults closed (seat_disk new)
+
+    -- all were
+    abbrev pub AreReopened : {g h : _} → List (DeskSeat D g h) → List (DeskSeat D g h) → Type 0
+    AreReopened [] [] = Unit {0}
+    AreReopened (old ∷ olds) (new ∷ news) = IsReopened old new × AreReopened olds news
+    AreReopened olds news = ⊥

@@ -1,0 +1,4 @@
+pub mod Seats
+pub mod Crew
+pub mod Shelved
+pub mod Openings

@@ -1,0 +1,110 @@
+-- The disks of users on their shelf.
+use Rattle.std.specs.Prelude.{◌≡◌, ℕ, ◌≤◌, Bool, true, false, ◌||◌, List, [], ◌∷◌, bytes_eq, Option, Some, None, map, string_bytes}
+use Rattle.std.specs.List.{list_any}
+use Rattle.outside.specs.Shelf.{IsTaken, SameNames}
+use Rattle.cqe_base.specs.Schema.{Text, DatabaseSchema}
+use Rattle.cqe_base.specs.Facts.{FactSet}
+use Rattle.cqe_base.specs.declared.user.User.{User}
+use Rattle.log_journal.specs.Names.{journal_name}
+use Rattle.desk_crew.specs.Crew.{seat_user, seat_journal, seat_disk, IsLeft, IsLeftBy, IsOpenedFrom}
+use Rattle.desk_crew.specs.Seats.{DeskSeat}
+
+-- The journals of users by their names, in a call: the bytes that were read of each as the call began, none where there was no disk; the count of its
+-- disk's faults then, and as the call ended; the bytes that are read then, and what a crash may leave.
+pub record Journals : Type 1 where
+  pub bytes : Text → List ℕ
+  pub before : Text → ℕ
+  pub now : Text → ℕ
+  pub reads : Text → List ℕ
+  pub image : Text → List ℕ → Type 0
+
+-- the bytes that a shelf's disk reads; none where there is no disk
+abbrev pub bytes_on : {D : Type 0} → (D → List ℕ) → Option D → List ℕ
+bytes_on reads None = []
+bytes_on reads (Some disk) = reads disk
+
+-- what a crash may leave of it
+abbrev pub image_on : {D : Type 0} → (D → List ℕ → Type 0) → Option D → List ℕ → Type 0
+image_on image None bytes = bytes ≡ []
+image_on image (Some disk) bytes = image disk bytes
+
+-- the journals of users in a directory, by what a shelf held as a call began and as it ended
+abbrev pub journals_on : {D : Type 0} → (D → List ℕ) → (D → List ℕ → Type 0) → Text → (Text → Option D) → (Text → Option D) → (Text → ℕ) → (Text → ℕ) → Journals
+journals_on reads image directory disk disk' count count' = record {
+  bytes = λ name. bytes_on reads (disk (journal_name directory name));
+  before = λ name. count (journal_name directory name);
+  now = λ name. count' (journal_name directory name);
+  reads = λ name. bytes_on reads (disk' (journal_name directory name));
+  image = λ name. image_on image (disk' (journal_name directory name));
+}
+
+-- whether a name is among these
+abbrev pub is_among : List Text → Text → Bool
+is_among names name = list_any (bytes_eq name) names
+
+-- the names of the seats' journals
+abbrev pub journals : {D : Type 0} {g h : _} → List (DeskSeat D g h) → List Text
+journals seats = map seat_journal seats
+
+-- each name but these has the same as before
+abbrev pub SameBeside : {A : Type 0} → List Text → (Text → A) → (Text → A) → Type 0
+SameBeside names old new = (name : Text) → is_among names name ≡ false → new name ≡ old name
+
+-- no name has a disk out
+abbrev pub NoneOut : (Text → Bool) → Type 0
+NoneOut is_out = (name : Text) → is_out name ≡ false
+
+-- the disks with these names are all out
+abbrev pub AllOut : List Text → (Text → Bool) → Type 0
+AllOut names is_out = (name : Text) → is_among names name ≡ true → is_out name ≡ true
+
+-- they are all on the shelf
+abbrev pub AllIn : List Text → (Text → Bool) → Type 0
+AllIn names is_out = (name : Text) → is_among names name ≡ true → is_out name ≡ false
+
+-- the disks of all names read the same as before
+abbrev pub SameBytes : {D : Type 0} → (D → List ℕ) → (Text → Option D) → (Text → Option D) → Type 0
+SameBytes reads old new = (name : Text) → bytes_on reads (new name) ≡ bytes_on reads (old name)
+
+-- no count fell
+abbrev pub NoneFell : (Text → ℕ) → (Text → ℕ) → Type 0
+NoneFell old new = (name : Text) → old name ≤ new name
+
+-- the disks with these names are out, and no others
+abbrev pub AreOut : List Text → (Text → Bool) → Type 0
+AreOut names is_out = (name : Text) → is_out name ≡ is_among names name
+
+-- no seat's disk had a lower count than its name as its desk was opened
+abbrev pub AreLater : {D : Type 0} {g h : _} → (D → ℕ) → (Text → ℕ) → List (DeskSeat D g h) → Type 0
+AreLater faults count [] = Unit {0}
+AreLater faults count (seat ∷ seats) = (count (seat_journal seat) ≤ faults (seat_disk seat)) × AreLater faults count seats
+
+module _ {D : Type 0} (told : Type 0) (reads : D → List ℕ) (image : D → List ℕ → Type 0) (faults : D → ℕ) where
+  -- a seat's disk is back, as its desk left it or as one more opening did
+  pub record IsBack {g h : _} (disk : Text → Option D) (count : Text → ℕ) (seat : DeskSeat D g h) : Type 0 where
+    pub now : D
+    pub left : IsLeftBy told reads image faults seat.desk now
+    pub held : told → disk (seat_journal seat) ≡ Some now
+    pub counted : count (seat_journal seat) ≡ faults now
+
+  -- all are
+  abbrev pub AreBack : {g h : _} → (Text → Option D) → (Text → ℕ) → List (DeskSeat D g h) → Type 0
+  AreBack disk count [] = Unit {0}
+  AreBack disk count (seat ∷ seats) = IsBack disk count seat × AreBack disk count seats
+
+  module _ (disk_told : Type 0) (schema : DatabaseSchema) (world : FactSet) (header directory : List ℕ) where
+    -- a user's journal was taken from the shelf and opened
+    pub record IsSeatOf {g h : _} (disk : Text → Option D) (count : Text → ℕ) (user : User) (seat : DeskSeat D g h) : Type 0 where
+      pub user_is : seat_user seat ≡ user
+      pub journal_is : seat_journal seat ≡ journal_name directory (string_bytes user.name)
+      pub taken : D
+      pub from : told → IsTaken reads image (disk (seat_journal seat)) taken
+      pub counted : faults taken ≡ count (seat_journal seat)
+      pub opened : IsOpenedFrom schema world header disk_told reads image faults taken None seat
+      pub left : IsLeft reads image faults taken (seat_disk seat)
+
+    -- those of all users were
+    abbrev pub AreSeatsOf : {g h : _} → (Text → Option D) → (Text → ℕ) → List User → List (DeskSeat D g h) → Type 0
+    AreSeatsOf disk count [] [] = Unit {0}
+    AreSeatsOf disk count (user ∷ users) (seat ∷ seats) = IsSeatOf disk count user seat × AreSeatsOf disk count users seats
+    AreSeatsOf disk count users seats = ⊥
