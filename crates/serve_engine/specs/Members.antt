@@ -1,6 +1,7 @@
 -- The users at their desks, as the passes of one worker know them.
 use Rattle.std.specs.Prelude.{◌≡◌, ℕ, ◌+◌, ◌*◌, ◌/◌, ◌^◌, ◌≤◌, min, List, [], ◌∷◌, length}
 use Rattle.std.specs.List.{AllByRecursion, AllZip}
+use Rattle.outside.specs.Visits.{Visit}
 use Rattle.cqe_base.specs.Schema.{DatabaseSchema}
 use Rattle.cqe_base.specs.Facts.{FactSet}
 use Rattle.turnstile.specs.declared.pass.Pass.{Pass}
@@ -9,8 +10,12 @@ use Rattle.turnstile.specs.Passes.{seen, shares, turns}
 use Rattle.user_desk.specs.Standings.{standing_of}
 use Rattle.desk_counter.specs.declared.item.Item.{Item}
 use Rattle.desk_counter.specs.declared.item.Fixed.{Fixed}
+use Rattle.desk_counter.specs.declared.ticketed_desk.TicketedDesk.{TicketedDesk}
 use Rattle.desk_counter.specs.Items.{history_of, has_broke}
-use Rattle.serve_engine.specs.Served.{Member}
+use Rattle.session_core.specs.declared.counters.CountersOf.{CountersOf}
+use Rattle.session_core.specs.declared.counters.Passes.{Passes}
+use Rattle.session_core.specs.Members.{users_of, fixeds_of, passes_in}
+use Rattle.serve_engine.specs.Served.{Member, Served}
 
 module _ {D : Type 0} where
   -- the user of a desk, by what a pass has seen of its entries
@@ -46,3 +51,14 @@ module _ {D : Type 0} where
   abbrev pub room_in : List (Pass Item (Fixed D)) → ℕ
   room_in [] = 2 ^ 31
   room_in (pass ∷ passes) = min (turns pass / 2 ^ 26) (room_in passes)
+
+  -- the passes after sessions, each at its place
+  abbrev pub ArePassesLater : Passes D → Passes D → Type 0
+  ArePassesLater before after = AllZip IsPassLater (passes_in before) (passes_in after)
+
+module _ {D : Type 0} {g h : _} where
+  -- A finished connection is served by the users of these desks, as the passes know them, wherever all desks are in one
+  -- world.
+  abbrev pub IsServedBy : CountersOf (TicketedDesk D g) Item (Fixed D) h → Passes D → Visit → Type 0
+  IsServedBy counters passes visit = (schema : DatabaseSchema) (world : FactSet) → AreIn schema world (fixeds_of counters)
+      → Served schema world (users_of counters) (members_of (fixeds_of counters) (passes_in passes)) visit
