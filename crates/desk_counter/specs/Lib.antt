@@ -4,5 +4,6 @@ pub mod Desks
 pub mod Asks
 pub mod Tickets
 pub mod Counters
+pub mod Shared
 pub mod Lives
 pub mod Sole

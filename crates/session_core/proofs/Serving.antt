@@ -78,20 +78,21 @@ module _ {D : Type 0} (S K : Type 0) (users : List User) (fixeds : List (Fixed D
     pub turns_left : count < 100000 → AllByRecursion (λ pass. 67108864 ≤ turns pass) old → AllByRecursion (λ pass. 2 ≤ turns pass) now
     turns_left few all = of_turns who fixeds old now so_far.asks 67108864 2 (omega (arith, few, so_far.many, talks_few users so_far.talks)) so_far.desks all
 
-    ended_here : (ended : Ended) → (S → Hears ended bytes so_far.lines) → (K → Writes ended before after so_far.texts) → Session S K users fixeds ended bytes old now before after
-    ended_here ended hears writes = record { lines = so_far.lines; who = who; asks = so_far.asks; texts = so_far.texts; talks = so_far.talks; desks = so_far.desks; hears = hears; writes = writes }
+    ended_here : (ended : Ended) → count ≤ 100000 → (S → Hears ended bytes so_far.lines) → (K → Writes ended before after so_far.texts) → Session S K users fixeds ended bytes old now before after
+    ended_here ended few hears writes =
+        record { lines = so_far.lines; who = who; asks = so_far.asks; texts = so_far.texts; talks = so_far.talks; desks = so_far.desks; few = omega (arith, few, so_far.many); hears = hears; writes = writes }
 
     -- the input is over
     pub ends_input : count ≤ 100000 → (S → left ≡ []) → Session S K users fixeds InputEnd bytes old now before after
-    ends_input few none = ended_here InputEnd (λ s. hears_end bytes left so_far.lines (so_far.hears s) (omega (arith, few, so_far.many)) (none s)) so_far.writes
+    ends_input few none = ended_here InputEnd few (λ s. hears_end bytes left so_far.lines (so_far.hears s) (omega (arith, few, so_far.many)) (none s)) so_far.writes
 
     -- the source failed
     pub ends_read : count ≤ 100000 → Session S K users fixeds ReadFault bytes old now before after
-    ends_read few = ended_here ReadFault (λ s. hears_fault bytes left so_far.lines (so_far.hears s) (omega (arith, few, so_far.many))) so_far.writes
+    ends_read few = ended_here ReadFault few (λ s. hears_fault bytes left so_far.lines (so_far.hears s) (omega (arith, few, so_far.many))) so_far.writes
 
     -- the greatest number of lines was answered
     pub ends_many : 100000 ≤ count → count ≤ 100000 → Session S K users fixeds TooMany bytes old now before after
-    ends_many far few = ended_here TooMany (λ s. hears_many bytes left so_far.lines (so_far.hears s) (omega (arith, far, few, so_far.many))) so_far.writes
+    ends_many far few = ended_here TooMany few (λ s. hears_many bytes left so_far.lines (so_far.hears s) (omega (arith, far, few, so_far.many))) so_far.writes
 
     -- a line was too long, and it was replied to or the sink failed
     module _ (afterwards : List ℕ) (within : IfSome who (λ place. place < length fixeds)) (many : length old ≡ length fixeds) (few : count < 100000) (begins : S → BeginsTooLong left) where
@@ -100,7 +101,18 @@ module _ {D : Type 0} (S K : Type 0) (users : List User) (fixeds : List (Fixed D
 
       long_here : (ended : Ended) → (S → Hears ended bytes (so_far.lines ++ overlong ∷ [])) → (K → Writes ended before afterwards (so_far.texts ++ text_of (Code 26) ∷ [])) → Session S K users fixeds ended bytes old now before afterwards
       long_here ended hears writes =
-          record { lines = so_far.lines ++ overlong ∷ []; who = who; asks = so_far.asks; texts = so_far.texts ++ text_of (Code 26) ∷ []; talks = long_talks; desks = so_far.desks; hears = hears; writes = writes }
+          let one_more = length-append so_far.lines (overlong ∷ []) in
+          record {
+            lines = so_far.lines ++ overlong ∷ [];
+            who = who;
+            asks = so_far.asks;
+            texts = so_far.texts ++ text_of (Code 26) ∷ [];
+            talks = long_talks;
+            desks = so_far.desks;
+            few = omega (arith, few, so_far.many, one_more);
+            hears = hears;
+            writes = writes;
+          }
 
       pub ends_long : (ended : Ended) → (ended ≡ TooLong) ⊎ (ended ≡ WriteFault) → (K → Writes ended after afterwards (text_of (Code 26) ∷ [])) → Session S K users fixeds ended bytes old now before afterwards
       ends_long ended (inl is) writes = subst (λ e. Session S K users fixeds e bytes old now before afterwards) (sym is)
@@ -126,7 +138,18 @@ module _ {D : Type 0} (S K : Type 0) (users : List User) (fixeds : List (Fixed D
 
       more_here : (ended : Ended) → (S → Hears ended bytes (so_far.lines ++ heard line ∷ [])) → (K → Writes ended before afterwards (so_far.texts ++ text ∷ [])) → Session S K users fixeds ended bytes old then_now before afterwards
       more_here ended hears writes =
-          record { lines = so_far.lines ++ heard line ∷ []; who = next; asks = so_far.asks ++ replies.asked; texts = so_far.texts ++ text ∷ []; talks = more_talks; desks = more_desks; hears = hears; writes = writes }
+          let one_more = length-append so_far.lines (heard line ∷ []) in
+          record {
+            lines = so_far.lines ++ heard line ∷ [];
+            who = next;
+            asks = so_far.asks ++ replies.asked;
+            texts = so_far.texts ++ text ∷ [];
+            talks = more_talks;
+            desks = more_desks;
+            few = omega (arith, few, so_far.many, one_more);
+            hears = hears;
+            writes = writes;
+          }
 
       -- and the session goes on
       pub goes_on_more : (K → afterwards ≡ after ++ (text ++ codes "\n")) → is_quit (request_of line) ≡ false → SoFar rest then_now afterwards next (count + 1)

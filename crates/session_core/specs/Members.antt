@@ -17,16 +17,21 @@ use Rattle.session_core.specs.declared.counters.Passes.{Passes}
 abbrev pub passes_in : {D : Type 0} → Passes D → List (Pass Item (Fixed D))
 passes_in passes = passes.passes.items
 
+module _ {V I F : Type 0} {h : _} where
+  -- the counters, of any value
+  abbrev pub counters_in : CountersOf V I F h → List (CounterOf V I F h)
+  counters_in counters = counters.counters.items
+
+  -- the users, in order
+  abbrev pub users_of : CountersOf V I F h → List User
+  users_of counters = counters.users.now
+
 module _ {D : Type 0} {g h : _} where
   -- a pass at each counter, in order
   abbrev pub ArePasses : List (Pass Item (Fixed D)) → List (CounterOf (TicketedDesk D g) Item (Fixed D) h) → Type 0
   ArePasses [] [] = Unit {0}
   ArePasses (pass ∷ passes) (counter ∷ counters) = IsPassOf pass counter × ArePasses passes counters
   ArePasses passes counters = ⊥
-
-  -- the users, in order
-  abbrev pub users_of : CountersOf (TicketedDesk D g) Item (Fixed D) h → List User
-  users_of counters = counters.users.now
 
   -- what no turn changes of each user's desk
   abbrev pub fixeds_of : CountersOf (TicketedDesk D g) Item (Fixed D) h → List (Fixed D)

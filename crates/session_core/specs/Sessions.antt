@@ -1,5 +1,5 @@
 -- A session: the lines that were read, the lines that were written, and the passes before and after.
-use Rattle.std.specs.Prelude.{◌≡◌, ℕ, true, List, [], ◌∷◌, ◌++◌, length, Option, Some, None}
+use Rattle.std.specs.Prelude.{◌≡◌, ℕ, ◌≤◌, true, List, [], ◌∷◌, ◌++◌, length, Option, Some, None}
 use Rattle.std.specs.List.{list_all}
 use Rattle.outside.specs.Streams.{AppendsPart}
 use Rattle.cqe_base.specs.Schema.{Text}
@@ -35,7 +35,7 @@ Writes TooLong old new texts = new ≡ old ++ written_lines texts
 Writes TooMany old new texts = new ≡ old ++ written_lines texts
 Writes ReadFault old new texts = new ≡ old ++ written_lines texts
 
--- A session of these users, where the source tells its bytes and the sink what was written.
+-- A session of these users, where the source tells its bytes and the sink what was written. At most 100,000 lines are answered.
 pub record Session {D : Type 0} (source_tells sink_tells : Type 0) (users : List User) (fixeds : List (Fixed D)) (ended : Ended) (bytes : List ℕ)
     (old new : List (Pass Item (Fixed D))) (before after : List ℕ) : Type 0 where
   pub lines : List HeardLine
@@ -44,5 +44,6 @@ pub record Session {D : Type 0} (source_tells sink_tells : Type 0) (users : List
   pub texts : List Text
   pub talks : Talks users None lines who asks texts
   pub desks : AsksOf who fixeds old new asks
+  pub few : length lines ≤ 100000
   pub hears : source_tells → Hears ended bytes lines
   pub writes : sink_tells → Writes ended before after texts

@@ -1,0 +1,60 @@
+-- A connection that was served stays so.
+use Rattle.std.proofs.Common.{◌≡◌, ℕ, zero, suc, ◌≤◌, Bool, true, false, List, [], ◌∷◌, ◌++◌, length, refl, sym, ap, ◌∙◌, subst, arith}
+use Rattle.std.specs.Prelude.{Option, Some, None}
+use Rattle.std.specs.List.{AllZip}
+use Rattle.std.proofs.lemmas.List.{append-nil, length-append}
+use Rattle.outside.specs.Visits.{Visit}
+use Rattle.cqe_base.specs.Schema.{DatabaseSchema, Text}
+use Rattle.cqe_base.specs.Facts.{FactSet}
+use Rattle.cqe_base.specs.History.{UserProfile, History}
+use Rattle.cqe_base.specs.Run.{Standing, Reply}
+use Rattle.cqe_base.specs.declared.user.User.{User}
+use Rattle.session_core.specs.Replied.{Replied, nothing}
+use Rattle.session_core.proofs.Replying.{replied_then}
+use Rattle.serve_engine.specs.Served.{Member, IsLater, RepliedAt, here, further, RepliedTo, Served}
+
+module _ (schema : DatabaseSchema) (world : FactSet) where
+  -- replies by a history are replies by a longer one
+  replied_longer : (user : UserProfile) (standing : Standing) (history more : History) (broke broke' : Bool) {least : ℕ} {asks : List (Text × Reply)} {entries : History} → (broke ≡ true → broke' ≡ true)
+      → Replied schema world user standing history broke least false asks entries → Replied schema world user standing (history ++ more) broke' least false asks entries
+  replied_longer user standing history more broke broke' {least} {asks} {entries} on chain =
+      let longer = length-append history more in
+      let both = replied_then schema world user standing history more broke broke' on chain (nothing (omega (arith, longer)) on) in
+      subst (λ a. Replied schema world user standing (history ++ more) broke' least false a entries) (append-nil asks)
+          (subst (λ e. Replied schema world user standing (history ++ more) broke' least false (asks ++ []) e) (append-nil entries) both)
+
+  -- so they are of the same user later
+  replied_later : (before after : Member) {asks : List (Text × Reply)} {entries : History} → IsLater before after
+      → Replied schema world before.profile before.standing before.history before.broke (length before.opening) false asks entries
+      → Replied schema world after.profile after.standing after.history after.broke (length after.opening) false asks entries
+  replied_later before after {asks} {entries} later chain =
+      let longer = replied_longer before.profile before.standing before.history later.further.0 before.broke after.broke later.broke chain in
+      subst (λ u. Replied schema world u after.standing after.history after.broke (length after.opening) false asks entries) (sym later.profile)
+          (subst (λ s. Replied schema world before.profile s after.history after.broke (length after.opening) false asks entries) (sym later.standing)
+          (subst (λ h. Replied schema world before.profile before.standing h after.broke (length after.opening) false asks entries) (sym later.further.1)
+          (subst (λ o. Replied schema world before.profile before.standing (before.history ++ later.further.0) after.broke (length o) false asks entries) (sym later.opening) longer)))
+
+  at_later : {place : ℕ} {before : List Member} {asks : List (Text × Reply)} (after : List Member) → AllZip IsLater before after → RepliedAt schema world place before asks → RepliedAt schema world place after asks
+  at_later [] all (here entries chain) = absurd all
+  at_later [] all (further deep) = absurd all
+  at_later (m ∷ after) all (here {member = member} entries chain) = here entries (replied_later member m all.0 chain)
+  at_later (m ∷ after) all (further deep) = further (at_later after all.1 deep)
+
+  to_later : (who : Option ℕ) (asks : List (Text × Reply)) (before after : List Member) → AllZip IsLater before after → RepliedTo schema world who before asks → RepliedTo schema world who after asks
+  to_later None asks before after all replied = replied
+  to_later (Some place) asks before after all replied = at_later after all replied
+
+  -- A connection that was served stays so while histories grow and appends fail.
+  pub served_later : (users : List User) (before after : List Member) (visit : Visit) → AllZip IsLater before after → Served schema world users before visit → Served schema world users after visit
+  served_later users before after visit all served = record {
+    lines = served.lines;
+    who = served.who;
+    asks = served.asks;
+    texts = served.texts;
+    talks = served.talks;
+    replied = to_later served.who served.asks before after all served.replied;
+    heard = served.heard;
+    all_heard = served.all_heard;
+    wrote = served.wrote;
+    all_written = served.all_written;
+  }

@@ -1,0 +1,18 @@
+-- What a worker keeps of his passes, whatever the value under the counters is.
+use Rattle.std.specs.Prelude.{◌≡◌, ℕ, ◌<◌, ◌≤◌, List, length, slice_index_or, Some}
+use Rattle.turnstile.specs.declared.pass.Pass.{Pass}
+use Rattle.turnstile.specs.Passes.{seen, fixed}
+use Rattle.desk_counter.specs.declared.item.Item.{Item}
+use Rattle.desk_counter.specs.declared.item.Fixed.{Fixed}
+use Rattle.desk_counter.specs.declared.counter.CounterOf.{CounterOf}
+use Rattle.desk_counter.specs.Items.{history_of}
+use Rattle.desk_counter.specs.Shared.{IsPassBy}
+
+-- at each place the pass is of the counter there
+abbrev pub AtEach : {V I F : Type 0} {h : _} → (V → F) → List (Pass I F) → List (CounterOf V I F h) → Type 0
+AtEach {V} {I} {F} {h} kept passes counters =
+    (k : ℕ) (pass : Pass I F) (counter : CounterOf V I F h) → k < length passes → IsPassBy kept (slice_index_or passes k pass) (slice_index_or counters k counter)
+
+-- the pass has seen no fewer entries than its desk had at the opening
+abbrev pub HasSeenOpening : {D : Type 0} → Pass Item (Fixed D) → Type 0
+HasSeenOpening {D} pass = (desk : Fixed D) → fixed pass ≡ Some desk → length desk.opening ≤ length (history_of (seen pass))

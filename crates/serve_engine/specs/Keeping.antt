@@ -1,0 +1,27 @@
+-- What sessions keep of passes, no session keeps, and what several keep.
+use Rattle.std.specs.Prelude.{◌≡◌, List, [], ◌∷◌, ◌++◌, refl}
+use Rattle.std.proofs.Common.{sym, ap, ◌∙◌, append_assoc}
+use Rattle.std.proofs.lemmas.List.{append-nil}
+use Rattle.std.specs.List.{AllZip}
+use Rattle.turnstile.specs.declared.pass.Pass.{Pass}
+use Rattle.turnstile.specs.Passes.{seen}
+use Rattle.desk_counter.specs.declared.item.Item.{Item}
+use Rattle.desk_counter.specs.declared.item.Fixed.{Fixed}
+use Rattle.serve_engine.specs.Members.{IsPassLater}
+
+module _ {D : Type 0} where
+  pub same_passes : (passes : List (Pass Item (Fixed D))) → AllZip IsPassLater passes passes
+  same_passes [] = tt
+  same_passes (p ∷ passes) = (record { same_shares = refl; later = ([], sym (append-nil (seen p))) }, same_passes passes)
+
+  pub later_passes : (xs ys zs : List (Pass Item (Fixed D))) → AllZip IsPassLater xs ys → AllZip IsPassLater ys zs → AllZip IsPassLater xs zs
+  later_passes [] [] [] first second = tt
+  later_passes (x ∷ xs) (y ∷ ys) (z ∷ zs) first second =
+      (record {
+        same_shares = second.0.same_shares ∙ first.0.same_shares;
+        later = (first.0.later.0 ++ second.0.later.0, second.0.later.1 ∙ ap (λ s. s ++ second.0.later.0) first.0.later.1 ∙ append_assoc (seen x) first.0.later.0 second.0.later.0);
+      }, later_passes xs ys zs first.1 second.1)
+  later_passes [] [] (z ∷ zs) first second = absurd second
+  later_passes [] (y ∷ ys) zs first second = absurd first
+  later_passes (x ∷ xs) [] zs first second = absurd first
+  later_passes (x ∷ xs) (y ∷ ys) [] first second = absurd second

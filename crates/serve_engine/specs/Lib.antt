@@ -1,0 +1,5 @@
+pub mod Served
+pub mod Members
+pub mod Held
+pub mod Keeping
+pub mod Jobs

@@ -1,0 +1,109 @@
+//! The job of a worker.
+ghost use Rattle.std.specs.Prelude.{◌≡◌, All, length};
+ghost use Rattle.session_core.specs.Members.{passes_in, counters_in, users_of};
+ghost use Rattle.serve_engine.specs.Held.{AtEach, HasSeenOpening};
+
+use desk_counter::{Fixed, Item, Owned, TicketedDesk};
+use outside::{Disk, Gate, Sink, Source};
+use session_core::{Counters, CountersOf, Passes, serve_session};
+use std::alloc::Global;
+use std::sync::Wait;
+use worker_pool::Job;
+
+/// What a worker does with each connection. It stands for a `SessionJob` wherever a thread is to take it, since it says
+/// nothing of what is under the counters.
+#[derive(Drop)]
+pub struct SessionJobOf<'a, 'w, V: Owned<Item = Item, Fixed = Fixed<D>>, D, G> {
+    counters: &'a CountersOf<'w, V>,
+    gate: &'a G,
+    passes: Passes<D>,
+    runs: u64,
+    ghost counted: { length (users_of counters.now) ≡ length (counters_in counters.now) },
+    ghost many: { length (passes_in passes) ≡ length (counters_in counters.now) },
+    ghost held: { AtEach V.kept (passes_in passes) (counters_in counters.now) },
+    ghost opened: { All HasSeenOpening (passes_in passes) },
+}
+
+/// A session with each client, by a worker's own passes at the users' desks.
+pub type SessionJob<'a, 'w, D, G> = SessionJobOf<'a, 'w, TicketedDesk<'w, D>, D, G>;
+
+impl<'a, 'w, D: Disk, G: Gate> SessionJobOf<'a, 'w, TicketedDesk<'w, D>, D, G> {
+    ghost use Rattle.session_core.specs.Members.{ArePassesOf, fixeds_of};
+    ghost use Rattle.serve_engine.specs.Members.{HaveSeenOpenings};
+    ghost use Rattle.serve_engine.specs.Jobs.{job_counters, job_passes, job_runs};
+
+    /// A job that hasn't served a connection, with these passes at the users' counters.
+    pub fn new(
+        counters: &'a Counters<'w, D>,
+        passes: Passes<D>,
+        gate: &'a G,
+    ) -> SessionJob<'a, 'w, D, G>
+        requires passes { ArePassesOf passes counters.now }
+        requires counted { length (users_of counters.now) ≡ length (fixeds_of counters.now) }
+        requires opened { HaveSeenOpenings (fixeds_of counters.now) (passes_in passes) }
+        ensures counters { job_counters result ≡ counters.now }
+        ensures passes { job_passes result ≡ passes }
+        ensures none { job_runs result ≡ 0 }
+    {
+        SessionJobOf {
+            counters,
+            gate,
+            passes,
+            runs: 0,
+        }
+    }
+
+    /// Takes the passes back.
+    pub fn into_passes(self) -> Passes<D>
+        ensures same { result ≡ job_passes self.entry }
+        ensures passes { ArePassesOf result (job_counters self.entry) }
+    {
+        self.passes
+    }
+}
+
+impl<'a, 'w, D: Disk, G: Gate, Src: Source, Snk: Sink> Job<Src, Snk>
+    for SessionJobOf<'a, 'w, TicketedDesk<'w, D>, D, G>
+{
+    ghost use Rattle.std.specs.Prelude.{[]};
+    ghost use Rattle.std.proofs.Common.{refl, ◌∙◌};
+    ghost use Rattle.session_core.specs.Members.{passes_in};
+    ghost use Rattle.serve_engine.specs.Members.{IsServedBy, ArePassesLater, room_in};
+    ghost use Rattle.serve_engine.specs.Keeping.{same_passes, later_passes};
+
+    ghost told = { ⊥ };
+
+    ghost room = { λ job. room_in (passes_in job.passes) };
+
+    ghost ran = { λ job. job.runs };
+
+    ghost numbers = { λ job. [] };
+
+    ghost stands = { λ job visit. IsServedBy job.counters.now job.passes visit };
+
+    ghost keeps = { λ before after. (after.counters.now ≡ before.counters.now) × ArePassesLater before.passes after.passes };
+
+    ghost keeps_none = { λ job. (refl, same_passes (passes_in job.passes)) };
+
+    ghost keeps_more = { λ before between after first second. (second.0 ∙ first.0, later_passes (passes_in before.passes) (passes_in between.passes) (passes_in after.passes) first.1 second.1) };
+
+    fn run<R: Wait>(
+        &mut self,
+        rt: &R,
+        alloc: Global,
+        _number: u64,
+        source: &mut Src,
+        sink: &mut Snk,
+    ) {
+        let _ended = serve_session(
+            rt,
+            alloc,
+            self.counters,
+            &mut self.passes,
+            source,
+            sink,
+            self.gate,
+        );
+        self.runs += 1;
+    }
+}
