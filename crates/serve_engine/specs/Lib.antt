@@ -3,3 +3,7 @@ pub mod Members
 pub mod Held
 pub mod Keeping
 pub mod Jobs
+pub mod Passing
+pub mod Doors
+pub mod Sharing
+pub mod Serving

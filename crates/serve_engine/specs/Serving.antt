@@ -1,0 +1,104 @@
+-- What serving connections means for the users and for the connections.
+use Rattle.std.specs.Prelude.{◌≡◌, ◌⊎◌, ℕ, ◌+◌, ◌<◌, Bool, true, false, List, [], ◌∷◌, ◌++◌, Option, is_some, string_bytes}
+use Rattle.std.specs.List.{list_any}
+use Rattle.outside.specs.Faults.{Rose}
+use Rattle.outside.specs.Visits.{Visit}
+use Rattle.cqe_base.specs.Schema.{DatabaseSchema, Text}
+use Rattle.cqe_base.specs.Facts.{FactSet}
+use Rattle.cqe_base.specs.History.{AnsweredQuery, History, profile_of}
+use Rattle.cqe_base.specs.Censor.{IsLegal, admitted}
+use Rattle.cqe_base.specs.Hiding.{Hides}
+use Rattle.cqe_base.specs.declared.user.User.{User}
+use Rattle.user_desk.specs.Causes.{IsStanding}
+use Rattle.user_desk.specs.Lives.{Holds, shown}
+use Rattle.user_desk.specs.Standings.{standing_of, is_sealed}
+use Rattle.user_desk.specs.declared.standing.DeskError.{DeskError}
+use Rattle.user_desk.specs.declared.standing.Standing.{Standing}
+use Rattle.desk_crew.specs.Crew.{refusal_of}
+use Rattle.desk_crew.specs.Shelved.{Journals}
+use Rattle.worker_pool.specs.Workers.{HasVisits}
+use Rattle.serve_engine.specs.Doors.{AreServedDoors}
+use Rattle.serve_engine.specs.Served.{Member, Served}
+use Rattle.serve_engine.specs.declared.run.ServeEnd.{ServeEnd}
+use Rattle.serve_engine.specs.declared.run.ServeEnd.TheVariants.{Done, LinksFault, ShelfFault, Memory}
+
+module _ (schema : DatabaseSchema) (world : FactSet) (header : List ℕ) (journals : Journals) where
+  -- A user over all connections: how his journal was opened, what his one history is, and how his disk came back.
+  pub record HasServed (user : User) (member : Member) (refusal : Option DeskError) : Type 0 where
+    pub profile_is : member.profile ≡ profile_of user
+    -- the bytes of his journal and its count show his standing; they stand for his opening history, or are refused
+    pub standing : Standing
+    pub standing_is : member.standing ≡ standing_of standing
+    pub refusal_is : refusal ≡ refusal_of standing
+    pub cause : IsStanding schema world member.profile (Unit {0}) header (journals.bytes (string_bytes user.name)) member.opening (journals.before (string_bytes user.name)) (journals.now (string_bytes user.name)) standing
+    -- his history goes on from there and is legal; and where he is admitted, it hides
+    pub goes_on : (entries : History) × (member.history ≡ member.opening ++ entries)
+    pub legal : IsLegal schema world member.profile member.history
+    pub hides : admitted schema world member.profile ≡ true → Hides schema world member.profile member.history
+    -- unless his journal was refused, his disk reads as his history, and so does what a crash may leave of it; where an append failed, as that or as that with the entry in flight
+    pub in_flight : Option AnsweredQuery
+    pub broke_is : member.broke ≡ is_some in_flight
+    pub reads : is_sealed standing ≡ false → Holds schema world member.profile header (shown member.history member.standing in_flight) (journals.reads (string_bytes user.name))
+    pub stands : is_sealed standing ≡ false → (c : List ℕ) → journals.image (string_bytes user.name) c → Holds schema world member.profile header (shown member.history member.standing in_flight) c
+    -- where it was refused he has no entries, and its bytes stay
+    pub refused : is_sealed standing ≡ true → (member.history ≡ []) × (journals.reads (string_bytes user.name) ≡ journals.bytes (string_bytes user.name))
+    -- an append failed only where the count of his disk's faults rose
+    pub failed : member.broke ≡ true → Rose (journals.before (string_bytes user.name)) (journals.now (string_bytes user.name))
+
+  -- all users, each with the refusal of his journal, if it was refused
+  abbrev pub HaveServed : List User → List Member → List (Option DeskError) → Type 0
+  HaveServed [] [] [] = Unit {0}
+  HaveServed (user ∷ users) (member ∷ members) (refusal ∷ refusals) = HasServed user member refusal × HaveServed users members refusals
+  HaveServed users members refusals = ⊥
+
+  module _ (users : List User) (given given' : ℕ) (back back' : List Visit) where
+    -- Connections were served: each that was given is back, and is served by the users' histories as they are in the end.
+    pub record Serves (refusals : List (Option DeskError)) (is_broken : Bool) : Type 0 where
+      pub members : List Member
+      pub each_user : HaveServed users members refusals
+      pub broken_is : is_broken ≡ list_any (λ member. member.broke) members
+      pub count : ℕ
+      pub given_is : given' ≡ given + count
+      pub visits : HasVisits (Served schema world users members) count back back'
+
+    -- No connection was given, and all journals read as they did.
+    pub record ServesNobody : Type 0 where
+      pub given_same : given' ≡ given
+      pub back_same : back' ≡ back
+      pub bytes_same : (name : Text) → journals.reads name ≡ journals.bytes name
+
+    -- what each end says
+    abbrev pub Ends : ServeEnd → Type 0
+    Ends (Done refusals is_broken) = Serves refusals.items is_broken
+    Ends LinksFault = ServesNobody ⊎ ((refusals : List (Option DeskError)) × (is_broken : Bool) × Serves refusals is_broken)
+    Ends ShelfFault = ServesNobody
+    Ends Memory = ServesNobody ⊎ ((refusals : List (Option DeskError)) × (is_broken : Bool) × Serves refusals is_broken)
+
+  -- The same of the doors through which they came.
+  module _ (users : List User) {O : Type 0} (told : Type 0) (given_of left_of faults_of : O → ℕ) (back_of : O → List Visit) (doors doors' : List O) where
+    -- connections were served, each of the doors' among them
+    pub record ServesDoors (refusals : List (Option DeskError)) (is_broken : Bool) : Type 0 where
+      pub members : List Member
+      pub each_user : HaveServed users members refusals
+      pub broken_is : is_broken ≡ list_any (λ member. member.broke) members
+      pub total : ℕ
+      pub served : AreServedDoors told given_of left_of faults_of back_of (Served schema world users members) total doors doors'
+
+    -- the doors are as they were, and all journals read as they did
+    pub record ServesNoDoor : Type 0 where
+      pub doors_same : doors' ≡ doors
+      pub bytes_same : (name : Text) → journals.reads name ≡ journals.bytes name
+
+    -- what each end says
+    abbrev pub EndsAt : ServeEnd → Type 0
+    EndsAt (Done refusals is_broken) = ServesDoors refusals.items is_broken
+    EndsAt LinksFault = ServesNoDoor ⊎ ((refusals : List (Option DeskError)) × (is_broken : Bool) × ServesDoors refusals is_broken)
+    EndsAt ShelfFault = ServesNoDoor
+    EndsAt Memory = ServesNoDoor ⊎ ((refusals : List (Option DeskError)) × (is_broken : Bool) × ServesDoors refusals is_broken)
+
+-- the end of a serving that came to its end
+abbrev pub IsDone : ServeEnd → Type 0
+IsDone (Done refusals is_broken) = Unit {0}
+IsDone LinksFault = ⊥
+IsDone ShelfFault = ⊥
+IsDone Memory = ⊥

@@ -1,0 +1,166 @@
+//! Serving from the first listening to the last journal that is back.
+ghost use Rattle.std.specs.Prelude.{◌≡◌, ◌⊎◌, ◌≤◌, ◌<◌, ◌+◌, ◌++◌, ◌^◌, false, All, length, map, sum_by};
+ghost use Rattle.std.specs.List.{flat_map};
+ghost use Rattle.outside.specs.Faults.{Rose};
+ghost use Rattle.cqe_base.specs.Schema.{has_duplicate};
+ghost use Rattle.cqe_base.specs.History.{profile_of};
+ghost use Rattle.cqe_base.specs.Limits.{KeepsLimits};
+ghost use Rattle.log_journal.specs.Opening.{header_bytes};
+ghost use Rattle.desk_crew.specs.Crew.{named_user};
+ghost use Rattle.desk_crew.specs.Shelved.{journals_on, NoneOut, NoneFell};
+ghost use Rattle.serve_engine.specs.Doors.{SomeFailed};
+ghost use Rattle.serve_engine.specs.Serving.{Ends, EndsAt, IsDone};
+ghost use Rattle.serve_engine.specs.declared.run.ServeEnd.{ServeEnd};
+
+use crate::serving::Outcome;
+use crate::sharing::serve_seats;
+use cqe_base::laws::{law_hides, law_legal_grows};
+use desk_crew::{NotOpened, Registry, give_back, open_all, refusals_of, room_for};
+use log_journal::law_journals_differ;
+use outside::{Door, Gate, Links, LinksError, Shelf};
+use std::alloc::Global;
+use std::sync::Wait;
+use std::thread::Threads;
+use user_desk::DeskError;
+use user_desk::laws::law_openings;
+
+/// Where to listen, and how far to serve.
+#[derive(Clone, Copy, Debug)]
+pub struct Listening<'a> {
+    pub address: &'a str,
+    /// How many workers serve side by side, each at a door of its own: 1 to 64.
+    pub workers: u32,
+    /// How many connections are served at most: up to 2^30.
+    pub sessions: u64,
+}
+
+/// How serving ends.
+#[derive(Debug, Drop)]
+pub enum ServeEnd {
+    /// The links ended, or the greatest number of connections was reached. Of each user, in order, there is the refusal of
+    /// his journal, if it was refused; and it says whether an append failed.
+    Done(Vec<Option<DeskError>>, bool),
+    /// The links failed: they didn't listen, or a door failed.
+    LinksFault,
+    /// The shelf failed. No connection was served.
+    ShelfFault,
+    /// Memory was wanting. No connection was served.
+    Memory,
+}
+
+/// Serves the connections that come in at an address: opens the journals of all users, and answers each connection by a
+/// session, side by side with the others, up to the end of the links or the greatest number. A user's sessions are all
+/// answered by his one history. All disks and all doors are given back on every path. It may wait, for clients and at the
+/// desks.
+pub fn run_serve<R: Threads + Wait + Sync, F: Shelf, L: Links, G: Gate + Sync>(
+    rt: &R,
+    alloc: Global,
+    registry: &Registry<'_>,
+    shelf: &mut F,
+    links: &mut L,
+    listening: Listening<'_>,
+    gate: &G,
+) -> ServeEnd
+where
+    F::D: Send,
+    requires limits { All (λ user. KeepsLimits registry.now.schema.now (profile_of user)) registry.now.users.now }
+    requires names { has_duplicate (map (λ user. user.name) (map named_user registry.now.users.now)) ≡ false }
+    requires inside { NoneOut (F.is_out shelf.old) }
+    requires some { 1 ≤ listening.workers }
+    requires few { listening.workers ≤ 64 }
+    requires most { listening.sessions ≤ 2 ^ 30 }
+
+    // Each connection that was given is served, and each journal is as its user's one history says.
+    ensures ends { F.told → L.told → Ends registry.now.schema.now registry.now.world.now (header_bytes registry.now.header.now)
+        (journals_on F.D.reads F.D.image registry.now.directory.now (F.disk shelf.old) (F.disk shelf.new) (F.disk_faults shelf.old) (F.disk_faults shelf.new))
+        registry.now.users.now (L.given links.old) (L.given links.new) (L.back links.old) (L.back links.new) result }
+
+    // It comes to its end where no connection is left, or these and the workers together are more than the greatest number.
+    ensures ended { L.told → IsDone result → (L.at_hand links.new ≡ 0) ⊎ (L.given links.old + listening.sessions < L.given links.new + listening.workers) }
+    ensures inside { NoneOut (F.is_out shelf.new) }
+    ensures counts { NoneFell (F.disk_faults shelf.old) (F.disk_faults shelf.new) }
+    ensures out { L.out links.new ≡ L.out links.old }
+    ensures shelf_later { F.faults shelf.old ≤ F.faults shelf.new }
+    ensures links_later { L.faults links.old ≤ L.faults links.new }
+    ensures shelf_cause { result ≡ ServeEnd.ShelfFault → Rose (F.faults shelf.old) (F.faults shelf.new) }
+    ensures links_cause { result ≡ ServeEnd.LinksFault → Rose (L.faults links.old) (L.faults links.new) }
+{
+    let doors = match links.listen(alloc, listening.address, listening.workers) {
+        Ok(doors) => doors,
+        Err(LinksError::Failed) => return ServeEnd::LinksFault,
+        Err(LinksError::Memory) => return ServeEnd::Memory,
+    };
+    let (end, doors) = serve_opened(rt, alloc, registry, shelf, doors, listening.sessions, gate);
+    take_back_all(links, doors);
+    end
+}
+
+/// Opens the journals of all users, serves the connections of doors at their desks, and gives the journals back. The doors
+/// come back on every path.
+fn serve_opened<R: Threads + Wait + Sync, F: Shelf, O: Door + Drop + Send, G: Gate + Sync>(
+    rt: &R,
+    alloc: Global,
+    registry: &Registry<'_>,
+    shelf: &mut F,
+    doors: Vec<O>,
+    limit: u64,
+    gate: &G,
+) -> (ServeEnd, Vec<O>)
+where
+    F::D: Send,
+    requires limits { All (λ user. KeepsLimits registry.now.schema.now (profile_of user)) registry.now.users.now }
+    requires names { has_duplicate (map (λ user. user.name) (map named_user registry.now.users.now)) ≡ false }
+    requires inside { NoneOut (F.is_out shelf.old) }
+    requires some { 1 ≤ length doors.items }
+    requires few { length doors.items ≤ 64 }
+    requires limit { limit ≤ 2 ^ 30 }
+    requires whole { All (λ door. O.faults door ≡ 0) doors.items }
+    ensures ends { F.told → O.told → EndsAt registry.now.schema.now registry.now.world.now (header_bytes registry.now.header.now)
+        (journals_on F.D.reads F.D.image registry.now.directory.now (F.disk shelf.old) (F.disk shelf.new) (F.disk_faults shelf.old) (F.disk_faults shelf.new))
+        registry.now.users.now O.told O.given O.left O.faults O.back doors.items result.1.items result.0 }
+    ensures ended { O.told → IsDone result.0 → All (λ door. O.left door ≡ 0) result.1.items ⊎ (sum_by O.given doors.items + limit < sum_by O.given result.1.items + length result.1.items) }
+    ensures failed { result.0 ≡ ServeEnd.LinksFault → SomeFailed O.faults result.1.items }
+    ensures doors { length result.1.items ≡ length doors.items }
+    ensures inside { NoneOut (F.is_out shelf.new) }
+    ensures counts { NoneFell (F.disk_faults shelf.old) (F.disk_faults shelf.new) }
+    ensures shelf_later { F.faults shelf.old ≤ F.faults shelf.new }
+    ensures shelf_cause { result.0 ≡ ServeEnd.ShelfFault → Rose (F.faults shelf.old) (F.faults shelf.new) }
+{
+    law_hides();
+    law_legal_grows();
+    law_openings();
+    law_journals_differ();
+    registry.schema.known();
+    let Ok(room) = room_for(alloc, registry.users.len()) else {
+        return (ServeEnd::Memory, doors);
+    };
+    let seats = match open_all(alloc, registry, shelf) {
+        Ok(seats) => seats,
+        Err(NotOpened::Shelf) => return (ServeEnd::ShelfFault, doors),
+        Err(NotOpened::Memory) => return (ServeEnd::Memory, doors),
+    };
+    let refusals = refusals_of(room, seats.as_slice());
+    let (outcome, seats, doors) = serve_seats(rt, alloc, registry.users, seats, doors, limit, gate);
+    let is_broken = give_back(shelf, seats);
+    let end = match outcome {
+        Outcome::Served => ServeEnd::Done(refusals, is_broken),
+        Outcome::LinksFailed => ServeEnd::LinksFault,
+        Outcome::Memory => ServeEnd::Memory,
+    };
+    (end, doors)
+}
+
+/// Gives all doors back.
+fn take_back_all<L: Links>(links: &mut L, doors: Vec<L::D>)
+    requires { length doors.items ≤ L.out links.old }
+    ensures out { L.out links.old ≡ L.out links.new + length doors.items }
+    ensures given { L.told → L.given links.new ≡ L.given links.old + sum_by L.D.given doors.items }
+    ensures at_hand { L.told → L.at_hand links.new ≡ L.at_hand links.old + sum_by L.D.left doors.items }
+    ensures back { L.told → L.back links.new ≡ L.back links.old ++ flat_map L.D.back doors.items }
+    ensures later { L.faults links.old ≤ L.faults links.new }
+    ensures failed { SomeFailed L.D.faults doors.items → Rose (L.faults links.old) (L.faults links.new) }
+{
+    for door in doors {
+        links.take_back(door);
+    }
+}

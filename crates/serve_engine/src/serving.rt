@@ -1,0 +1,194 @@
+//! Connections that are served at counters, side by side.
+ghost use Rattle.std.specs.Prelude.{◌≡◌, ◌≤◌, ◌+◌, ◌*◌, ◌^◌, ℕ, [], All, length, map, vec_capacity, None, IfSome, IfNone};
+ghost use Rattle.session_core.specs.Members.{ArePassesOf, users_of, fixeds_of, passes_in};
+ghost use Rattle.serve_engine.specs.Doors.{AreServedDoors, HasOutcome, outcome_of};
+ghost use Rattle.serve_engine.specs.Jobs.{job_counters, job_passes};
+ghost use Rattle.serve_engine.specs.Members.{HaveSeenOpenings, IsServedBy};
+ghost use Rattle.serve_engine.specs.Passing.{HaveShares, HaveTurns, AreOn, AreParts, IsFresh, IsBack};
+
+use crate::job::SessionJob;
+use desk_crew::room_for;
+use outside::{Disk, Door, Gate};
+use session_core::{Counters, Passes};
+use std::alloc::Global;
+use std::sync::Wait;
+use std::thread::Threads;
+use worker_pool::{Worker, WorkerEnd, serve_all};
+
+/// How serving went.
+#[derive(Clone, Copy, Debug, PartialEq, Eq)]
+pub(crate) enum Outcome {
+    /// The links ended, or the limit was reached.
+    Served,
+    /// A door failed.
+    LinksFailed,
+    /// Memory was wanting before the first connection.
+    Memory,
+}
+
+/// A worker with a door and a session's job.
+type ServeWorker<'a, 'w, D, G, O> = Worker<SessionJob<'a, 'w, D, G>, O>;
+
+/// Joins passes to these.
+fn join_all<D: Disk>(counters: &Counters<'_, D>, passes: &mut Passes<D>, parts: Vec<Passes<D>>)
+    requires these { ArePassesOf passes.old counters.now }
+    requires those { All (λ part. ArePassesOf part counters.now) parts.items }
+    requires shares { All (HaveShares 1) parts.items }
+    requires rest { (n : ℕ) × HaveShares n passes.old × (n + length parts.items ≡ 65) }
+    ensures these { ArePassesOf passes.new counters.now }
+    ensures on { AreOn passes.old passes.new }
+    ensures shares { HaveShares 65 passes.new }
+{
+    for part in parts {
+        counters.meet(passes, part);
+    }
+}
+
+/// Splits off passes for so many workers. For want of memory all are together again.
+fn split_all<D: Disk>(
+    alloc: Global,
+    counters: &Counters<'_, D>,
+    passes: &mut Passes<D>,
+    count: usize,
+) -> Option<Vec<Passes<D>>>
+    requires these { ArePassesOf passes.old counters.now }
+    requires shares { HaveShares 65 passes.old }
+    requires turns { HaveTurns (65 * 2 ^ 57) passes.old }
+    requires few { count ≤ 64 }
+    ensures these { ArePassesOf passes.new counters.now }
+    ensures on { AreOn passes.old passes.new }
+    ensures count { IfSome result (λ parts. length parts.items ≡ count) }
+    ensures those { IfSome result (λ parts. All (λ part. ArePassesOf part counters.now) parts.items) }
+    ensures parts { IfSome result (λ parts. All (AreParts passes.old) parts.items) }
+    ensures rest { IfSome result (λ parts. (n : ℕ) × HaveShares n passes.new × (n + count ≡ 65)) }
+    ensures none { IfNone result (HaveShares 65 passes.new) }
+{
+    let mut parts = room_for(alloc, count).ok()?;
+    for _ in 0..count {
+        match counters.split(alloc, passes) {
+            Ok(part) => parts.push_reserved(part),
+            Err(_) => {
+                join_all(counters, passes, parts);
+                return None;
+            }
+        }
+    }
+    Some(parts)
+}
+
+/// Gives each door a worker with passes of his own.
+fn crew_of<'a, 'w, D: Disk, G: Gate, O: Door + Drop>(
+    room: Vec<ServeWorker<'a, 'w, D, G, O>>,
+    counters: &'a Counters<'w, D>,
+    gate: &'a G,
+    parts: Vec<Passes<D>>,
+    doors: Vec<O>,
+) -> Vec<ServeWorker<'a, 'w, D, G, O>>
+    requires counted { length (users_of counters.now) ≡ length (fixeds_of counters.now) }
+    requires room { length doors.items ≤ vec_capacity room }
+    requires empty { room.items ≡ [] }
+    requires count { length parts.items ≡ length doors.items }
+    requires those { All (λ part. ArePassesOf part counters.now) parts.items }
+    requires opened { All (λ part. HaveSeenOpenings (fixeds_of counters.now) (passes_in part)) parts.items }
+    ensures doors { map (λ worker. worker.door) result.items ≡ doors.items }
+    ensures fresh { (before : Passes D.Denot) → All (AreParts before) parts.items → All (IsFresh counters.now before) result.items }
+{
+    let mut crew = room;
+    let mut parts = parts;
+    for door in doors {
+        let part = parts.remove(0);
+        let job = SessionJob::new(counters, part, gate);
+        crew.push_reserved(Worker {
+            job,
+            door,
+            ended: None,
+        });
+    }
+    crew
+}
+
+/// Takes the doors of workers back, and joins their passes to these.
+fn dismiss<'a, 'w, D: Disk, G: Gate, O: Door + Drop>(
+    counters: &Counters<'w, D>,
+    passes: &mut Passes<D>,
+    crew: Vec<ServeWorker<'a, 'w, D, G, O>>,
+    room: Vec<O>,
+) -> Vec<O>
+    requires these { ArePassesOf passes.old counters.now }
+    requires room { length crew.items ≤ vec_capacity room }
+    requires empty { room.items ≡ [] }
+    requires crew { All (IsBack counters.now) crew.items }
+    requires rest { (n : ℕ) × HaveShares n passes.old × (n + length crew.items ≡ 65) }
+    ensures doors { result.items ≡ map (λ worker. worker.door) crew.items }
+    ensures these { ArePassesOf passes.new counters.now }
+    ensures on { AreOn passes.old passes.new }
+    ensures all_on { All (λ worker. AreOn (job_passes worker.job) passes.new) crew.items }
+    ensures shares { HaveShares 65 passes.new }
+{
+    let mut doors = room;
+    for worker in crew {
+        counters.meet(passes, worker.job.into_passes());
+        doors.push_reserved(worker.door);
+    }
+    doors
+}
+
+/// How workers that have ended served.
+fn outcome_of<J, O>(crew: &[Worker<J, O>]) -> Outcome
+    ensures { result ≡ outcome_of crew.now }
+{
+    if crew
+        .iter()
+        .any(|worker| worker.ended == Some(WorkerEnd::LinksFailed))
+    {
+        Outcome::LinksFailed
+    } else {
+        Outcome::Served
+    }
+}
+
+/// Serves the connections of doors at the counters, each door by a worker with passes of his own. In the end all passes
+/// are together again, and the doors come back.
+pub(crate) fn serve_doors<
+    R: Threads + Wait + Sync,
+    D: Disk + Drop + Send,
+    O: Door + Drop + Send,
+    G: Gate + Sync,
+>(
+    rt: &R,
+    alloc: Global,
+    counters: &Counters<'_, D>,
+    passes: &mut Passes<D>,
+    doors: Vec<O>,
+    limit: u64,
+    gate: &G,
+) -> (Outcome, Vec<O>)
+    requires these { ArePassesOf passes.old counters.now }
+    requires counted { length (users_of counters.now) ≡ length (fixeds_of counters.now) }
+    requires opened { HaveSeenOpenings (fixeds_of counters.now) (passes_in passes.old) }
+    requires shares { HaveShares 65 passes.old }
+    requires turns { HaveTurns (65 * 2 ^ 57) passes.old }
+    requires some { 1 ≤ length doors.items }
+    requires few { length doors.items ≤ 64 }
+    requires limit { limit ≤ 2 ^ 30 }
+    requires whole { All (λ door. O.faults door ≡ 0) doors.items }
+    ensures these { ArePassesOf passes.new counters.now }
+    ensures on { AreOn passes.old passes.new }
+    ensures shares { HaveShares 65 passes.new }
+    ensures served { (total : ℕ) × AreServedDoors O.told O.given O.left O.faults O.back (IsServedBy counters.now passes.new) total doors.items result.1.items
+        × HasOutcome O.told O.left O.faults limit result.0 total result.1.items }
+{
+    let count = doors.len();
+    let (Ok(crew_room), Ok(room)) = (room_for(alloc, count), room_for(alloc, count)) else {
+        return (Outcome::Memory, doors);
+    };
+    let Some(parts) = split_all(alloc, counters, passes, count) else {
+        return (Outcome::Memory, doors);
+    };
+    let crew = crew_of(crew_room, counters, gate, parts, doors);
+    let (outcome, crew) = match serve_all(rt, alloc, crew, limit) {
+        Ok(crew) => (outcome_of(crew.as_slice()), crew),
+        Err(crew) => (Outcome::Memory, crew),
+    };
+    (outcome, dismiss(counters, passes, crew, room))
+}
