@@ -95,7 +95,7 @@ impl<'w, D: Disk> SoleOf<'w, TicketedDesk<'w, D>> {
     pub fn from_parts(counter: Counter<'w, D>, pass: DeskPass<D>) -> SoleCounter<'w, D>
         requires place { IsPassOf pass counter }
         requires all { shares pass ≡ 65 }
-        ensures counter { counter_in result ≡ counter }
+        ensures counter { counter_in result ≡ counter.entry }
         ensures pass { pass_in result ≡ pass }
     {
         SoleOf {

@@ -1,7 +1,7 @@
 -- The journals of all users, taken and opened one after the other.
 use Rattle.std.proofs.Common.{◌≡◌, ℕ, suc, ◌≤◌, ◌<◌, ◌+◌, Bool, true, false, List, [], ◌∷◌, ◌++◌, length, take, drop, get_or, map, refl, sym, ap, subst, ◌∙◌, arith}
-use Rattle.std.specs.Prelude.{Option, Some, None, ◌||◌, bytes_eq, string_bytes, All}
-use Rattle.std.specs.List.{list_any, AllByRecursion}
+use Rattle.std.specs.Prelude.{Option, ◌||◌, bytes_eq, string_bytes}
+use Rattle.std.specs.List.{AllByRecursion}
 use Rattle.std.specs.Cmp.Lexicographic.{same_text}
 use Rattle.std.proofs.lemmas.List.{take_more, take-append-drop}
 use Rattle.outside.specs.Shelf.{IsTaken, SameNames, SameOthers}
@@ -11,7 +11,7 @@ use Rattle.cqe_base.specs.History.{profile_of}
 use Rattle.cqe_base.specs.Limits.{KeepsLimits}
 use Rattle.cqe_base.specs.declared.user.User.{User}
 use Rattle.log_journal.specs.Names.{journal_name, JournalsDiffer}
-use Rattle.desk_crew.specs.Crew.{named_user, seat_user, seat_journal, seat_disk, IsServed, IsLeft}
+use Rattle.desk_crew.specs.Crew.{named_user, seat_user, seat_journal, seat_disk, IsServed}
 use Rattle.desk_crew.specs.Shelved.{bytes_on, is_among, journals, SameBeside, SameBytes, AllOut, AllIn, NoneOut, NoneFell, AreOut, IsBack, AreBack, AreLater, IsSeatOf, AreSeatsOf}
 use Rattle.desk_crew.specs.Seats.{DeskSeat}
 use Rattle.desk_crew.proofs.Taken.{left_false, right_false, text_is, taken_reads}

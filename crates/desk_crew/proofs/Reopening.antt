@@ -1,12 +1,12 @@
 -- Desks that are closed and opened again, and their disks where memory was wanting.
-use Rattle.std.proofs.Common.{◌≡◌, ℕ, ◌≤◌, Bool, true, false, List, [], ◌∷◌, ◌++◌, map, refl, sym, ap, subst, ◌∙◌, append_assoc, append-nil, arith}
-use Rattle.std.specs.Prelude.{Option, Some, None, ◌||◌, bytes_eq}
+use Rattle.std.proofs.Common.{◌≡◌, ℕ, ◌≤◌, Bool, true, false, List, [], ◌∷◌, ◌++◌, refl, sym, ap, subst, ◌∙◌, append_assoc, append-nil, arith}
+use Rattle.std.specs.Prelude.{Option, Some, ◌||◌, bytes_eq}
 use Rattle.std.specs.Cmp.Lexicographic.{same_text}
 use Rattle.outside.specs.Shelf.{SameOthers}
 use Rattle.cqe_base.specs.Schema.{Text, DatabaseSchema, has_duplicate}
 use Rattle.cqe_base.specs.Facts.{FactSet}
 use Rattle.desk_crew.specs.Crew.{seat_journal, seat_disk, IsLeft, IsLeftBy, IsClosed, IsReopened, AreReopened}
-use Rattle.desk_crew.specs.Shelved.{is_among, journals, SameBeside, AllOut, AllIn, IsBack, AreBack, AreLater}
+use Rattle.desk_crew.specs.Shelved.{is_among, journals, SameBeside, AllOut, AllIn, AreBack, AreLater}
 use Rattle.desk_crew.specs.Seats.{DeskSeat}
 use Rattle.desk_crew.proofs.Taken.{left_false, right_false, text_is}
 use Rattle.desk_crew.proofs.Shelving.{Parts, parts, among-append, journals-append, back-append, back_on, later-first, later-second, later_on, left_on, among_first, among_second, among_none_first, among_none_second, beside_one}

@@ -1,9 +1,9 @@
 -- A desk that was just opened, under its counter.
-use Rattle.std.proofs.Common.{◌≡◌, ℕ, ◌≤◌, ◌*◌, ◌^◌, Bool, true, false, List, length, sym, ap, subst, ◌∙◌}
+use Rattle.std.proofs.Common.{◌≡◌, ℕ, ◌*◌, ◌^◌, false, List, length, sym, ap, subst, ◌∙◌}
 use Rattle.std.specs.Prelude.{Option, Some, None, is_some}
 use Rattle.cqe_base.specs.Schema.{DatabaseSchema}
 use Rattle.cqe_base.specs.Facts.{FactSet}
-use Rattle.cqe_base.specs.History.{UserProfile, AnsweredQuery, History, profile_of}
+use Rattle.cqe_base.specs.History.{AnsweredQuery, History, profile_of}
 use Rattle.cqe_base.specs.Run.{UserState}
 use Rattle.user_desk.specs.Causes.{IsStanding}
 use Rattle.user_desk.specs.Standings.{is_sealed, standing_of}
@@ -17,7 +17,7 @@ use Rattle.desk_counter.specs.Desks.{fixed_of}
 use Rattle.desk_counter.specs.Items.{flying}
 use Rattle.turnstile.specs.Passes.{turns}
 use Rattle.desk_counter.specs.Sole.{pass_in, pairs_of_sole}
-use Rattle.desk_crew.specs.Crew.{first_refusal, seat_user, seat_kept, seat_standing, seat_history, seat_state, seat_disk, IsSeatIn, IsOpenedFrom}
+use Rattle.desk_crew.specs.Crew.{first_refusal, seat_user, seat_kept, seat_standing, seat_history, seat_state, seat_disk, IsOpenedFrom}
 use Rattle.desk_crew.specs.Seats.{DeskSeat}
 
 none_flies : (in_flight : Option AnsweredQuery) → is_some in_flight ≡ false → in_flight ≡ None

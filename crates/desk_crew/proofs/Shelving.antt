@@ -1,16 +1,16 @@
 -- The disks of a batch's users on their shelf: which are out, and which are back.
-use Rattle.std.proofs.Common.{◌≡◌, ◌⊎◌, inl, inr, ℕ, ◌≤◌, Bool, true, false, List, [], ◌∷◌, ◌++◌, length, map, refl, sym, ap, subst, ◌∙◌, append_assoc, append-nil, arith}
-use Rattle.std.specs.Prelude.{Option, Some, None, ◌||◌, ◌==◌, bytes_eq, string_bytes, slice_index_or, remove}
-use Rattle.std.specs.List.{list_any, AllByRecursion}
+use Rattle.std.proofs.Common.{◌≡◌, ℕ, ◌≤◌, Bool, true, false, List, [], ◌∷◌, ◌++◌, length, map, refl, sym, ap, subst, ◌∙◌, append_assoc, append-nil, arith}
+use Rattle.std.specs.Prelude.{Option, Some, ◌||◌, ◌==◌, bytes_eq, slice_index_or, remove}
+use Rattle.std.specs.List.{list_any}
 use Rattle.std.specs.Cmp.Lexicographic.{same_text}
 use Rattle.std.proofs.lemmas.Bool.{eqb-true}
-use Rattle.outside.specs.Shelf.{SameNames, SameOthers}
-use Rattle.cqe_base.specs.Schema.{Text, DatabaseSchema, has_duplicate}
-use Rattle.cqe_base.specs.Facts.{FactSet}
-use Rattle.desk_crew.specs.Crew.{seat_journal, seat_disk, IsLeft, IsClosed}
-use Rattle.desk_crew.specs.Shelved.{is_among, journals, SameBeside, AllOut, AllIn, NoneOut, AreOut, IsBack, AreBack, AreLater}
+use Rattle.outside.specs.Shelf.{SameOthers}
+use Rattle.cqe_base.specs.Schema.{Text, has_duplicate}
+use Rattle.std.proofs.lemmas.List.Folds.{list_any-append}
+use Rattle.desk_crew.specs.Crew.{seat_journal, seat_disk, seat_broke, IsLeft, IsClosed}
+use Rattle.desk_crew.specs.Shelved.{is_among, journals, SameBeside, AllOut, AllIn, AreBack, AreLater}
 use Rattle.desk_crew.specs.Seats.{DeskSeat}
-use Rattle.desk_crew.proofs.Taken.{left_false, right_false, text_is, other_text}
+use Rattle.desk_crew.proofs.Taken.{left_false, right_false, text_is}
 
 -- ---- names
 
@@ -104,6 +104,32 @@ beside_more one names first old new before now name none = now name (left_false 
 
 pub beside_joined : {A : Type 0} (xs ys : List Text) (first old new : Text → A) → SameBeside xs first old → SameBeside ys old new → SameBeside (xs ++ ys) first new
 beside_joined xs ys first old new before now name none = now name (among_none_second xs ys name none) ∙ before name (among_none_first xs ys name none)
+
+-- whether an append failed at one of the seats, by those that are left and by those that were closed
+or_false_last : (a : Bool) → (a || false) ≡ a
+or_false_last true = refl
+or_false_last false = refl
+
+or_moved : (a b c : Bool) → ((a || (b || false)) || c) ≡ (a || (c || b))
+or_moved true b c = refl
+or_moved false true true = refl
+or_moved false true false = refl
+or_moved false false true = refl
+or_moved false false false = refl
+
+module _ {D : Type 0} {g h : _} where
+  pub broke_none : (seats : List (DeskSeat D g h)) → list_any seat_broke seats ≡ (list_any seat_broke seats || false)
+  broke_none seats = sym (or_false_last (list_any seat_broke seats))
+
+  pub broke_all : (seats : List (DeskSeat D g h)) (total so_far : Bool) → length seats ≡ 0 → total ≡ (list_any seat_broke seats || so_far) → so_far ≡ total
+  broke_all [] total so_far none known = sym known
+  broke_all (seat ∷ seats) total so_far none known = absurd (omega (arith, none))
+
+  pub broke_more : (front : List (DeskSeat D g h)) (seat : DeskSeat D g h) (before : List (DeskSeat D g h)) (total broke so_far : Bool) → before ≡ front ++ seat ∷ []
+      → total ≡ (list_any seat_broke before || so_far) → broke ≡ seat_broke seat → total ≡ (list_any seat_broke front || (so_far || broke))
+  broke_more front seat before total broke so_far is known here =
+      known ∙ ap (λ b. b || so_far) (ap (list_any seat_broke) is ∙ list_any-append seat_broke front (seat ∷ []))
+      ∙ or_moved (list_any seat_broke front) (seat_broke seat) so_far ∙ ap (λ b. list_any seat_broke front || (so_far || b)) (sym here)
 
 module _ {D : Type 0} (reads : D → List ℕ) (image : D → List ℕ → Type 0) (faults : D → ℕ) where
   left_same : (d : D) → IsLeft reads image faults d d

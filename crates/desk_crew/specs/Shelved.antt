@@ -1,7 +1,7 @@
 -- The disks of users on their shelf.
-use Rattle.std.specs.Prelude.{◌≡◌, ℕ, ◌≤◌, Bool, true, false, ◌||◌, List, [], ◌∷◌, bytes_eq, Option, Some, None, map, string_bytes}
+use Rattle.std.specs.Prelude.{◌≡◌, ℕ, ◌≤◌, Bool, true, false, List, [], ◌∷◌, bytes_eq, Option, Some, None, map, string_bytes}
 use Rattle.std.specs.List.{list_any}
-use Rattle.outside.specs.Shelf.{IsTaken, SameNames}
+use Rattle.outside.specs.Shelf.{IsTaken}
 use Rattle.cqe_base.specs.Schema.{Text, DatabaseSchema}
 use Rattle.cqe_base.specs.Facts.{FactSet}
 use Rattle.cqe_base.specs.declared.user.User.{User}

@@ -63,7 +63,7 @@ pub fn give_back<F: Shelf>(shelf: &mut F, seats: Vec<DeskSeat<'_, F::D>>) -> boo
     while let Some(seat) = seats.pop() {
         let (disk, broke) = close_desk(seat.desk);
         shelf.give_disk(seat.journal.as_str(), disk);
-        is_broken = broke || is_broken;
+        is_broken |= broke;
     }
     is_broken
 }

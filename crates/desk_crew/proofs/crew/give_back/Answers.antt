@@ -1,12 +1,10 @@
-use Rattle.std.proofs.Common.{◌≡◌, ◌≤◌, false, refl, sym, ap, subst, ◌∙◌, ◌++◌, ◌∷◌, [], append-nil, arith}
-use Rattle.std.specs.Prelude.{option_to_list, Some}
-use Rattle.outside.specs.Shelf.{SameOthers}
-use Rattle.desk_crew.specs.Crew.{seat_journal, seat_disk}
-use Rattle.desk_crew.proofs.Shelving.{Given, given_none, given_out, given_later, given_more}
+use Rattle.std.proofs.Common.{◌≤◌, refl, sym, ap, subst, ◌∙◌, ◌++◌, arith}
+use Rattle.std.specs.Prelude.{option_to_list}
+use Rattle.desk_crew.proofs.Shelving.{given_none, given_out, given_later, given_more, broke_none, broke_all, broke_more}
 use Rattle.desk_crew.proofs.crew.give_back.Goals as goal
 
 pub loop-seat-init : goal.loop-seat-init
-loop-seat-init g c = record { so_far = given_none _ _ _ _ _ _ _ _; faults = refl }
+loop-seat-init g c = record { so_far = given_none _ _ _ _ _ _ _ _; faults = refl; broke = broke_none c.args.seats.items }
 
 pub give_disk-requires-clause-out : goal.give_disk-requires-clause-out
 give_disk-requires-clause-out g c =
@@ -18,17 +16,24 @@ pub give_disk-requires-clause-later : goal.give_disk-requires-clause-later
 give_disk-requires-clause-later g c =
     let split = c.pop.ensures.items ∙ ap (λ o. c.pop.new.self.items ++ option_to_list o) c.in-Some.is in
     let least = given_later _ _ _ _ _ _ _ _ c.requires.distinct c.requires.out c.requires.later c.pop.new.self.items c.loop-seat.seats.items c.in-Some.seat _ _ _ split c.loop-seat.invariant.so_far in
-    let closed = c.close_desk-disk.ensures.later in
-    subst (λ n. g.F.Shelf.disk_faults c.loop-seat.shelf n ≤ g.F.D.Disk.faults c.close_desk-disk.result) (sym c.as_str.ensures.value) (omega (arith, least, closed))
+    let closed = c.close_desk-disk.ensures.closed.later in
+    subst (λ n. g.F.Shelf.disk_faults c.loop-seat.shelf n ≤ g.F.D.Disk.faults c.close_desk-disk.result.0) (sym c.as_str.ensures.value) (omega (arith, least, closed))
 
 pub loop-seat-preserved : goal.loop-seat-preserved
 loop-seat-preserved g c =
     let split = c.pop.ensures.items ∙ ap (λ o. c.pop.new.self.items ++ option_to_list o) c.in-Some.is in
     let given = c.give_disk.ensures in
-    let closed = c.close_desk-disk.ensures in
+    let closed = c.close_desk-disk.ensures.closed in
     record {
-      so_far = given_more _ _ _ _ _ _ _ _ c.requires.distinct c.requires.out c.requires.later c.pop.new.self.items c.loop-seat.seats.items c.in-Some.seat c.close_desk-disk.result
+      so_far = given_more _ _ _ _ _ _ _ _ c.requires.distinct c.requires.out c.requires.later c.pop.new.self.items c.loop-seat.seats.items c.in-Some.seat c.close_desk-disk.result.0
           (record { holds = λ told. closed.holds (g.met.F.Shelf.tells_disks told); later = closed.later; cause = closed.cause; shut = closed.shut; still = closed.still }) _ _ _ _ _ _ c.as_str.result.now c.as_str.ensures.value split c.loop-seat.invariant.so_far
           (λ told. given.held told) given.disks given.back given.others_out given.count given.other_counts;
       faults = given.faults ∙ c.loop-seat.invariant.faults;
+      broke = broke_more c.pop.new.self.items c.in-Some.seat c.loop-seat.seats.items _ _ c.loop-seat.is_broken split c.loop-seat.invariant.broke c.close_desk-disk.ensures.broke;
     }
+
+pub returns-clause-broke : goal.returns-clause-broke
+returns-clause-broke g c =
+    let len = c.loop-seat.seats.ok.0 in
+    let none = c.in_default.ensures.cases.0 in
+    broke_all c.loop-seat.seats.items _ c.loop-seat.is_broken (omega (arith, len, none)) c.loop-seat.invariant.broke

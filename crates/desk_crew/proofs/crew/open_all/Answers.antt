@@ -1,10 +1,8 @@
-use Rattle.std.proofs.Common.{◌≡◌, ◌≤◌, ◌+◌, ℕ, List, length, take, false, refl, sym, ap, subst, ◌∙◌, arith}
+use Rattle.std.proofs.Common.{◌≡◌, ◌+◌, length, take, sym, ap, subst, ◌∙◌, arith}
 use Rattle.std.specs.Prelude.{Err}
 use Rattle.log_journal.specs.Opening.{header_bytes}
 use Rattle.desk_crew.specs.declared.crew.NotOpened.TheVariants.{Shelf}
-use Rattle.outside.specs.Faults.{Rose}
-use Rattle.cqe_base.specs.Schema.{has_duplicate}
-use Rattle.desk_crew.specs.Shelved.{bytes_on, journals, AllOut}
+use Rattle.desk_crew.specs.Shelved.{bytes_on, journals}
 use Rattle.desk_crew.proofs.Taken.{rose_wide}
 use Rattle.desk_crew.proofs.Shelving.{later_on, beside_one}
 use Rattle.desk_crew.proofs.Opening.{Opened, first_distinct, seats_distinct, seats_later, opened_none, next_none, next_in, opened_more, none_out, none_fell, same_bytes}

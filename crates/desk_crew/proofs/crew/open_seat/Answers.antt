@@ -1,7 +1,5 @@
-use Rattle.std.proofs.Common.{◌≡◌, sym, ap, subst, ◌∙◌}
-use Rattle.std.specs.Prelude.{string_bytes}
+use Rattle.std.proofs.Common.{sym, ap, subst, ◌∙◌}
 use Rattle.outside.specs.Shelf.{IsTaken}
-use Rattle.cqe_base.specs.declared.user.User.{User}
 use Rattle.log_journal.specs.Names.{journal_name}
 use Rattle.desk_crew.proofs.crew.open_seat.Goals as goal
 

@@ -1,4 +1,4 @@
-use Rattle.std.proofs.Common.{◌≡◌, ◌≤◌, ◌<◌, ◌+◌, ℕ, zero, suc, Bool, true, false, List, [], ◌∷◌, ◌++◌, length, get_or, refl, sym, ap, subst, ◌∙◌, arith}
+use Rattle.std.proofs.Common.{◌≤◌, ◌++◌, sym, ap, subst, ◌∙◌, arith}
 use Rattle.std.specs.Prelude.{◌==◌}
 use Rattle.cqe_base.specs.History.{profile_of}
 use Rattle.cqe_base.specs.Limits.{KeepsLimits}
@@ -7,7 +7,7 @@ use Rattle.desk_crew.specs.Shelved.{journals, SameBeside, AllOut, AreLater}
 use Rattle.desk_crew.specs.Seats.{DeskSeat}
 use Rattle.desk_crew.proofs.Asking.{all_second}
 use Rattle.desk_crew.proofs.Shelving.{first_removed, none_left}
-use Rattle.desk_crew.proofs.Reopening.{Halfway, halfway_more, halfway_all, fail_out, fail_later, rest_distinct, rest_out, rest_later, done_distinct, done_out, done_later, Failed, failed}
+use Rattle.desk_crew.proofs.Reopening.{Halfway, halfway_more, halfway_all, fail_out, fail_later, rest_distinct, rest_out, rest_later, done_distinct, done_out, done_later, failed}
 use Rattle.desk_crew.proofs.crew.reopen_all.Goals as goal
 
 pub reopen-requires : goal.reopen-requires
