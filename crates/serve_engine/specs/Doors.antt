@@ -36,14 +36,13 @@ module _ {O : Type 0} (told : Type 0) (left_of faults_of : O → ℕ) (limit : �
   HasOutcome LinksFailed total doors = SomeFailed faults_of doors
   HasOutcome Memory total doors = Unit {0}
 
-module _ {J O : Type 0} where
-  -- whether a worker's links failed
-  abbrev pub has_failed : Option WorkerEnd → Bool
-  has_failed None = false
-  has_failed (Some LinksEnded) = false
-  has_failed (Some LimitReached) = false
-  has_failed (Some LinksHaveFailed) = true
+-- whether a worker's links failed
+abbrev pub has_failed : Option WorkerEnd → Bool
+has_failed None = false
+has_failed (Some LinksEnded) = false
+has_failed (Some LimitReached) = false
+has_failed (Some LinksHaveFailed) = true
 
-  -- how workers served that have ended
-  abbrev pub outcome_of : List (Worker J O) → Outcome
-  outcome_of crew = if list_any (λ worker. has_failed worker.ended) crew then LinksFailed else Served
+-- how workers served that have ended
+abbrev pub outcome_of : {J O : Type 0} → List (Worker J O) → Outcome
+outcome_of crew = if list_any (λ worker. has_failed worker.ended) crew then LinksFailed else Served

@@ -76,7 +76,7 @@ where
         registry.now.users.now (L.given links.old) (L.given links.new) (L.back links.old) (L.back links.new) result }
 
     // It comes to its end where no connection is left, or these and the workers together are more than the greatest number.
-    ensures ended { L.told → IsDone result → (L.at_hand links.new ≡ 0) ⊎ (L.given links.old + listening.sessions < L.given links.new + listening.workers) }
+    ensures ended { L.told → IsDone result → (L.at_hand links.new ≡ 0) ⊎ (L.given links.old + listening.entry.sessions < L.given links.new + listening.entry.workers) }
     ensures inside { NoneOut (F.is_out shelf.new) }
     ensures counts { NoneFell (F.disk_faults shelf.old) (F.disk_faults shelf.new) }
     ensures out { L.out links.new ≡ L.out links.old }

@@ -91,7 +91,7 @@ fn crew_of<'a, 'w, D: Disk, G: Gate, O: Door + Drop>(
     requires those { All (λ part. ArePassesOf part counters.now) parts.items }
     requires opened { All (λ part. HaveSeenOpenings (fixeds_of counters.now) (passes_in part)) parts.items }
     ensures doors { map (λ worker. worker.door) result.items ≡ doors.items }
-    ensures fresh { (before : Passes D.Denot) → All (AreParts before) parts.items → All (IsFresh counters.now before) result.items }
+    ensures fresh { (before : Passes D) → All (AreParts before) parts.items → All (IsFresh counters.now before) result.items }
 {
     let mut crew = room;
     let mut parts = parts;
@@ -119,10 +119,10 @@ fn dismiss<'a, 'w, D: Disk, G: Gate, O: Door + Drop>(
     requires empty { room.items ≡ [] }
     requires crew { All (IsBack counters.now) crew.items }
     requires rest { (n : ℕ) × HaveShares n passes.old × (n + length crew.items ≡ 65) }
-    ensures doors { result.items ≡ map (λ worker. worker.door) crew.items }
+    ensures doors { result.items ≡ map (λ worker. worker.door) crew.entry.items }
     ensures these { ArePassesOf passes.new counters.now }
     ensures on { AreOn passes.old passes.new }
-    ensures all_on { All (λ worker. AreOn (job_passes worker.job) passes.new) crew.items }
+    ensures all_on { All (λ worker. AreOn (job_passes worker.job) passes.new) crew.entry.items }
     ensures shares { HaveShares 65 passes.new }
 {
     let mut doors = room;

@@ -29,7 +29,7 @@ struct Keeper<'w> {
 type Apart<'w, D> = (Vec<Keeper<'w>>, Vec<Counter<'w, D>>, Vec<DeskPass<D>>);
 
 /// Empty lists with the room for so many seats taken apart.
-fn rooms_for<'w, D: Disk>(alloc: Global, count: usize) -> Result<Apart<'w, D>, AllocError>
+fn rooms_for<'w, D: Disk + Drop>(alloc: Global, count: usize) -> Result<Apart<'w, D>, AllocError>
     ensures empty { IfOk result (λ rooms. (rooms.0.items ≡ []) × (rooms.1.items ≡ []) × (rooms.2.items ≡ [])) }
     ensures room { IfOk result (λ rooms. (count ≤ vec_capacity rooms.0) × (count ≤ vec_capacity rooms.1) × (count ≤ vec_capacity rooms.2)) }
 {
@@ -40,12 +40,12 @@ fn rooms_for<'w, D: Disk>(alloc: Global, count: usize) -> Result<Apart<'w, D>, A
 }
 
 /// Takes seats apart, into lists with the room for them.
-fn take_apart<'w, D: Disk>(rooms: Apart<'w, D>, seats: Vec<DeskSeat<'w, D>>) -> Apart<'w, D>
+fn take_apart<'w, D: Disk + Drop>(rooms: Apart<'w, D>, seats: Vec<DeskSeat<'w, D>>) -> Apart<'w, D>
     requires empty { (rooms.0.items ≡ []) × (rooms.1.items ≡ []) × (rooms.2.items ≡ []) }
     requires room { (length seats.items ≤ vec_capacity rooms.0) × (length seats.items ≤ vec_capacity rooms.1) × (length seats.items ≤ vec_capacity rooms.2) }
-    ensures keepers { result.0.items ≡ map keeper_of seats.items }
-    ensures counters { result.1.items ≡ map seat_counter seats.items }
-    ensures passes { result.2.items ≡ map seat_pass seats.items }
+    ensures keepers { result.0.items ≡ map keeper_of seats.entry.items }
+    ensures counters { result.1.items ≡ map seat_counter seats.entry.items }
+    ensures passes { result.2.items ≡ map seat_pass seats.entry.items }
 {
     let (mut keepers, mut counters, mut passes) = rooms;
     for seat in seats {
@@ -62,7 +62,7 @@ fn take_apart<'w, D: Disk>(rooms: Apart<'w, D>, seats: Vec<DeskSeat<'w, D>>) -> 
 }
 
 /// Puts seats together again, in a list with the room for them.
-fn put_together<'w, D: Disk>(
+fn put_together<'w, D: Disk + Drop>(
     room: Vec<DeskSeat<'w, D>>,
     keepers: Vec<Keeper<'w>>,
     counters: Vec<Counter<'w, D>>,
@@ -73,8 +73,8 @@ fn put_together<'w, D: Disk>(
     requires count { length counters.items ≡ length keepers.items }
     requires passes { ArePasses passes.items counters.items }
     requires all { All (λ pass. shares pass ≡ 65) passes.items }
-    ensures keepers { map keeper_of result.items ≡ keepers.items }
-    ensures counters { map seat_counter result.items ≡ counters.items }
+    ensures keepers { map keeper_of result.items ≡ keepers.entry.items }
+    ensures counters { map seat_counter result.items ≡ counters.entry.items }
     ensures passes { map seat_pass result.items ≡ passes.items }
 {
     let mut seats = room;
@@ -114,7 +114,7 @@ pub(crate) fn serve_seats<
     requires few { length doors.items ≤ 64 }
     requires limit { limit ≤ 2 ^ 30 }
     requires whole { All (λ door. O.faults door ≡ 0) doors.items }
-    ensures on { AreSeatsOn seats.items result.1.items }
+    ensures on { AreSeatsOn seats.entry.items result.1.items }
     ensures served { (total : ℕ) × AreServedDoors O.told O.given O.left O.faults O.back (IsServedAt users.now result.1.items) total doors.items result.2.items
         × HasOutcome O.told O.left O.faults limit result.0 total result.2.items }
 {
