@@ -1,1 +1,4 @@
 pub mod Growing
+pub mod Holding
+pub mod Later
+pub mod Visiting

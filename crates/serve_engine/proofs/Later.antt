@@ -1,0 +1,116 @@
+-- The passes after a session.
+use Rattle.std.proofs.Common.{◌≡◌, ℕ, zero, suc, ◌≤◌, ◌+◌, ◌*◌, ◌/◌, ◌^◌, min, Bool, true, false, List, [], ◌∷◌, ◌++◌, length, refl, sym, ap, ◌∙◌, subst, arith}
+use Rattle.std.specs.Prelude.{Option, Some, None}
+use Rattle.std.specs.List.{AllByRecursion, AllZip}
+use Rattle.std.proofs.lemmas.List.{append-nil, length-append}
+use Rattle.std.proofs.Math.Nat.{min-le_left, min-le_right, le-min}
+use Rattle.cqe_base.specs.Schema.{DatabaseSchema, Text}
+use Rattle.cqe_base.specs.Facts.{FactSet}
+use Rattle.cqe_base.specs.Run.{Reply}
+use Rattle.turnstile.specs.declared.pass.Pass.{Pass}
+use Rattle.turnstile.specs.Passes.{seen, turns}
+use Rattle.user_desk.specs.Standings.{standing_of}
+use Rattle.desk_counter.specs.declared.item.Item.{Item}
+use Rattle.desk_counter.specs.declared.item.Fixed.{Fixed}
+use Rattle.desk_counter.specs.Items.{history_of, has_broke}
+use Rattle.session_core.specs.Replied.{Replied}
+use Rattle.session_core.specs.Desks.{AsksAt, AsksOf}
+use Rattle.session_core.specs.Desks as desks
+use Rattle.session_core.proofs.Replying.{from_earlier, history_all, broke_on}
+use Rattle.serve_engine.specs.Served.{IsLater, RepliedAt, here, further, RepliedTo}
+use Rattle.serve_engine.specs.Members.{member_of, members_of, AreIn, HaveSeenOpenings, IsPassLater, room_in}
+use Rattle.serve_engine.specs.Keeping.{same_passes}
+
+-- ---- turns
+
+-- the least of two numbers falls by one at most where both do
+least_falls : (a b m n : ℕ) → a ≤ b + 1 → m ≤ n + 1 → min a m ≤ min b n + 1
+least_falls a b m n first second =
+    let left = min-le_left a m in
+    let right = min-le_right a m in
+    omega (arith, first, second, left, right)
+
+-- where turns were used for as many asks as a session has, there is room for one session less
+room_falls : (old new asks : ℕ) → asks ≤ 100000 → old ≤ new + 2 * asks → old / 2 ^ 26 ≤ new / 2 ^ 26 + 1
+room_falls old new asks few used = omega (arith, few, used)
+
+module _ {D : Type 0} where
+  -- where there is room for a session, each pass has the turns for it
+  pub turns_enough : (passes : List (Pass Item (Fixed D))) → 1 ≤ room_in passes → AllByRecursion (λ pass. 2 ^ 26 ≤ turns pass) passes
+  turns_enough [] room = tt
+  turns_enough (p ∷ passes) room =
+      let left = min-le_left (turns p / 2 ^ 26) (room_in passes) in
+      let right = min-le_right (turns p / 2 ^ 26) (room_in passes) in
+      let this : 1 ≤ turns p / 2 ^ 26 = omega (arith, room, left) in
+      (omega (arith, this), turns_enough passes (omega (arith, room, right)))
+
+  at_room : {place : ℕ} {fixeds : List (Fixed D)} {old new : List (Pass Item (Fixed D))} {asks : List (Text × Reply)} → length asks ≤ 100000 → AsksAt place fixeds old new asks → room_in old ≤ room_in new + 1
+  at_room few (desks.here {old = p} {new = q} {rest = rest} {asks = asks} is) =
+      least_falls (turns p / 2 ^ 26) (turns q / 2 ^ 26) (room_in rest) (room_in rest) (room_falls (turns p) (turns q) (length asks) few is.used) (omega arith)
+  at_room few (desks.further {same = p} {old = old} {new = new} deep) =
+      least_falls (turns p / 2 ^ 26) (turns p / 2 ^ 26) (room_in old) (room_in new) (omega arith) (at_room few deep)
+
+  -- behind a session there is room for one less at most
+  pub of_room : (who : Option ℕ) (fixeds : List (Fixed D)) (old new : List (Pass Item (Fixed D))) (asks : List (Text × Reply)) → length asks ≤ 100000 → AsksOf who fixeds old new asks → room_in old ≤ room_in new + 1
+  of_room None fixeds old new asks few is = let same = ap room_in is.0 in omega (arith, same)
+  of_room (Some place) fixeds old new asks few is = at_room few is
+
+  -- ---- what was seen
+
+  at_passes : {place : ℕ} {fixeds : List (Fixed D)} {old new : List (Pass Item (Fixed D))} {asks : List (Text × Reply)} → AsksAt place fixeds old new asks → AllZip IsPassLater old new
+  at_passes (desks.here {rest = rest} is) = (record { same_shares = is.same_shares; later = is.later }, same_passes rest)
+  at_passes (desks.further {same = p} deep) = (record { same_shares = refl; later = ([], sym (append-nil (seen p))) }, at_passes deep)
+
+  -- each pass has seen all that it had
+  pub of_passes : (who : Option ℕ) (fixeds : List (Fixed D)) (old new : List (Pass Item (Fixed D))) (asks : List (Text × Reply)) → AsksOf who fixeds old new asks → AllZip IsPassLater old new
+  of_passes None fixeds old new asks is = subst (λ ps. AllZip IsPassLater old ps) (sym is.0) (same_passes old)
+  of_passes (Some place) fixeds old new asks is = at_passes is
+
+  -- so it has seen the opening of its desk
+  pub openings_later : (fixeds : List (Fixed D)) (old new : List (Pass Item (Fixed D))) → AllZip IsPassLater old new → HaveSeenOpenings fixeds old → HaveSeenOpenings fixeds new
+  openings_later [] [] [] later openings = tt
+  openings_later (f ∷ fixeds) (p ∷ old) (q ∷ new) later openings =
+      let more = later.0.later.0 in
+      let grown = ap (λ s. length (history_of s)) later.0.later.1 ∙ ap length (history_all (seen p) more) ∙ length-append (history_of (seen p)) (history_of more) in
+      (omega (arith, openings.0, grown), openings_later fixeds old new later.1 openings.1)
+  openings_later [] [] (q ∷ new) later openings = absurd later
+  openings_later [] (p ∷ old) new later openings = absurd openings
+  openings_later (f ∷ fixeds) [] new later openings = absurd openings
+  openings_later (f ∷ fixeds) (p ∷ old) [] later openings = absurd later
+
+  -- and each user is the same later
+  pub members_later : (fixeds : List (Fixed D)) (old new : List (Pass Item (Fixed D))) → AllZip IsPassLater old new → AllZip IsLater (members_of fixeds old) (members_of fixeds new)
+  members_later [] old new later = tt
+  members_later (f ∷ fixeds) [] [] later = tt
+  members_later (f ∷ fixeds) (p ∷ old) (q ∷ new) later =
+      let more = later.0.later.0 in (
+        record {
+          profile = refl;
+          standing = refl;
+          opening = refl;
+          further = (history_of more, ap history_of later.0.later.1 ∙ history_all (seen p) more);
+          broke = λ b. ap has_broke later.0.later.1 ∙ broke_on (seen p) more b;
+        },
+        members_later fixeds old new later.1,
+      )
+  members_later (f ∷ fixeds) [] (q ∷ new) later = absurd later
+  members_later (f ∷ fixeds) (p ∷ old) [] later = absurd later
+
+  -- ---- replies
+
+  module _ (schema : DatabaseSchema) (world : FactSet) where
+    at_replied : {place : ℕ} {fixeds : List (Fixed D)} {old new : List (Pass Item (Fixed D))} {asks : List (Text × Reply)} → AreIn schema world fixeds → HaveSeenOpenings fixeds old → AsksAt place fixeds old new asks
+        → RepliedAt schema world place (members_of fixeds new) asks
+    at_replied within openings (desks.here {fixed = f} {old = p} {new = q} {asks = asks} is) =
+        let never : false ≡ true → has_broke (seen p) ≡ true = λ e. absurd cc in
+        here is.entries
+        (subst (λ s. Replied s world f.user (standing_of f.standing) (history_of (seen q)) (has_broke (seen q)) (length f.opening) false asks is.entries) within.0.0
+        (subst (λ w. Replied f.schema w f.user (standing_of f.standing) (history_of (seen q)) (has_broke (seen q)) (length f.opening) false asks is.entries) within.0.1
+        (from_earlier f.schema f.world f.user (standing_of f.standing) (history_of (seen q)) (has_broke (seen q)) openings.0 never is.replied)))
+    at_replied within openings (desks.further deep) = further (at_replied within.1 openings.1 deep)
+
+    -- what was asked was replied to by the history of who asked
+    pub of_replied : (who : Option ℕ) (fixeds : List (Fixed D)) (old new : List (Pass Item (Fixed D))) (asks : List (Text × Reply)) → AreIn schema world fixeds → HaveSeenOpenings fixeds old → AsksOf who fixeds old new asks
+        → RepliedTo schema world who (members_of fixeds new) asks
+    of_replied None fixeds old new asks within openings is = is.1
+    of_replied (Some place) fixeds old new asks within openings is = at_replied within openings is

@@ -1,0 +1,68 @@
+use Rattle.std.proofs.Common.{◌≤◌, length, refl, arith}
+use Rattle.session_core.specs.Members.{passes_in, counters_in, users_of, fixeds_of}
+use Rattle.session_core.proofs.Passing.{passes_many}
+use Rattle.session_core.proofs.Talking.{talks_few}
+use Rattle.serve_engine.specs.Members.{members_of}
+use Rattle.serve_engine.proofs.Growing.{served_later}
+use Rattle.serve_engine.proofs.Holding.{are_passes, at_each, each_opened, have_opened}
+use Rattle.serve_engine.proofs.Later.{turns_enough, of_room, of_passes, openings_later, members_later}
+use Rattle.serve_engine.proofs.Visiting.{session_served}
+use Rattle.serve_engine.proofs.job.SessionJobOfTicketedDeskJob.run.Goals as goal
+
+pub serve_session-ended-requires-clause-passes : goal.serve_session-ended-requires-clause-passes
+serve_session-ended-requires-clause-passes g c = let job = c.args.self.now in are_passes (passes_in job.passes) (counters_in job.counters.now) job.many job.held
+
+pub serve_session-ended-requires-clause-turns : goal.serve_session-ended-requires-clause-turns
+serve_session-ended-requires-clause-turns g c = turns_enough (passes_in c.args.self.now.passes) c.requires.room
+
+pub invariant_of-self : goal.invariant_of-self
+invariant_of-self g c =
+    let job = c.args.self.now in
+    let old = passes_in job.passes in
+    let new = passes_in c.serve_session-ended.new.passes in
+    let counters = counters_in job.counters.now in
+    let fixeds = fixeds_of job.counters.now in
+    let session = c.serve_session-ended.ensures.session in
+    let are = c.serve_session-ended.ensures.passes in
+    let openings = have_opened old counters (are_passes old counters job.many job.held) job.opened in
+    record {
+      counted = job.counted;
+      many = passes_many new counters are;
+      held = at_each new counters are;
+      opened = each_opened new counters are (openings_later fixeds old new (of_passes session.who fixeds old new session.asks session.desks) openings);
+    }
+
+pub returns-clause-room : goal.returns-clause-room
+returns-clause-room g c =
+    let job = c.args.self.now in
+    let session = c.serve_session-ended.ensures.session in
+    let no_more = talks_few (users_of job.counters.now) session.talks in
+    of_room session.who (fixeds_of job.counters.now) (passes_in job.passes) (passes_in c.serve_session-ended.new.passes) session.asks (omega (arith, session.few, no_more)) session.desks
+
+pub returns-clause-keeps : goal.returns-clause-keeps
+returns-clause-keeps g c =
+    let job = c.args.self.now in
+    let session = c.serve_session-ended.ensures.session in
+    (refl, of_passes session.who (fixeds_of job.counters.now) (passes_in job.passes) (passes_in c.serve_session-ended.new.passes) session.asks session.desks)
+
+pub returns-clause-visit : goal.returns-clause-visit
+returns-clause-visit g c =
+    let job = c.args.self.now in
+    let old = passes_in job.passes in
+    let counters = counters_in job.counters.now in
+    let now = c.serve_session-ended.new in
+    let says = c.serve_session-ended.ensures in
+    λ untouched schema world within. session_served g.Src.Source.told g.Snk.Sink.told (users_of job.counters.now) (fixeds_of job.counters.now) c.serve_session-ended.result
+    (g.Src.Source.held c.args.source.now) (g.Src.Source.held now.source) (g.Src.Source.left c.args.source.now) old (passes_in now.passes) (g.Snk.Sink.written c.args.sink.now) (g.Snk.Sink.written now.sink)
+    (g.Src.Source.faults c.args.source.now) (g.Snk.Sink.faults c.args.sink.now) (g.Src.Source.faults now.source) (g.Snk.Sink.faults now.sink)
+    says.session untouched says.held says.read_cause says.write_cause schema world within (have_opened old counters (are_passes old counters job.many job.held) job.opened)
+
+pub returns-clause-still : goal.returns-clause-still
+returns-clause-still g c =
+    let job = c.args.self.now in
+    let fixeds = fixeds_of job.counters.now in
+    let old = passes_in job.passes in
+    let new = passes_in c.serve_session-ended.new.passes in
+    let session = c.serve_session-ended.ensures.session in
+    let later = members_later fixeds old new (of_passes session.who fixeds old new session.asks session.desks) in
+    λ untouched visit stood schema world within. served_later schema world (users_of job.counters.now) (members_of fixeds old) (members_of fixeds new) visit later (stood schema world within)
