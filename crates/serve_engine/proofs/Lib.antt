@@ -2,3 +2,4 @@ pub mod Growing
 pub mod Holding
 pub mod Later
 pub mod Visiting
+pub mod Reading

@@ -1,6 +1,6 @@
 -- Passes that are split off for workers, and meet again.
-use Rattle.std.specs.Prelude.{◌≡◌, ℕ, ◌+◌, ◌*◌, ◌^◌, ◌≤◌, List, All, None}
-use Rattle.std.specs.List.{AllZip}
+use Rattle.std.specs.Prelude.{◌≡◌, ℕ, ◌+◌, ◌*◌, ◌^◌, ◌≤◌, List, None}
+use Rattle.std.specs.List.{AllByRecursion, AllZip}
 use Rattle.turnstile.specs.declared.pass.Pass.{Pass}
 use Rattle.turnstile.specs.History.{IsPrefix}
 use Rattle.turnstile.specs.Passes.{seen, shares, turns}
@@ -18,11 +18,11 @@ use Rattle.serve_engine.specs.Jobs.{job_counters, job_passes, job_runs}
 module _ {D : Type 0} where
   -- each pass has so many shares
   abbrev pub HaveShares : ℕ → Passes D → Type 0
-  HaveShares count passes = All (λ pass. shares pass ≡ count) (passes_in passes)
+  HaveShares count passes = AllByRecursion (λ pass. shares pass ≡ count) (passes_in passes)
 
   -- each has at least so many turns
   abbrev pub HaveTurns : ℕ → Passes D → Type 0
-  HaveTurns count passes = All (λ pass. count ≤ turns pass) (passes_in passes)
+  HaveTurns count passes = AllByRecursion (λ pass. count ≤ turns pass) (passes_in passes)
 
   -- each has seen all that the one at its place in the first list has
   abbrev pub AreOn : Passes D → Passes D → Type 0

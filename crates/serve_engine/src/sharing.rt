@@ -1,5 +1,6 @@
 //! Seats whose counters threads share for a while.
 ghost use Rattle.std.specs.Prelude.{◌≡◌, ◌≤◌, ◌*◌, ◌^◌, ℕ, [], All, length, map, vec_capacity, IfOk};
+ghost use Rattle.std.specs.List.{AllByRecursion};
 ghost use Rattle.turnstile.specs.Passes.{shares, turns};
 ghost use Rattle.desk_crew.specs.Crew.{seat_user, IsFresh};
 ghost use Rattle.session_core.specs.Members.{ArePasses};
@@ -72,7 +73,7 @@ fn put_together<'w, D: Disk + Drop>(
     requires room { length keepers.items ≤ vec_capacity room }
     requires count { length counters.items ≡ length keepers.items }
     requires passes { ArePasses passes.items counters.items }
-    requires all { All (λ pass. shares pass ≡ 65) passes.items }
+    requires all { AllByRecursion (λ pass. shares pass ≡ 65) passes.items }
     ensures keepers { map keeper_of result.items ≡ keepers.entry.items }
     ensures counters { map seat_counter result.items ≡ counters.entry.items }
     ensures passes { map seat_pass result.items ≡ passes.items }
