@@ -21,7 +21,7 @@ module _ (schema : DatabaseSchema) (world : FactSet) where
       let longer = length-append history more in
       let both = replied_then schema world user standing history more broke broke' on chain (nothing (omega (arith, longer)) on) in
       subst (λ a. Replied schema world user standing (history ++ more) broke' least false a entries) (append-nil asks)
-          (subst (λ e. Replied schema world user standing (history ++ more) broke' least false (asks ++ []) e) (append-nil entries) both)
+      (subst (λ e. Replied schema world user standing (history ++ more) broke' least false (asks ++ []) e) (append-nil entries) both)
 
   -- so they are of the same user later
   replied_later : (before after : Member) {asks : List (Text × Reply)} {entries : History} → IsLater before after
@@ -30,9 +30,9 @@ module _ (schema : DatabaseSchema) (world : FactSet) where
   replied_later before after {asks} {entries} later chain =
       let longer = replied_longer before.profile before.standing before.history later.further.0 before.broke after.broke later.broke chain in
       subst (λ u. Replied schema world u after.standing after.history after.broke (length after.opening) false asks entries) (sym later.profile)
-          (subst (λ s. Replied schema world before.profile s after.history after.broke (length after.opening) false asks entries) (sym later.standing)
-          (subst (λ h. Replied schema world before.profile before.standing h after.broke (length after.opening) false asks entries) (sym later.further.1)
-          (subst (λ o. Replied schema world before.profile before.standing (before.history ++ later.further.0) after.broke (length o) false asks entries) (sym later.opening) longer)))
+      (subst (λ s. Replied schema world before.profile s after.history after.broke (length after.opening) false asks entries) (sym later.standing)
+      (subst (λ h. Replied schema world before.profile before.standing h after.broke (length after.opening) false asks entries) (sym later.further.1)
+      (subst (λ o. Replied schema world before.profile before.standing (before.history ++ later.further.0) after.broke (length o) false asks entries) (sym later.opening) longer)))
 
   at_later : {place : ℕ} {before : List Member} {asks : List (Text × Reply)} (after : List Member) → AllZip IsLater before after → RepliedAt schema world place before asks → RepliedAt schema world place after asks
   at_later [] all (here entries chain) = absurd all

@@ -16,11 +16,13 @@ module _ {D : Type 0} where
 
   pub later_passes : (xs ys zs : List (Pass Item (Fixed D))) → AllZip IsPassLater xs ys → AllZip IsPassLater ys zs → AllZip IsPassLater xs zs
   later_passes [] [] [] first second = tt
-  later_passes (x ∷ xs) (y ∷ ys) (z ∷ zs) first second =
-      (record {
-        same_shares = second.0.same_shares ∙ first.0.same_shares;
-        later = (first.0.later.0 ++ second.0.later.0, second.0.later.1 ∙ ap (λ s. s ++ second.0.later.0) first.0.later.1 ∙ append_assoc (seen x) first.0.later.0 second.0.later.0);
-      }, later_passes xs ys zs first.1 second.1)
+  later_passes (x ∷ xs) (y ∷ ys) (z ∷ zs) first second = (
+    record {
+      same_shares = second.0.same_shares ∙ first.0.same_shares;
+      later = (first.0.later.0 ++ second.0.later.0, second.0.later.1 ∙ ap (λ s. s ++ second.0.later.0) first.0.later.1 ∙ append_assoc (seen x) first.0.later.0 second.0.later.0);
+    },
+    later_passes xs ys zs first.1 second.1,
+  )
   later_passes [] [] (z ∷ zs) first second = absurd second
   later_passes [] (y ∷ ys) zs first second = absurd first
   later_passes (x ∷ xs) [] zs first second = absurd first

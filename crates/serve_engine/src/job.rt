@@ -63,8 +63,7 @@ impl<'a, 'w, D: Disk, G: Gate> SessionJobOf<'a, 'w, TicketedDesk<'w, D>, D, G> {
 }
 
 impl<'a, 'w, D: Disk, G: Gate, Src: Source, Snk: Sink> Job<Src, Snk>
-    for SessionJobOf<'a, 'w, TicketedDesk<'w, D>, D, G>
-{
+    for SessionJobOf<'a, 'w, TicketedDesk<'w, D>, D, G> {
     ghost use Rattle.std.specs.Prelude.{[]};
     ghost use Rattle.std.proofs.Common.{refl, ◌∙◌};
     ghost use Rattle.session_core.specs.Members.{passes_in};
