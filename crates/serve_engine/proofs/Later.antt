@@ -8,6 +8,7 @@ use Rattle.cqe_base.specs.Schema.{DatabaseSchema, Text}
 use Rattle.cqe_base.specs.Facts.{FactSet}
 use Rattle.cqe_base.specs.Run.{Reply}
 use Rattle.turnstile.specs.declared.pass.Pass.{Pass}
+use Rattle.turnstile.specs.History.{IsPrefix}
 use Rattle.turnstile.specs.Passes.{seen, turns}
 use Rattle.user_desk.specs.Standings.{standing_of}
 use Rattle.desk_counter.specs.declared.item.Item.{Item}
@@ -50,12 +51,21 @@ module _ {D : Type 0} where
   at_room few (desks.further {same = p} {old = old} {new = new} deep) =
       least_falls (turns p / 2 ^ 26) (turns p / 2 ^ 26) (room_in old) (room_in new) (omega arith) (at_room few deep)
 
+  -- where each pass has the turns of one that was split off, there is room for 2^31 sessions
+  pub room_enough : (passes : List (Pass Item (Fixed D))) → AllByRecursion (λ pass. 2 ^ 57 ≤ turns pass) passes → 2 ^ 31 ≤ room_in passes
+  room_enough [] all = omega arith
+  room_enough (p ∷ passes) all = let this : 2 ^ 31 ≤ turns p / 2 ^ 26 = omega (arith, all.0) in le-min this (room_enough passes all.1)
+
   -- behind a session there is room for one less at most
   pub of_room : (who : Option ℕ) (fixeds : List (Fixed D)) (old new : List (Pass Item (Fixed D))) (asks : List (Text × Reply)) → length asks ≤ 100000 → AsksOf who fixeds old new asks → room_in old ≤ room_in new + 1
   of_room None fixeds old new asks few is = let same = ap room_in is.0 in omega (arith, same)
   of_room (Some place) fixeds old new asks few is = at_room few is
 
   -- ---- what was seen
+
+  -- a pass has seen all that another has
+  abbrev pub SeesMore : Pass Item (Fixed D) → Pass Item (Fixed D) → Type 0
+  SeesMore pass other = IsPrefix (seen pass) (seen other)
 
   at_passes : {place : ℕ} {fixeds : List (Fixed D)} {old new : List (Pass Item (Fixed D))} {asks : List (Text × Reply)} → AsksAt place fixeds old new asks → AllZip IsPassLater old new
   at_passes (desks.here {rest = rest} is) = (record { same_shares = is.same_shares; later = is.later }, same_passes rest)
@@ -66,30 +76,36 @@ module _ {D : Type 0} where
   of_passes None fixeds old new asks is = subst (λ ps. AllZip IsPassLater old ps) (sym is.0) (same_passes old)
   of_passes (Some place) fixeds old new asks is = at_passes is
 
-  -- so it has seen the opening of its desk
-  pub openings_later : (fixeds : List (Fixed D)) (old new : List (Pass Item (Fixed D))) → AllZip IsPassLater old new → HaveSeenOpenings fixeds old → HaveSeenOpenings fixeds new
+  pub sees_more : (old new : List (Pass Item (Fixed D))) → AllZip IsPassLater old new → AllZip SeesMore old new
+  sees_more [] [] later = tt
+  sees_more (p ∷ old) (q ∷ new) later = (later.0.later, sees_more old new later.1)
+  sees_more [] (q ∷ new) later = absurd later
+  sees_more (p ∷ old) [] later = absurd later
+
+  -- passes that have seen more have seen the openings of their desks
+  pub openings_later : (fixeds : List (Fixed D)) (old new : List (Pass Item (Fixed D))) → AllZip SeesMore old new → HaveSeenOpenings fixeds old → HaveSeenOpenings fixeds new
   openings_later [] [] [] later openings = tt
   openings_later (f ∷ fixeds) (p ∷ old) (q ∷ new) later openings =
-      let more = later.0.later.0 in
-      let grown = ap (λ s. length (history_of s)) later.0.later.1 ∙ ap length (history_all (seen p) more) ∙ length-append (history_of (seen p)) (history_of more) in
+      let more = later.0.0 in
+      let grown = ap (λ s. length (history_of s)) later.0.1 ∙ ap length (history_all (seen p) more) ∙ length-append (history_of (seen p)) (history_of more) in
       (omega (arith, openings.0, grown), openings_later fixeds old new later.1 openings.1)
   openings_later [] [] (q ∷ new) later openings = absurd later
   openings_later [] (p ∷ old) new later openings = absurd openings
   openings_later (f ∷ fixeds) [] new later openings = absurd openings
   openings_later (f ∷ fixeds) (p ∷ old) [] later openings = absurd later
 
-  -- and each user is the same later
-  pub members_later : (fixeds : List (Fixed D)) (old new : List (Pass Item (Fixed D))) → AllZip IsPassLater old new → AllZip IsLater (members_of fixeds old) (members_of fixeds new)
+  -- and by them each user is the same later
+  pub members_later : (fixeds : List (Fixed D)) (old new : List (Pass Item (Fixed D))) → AllZip SeesMore old new → AllZip IsLater (members_of fixeds old) (members_of fixeds new)
   members_later [] old new later = tt
   members_later (f ∷ fixeds) [] [] later = tt
   members_later (f ∷ fixeds) (p ∷ old) (q ∷ new) later =
-      let more = later.0.later.0 in (
+      let more = later.0.0 in (
         record {
           profile = refl;
           standing = refl;
           opening = refl;
-          further = (history_of more, ap history_of later.0.later.1 ∙ history_all (seen p) more);
-          broke = λ b. ap has_broke later.0.later.1 ∙ broke_on (seen p) more b;
+          further = (history_of more, ap history_of later.0.1 ∙ history_all (seen p) more);
+          broke = λ b. ap has_broke later.0.1 ∙ broke_on (seen p) more b;
         },
         members_later fixeds old new later.1,
       )

@@ -5,7 +5,7 @@ use Rattle.session_core.proofs.Talking.{talks_few}
 use Rattle.serve_engine.specs.Members.{members_of}
 use Rattle.serve_engine.proofs.Growing.{served_later}
 use Rattle.serve_engine.proofs.Holding.{are_passes, at_each, each_opened, have_opened}
-use Rattle.serve_engine.proofs.Later.{turns_enough, of_room, of_passes, openings_later, members_later}
+use Rattle.serve_engine.proofs.Later.{turns_enough, of_room, of_passes, sees_more, openings_later, members_later}
 use Rattle.serve_engine.proofs.Visiting.{session_served}
 use Rattle.serve_engine.proofs.job.SessionJobOfTicketedDeskJob.run.Goals as goal
 
@@ -29,7 +29,7 @@ invariant_of-self g c =
       counted = job.counted;
       many = passes_many new counters are;
       held = at_each new counters are;
-      opened = each_opened new counters are (openings_later fixeds old new (of_passes session.who fixeds old new session.asks session.desks) openings);
+      opened = each_opened new counters are (openings_later fixeds old new (sees_more old new (of_passes session.who fixeds old new session.asks session.desks)) openings);
     }
 
 pub returns-clause-room : goal.returns-clause-room
@@ -64,5 +64,5 @@ returns-clause-still g c =
     let old = passes_in job.passes in
     let new = passes_in c.serve_session-ended.new.passes in
     let session = c.serve_session-ended.ensures.session in
-    let later = members_later fixeds old new (of_passes session.who fixeds old new session.asks session.desks) in
+    let later = members_later fixeds old new (sees_more old new (of_passes session.who fixeds old new session.asks session.desks)) in
     λ untouched visit stood schema world within. served_later schema world (users_of job.counters.now) (members_of fixeds old) (members_of fixeds new) visit later (stood schema world within)
