@@ -29,12 +29,14 @@ const HEADER: Header = Header {
     facts: [9; 32],
 };
 
-/// Two persons; Ann takes the drug and is infected. A liar keeps that secret, who knows that who takes the drug is infected.
+/// Two persons; Ann takes the drug and is infected. From two users that is kept by lies, and they know that who takes the
+/// drug is infected.
 #[derive(Drop)]
 struct Clinic {
     schema: Schema,
     world: World,
     eve: User,
+    dan: User,
 }
 
 fn names(alloc: Global, texts: &[&str]) -> Result<Vec<String>, Fail> {
@@ -89,7 +91,8 @@ fn liar(rt: &impl Abort, alloc: Global, schema: &Schema, name: &str) -> Result<U
 }
 
 fn make_clinic(rt: &impl Abort, alloc: Global) -> Result<Clinic, Fail>
-    ensures { IfOk result (λ c. KeepsLimits c.schema (profile_of c.eve)) }
+    ensures eve { IfOk result (λ c. KeepsLimits c.schema (profile_of c.eve)) }
+    ensures dan { IfOk result (λ c. KeepsLimits c.schema (profile_of c.dan)) }
 {
     let schema = schema(alloc)?;
     let mut world = World::new(alloc);
@@ -101,7 +104,13 @@ fn make_clinic(rt: &impl Abort, alloc: Global) -> Result<Clinic, Fail>
         assert!(rt; world.insert(&schema, fact).is_ok());
     }
     let eve = liar(rt, alloc, &schema, "eve")?;
-    Ok(Clinic { schema, world, eve })
+    let dan = liar(rt, alloc, &schema, "dan")?;
+    Ok(Clinic {
+        schema,
+        world,
+        eve,
+        dan,
+    })
 }
 
 /// A user's desk on an empty journal, under a counter.

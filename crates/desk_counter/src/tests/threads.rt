@@ -3,7 +3,7 @@ ghost use Rattle.std.specs.Prelude.{◌≡◌, ◌+◌, ◌*◌, ◌^◌, ◌≤
 ghost use Rattle.turnstile.specs.Passes.{IsOf, IsReady, first_value, fixed, shares as shares_of, turns};
 ghost use Rattle.desk_counter.specs.Counters.{IsPassOf};
 
-use super::{HEADER, counter_of, liar, make_clinic};
+use super::{HEADER, counter_of, make_clinic};
 use crate::{Counter, CounterOf, DeskPass, Owned, TicketedDesk};
 use cqe_base::sentence::Sentence;
 use cqe_base::user::Mark;
@@ -130,17 +130,21 @@ fn session_at<'a, 'w, V: Owned, G: Gate>(
     }
 }
 
-// Two sessions ask, each in a thread of its own.
-fn ask_in_threads<'a, 'w, R: Threads + Wait + Sync, D: Disk + Drop + Send, G: Gate + Sync>(
+// A session asks in a thread of its own, beside other work.
+fn ask_in_thread<
+    'a,
+    'w,
+    R: Threads + Wait + Sync,
+    D: Disk + Drop + Send,
+    G: Gate + Sync,
+    K: Work + Drop,
+>(
     rt: &R,
     one: Session<'a, 'w, TicketedDesk<'w, D>, G>,
-    two: Session<'a, 'w, TicketedDesk<'w, D>, G>,
-) -> (
-    Session<'a, 'w, TicketedDesk<'w, D>, G>,
-    Session<'a, 'w, TicketedDesk<'w, D>, G>,
-)
+    two: K,
+) -> (Session<'a, 'w, TicketedDesk<'w, D>, G>, K)
     ensures one { result.0.counter.now ≡ one.entry.counter.now }
-    ensures two { result.1.counter.now ≡ two.entry.counter.now }
+    ensures two { K.same two result.1 }
 {
     work_beside(rt, one, two)
 }
@@ -162,7 +166,7 @@ fn ask_by_two<'w, R: Threads + Wait + Sync>(
     let second = counter.split(&mut first).ok()?;
     let one = session_at(alloc, &counter, first, 64, questions.0, 100, &OpenGate);
     let two = session_at(alloc, &counter, second, 1, questions.1, 100, &OpenGate);
-    let (one, two) = ask_in_threads(rt, one, two);
+    let (one, two) = ask_in_thread(rt, one, two);
     let told = one.told + two.told;
     if one.shares != 64 || two.shares != 1 {
         return None;
@@ -250,7 +254,6 @@ fn was_set(mark: &AtomicU64) -> bool {
 #[derive(Drop)]
 struct Other<'a, 'w, V: Owned> {
     session: Session<'a, 'w, V, Hold>,
-    hold: &'a Hold,
     /// An ask was held before this one began.
     saw_held: bool,
 }
@@ -259,44 +262,55 @@ impl<'a, 'w, D: Disk> Work for Other<'a, 'w, TicketedDesk<'w, D>> {
     ghost same = { λ before after. after.session.counter.now ≡ before.session.counter.now };
 
     fn work<R: Wait>(self, rt: &R) -> Other<'a, 'w, TicketedDesk<'w, D>> {
-        let Other {
-            session,
-            hold,
-            saw_held: _,
-        } = self;
+        let hold = self.session.gate;
         let saw_held = was_set(&hold.held);
-        let session = session.work(rt);
+        let session = self.session.work(rt);
         hold.answered.store(1, SeqCst);
-        Other {
-            session,
-            hold,
-            saw_held,
-        }
+        Other { session, saw_held }
     }
 }
 
-// The second session asks while the first is held. It gives what each was told, and whether the first was held.
+/// What came of two asks, of which the first was held until the second was answered.
+#[derive(Clone, Copy, Debug, PartialEq, Eq)]
+struct Beside {
+    first_told: u64,
+    second_told: u64,
+    saw_held: bool,
+    gave_up: bool,
+}
+
+// The second session asks while the first is held.
 fn ask_while_held<'a, 'w, R: Threads + Wait + Sync, D: Disk + Drop + Send>(
     rt: &R,
     one: Session<'a, 'w, TicketedDesk<'w, D>, Hold>,
     two: Session<'a, 'w, TicketedDesk<'w, D>, Hold>,
-) -> (u64, u64, bool) {
-    let two = Other {
-        hold: two.gate,
+) -> Beside {
+    let hold = two.gate;
+    let other = Other {
         session: two,
         saw_held: false,
     };
-    let (one, two) = work_beside(rt, one, two);
-    (one.told, two.session.told, two.saw_held)
+    let (one, other) = ask_in_thread(rt, one, other);
+    Beside {
+        first_told: one.told,
+        second_told: other.session.told,
+        saw_held: other.saw_held,
+        gave_up: hold.given_up.load(SeqCst) == 1,
+    }
 }
 
-#[test]
-fn users_do_not_wait_for_each_other(rt: HostRuntime) -> Result<(), Fail> {
-    let alloc = rt.alloc();
-    let clinic = make_clinic(&rt, alloc)?;
-    let dan = liar(&rt, alloc, &clinic.schema, "dan")?;
-    let (counter, pass) = counter_of(&rt, alloc, &clinic, &clinic.eve)?;
-    let (other, others_pass) = counter_of(&rt, alloc, &clinic, &dan)?;
+// Two users ask once, each at his desk, the second while the first is held.
+fn ask_two_desks<'w, R: Threads + Wait + Sync>(
+    rt: &R,
+    alloc: Global,
+    first: (Counter<'w, MemoryDisk>, DeskPass<MemoryDisk>),
+    second: (Counter<'w, MemoryDisk>, DeskPass<MemoryDisk>),
+) -> Beside
+    requires first { IsPassOf first.1 first.0 × (shares_of first.1 ≡ 65) × (turns first.1 ≡ 65 * 2 ^ 57) }
+    requires second { IsPassOf second.1 second.0 × (shares_of second.1 ≡ 65) × (turns second.1 ≡ 65 * 2 ^ 57) }
+{
+    let (counter, pass) = first;
+    let (other, others_pass) = second;
     let hold = Hold {
         held: AtomicU64::new(0),
         answered: AtomicU64::new(0),
@@ -305,7 +319,21 @@ fn users_do_not_wait_for_each_other(rt: HostRuntime) -> Result<(), Fail> {
     let question = ("drug(ann)", Mark::No);
     let one = session_at(alloc, &counter, pass, 65, question, 1, &hold);
     let two = session_at(alloc, &other, others_pass, 65, question, 1, &hold);
-    assert_eq!(rt; ask_while_held(&rt, one, two), (1, 1, true));
-    assert_eq!(rt; hold.given_up.load(SeqCst), 0);
+    ask_while_held(rt, one, two)
+}
+
+#[test]
+fn users_do_not_wait_for_each_other(rt: HostRuntime) -> Result<(), Fail> {
+    let alloc = rt.alloc();
+    let clinic = make_clinic(&rt, alloc)?;
+    let eves = counter_of(&rt, alloc, &clinic, &clinic.eve)?;
+    let dans = counter_of(&rt, alloc, &clinic, &clinic.dan)?;
+    let beside = Beside {
+        first_told: 1,
+        second_told: 1,
+        saw_held: true,
+        gave_up: false,
+    };
+    assert_eq!(rt; ask_two_desks(&rt, alloc, eves, dans), beside);
     Ok(())
 }

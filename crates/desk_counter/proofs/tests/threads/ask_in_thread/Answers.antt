@@ -7,7 +7,7 @@ use Rattle.turnstile.proofs.pass.Pass.TheSendSync as pass
 use Rattle.desk_counter.specs.declared.ticketed_desk.Owned as owned
 use Rattle.desk_counter.specs.contracts.tests.threads.Session as Session
 use Rattle.desk_counter.proofs.Crossing.{ticketed_desk_send, counter_sync}
-use Rattle.desk_counter.proofs.tests.threads.ask_in_threads.Goals as goal
+use Rattle.desk_counter.proofs.tests.threads.ask_in_thread.Goals as goal
 
 session_send : (a w : NamedLft) (V G I F : RattleType) (o : owned.Ghosts V.Denot I.Denot F.Denot) (r : recorded.Ghosts V.Denot I.Denot F.Denot) → IsSend V → IsSync G → IsSend (Session.the_row a w V G I F o r)
 session_send a w V G I F o r s y = search (sendable, crosses, counter_sync, pass.the_field_send) depth 30
