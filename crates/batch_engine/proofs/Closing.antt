@@ -106,7 +106,7 @@ module _ (schema : DatabaseSchema) (world : FactSet) (users : List NamedUser) (h
   back user script seat seated is =
       let counted : count' (journal_name directory user.name) ≡ faults is.now = ap count' (sym seated.journal_is) ∙ is.counted in
       let left = is.left in
-      let closed : IsClosed T image faults seat.desk left.closed = record { holds = λ told. left.is_closed.holds s; later = left.is_closed.later; cause = left.is_closed.cause; shut = left.is_closed.shut; still = left.is_closed.still } in
+      let closed : IsClosed T image faults seat.desk left.closed = record { holds = λ told. left.is_closed.holds s; legal = left.is_closed.legal; idle = left.is_closed.idle; later = left.is_closed.later; cause = left.is_closed.cause; shut = left.is_closed.shut; still = left.is_closed.still } in
       let running = close_at schema world header directory T reads image faults t read_is_image (bytes_of reads directory disk) (count_of directory count) user (own_events user.name script) seat left.closed seated closed in
       record {
         now = is.now;

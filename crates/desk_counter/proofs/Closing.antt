@@ -1,6 +1,6 @@
 -- What a closed desk shows of the pairs that were seen.
-use Rattle.std.proofs.Common.{◌≡◌, ℕ, ◌≤◌, Bool, true, false, List, ◌++◌, length, sym, ap, ◌∙◌, subst}
-use Rattle.std.specs.Prelude.{Option, None, is_some, option_to_list}
+use Rattle.std.proofs.Common.{◌≡◌, ℕ, ◌≤◌, Bool, true, false, List, [], ◌++◌, length, refl, sym, ap, ◌∙◌, subst}
+use Rattle.std.specs.Prelude.{Option, Some, None, is_some, option_to_list}
 use Rattle.std.proofs.lemmas.List.{length-take-le}
 use Rattle.outside.specs.Disk.{Elapses}
 use Rattle.outside.specs.Faults.{Rose}
@@ -11,13 +11,18 @@ use Rattle.cqe_base.specs.Run.{UserState}
 use Rattle.turnstile.specs.History.{Entries}
 use Rattle.user_desk.specs.declared.desk.Desk.{Desk}
 use Rattle.user_desk.specs.Entries.{StandsFor, StandsWithin}
-use Rattle.user_desk.specs.Standings.{standing_of, is_sealed}
+use Rattle.user_desk.specs.Standings.{standing_of, is_open, is_sealed}
 use Rattle.user_desk.specs.Lives.{Holds, shown}
 use Rattle.user_desk.specs.Desks.{desk_schema, desk_world, desk_user, desk_header, desk_standing, desk_history, desk_disk, opening_count, opening_history, opening_disk, entry_in_flight, is_broken_desk, state_of}
 use Rattle.desk_counter.specs.declared.item.Item.{Item}
 use Rattle.desk_counter.specs.declared.item.Fixed.{Fixed}
 use Rattle.desk_counter.specs.Items.{history_of, flying, has_broke}
 use Rattle.desk_counter.specs.Desks.{fixed_of, state_shown}
+
+-- no entry is in flight
+pub none_flies : (in_flight : Option AnsweredQuery) → is_some in_flight ≡ false → in_flight ≡ None
+none_flies None e = refl
+none_flies (Some entry) e = absurd cc
 
 module _ {D : Type 0} {g : _} (desk : Desk D g) (fixed : Fixed D) (pairs : Entries Item) (same : fixed_of desk ≡ fixed) (entries : desk_history desk ≡ history_of pairs) (flies : entry_in_flight desk ≡ flying pairs) where
   pub closed_legal : IsLegal (desk_schema desk) (desk_world desk) (desk_user desk) (desk_history desk) → IsLegal fixed.schema fixed.world fixed.user (history_of pairs)
@@ -59,6 +64,12 @@ module _ {D : Type 0} {g : _} (desk : Desk D g) (fixed : Fixed D) (pairs : Entri
   module _ (faults : D → ℕ) where
     pub closed_cause : (is_broken_desk desk ≡ true → Rose (faults (opening_disk desk)) (faults (desk_disk desk))) → has_broke pairs ≡ true → Rose (faults fixed.disk) (faults (desk_disk desk))
     closed_cause known broke = subst (λ (f : Fixed D). Rose (faults f.disk) (faults (desk_disk desk))) same (known (closed_broke ∙ broke))
+
+  -- only a user who is served has entries, or one in flight
+  pub closed_idle : (is_open (desk_standing desk) ≡ false → desk_history desk ≡ []) → (is_open (desk_standing desk) ≡ false → is_broken_desk desk ≡ false) → is_open fixed.standing ≡ false → (history_of pairs ≡ []) × (flying pairs ≡ None)
+  closed_idle none idle closed =
+      let shut : is_open (desk_standing desk) ≡ false = ap (λ (f : Fixed D). is_open f.standing) same ∙ closed in
+      (sym entries ∙ none shut, sym flies ∙ none_flies (entry_in_flight desk) (idle shut))
 
   -- nothing was appended since the opening
   pub closed_still : opening_count desk ≤ length (desk_history desk) → (opening_count desk ≡ length (desk_history desk) → entry_in_flight desk ≡ None → desk_disk desk ≡ opening_disk desk)

@@ -42,7 +42,7 @@ impl<'w, D: Disk> CounterOf<'w, TicketedDesk<'w, D>> {
     ghost use Rattle.turnstile.specs.Passes.{view_of, seen, tickets, mine, shares, turns};
     ghost use Rattle.user_desk.specs.Entries.{StandsFor, StandsWithin};
     ghost use Rattle.user_desk.specs.Lives.{Holds};
-    ghost use Rattle.user_desk.specs.Standings.{is_sealed};
+    ghost use Rattle.user_desk.specs.Standings.{is_open, is_sealed};
     ghost use Rattle.user_desk.specs.Desks.{desk_history, desk_disk, entry_in_flight};
     ghost use Rattle.desk_counter.specs.Items.{history_of, flying, has_broke, BrokeIsLast};
     ghost use Rattle.desk_counter.specs.Desks.{fixed_of, state_shown};
@@ -167,9 +167,10 @@ impl<'w, D: Disk> CounterOf<'w, TicketedDesk<'w, D>> {
         ensures drew { DrewEachOnce (view_of pass) }
 
         // What was seen is a legal history within the limits, and each crash leaves just that; where an append failed, that
-        // or one entry more, and the disk's count of faults rose since the desk's opening.
+        // or one entry more, and the disk's count of faults rose since the desk's opening. Only a user who is served has any.
         ensures legal { IsLegal (kept_by self.entry).schema (kept_by self.entry).world (kept_by self.entry).user (history_of (seen pass)) }
         ensures sizes { KeepsSizes (kept_by self.entry).schema (kept_by self.entry).user (history_of (seen pass)) }
+        ensures idle { is_open (kept_by self.entry).standing ≡ false → (history_of (seen pass) ≡ []) × (flying (seen pass) ≡ None) }
         ensures whole { D.told → is_sealed (kept_by self.entry).standing ≡ false → has_broke (seen pass) ≡ false → (c : List ℕ) → D.image (desk_disk result) c
             → StandsFor (kept_by self.entry).schema (kept_by self.entry).header (history_of (seen pass)) c }
         ensures images { D.told → is_sealed (kept_by self.entry).standing ≡ false → (c : List ℕ) → D.image (desk_disk result) c

@@ -31,12 +31,13 @@ pub struct SoleOf<'w, V: Owned> {
 pub type SoleCounter<'w, D> = SoleOf<'w, TicketedDesk<'w, D>>;
 
 impl<'w, D: Disk> SoleOf<'w, TicketedDesk<'w, D>> {
-    ghost use Rattle.std.specs.Prelude.{true, false, List, ℕ, ◌^◌};
+    ghost use Rattle.std.specs.Prelude.{true, false, List, ℕ, ◌^◌, [], None};
     ghost use Rattle.outside.specs.Faults.{Rose};
     ghost use Rattle.cqe_base.specs.Run.{UserState};
     ghost use Rattle.user_log.specs.Replies.{reply_of};
     ghost use Rattle.user_desk.specs.Lives.{Holds};
-    ghost use Rattle.user_desk.specs.Standings.{is_sealed};
+    ghost use Rattle.cqe_base.specs.Censor.{IsLegal};
+    ghost use Rattle.user_desk.specs.Standings.{is_open, is_sealed};
     ghost use Rattle.user_desk.specs.Desks.{desk_history, desk_disk, entry_in_flight};
     ghost use Rattle.desk_counter.specs.Items.{history_of, flying, has_broke};
     ghost use Rattle.desk_counter.specs.Desks.{fixed_of};
@@ -111,7 +112,9 @@ impl<'w, D: Disk> SoleOf<'w, TicketedDesk<'w, D>> {
         ensures history { desk_history result ≡ history_of (pairs_of_sole self.entry) }
         ensures in_flight { entry_in_flight result ≡ flying (pairs_of_sole self.entry) }
 
-        // What became of its disk since the opening.
+        // Its history is legal, and only a user who is served has any; and what became of its disk since the opening.
+        ensures legal { IsLegal (kept_in self.entry).schema (kept_in self.entry).world (kept_in self.entry).user (history_of (pairs_of_sole self.entry)) }
+        ensures idle { is_open (kept_in self.entry).standing ≡ false → (history_of (pairs_of_sole self.entry) ≡ []) × (flying (pairs_of_sole self.entry) ≡ None) }
         ensures images { D.told → is_sealed (kept_in self.entry).standing ≡ false → (c : List ℕ) → D.image (desk_disk result) c
             → Holds (kept_in self.entry).schema (kept_in self.entry).world (kept_in self.entry).user (kept_in self.entry).header (sole_state self.entry) c }
         ensures count { D.faults (kept_in self.entry).disk ≤ D.faults (desk_disk result) }

@@ -12,6 +12,7 @@ use Rattle.user_desk.specs.Desks.{desk_schema, desk_world, desk_user, desk_heade
 use Rattle.user_desk.specs.declared.desk.Desk.{Desk}
 use Rattle.user_desk.specs.declared.standing.DeskError.{DeskError}
 use Rattle.user_desk.specs.declared.standing.Standing.{Standing}
+use Rattle.desk_counter.proofs.Closing.{none_flies}
 use Rattle.desk_counter.specs.declared.item.Fixed.{Fixed}
 use Rattle.desk_counter.specs.Desks.{fixed_of}
 use Rattle.desk_counter.specs.Items.{flying}
@@ -19,10 +20,6 @@ use Rattle.turnstile.specs.Passes.{turns}
 use Rattle.desk_counter.specs.Sole.{pass_in, pairs_of_sole}
 use Rattle.desk_crew.specs.Crew.{first_refusal, seat_user, seat_kept, seat_standing, seat_history, seat_state, seat_disk, IsOpenedFrom}
 use Rattle.desk_crew.specs.Seats.{DeskSeat}
-
-none_flies : (in_flight : Option AnsweredQuery) → is_some in_flight ≡ false → in_flight ≡ None
-none_flies None e = λ i. None
-none_flies (Some entry) e = absurd cc
 
 module _ {D : Type 0} {g h : _} (schema : DatabaseSchema) (world : FactSet) (header : List ℕ) (told : Type 0) (reads : D → List ℕ) (image : D → List ℕ → Type 0) (faults : D → ℕ) (desk : Desk D g) (seat : DeskSeat D g h)
     (kept : seat_kept seat ≡ fixed_of desk) (entries : seat_history seat ≡ desk_history desk) (flies : flying (pairs_of_sole seat.desk) ≡ entry_in_flight desk) (all_turns : turns (pass_in seat.desk) ≡ 65 * 2 ^ 57) where

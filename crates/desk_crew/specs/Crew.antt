@@ -8,14 +8,15 @@ use Rattle.cqe_base.specs.Run.{Reply, UserState}
 use Rattle.cqe_base.specs.Transcript.{NamedUser}
 use Rattle.cqe_base.specs.declared.user.User.{User}
 use Rattle.user_desk.specs.Causes.{IsStanding}
-use Rattle.user_desk.specs.Standings.{is_sealed}
+use Rattle.cqe_base.specs.Censor.{IsLegal}
+use Rattle.user_desk.specs.Standings.{is_open, is_sealed}
 use Rattle.user_desk.specs.Lives.{Holds, Restarts}
 use Rattle.user_desk.specs.declared.standing.DeskError.{DeskError}
 use Rattle.user_desk.specs.declared.standing.Standing.{Standing}
 use Rattle.user_desk.specs.declared.standing.Standing.TheVariants.{Open, Closed, Sealed}
 use Rattle.desk_counter.specs.declared.item.Fixed.{Fixed}
 use Rattle.desk_counter.specs.Lives.{IsAskOf}
-use Rattle.desk_counter.specs.Items.{history_of, has_broke}
+use Rattle.desk_counter.specs.Items.{history_of, flying, has_broke}
 use Rattle.turnstile.specs.Passes.{turns}
 use Rattle.desk_counter.specs.Sole.{pass_in, kept_in, pairs_of_sole, sole_state, IsSoleIn, IsUntouched}
 use Rattle.desk_counter.specs.declared.sole.SoleOf.{SoleOf}
@@ -103,11 +104,14 @@ pub record IsLeft {D : Type 0} (reads : D → List ℕ) (image : D → List ℕ 
   pub images : (c : List ℕ) → image new c → image old c
   pub later : faults old ≤ faults new
 
--- A desk leaves this disk as it is closed: unless its journal was refused, each image holds the state that the desk showed;
--- the count rose where an append failed; and where nothing was appended the disk is as it was at the opening.
+-- A desk leaves this disk as it is closed: unless its journal was refused, each image holds the state that the desk showed,
+-- whose history is legal; only of a user who is served has it any; the count rose where an append failed; and where nothing
+-- was appended the disk is as it was at the opening.
 pub record IsClosed {D : Type 0} {g h : _} (told : Type 0) (image : D → List ℕ → Type 0) (faults : D → ℕ) (desk : SoleOf (TicketedDesk D g) Item (Fixed D) h) (disk : D) : Type 0 where
   pub holds : told → is_sealed (kept_in desk).standing ≡ false → (c : List ℕ) → image disk c
       → Holds (kept_in desk).schema (kept_in desk).world (kept_in desk).user (kept_in desk).header (sole_state desk) c
+  pub legal : IsLegal (kept_in desk).schema (kept_in desk).world (kept_in desk).user (history_of (pairs_of_sole desk))
+  pub idle : is_open (kept_in desk).standing ≡ false → (history_of (pairs_of_sole desk) ≡ []) × (flying (pairs_of_sole desk) ≡ None)
   pub later : faults (kept_in desk).disk ≤ faults disk
   pub cause : (sole_state desk).broken ≡ true → Rose (faults (kept_in desk).disk) (faults disk)
   pub shut : is_sealed (kept_in desk).standing ≡ true → disk ≡ (kept_in desk).disk

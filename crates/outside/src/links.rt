@@ -131,6 +131,7 @@ pub trait Links {
         ensures left { told → left self.new ≡ left self.old - Self.D.given door }
         ensures at_hand { told → at_hand self.new ≡ at_hand self.old + Self.D.left door }
         ensures back { told → back self.new ≡ back self.old ++ Self.D.back door }
+        ensures later { faults self.old ≤ faults self.new }
         ensures whole { Self.D.faults door ≡ 0 → faults self.new ≡ faults self.old }
         ensures failed { Self.D.faults door ≢ 0 → Rose (faults self.old) (faults self.new) };
 

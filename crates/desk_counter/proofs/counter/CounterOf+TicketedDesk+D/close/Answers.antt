@@ -12,7 +12,7 @@ use Rattle.desk_counter.specs.Tickets.{fixed_in}
 use Rattle.desk_counter.specs.Counters.{kept_by}
 use Rattle.desk_counter.proofs.Asking.{one_fixed}
 use Rattle.desk_counter.proofs.DeskSettles.{history_in, flying_in}
-use Rattle.desk_counter.proofs.Closing.{closed_legal, closed_sizes, closed_whole, closed_images, closed_since, closed_cause, closed_still}
+use Rattle.desk_counter.proofs.Closing.{closed_legal, closed_sizes, closed_whole, closed_images, closed_since, closed_cause, closed_idle, closed_still}
 use Rattle.desk_counter.proofs.counter.CounterOf+TicketedDesk+D.close.Goals as goal
 
 pub returns-clause-history : goal.returns-clause-history
@@ -57,3 +57,7 @@ returns-clause-since g c =
 pub returns-clause-still : goal.returns-clause-still
 returns-clause-still g c =
     closed_still c.into_desk-desk.result (kept_by c.args.self) (seen c.args.pass) (returns-clause-kept g c) (returns-clause-history g c) (returns-clause-in_flight g c) c.known.ensures.begins c.known.ensures.still
+
+pub returns-clause-idle : goal.returns-clause-idle
+returns-clause-idle g c =
+    closed_idle c.into_desk-desk.result (kept_by c.args.self) (seen c.args.pass) (returns-clause-kept g c) (returns-clause-history g c) (returns-clause-in_flight g c) c.known.ensures.none c.known.ensures.idle

@@ -1,0 +1,32 @@
+use Rattle.std.proofs.Common.{◌≡◌, ◌≤◌, ◌<◌, ◌+◌, ◌++◌, ◌∷◌, [], length, refl, sym, ap, ◌∙◌, subst, rules, arith, length-append}
+use Rattle.std.specs.List.{sum_by, flat_map}
+use Rattle.worker_pool.proofs.Seating.{read_on, read_more, read_all}
+use Rattle.serve_engine.specs.Doors.{SomeFailed}
+use Rattle.serve_engine.proofs.Backing.{sum_more, flat_more, failed_more}
+use Rattle.serve_engine.proofs.run.take_back_all.Goals as goal
+
+pub take_back-requires : goal.take_back-requires
+take_back-requires g c =
+    let out = c.loop-door.invariant.out in
+    let more = read_more c.args.doors.items c.loop-door.yielded _ _ c.in-Some.door c.loop-door.invariant.rest c.in-Some.ensures.steps.0 in
+    let enough = c.requires in
+    omega (arith, out, more, enough)
+
+pub loop-door-preserved : goal.loop-door-preserved
+loop-door-preserved g c =
+    let so_far = c.loop-door.invariant in
+    let back = c.take_back.ensures in
+    let out = so_far.out in
+    let less = back.out in
+    let read = length-append c.loop-door.yielded (c.in-Some.door ∷ []) in
+    let before = so_far.later in
+    let after = back.later in
+    record {
+      rest = read_on c.args.doors.items c.loop-door.yielded _ _ _ so_far.rest c.in-Some.ensures.steps.0;
+      out = omega (arith, out, less, read);
+      given = λ t. sum_more g.L.D.Door.given c.loop-door.yielded c.in-Some.door _ _ _ (so_far.given t) (back.given t);
+      at_hand = λ t. sum_more g.L.D.Door.left c.loop-door.yielded c.in-Some.door _ _ _ (so_far.at_hand t) (back.at_hand t);
+      back = λ t. flat_more g.L.D.Door.back c.loop-door.yielded c.in-Some.door _ _ _ (so_far.back t) (back.back t);
+      later = omega (arith, before, after);
+      failed = failed_more g.L.D.Door.faults c.loop-door.yielded c.in-Some.door _ _ _ before after so_far.failed back.failed;
+    }
