@@ -1,31 +1,29 @@
 -- What the lines of a batch mean for its users, once their disks are back.
-use Rattle.std.proofs.Common.{◌≡◌, ◌≢◌, ◌⊎◌, inl, inr, ℕ, ◌≤◌, Bool, true, false, List, [], ◌∷◌, ◌++◌, length, take, drop, map, refl, sym, ap, subst, ◌∙◌, append_assoc, append-nil, arith}
-use Rattle.std.specs.Prelude.{Option, Some, None, find, bytes_eq, All, if◌then◌else◌, Ok}
+use Rattle.std.proofs.Common.{◌≡◌, ◌≢◌, inl, inr, ℕ, ◌≤◌, Bool, true, false, List, [], ◌∷◌, ◌++◌, take, drop, map, refl, sym, ap, subst, ◌∙◌, append_assoc}
+use Rattle.std.specs.Prelude.{Option, Some, find, bytes_eq, All, if◌then◌else◌}
 use Rattle.std.specs.List.{list_any, AllByRecursion}
 use Rattle.std.proofs.lemmas.List.Elements.{All-head, All-tail}
 use Rattle.std.proofs.lemmas.List.{take-append-drop}
 use Rattle.cqe_base.specs.Schema.{Text, DatabaseSchema, is_valid_schema, has_duplicate}
 use Rattle.cqe_base.specs.Facts.{FactSet}
-use Rattle.cqe_base.specs.History.{UserProfile, History, profile_of}
+use Rattle.cqe_base.specs.History.{profile_of}
 use Rattle.cqe_base.specs.Limits.{KeepsLimits}
-use Rattle.cqe_base.specs.Censor.{EmptyHistoryIsLegal, IsLegal, admitted}
+use Rattle.cqe_base.specs.Censor.{EmptyHistoryIsLegal, IsLegal}
 use Rattle.cqe_base.specs.Headline.{RunsStayLegal, ScriptsHide}
-use Rattle.cqe_base.specs.Run.{UserState, standing_sealed, opening, after_events, replies, final_history}
-use Rattle.cqe_base.specs.Transcript.{NamedUser, ScriptEvent, own_events, own_replies, state_after, transcript, TranscriptIsPrivate}
+use Rattle.cqe_base.specs.Run.{UserState, standing_sealed}
+use Rattle.cqe_base.specs.Transcript.{NamedUser, ScriptEvent, own_events, state_after, TranscriptIsPrivate}
 use Rattle.cqe_base.specs.declared.user.User.{User}
 use Rattle.user_desk.specs.Causes.{Opens}
-use Rattle.user_desk.specs.Lives.{Holds, IsState}
+use Rattle.user_desk.specs.Lives.{IsState}
 use Rattle.user_desk.specs.Standings.{is_sealed}
-use Rattle.user_desk.specs.declared.standing.DeskError.{DeskError}
 use Rattle.user_desk.specs.declared.standing.Standing.{Standing}
 use Rattle.user_desk.specs.declared.standing.Standing.TheVariants.{Open, Closed, Sealed}
 use Rattle.log_journal.specs.Names.{journal_name}
 use Rattle.batch_engine.specs.BatchLines.{BatchItem}
 use Rattle.desk_crew.specs.Openings.{OpensNone, IsOpening}
-use Rattle.batch_engine.specs.Lives.{RoseBy, is_opened, failures, IsRefusal}
-use Rattle.desk_crew.specs.Shelved.{Journals}
-use Rattle.batch_engine.specs.Batch.{Serves, Answers, AreRefusals, AppendsAll, AppendsSome, unopened, with_opening, line_bytes}
-use Rattle.desk_crew.specs.Crew.{named_user, seat_name, seat_journal, seat_standing, seat_state, IsLeft, IsClosed}
+use Rattle.batch_engine.specs.Lives.{RoseBy, is_opened, failures}
+use Rattle.batch_engine.specs.Batch.{Serves, Answers, AreRefusals, AppendsAll, AppendsSome, unopened, with_opening}
+use Rattle.desk_crew.specs.Crew.{named_user, seat_standing, seat_state, IsLeft, IsClosed}
 use Rattle.desk_crew.specs.Shelved.{bytes_on, image_on, journals_on, IsBack, AreBack}
 use Rattle.desk_crew.specs.Seats.{DeskSeat}
 use Rattle.batch_engine.proofs.Courses.{Course, course_on, Fits, IsRunning}

@@ -1,6 +1,6 @@
 -- One user over asks and openings: what his journal shows of his run.
-use Rattle.std.proofs.Common.{◌≡◌, ◌⊎◌, inl, inr, ℕ, ◌+◌, ◌^◌, ◌≤◌, ◌<◌, Bool, true, false, List, [], ◌∷◌, ◌++◌, refl, sym, ap, subst, ◌∙◌, append-nil, ⊎_elim, arith}
-use Rattle.std.specs.Prelude.{Option, Some, None, is_some, ◌||◌, option_to_list, sum_by, Result, Ok, Err, if◌then◌else◌}
+use Rattle.std.proofs.Common.{◌≡◌, ◌⊎◌, inl, inr, ℕ, ◌+◌, ◌≤◌, Bool, true, false, List, [], ◌∷◌, ◌++◌, refl, sym, ap, subst, ◌∙◌, append-nil, arith}
+use Rattle.std.specs.Prelude.{Option, Some, None, is_some, ◌||◌, option_to_list, Result, Ok, Err, if◌then◌else◌}
 use Rattle.std.specs.List.{list_any}
 use Rattle.outside.specs.Faults.{Rose}
 use Rattle.cqe_base.specs.Schema.{DatabaseSchema, Text}
@@ -21,7 +21,7 @@ use Rattle.user_desk.specs.declared.standing.DeskError.TheVariants.{Journal, Sta
 use Rattle.user_desk.specs.declared.standing.Standing.{Standing}
 use Rattle.user_desk.specs.declared.standing.Standing.TheVariants.{Open, Closed, Sealed}
 use Rattle.desk_crew.specs.Crew.{first_refusal}
-use Rattle.desk_crew.specs.Openings.{OpensNone, IsOpening}
+use Rattle.desk_crew.specs.Openings.{OpensNone}
 use Rattle.batch_engine.specs.Lives.{RoseBy, is_opened, is_refused, failures_in, failures, IsCaused, AreCaused, IsRefusal}
 
 -- ---- counts and lists

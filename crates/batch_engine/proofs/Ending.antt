@@ -1,6 +1,6 @@
 -- A batch from its opening to the disks that are back.
-use Rattle.std.proofs.Common.{◌≡◌, ◌⊎◌, inl, inr, ℕ, Bool, false, true, List, [], ◌∷◌, ◌++◌, take, map, refl, sym, ap, subst, ◌∙◌}
-use Rattle.std.specs.Prelude.{Option, Some, None, All, Ok, Result, string_bytes}
+use Rattle.std.proofs.Common.{◌≡◌, ◌⊎◌, ℕ, Bool, false, true, List, [], ◌∷◌, ◌++◌, map, refl, sym, ap, ◌∙◌}
+use Rattle.std.specs.Prelude.{Option, All}
 use Rattle.std.specs.List.{AllByRecursion}
 use Rattle.std.proofs.lemmas.List.Elements.{All-head, All-tail}
 use Rattle.script_lines.specs.Scripts.{script_from}
@@ -13,8 +13,6 @@ use Rattle.cqe_base.specs.Headline.{RunsStayLegal, ScriptsHide}
 use Rattle.cqe_base.specs.Transcript.{NamedUser, script_opening, TranscriptIsPrivate}
 use Rattle.cqe_base.specs.declared.user.User.{User}
 use Rattle.user_desk.specs.Causes.{Opens}
-use Rattle.log_journal.specs.Opening.{header_bytes}
-use Rattle.log_journal.specs.declared.header.Header.{Header}
 use Rattle.batch_engine.specs.BatchLines.{BatchItem, with_line, batch_of}
 use Rattle.desk_crew.specs.Openings.{OpensNone, IsOpening}
 use Rattle.batch_engine.specs.Batch.{AppendsAll, AppendsSome, unopened}

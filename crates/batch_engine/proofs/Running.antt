@@ -1,9 +1,9 @@
 -- The items of a batch, carried out one after the other: what stays of the seats.
 use Rattle.std.proofs.Common.{◌≡◌, ℕ, zero, suc, ◌≤◌, ◌<◌, ◌+◌, Bool, true, false, List, [], ◌∷◌, ◌++◌, length, take, drop, get_or, map, refl, sym, ap, subst, ◌∙◌, append-nil, append_assoc, arith}
-use Rattle.std.specs.Prelude.{Option, Some, None, ◌&&◌, ◌||◌}
+use Rattle.std.specs.Prelude.{Option, ◌&&◌, ◌||◌}
 use Rattle.std.specs.List.{list_all, AllByRecursion}
-use Rattle.std.proofs.lemmas.List.{take-append-drop, take_more}
-use Rattle.cqe_base.specs.Schema.{Text, DatabaseSchema, has_duplicate}
+use Rattle.std.proofs.lemmas.List.{take-append-drop}
+use Rattle.cqe_base.specs.Schema.{Text, DatabaseSchema}
 use Rattle.cqe_base.specs.Facts.{FactSet}
 use Rattle.cqe_base.specs.History.{profile_of}
 use Rattle.cqe_base.specs.Limits.{KeepsLimits}
@@ -13,7 +13,7 @@ use Rattle.batch_engine.specs.BatchLines.{BatchItem, asked, restarted}
 use Rattle.batch_engine.specs.Said.{is_short_item}
 use Rattle.batch_engine.specs.Batches.{item_in}
 use Rattle.desk_counter.specs.declared.item.Fixed.{Fixed}
-use Rattle.desk_crew.specs.Crew.{seat_user, seat_journal, seat_disk, IsServed, IsToldAt, IsReopened, AreReopened, Tells, nobody, here, further}
+use Rattle.desk_crew.specs.Crew.{seat_user, seat_journal, seat_disk, IsServed, AreReopened, Tells, nobody, here, further}
 use Rattle.desk_crew.specs.Shelved.{journals, AreLater}
 use Rattle.outside.specs.Streams.{AppendsPart}
 use Rattle.batch_engine.specs.Steps.{Carries, Runs, nothing, more, RunsAll, RunsSome}

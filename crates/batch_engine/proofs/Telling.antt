@@ -1,16 +1,15 @@
 -- The items of a batch, one after the other: what was written, and where its users sit.
-use Rattle.std.proofs.Common.{◌≡◌, ◌⊎◌, inl, inr, ℕ, Bool, true, false, List, [], ◌∷◌, ◌++◌, map, refl, sym, ap, subst, ◌∙◌, append_assoc, append-nil}
-use Rattle.std.specs.Prelude.{Option, Some, None, ◌||◌, find, bytes_eq}
-use Rattle.std.specs.List.{list_any, flat_map}
+use Rattle.std.proofs.Common.{◌≡◌, ℕ, Bool, false, List, [], ◌∷◌, ◌++◌, refl, sym, ap, ◌∙◌, append_assoc, append-nil}
+use Rattle.std.specs.Prelude.{Option, Some, None, ◌||◌}
+use Rattle.std.specs.List.{list_any}
 use Rattle.cqe_base.specs.Schema.{Text, DatabaseSchema, has_duplicate}
 use Rattle.cqe_base.specs.Facts.{FactSet}
 use Rattle.cqe_base.specs.History.{UserProfile}
 use Rattle.cqe_base.specs.Run
 use Rattle.cqe_base.specs.Run.{Reply, restart}
-use Rattle.cqe_base.specs.Transcript.{NamedUser, ScriptEvent, script_ask, script_restart, script_opening, Line, reply_line, restart_line, own_event, told_after, written_after, lines_after, transcript, line_text}
+use Rattle.cqe_base.specs.Transcript.{NamedUser, ScriptEvent, script_ask, script_restart, Line, reply_line, restart_line, written_after, lines_after, transcript, line_text}
 use Rattle.batch_engine.specs.BatchLines.{BatchItem, asked, restarted}
 use Rattle.batch_engine.specs.Batch.{IsEventOf, AreEventsOf, line_bytes, is_broken_line, with_opening}
-use Rattle.desk_crew.specs.Crew.{Tells, AreReopened}
 use Rattle.batch_engine.specs.Steps.{Carries, is_broken_reply}
 use Rattle.desk_crew.specs.Seats.{DeskSeat}
 use Rattle.batch_engine.proofs.Courses.{IsExclusive, any-push}

@@ -1,9 +1,9 @@
 -- What a user's run shows of its journal: entries in flight, appends that failed, openings that held or were refused.
-use Rattle.std.specs.Prelude.{◌≡◌, ◌⊎◌, ℕ, ◌+◌, ◌^◌, ◌≤◌, Bool, true, false, List, [], ◌∷◌, Option, Some, None, is_some, if◌then◌else◌}
+use Rattle.std.specs.Prelude.{◌≡◌, ◌⊎◌, ℕ, ◌+◌, ◌^◌, ◌≤◌, Bool, true, false, List, [], ◌∷◌, Option, Some, None, is_some}
 use Rattle.std.specs.List.{list_any}
-use Rattle.cqe_base.specs.Schema.{DatabaseSchema, Text}
+use Rattle.cqe_base.specs.Schema.{DatabaseSchema}
 use Rattle.cqe_base.specs.Facts.{FactSet}
-use Rattle.cqe_base.specs.History.{UserProfile, History}
+use Rattle.cqe_base.specs.History.{UserProfile}
 use Rattle.cqe_base.specs.Run.{Event, ask, stop, restart, want, kept, failed, UserState, entry_at, after_event}
 use Rattle.user_desk.specs.Causes.{IsSealedBy}
 use Rattle.user_desk.specs.declared.standing.DeskError.{DeskError}

@@ -1,4 +1,4 @@
-use Rattle.std.proofs.Common.{◌≡◌, ◌≤◌, ◌++◌, ◌∷◌, ◌+◌, ℕ, List, [], Bool, true, false, ◌||◌, length, take, drop, map, refl, sym, ap, subst, ◌∙◌, arith}
+use Rattle.std.proofs.Common.{◌≡◌, ◌++◌, ◌+◌, ◌||◌, take, drop, map, refl, sym, ap, subst, ◌∙◌, arith}
 use Rattle.cqe_base.specs.Schema.{has_duplicate}
 use Rattle.outside.specs.Streams.{AppendsPart}
 use Rattle.log_journal.specs.Opening.{header_bytes}

@@ -1,9 +1,6 @@
-use Rattle.std.proofs.Common.{◌≡◌, ◌≤◌, ◌⊎◌, inl, inr, ℕ, List, [], ◌++◌, Bool, false, length, map, refl, sym, ap, subst, ◌∙◌, arith}
-use Rattle.std.specs.Prelude.{Ok}
-use Rattle.std.specs.List.{AllByRecursion}
+use Rattle.std.proofs.Common.{inr, ◌++◌, length, map, refl, sym, ap, subst, ◌∙◌, arith}
 use Rattle.cqe_base.specs.Schema.{has_duplicate}
-use Rattle.cqe_base.specs.History.{UserProfile, profile_of}
-use Rattle.cqe_base.specs.Limits.{KeepsLimits}
+use Rattle.cqe_base.specs.History.{UserProfile}
 use Rattle.log_journal.specs.Opening.{header_bytes}
 use Rattle.batch_engine.specs.BatchOf.{items_of}
 use Rattle.batch_engine.specs.Batch.{AppendsAll}
