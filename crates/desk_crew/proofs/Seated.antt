@@ -60,6 +60,7 @@ module _ {D : Type 0} {g h : _} (schema : DatabaseSchema) (world : FactSet) (hea
           count = ap length entries ∙ sym (ap length (ap (λ (f : Fixed D). f.opening) kept ∙ opening));
           none = flies ∙ none_flies (entry_in_flight desk) whole;
         };
+        opening_is = ap (λ (f : Fixed D). f.opening) kept ∙ opening ∙ sym entries;
         turns_are = all_turns;
         holds = λ t served c here.
             subst (λ s. Holds s world (profile_of (seat_user seat)) header (seat_state seat) c) schema_is

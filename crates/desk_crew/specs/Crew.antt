@@ -159,6 +159,7 @@ module _ (schema : DatabaseSchema) (world : FactSet) (header : List ℕ) where
           → Restarts schema world (profile_of (seat_user seat)) (IsSeatIn seat) state (faults disk) (faults (seat_disk seat))
       pub refusal : seat.refusal ≡ first_refusal before (seat_standing seat)
       pub fresh : IsFresh seat
+      pub opening_is : (seat_kept seat).opening ≡ seat_history seat
       -- its pass has all turns
       pub turns_are : turns (pass_in seat.desk) ≡ 65 * 2 ^ 57
       -- each image of its disk holds the state that its desk shows, unless its journal was refused

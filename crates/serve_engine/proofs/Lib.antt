@@ -5,3 +5,4 @@ pub mod Visiting
 pub mod Reading
 pub mod Apart
 pub mod Backing
+pub mod Histories

@@ -1,0 +1,171 @@
+-- Each user's one history, from the opening of his journal to the disk that is back.
+use Rattle.std.proofs.Common.{◌≡◌, ◌⊎◌, inl, inr, ℕ, ◌≤◌, Bool, true, false, List, [], ◌∷◌, ◌++◌, map, refl, sym, ap, subst, ◌∙◌, arith}
+use Rattle.std.specs.Prelude.{Option, Some, None, ◌||◌, string_bytes, All}
+use Rattle.std.specs.List.{list_any}
+use Rattle.std.proofs.lemmas.List.Elements.{All-head, All-tail}
+use Rattle.outside.specs.Faults.{Rose}
+use Rattle.cqe_base.specs.Schema.{Text, DatabaseSchema, is_valid_schema}
+use Rattle.cqe_base.specs.Facts.{FactSet}
+use Rattle.cqe_base.specs.History.{UserProfile, History, is_user_of, profile_of}
+use Rattle.cqe_base.specs.Censor.{IsLegal, admitted}
+use Rattle.cqe_base.specs.Hiding.{Hides, LegalHistoriesHide}
+use Rattle.cqe_base.specs.Limits.{KeepsLimits}
+use Rattle.cqe_base.specs.Run.{UserState}
+use Rattle.cqe_base.specs.declared.user.User.{User}
+use Rattle.log_journal.specs.Names.{journal_name}
+use Rattle.log_journal.specs.declared.header.OpenError.TheVariants as journal_error
+use Rattle.user_desk.specs.Causes.{IsStanding, IsSealedBy}
+use Rattle.user_desk.specs.Lives.{Holds, shown}
+use Rattle.user_desk.specs.Standings.{standing_of, is_open, is_sealed}
+use Rattle.user_desk.specs.declared.standing.DeskError.{DeskError}
+use Rattle.user_desk.specs.declared.standing.DeskError.TheVariants.{Journal, Stale, Unlawful, Size, NotAdmitted}
+use Rattle.user_desk.specs.declared.standing.Standing.{Standing}
+use Rattle.user_desk.specs.declared.standing.Standing.TheVariants.{Open, Closed, Sealed}
+use Rattle.desk_counter.specs.declared.item.Fixed.{Fixed}
+use Rattle.desk_counter.specs.Items.{history_of, flying}
+use Rattle.desk_counter.specs.Sole.{pairs_of_sole, sole_state}
+use Rattle.session_core.proofs.Replying.{history_all}
+use Rattle.desk_crew.specs.Crew.{refusal_of, seat_user, seat_journal, seat_kept, seat_standing, seat_history, seat_disk, seat_broke, seat_state}
+use Rattle.desk_crew.specs.Seats.{DeskSeat}
+use Rattle.desk_crew.specs.Shelved.{bytes_on, image_on, journals, journals_on, AreLater, IsSeatOf, AreSeatsOf, IsBack, AreBack}
+use Rattle.desk_crew.proofs.Taken.{rose_wide, taken_reads}
+use Rattle.serve_engine.specs.Served.{Member}
+use Rattle.serve_engine.specs.Serving.{HasServed, HaveServed}
+use Rattle.serve_engine.specs.Sharing.{seat_member, IsSeatOn, AreSeatsOn, AreAllIn}
+
+shut_closed : (standing : Standing) → is_sealed standing ≡ true → is_open standing ≡ false
+shut_closed Open sealed = absurd cc
+shut_closed (Closed admission) sealed = refl
+shut_closed (Sealed why) sealed = refl
+
+module _ (schema : DatabaseSchema) (world : FactSet) (user : UserProfile) (header bytes : List ℕ) (T : Type 0) (t : T) where
+  -- a cause that is told is one for all, and a count that rose within a longer time rose in it
+  sealed_wide : (first before now last : ℕ) → first ≤ before → now ≤ last → (why : DeskError) → IsSealedBy schema world user T header bytes before now why → IsSealedBy schema world user (Unit {0}) header bytes first last why
+  sealed_wide first before now last a b (Journal journal_error.Memory) is = is
+  sealed_wide first before now last a b (Journal journal_error.DiskFault) is = rose_wide first before now last a b is
+  sealed_wide first before now last a b (Journal journal_error.NotAJournal) is = λ u. is t
+  sealed_wide first before now last a b (Journal journal_error.OtherPolicy) is = λ u. is t
+  sealed_wide first before now last a b (Journal (journal_error.Damaged number)) is = λ u. is t
+  sealed_wide first before now last a b (Stale number) is = λ u. is t
+  sealed_wide first before now last a b (Unlawful number stored computed) is = λ u. is t
+  sealed_wide first before now last a b (Size number) is = λ u. is t
+  sealed_wide first before now last a b (NotAdmitted admission) is = λ u. is t
+
+  standing_wide : (entries : History) (first before now last : ℕ) → first ≤ before → now ≤ last → (standing : Standing) → IsStanding schema world user T header bytes entries before now standing
+      → IsStanding schema world user (Unit {0}) header bytes entries first last standing
+  standing_wide entries first before now last a b Open is = (is.0, λ u. is.1 t)
+  standing_wide entries first before now last a b (Closed admission) is = (is.0, is.1, is.2, λ u. is.3 t)
+  standing_wide entries first before now last a b (Sealed why) is = (is.0, sealed_wide first before now last a b why is.1)
+
+module _ (schema : DatabaseSchema) (world : FactSet) (header directory : List ℕ) {D : Type 0} {g h : _} (T S : Type 0) (t : T) (s : S) (reads : D → List ℕ) (image : D → List ℕ → Type 0) (faults : D → ℕ)
+    (read_is_image : (d : D) → T → image d (reads d)) (disk disk' : Text → Option D) (count count' : Text → ℕ) where
+  abbrev Opened : User → DeskSeat D g h → Type 0
+  Opened user seat = IsSeatOf S reads image faults T schema world header directory disk count user seat
+
+  abbrev Back : DeskSeat D g h → Type 0
+  Back seat = IsBack S reads image faults disk' count' seat
+
+  module _ (valid : is_valid_schema schema ≡ true) (hide : LegalHistoriesHide) where
+    -- one user
+    has_served : (user : User) (old new : DeskSeat D g h) → KeepsLimits schema (profile_of user) → Opened user old → IsSeatOn old new → Back new
+        → HasServed schema world header (journals_on reads image directory disk disk' count count') user (seat_member new) old.refusal
+    has_served user old new limits opened on back =
+        let name : Text = journal_name directory (string_bytes user.name) in
+        let is = opened.opened in
+        let kept : seat_kept new ≡ seat_kept old = on.kept_is in
+        let closed = back.left.is_closed in
+        let left = back.left.left in
+        let journal : seat_journal new ≡ name = on.journal_is ∙ opened.journal_is in
+        let schema_is : (seat_kept new).schema ≡ schema = ap (λ (f : Fixed D). f.schema) kept ∙ is.served.schema_is in
+        let world_is : (seat_kept new).world ≡ world = ap (λ (f : Fixed D). f.world) kept ∙ is.served.world_is in
+        let header_is : (seat_kept new).header ≡ header = ap (λ (f : Fixed D). f.header) kept ∙ is.served.header_is in
+        let user_is : (seat_kept new).user ≡ profile_of user = ap (λ (f : Fixed D). f.user) kept ∙ is.served.user_is ∙ ap profile_of opened.user_is in
+        let held : disk' name ≡ Some back.now = ap disk' (sym journal) ∙ back.held s in
+        let counted : count' name ≡ faults back.now = ap count' (sym journal) ∙ back.counted in
+        let before : faults opened.taken ≡ count name = opened.counted ∙ ap count opened.journal_is in
+        let begins : faults opened.taken ≤ faults (seat_disk old) = opened.left.later in
+        let while : faults (seat_kept new).disk ≤ faults back.left.closed = closed.later in
+        let disks : faults (seat_kept new).disk ≡ faults (seat_disk old) = ap (λ (f : Fixed D). faults f.disk) kept in
+        let ends : faults back.left.closed ≤ faults back.now = left.later in
+        let read_was : reads opened.taken ≡ bytes_on reads (disk name) = taken_reads reads image (disk (seat_journal old)) opened.taken (opened.from s) ∙ ap (λ n. bytes_on reads (disk n)) opened.journal_is in
+        let standing : Standing = seat_standing new in
+        let standing_is : seat_standing old ≡ standing = ap (λ (f : Fixed D). f.standing) (sym kept) in
+        let opening : seat_history old ≡ (seat_kept new).opening = sym is.opening_is ∙ ap (λ (f : Fixed D). f.opening) (sym kept) in
+        let legal : IsLegal schema world (seat_kept new).user (seat_history new) =
+            subst (λ w. IsLegal schema w (seat_kept new).user (seat_history new)) world_is (subst (λ d. IsLegal d (seat_kept new).world (seat_kept new).user (seat_history new)) schema_is closed.legal) in
+        let holds : is_sealed standing ≡ false → (c : List ℕ) → image back.left.closed c → Holds schema world (seat_kept new).user header (seat_state new) c = λ served c here.
+            subst (λ hd. Holds schema world (seat_kept new).user hd (seat_state new) c) header_is
+            (subst (λ w. Holds schema w (seat_kept new).user (seat_kept new).header (seat_state new) c) world_is
+            (subst (λ d. Holds d (seat_kept new).world (seat_kept new).user (seat_kept new).header (seat_state new) c) schema_is (closed.holds s served c here))) in
+        record {
+          profile_is = user_is;
+          standing = standing;
+          standing_is = refl;
+          refusal_is = is.refusal ∙ ap refusal_of standing_is;
+          cause = standing_wide schema world (seat_kept new).user header (bytes_on reads (disk name)) T t (seat_kept new).opening (count name) (faults opened.taken) (faults (seat_disk old)) (count' name) (omega (arith, before)) (omega (arith, while, disks, ends, counted)) standing
+              (subst (λ (st : Standing). IsStanding schema world (seat_kept new).user T header (bytes_on reads (disk name)) (seat_kept new).opening (faults opened.taken) (faults (seat_disk old)) st) standing_is
+              (subst (λ (e : History). IsStanding schema world (seat_kept new).user T header (bytes_on reads (disk name)) e (faults opened.taken) (faults (seat_disk old)) (seat_standing old)) opening
+              (subst (λ b. IsStanding schema world (seat_kept new).user T header b (seat_history old) (faults opened.taken) (faults (seat_disk old)) (seat_standing old)) read_was
+              (subst (λ (p : UserProfile). IsStanding schema world p T header (reads opened.taken) (seat_history old) (faults opened.taken) (faults (seat_disk old)) (seat_standing old)) (ap profile_of opened.user_is ∙ sym user_is) is.standing))));
+          goes_on = (history_of on.on.0, ap history_of on.on.1 ∙ history_all (pairs_of_sole old.desk) on.on.0 ∙ ap (λ (e : History). e ++ history_of on.on.0) opening);
+          legal = legal;
+          hides = λ admits. hide schema world (seat_kept new).user (seat_history new) valid (subst (λ (p : UserProfile). is_user_of schema p ≡ true) (sym user_is) limits.sentences) admits legal;
+          in_flight = flying (pairs_of_sole new.desk);
+          broke_is = refl;
+          reads = λ served. subst (λ o. Holds schema world (seat_kept new).user header (seat_state new) (bytes_on reads o)) (sym held) (holds served (reads back.now) (left.images (reads back.now) (read_is_image back.now t)));
+          stands = λ served c here. holds served c (left.images c (subst (λ o. image_on image o c) held here));
+          refused = λ sealed. (
+            (closed.idle (shut_closed standing sealed)).0,
+            ap (bytes_on reads) held ∙ left.reads_same ∙ ap reads (closed.shut sealed) ∙ ap (λ (f : Fixed D). reads f.disk) kept ∙ opened.left.reads_same ∙ read_was,
+          );
+          failed = λ broke. rose_wide (count name) (faults (seat_kept new).disk) (faults back.left.closed) (count' name) (omega (arith, before, begins, disks)) (omega (arith, ends, counted)) (closed.cause broke);
+        }
+
+    -- all users
+    pub have_served : (users : List User) (olds news : List (DeskSeat D g h)) → All (λ user. KeepsLimits schema (profile_of user)) users → AreSeatsOf S reads image faults T schema world header directory disk count users olds → AreSeatsOn olds news
+        → AreBack S reads image faults disk' count' news → HaveServed schema world header (journals_on reads image directory disk disk' count count') users (map seat_member news) (map (λ seat. seat.refusal) olds)
+    have_served [] [] [] limits opened on back = tt
+    have_served (user ∷ users) (old ∷ olds) (new ∷ news) limits opened on back = (
+      has_served user old new (All-head (λ u. KeepsLimits schema (profile_of u)) user users limits) opened.0 on.0 back.0,
+      have_served users olds news (All-tail (λ u. KeepsLimits schema (profile_of u)) user users limits) opened.1 on.1 back.1,
+    )
+    have_served [] (old ∷ olds) news limits opened on back = absurd opened
+    have_served (user ∷ users) [] news limits opened on back = absurd opened
+    have_served [] [] (new ∷ news) limits opened on back = absurd on
+    have_served (user ∷ users) (old ∷ olds) [] limits opened on back = absurd on
+
+  -- all desks are in the one world
+  pub all_in_world : (users : List User) (olds news : List (DeskSeat D g h)) → AreSeatsOf S reads image faults T schema world header directory disk count users olds → AreSeatsOn olds news → AreAllIn schema world news
+  all_in_world [] [] [] opened on = tt
+  all_in_world (user ∷ users) (old ∷ olds) (new ∷ news) opened on =
+      let served = opened.0.opened.served in (
+        ap (λ (f : Fixed D). f.schema) on.0.kept_is ∙ served.schema_is,
+        ap (λ (f : Fixed D). f.world) on.0.kept_is ∙ served.world_is,
+        all_in_world users olds news opened.1 on.1,
+      )
+  all_in_world [] (old ∷ olds) news opened on = absurd opened
+  all_in_world (user ∷ users) [] news opened on = absurd opened
+  all_in_world [] [] (new ∷ news) opened on = absurd on
+  all_in_world (user ∷ users) (old ∷ olds) [] opened on = absurd on
+
+module _ {D : Type 0} {g h : _} where
+  -- whether an append failed at one of the seats is whether one failed for one of the users
+  pub broke_at : (seats : List (DeskSeat D g h)) → list_any seat_broke seats ≡ list_any (λ (m : Member). m.broke) (map seat_member seats)
+  broke_at [] = refl
+  broke_at (seat ∷ seats) = ap (λ b. seat_broke seat || b) (broke_at seats)
+
+  -- the journals are the same, and so are the disks as the desks were opened
+  pub journals_on_same : (olds news : List (DeskSeat D g h)) → AreSeatsOn olds news → journals news ≡ journals olds
+  journals_on_same [] [] on = refl
+  journals_on_same (old ∷ olds) (new ∷ news) on = ap (λ n. n ∷ journals news) on.0.journal_is ∙ ap (λ ns. seat_journal old ∷ ns) (journals_on_same olds news on.1)
+  journals_on_same [] (new ∷ news) on = absurd on
+  journals_on_same (old ∷ olds) [] on = absurd on
+
+  pub later_on_seats : (faults : D → ℕ) (count : Text → ℕ) (olds news : List (DeskSeat D g h)) → AreSeatsOn olds news → AreLater faults count olds → AreLater faults count news
+  later_on_seats faults count [] [] on later = tt
+  later_on_seats faults count (old ∷ olds) (new ∷ news) on later = (
+    subst (λ d. count (seat_journal new) ≤ faults d) (ap (λ (f : Fixed D). f.disk) (sym on.0.kept_is)) (subst (λ n. count n ≤ faults (seat_disk old)) (sym on.0.journal_is) later.0),
+    later_on_seats faults count olds news on.1 later.1,
+  )
+  later_on_seats faults count [] (new ∷ news) on later = absurd on
+  later_on_seats faults count (old ∷ olds) [] on later = absurd on
