@@ -1,5 +1,5 @@
 -- The passes after a session.
-use Rattle.std.proofs.Common.{◌≡◌, ℕ, zero, suc, ◌≤◌, ◌+◌, ◌*◌, ◌/◌, ◌^◌, min, Bool, true, false, List, [], ◌∷◌, ◌++◌, length, refl, sym, ap, ◌∙◌, subst, arith}
+use Rattle.std.proofs.Common.{◌≡◌, ℕ, ◌≤◌, ◌+◌, ◌*◌, ◌/◌, ◌^◌, min, true, false, List, [], ◌∷◌, length, refl, sym, ap, ◌∙◌, subst, arith}
 use Rattle.std.specs.Prelude.{Option, Some, None}
 use Rattle.std.specs.List.{AllByRecursion, AllZip}
 use Rattle.std.proofs.lemmas.List.{append-nil, length-append}
@@ -19,7 +19,7 @@ use Rattle.session_core.specs.Desks.{AsksAt, AsksOf}
 use Rattle.session_core.specs.Desks as desks
 use Rattle.session_core.proofs.Replying.{from_earlier, history_all, broke_on}
 use Rattle.serve_engine.specs.Served.{IsLater, RepliedAt, here, further, RepliedTo}
-use Rattle.serve_engine.specs.Members.{member_of, members_of, AreIn, HaveSeenOpenings, IsPassLater, room_in}
+use Rattle.serve_engine.specs.Members.{members_of, AreIn, HaveSeenOpenings, IsPassLater, room_in}
 use Rattle.serve_engine.specs.Keeping.{same_passes}
 
 -- ---- turns

@@ -1,3 +1,4 @@
+pub mod Crossing
 pub mod Growing
 pub mod Holding
 pub mod Later

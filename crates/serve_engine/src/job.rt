@@ -68,23 +68,24 @@ impl<'a, 'w, D: Disk, G: Gate, Src: Source, Snk: Sink> Job<Src, Snk>
     ghost use Rattle.std.proofs.Common.{refl, ◌∙◌};
     ghost use Rattle.session_core.specs.Members.{passes_in};
     ghost use Rattle.serve_engine.specs.Members.{IsServedBy, ArePassesLater, room_in};
+    ghost use Rattle.serve_engine.specs.Jobs.{job_counters, job_passes, job_runs};
     ghost use Rattle.serve_engine.specs.Keeping.{same_passes, later_passes};
 
     ghost told = { ⊥ };
 
-    ghost room = { λ job. room_in (passes_in job.passes) };
+    ghost room = { λ job. room_in (passes_in (job_passes job)) };
 
-    ghost ran = { λ job. job.runs };
+    ghost ran = { λ job. job_runs job };
 
     ghost numbers = { λ job. [] };
 
-    ghost stands = { λ job visit. IsServedBy job.counters.now job.passes visit };
+    ghost stands = { λ job visit. IsServedBy (job_counters job) (job_passes job) visit };
 
-    ghost keeps = { λ before after. (after.counters.now ≡ before.counters.now) × ArePassesLater before.passes after.passes };
+    ghost keeps = { λ before after. (job_counters after ≡ job_counters before) × ArePassesLater (job_passes before) (job_passes after) };
 
-    ghost keeps_none = { λ job. (refl, same_passes (passes_in job.passes)) };
+    ghost keeps_none = { λ job. (refl, same_passes (passes_in (job_passes job))) };
 
-    ghost keeps_more = { λ before between after first second. (second.0 ∙ first.0, later_passes (passes_in before.passes) (passes_in between.passes) (passes_in after.passes) first.1 second.1) };
+    ghost keeps_more = { λ before between after first second. (second.0 ∙ first.0, later_passes (passes_in (job_passes before)) (passes_in (job_passes between)) (passes_in (job_passes after)) first.1 second.1) };
 
     fn run<R: Wait>(
         &mut self,

@@ -1,4 +1,4 @@
-use Rattle.std.proofs.Common.{◌≤◌, length, refl, arith}
+use Rattle.std.proofs.Common.{refl, arith}
 use Rattle.session_core.specs.Members.{passes_in, counters_in, users_of, fixeds_of}
 use Rattle.session_core.proofs.Passing.{passes_many}
 use Rattle.session_core.proofs.Talking.{talks_few}
