@@ -4,10 +4,11 @@ ghost use Rattle.std.specs.Prelude.{◌≡◌, List, ℕ, false};
 ghost use Rattle.outside.specs.MemoryShelves.{is_disk_out};
 
 use crate::top;
-use outside::{MemoryShelf, MemorySink, MemorySource, OpenGate, Pieces, Plan};
+use outside::{MemoryLinks, MemoryShelf, MemorySink, MemorySource, OpenGate, Pieces, Plan};
 use std::alloc::{AllocError, Global};
 use std::process::Abort;
 use std::sync::Wait;
+use std::thread::Threads;
 
 mod audit;
 mod batch;
@@ -25,9 +26,9 @@ struct Run {
     complaints: MemorySink,
 }
 
-// Calls the program over a shelf that has all its disks, and has them all again.
+// Calls the program over a shelf that has all its disks, and has them all again. No client comes.
 fn run_over(
-    rt: &impl Wait,
+    rt: &(impl Threads + Wait + Sync),
     alloc: Global,
     words: &[&str],
     shelf: &mut MemoryShelf,
@@ -39,6 +40,7 @@ fn run_over(
     ensures { (name : List ℕ) → is_disk_out shelf.new name ≡ false }
 {
     let (mut source, mut sink, mut complaints) = (source, sink, complaints);
+    let mut links = MemoryLinks::new(alloc, Vec::new(alloc));
     let mut texts = Vec::new(alloc);
     for word in words {
         texts.push(String::from_str(alloc, word)?)?;
@@ -51,6 +53,7 @@ fn run_over(
         &mut source,
         &mut sink,
         &mut complaints,
+        &mut links,
         &OpenGate,
     );
     Ok(Run {
@@ -64,7 +67,7 @@ fn run_over(
 impl Run {
     /// The program over a shelf that nobody asks for afterwards.
     fn new(
-        rt: &impl Wait,
+        rt: &(impl Threads + Wait + Sync),
         alloc: Global,
         words: &[&str],
         mut shelf: MemoryShelf,
@@ -78,11 +81,19 @@ impl Run {
     }
 
     /// A case whose script has these parts.
-    fn case(rt: &impl Wait, alloc: Global, script: &[&str]) -> Result<Run, AllocError> {
+    fn case(
+        rt: &(impl Threads + Wait + Sync),
+        alloc: Global,
+        script: &[&str],
+    ) -> Result<Run, AllocError> {
         Run::script(rt, alloc, joined(alloc, script)?)
     }
 
-    fn script(rt: &impl Wait, alloc: Global, script: Vec<u8>) -> Result<Run, AllocError> {
+    fn script(
+        rt: &(impl Threads + Wait + Sync),
+        alloc: Global,
+        script: Vec<u8>,
+    ) -> Result<Run, AllocError> {
         let sink = MemorySink::new(alloc);
         let complaints = MemorySink::new(alloc);
         Run::new(
@@ -98,7 +109,7 @@ impl Run {
 
     /// The same, where the streams cut.
     fn cut_case(
-        rt: &impl Wait,
+        rt: &(impl Threads + Wait + Sync),
         alloc: Global,
         script: &[&str],
         taken: Pieces,
