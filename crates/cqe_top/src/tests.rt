@@ -4,7 +4,7 @@ ghost use Rattle.std.specs.Prelude.{◌≡◌, List, ℕ, false};
 ghost use Rattle.outside.specs.MemoryShelves.{is_disk_out};
 
 use crate::top;
-use outside::{MemoryLinks, MemoryShelf, MemorySink, MemorySource, OpenGate, Pieces, Plan};
+use outside::{Gate, MemoryLinks, MemoryShelf, MemorySink, MemorySource, OpenGate, Pieces, Plan};
 use std::alloc::{AllocError, Global};
 use std::process::Abort;
 use std::sync::Wait;
@@ -15,6 +15,7 @@ mod batch;
 mod case;
 mod lives;
 mod selfrun;
+mod serve;
 mod ward;
 
 // What the program did.
@@ -39,8 +40,28 @@ fn run_over(
     requires { (name : List ℕ) → is_disk_out shelf.old name ≡ false }
     ensures { (name : List ℕ) → is_disk_out shelf.new name ≡ false }
 {
-    let (mut source, mut sink, mut complaints) = (source, sink, complaints);
     let mut links = MemoryLinks::new(alloc, Vec::new(alloc));
+    run_linked(
+        rt, alloc, words, shelf, source, sink, complaints, &mut links, &OpenGate,
+    )
+}
+
+// The same over these links, where each ask passes this gate.
+fn run_linked(
+    rt: &(impl Threads + Wait + Sync),
+    alloc: Global,
+    words: &[&str],
+    shelf: &mut MemoryShelf,
+    source: MemorySource,
+    sink: MemorySink,
+    complaints: MemorySink,
+    links: &mut MemoryLinks,
+    gate: &(impl Gate + Sync),
+) -> Result<Run, AllocError>
+    requires { (name : List ℕ) → is_disk_out shelf.old name ≡ false }
+    ensures { (name : List ℕ) → is_disk_out shelf.new name ≡ false }
+{
+    let (mut source, mut sink, mut complaints) = (source, sink, complaints);
     let mut texts = Vec::new(alloc);
     for word in words {
         texts.push(String::from_str(alloc, word)?)?;
@@ -53,8 +74,8 @@ fn run_over(
         &mut source,
         &mut sink,
         &mut complaints,
-        &mut links,
-        &OpenGate,
+        links,
+        gate,
     );
     Ok(Run {
         status,
