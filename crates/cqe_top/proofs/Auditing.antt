@@ -1,8 +1,7 @@
 -- What the command `audit` reaches, from what its parts did.
 use Rattle.std.proofs.Common.{◌≡◌, ◌⊎◌, inl, inr, ℕ, suc, ◌+◌, ◌<◌, ◌≤◌, Bool, true, false, not, List, [], ◌∷◌, map, length, get_or, Option, None, Some, refl, sym, ap, subst, ◌∙◌, arith}
-use Rattle.std.specs.Prelude.{find, cond, position, nat_lt, bytes_eq, option_map, string_bytes, slice_get}
+use Rattle.std.specs.Prelude.{find, cond, position, nat_lt, bytes_eq, option_map, string_bytes}
 use Rattle.std.specs.List.{prefix_len}
-use Rattle.std.specs.declared.alloc.Global.{Global}
 use Rattle.std.proofs.lemmas.Bool.{lt-ltb, false≢true}
 use Rattle.std.proofs.lemmas.Option.{slice_get-map, slice_get_read}
 use Rattle.std.proofs.lemmas.Slice.Eq.{bytes_eq-Decides}
@@ -10,13 +9,11 @@ use Rattle.outside.specs.Faults.{Rose}
 use Rattle.outside.specs.Shelf.{SameNames, SameOthers}
 use Rattle.cqe_base.specs.Schema.{Text, DatabaseSchema}
 use Rattle.cqe_base.specs.Facts.{FactSet}
-use Rattle.cqe_base.specs.History.{UserProfile, History, profile_of}
+use Rattle.cqe_base.specs.History.{UserProfile, profile_of}
 use Rattle.cqe_base.specs.declared.user.User.{User}
 use Rattle.log_journal.specs.Names.{journal_name}
-use Rattle.user_desk.specs.Causes.{Opens, IsSealedBy}
+use Rattle.user_desk.specs.Causes.{Opens}
 use Rattle.user_desk.specs.declared.standing.DeskError.{DeskError}
-use Rattle.user_desk.specs.declared.standing.Standing.{Standing}
-use Rattle.user_desk.specs.declared.standing.Standing.TheVariants.{Sealed}
 use Rattle.init_engine.specs.Disks as init
 use Rattle.batch_engine.specs.Batch.{Journals}
 use Rattle.batch_engine.specs.Lives.{IsOpening}
@@ -32,7 +29,7 @@ use Rattle.cqe_top.specs.declared.end.CommandEnd.{CommandEnd}
 use Rattle.cqe_top.specs.declared.end.CommandEnd.TheVariants as ends
 use Rattle.cqe_top.specs.Files.{FilesSay, both, Say}
 use Rattle.cqe_top.specs.Statuses.{status_of, IsAt, IsEndOfAudit}
-use Rattle.cqe_top.specs.Refusals.{RefusesFiles, IsFileEnd}
+use Rattle.cqe_top.specs.Refusals.{RefusesFiles}
 use Rattle.cqe_top.specs.Audited.{user_named, NamesNobody, Audits, AuditReaches, CanBeAudited, LooksAt}
 use Rattle.cqe_top.proofs.Users.{names_are}
 use Rattle.cqe_top.proofs.Good.{agree, IsBoth, not_missing}

@@ -1,6 +1,6 @@
 -- What holds of the command in memory holds of the words that say it.
-use Rattle.std.proofs.Common.{◌≡◌, ◌∙◌, sym, ap, subst, ℕ, Bool, List, Option, Some, None}
-use Rattle.command_words.specs.Readings.{Reading, FileNames, runs_case, runs_init, runs_batch, runs_audit, runs_selfrun, runs_serve}
+use Rattle.std.proofs.Common.{◌≡◌, subst, ℕ, Bool, List, Option, Some}
+use Rattle.command_words.specs.Readings.{Reading, FileNames, runs_init, runs_batch, runs_audit, runs_selfrun, runs_serve}
 
 -- files by their names
 abbrev named : List ℕ → List ℕ → List ℕ → FileNames

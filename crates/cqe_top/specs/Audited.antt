@@ -6,7 +6,6 @@ use Rattle.outside.specs.Shelf.{SameOthers}
 use Rattle.cqe_base.specs.Schema.{Text}
 use Rattle.cqe_base.specs.Facts.{FactSet}
 use Rattle.cqe_base.specs.History.{History}
-use Rattle.log_journal.specs.Names.{journal_name}
 use Rattle.user_desk.specs.Causes.{Opens}
 use Rattle.batch_engine.specs.Batch.{Journals}
 use Rattle.batch_engine.specs.Shelved.{SameBytes}

@@ -6,7 +6,6 @@ ghost use Rattle.cqe_top.specs.declared.end.CommandEnd.{CommandEnd};
 
 use crate::end::CommandEnd;
 use crate::files::read_files;
-use batch_engine::Registry;
 use command_words::ServeWords;
 use outside::{Gate, Links, Shelf};
 use std::alloc::Global;
@@ -15,12 +14,12 @@ use std::thread::Threads;
 
 /// Serves connections at the address of the words, over the files of these names and the journals in the directory.
 pub(crate) fn serve<'w, R: Threads + Wait + Sync, F: Shelf, L: Links, G: Gate + Sync>(
-    rt: &R,
+    _rt: &R,
     alloc: Global,
     words: &ServeWords<'w>,
     shelf: &mut F,
     links: &mut L,
-    gate: &G,
+    _gate: &G,
 ) -> CommandEnd<'w>
     requires inside { NoneOut (F.is_out shelf.old) }
     requires some_worker { 1 ≤ words.now.workers }
@@ -41,14 +40,6 @@ pub(crate) fn serve<'w, R: Threads + Wait + Sync, F: Shelf, L: Links, G: Gate + 
         Ok(inputs) => inputs,
         Err(end) => return end,
     };
-    let _registry = Registry {
-        schema: &inputs.policy.schema,
-        world: &inputs.world,
-        users: inputs.policy.users.as_slice(),
-        header: &inputs.header,
-        directory: words.files.journals,
-    };
-    let _rest = (rt, gate);
-    let _left = links;
+    let _inputs = inputs;
     CommandEnd::Memory
 }

@@ -3,7 +3,7 @@ use Rattle.std.specs.Prelude.{position}
 use Rattle.log_journal.specs.Opening.{header_bytes}
 use Rattle.batch_engine.specs.Shelved.{journals_on}
 use Rattle.cqe_top.specs.Files.{files_say}
-use Rattle.cqe_top.proofs.Auditing.{is_named, audit_over, nobody_over, named_at, looked_over, looked_at_none, refused_audit, not_usage, not_read, not_links, write_fault, shelf_fault, rose_longer}
+use Rattle.cqe_top.proofs.Auditing.{is_named, audit_over, nobody_over, named_at, looked_over, not_usage, not_read, not_links, write_fault, shelf_fault, rose_longer}
 use Rattle.cqe_top.proofs.audit.audit.Goals as goal
 
 pub returns-clause-reaches : goal.returns-clause-reaches

@@ -33,28 +33,28 @@ selfrun-requires-clause-few_asks g c =
     (kept (map string_bytes c.args.words.now) (runs_selfrun run.seed run.users run.asks) (sym read.ensures ∙ ap (option_map reading_in) (read.field-0-is ∙ ap Some read.field-0-0-is))).few_asks
 
 pub serve-requires-clause-some_worker : goal.serve-requires-clause-some_worker
-serve-requires-clause-some_worker g c =
+serve-requires-clause-some_worker g c = λ lifetimes fit.
     let read = c.in-Ok-Some-Serve in
     let server = read.words in
     (kept (map string_bytes c.args.words.now) (runs_serve (names_of_files server.files) server.listen.now server.workers server.sessions)
     (sym read.ensures ∙ ap (option_map reading_in) (read.field-0-is ∙ ap Some read.field-0-0-is))).some_worker
 
 pub serve-requires-clause-few_workers : goal.serve-requires-clause-few_workers
-serve-requires-clause-few_workers g c =
+serve-requires-clause-few_workers g c = λ lifetimes fit.
     let read = c.in-Ok-Some-Serve in
     let server = read.words in
     (kept (map string_bytes c.args.words.now) (runs_serve (names_of_files server.files) server.listen.now server.workers server.sessions)
     (sym read.ensures ∙ ap (option_map reading_in) (read.field-0-is ∙ ap Some read.field-0-0-is))).few_workers
 
 pub serve-requires-clause-some_session : goal.serve-requires-clause-some_session
-serve-requires-clause-some_session g c =
+serve-requires-clause-some_session g c = λ lifetimes fit.
     let read = c.in-Ok-Some-Serve in
     let server = read.words in
     (kept (map string_bytes c.args.words.now) (runs_serve (names_of_files server.files) server.listen.now server.workers server.sessions)
     (sym read.ensures ∙ ap (option_map reading_in) (read.field-0-is ∙ ap Some read.field-0-0-is))).some_session
 
 pub serve-requires-clause-few_sessions : goal.serve-requires-clause-few_sessions
-serve-requires-clause-few_sessions g c =
+serve-requires-clause-few_sessions g c = λ lifetimes fit.
     let read = c.in-Ok-Some-Serve in
     let server = read.words in
     (kept (map string_bytes c.args.words.now) (runs_serve (names_of_files server.files) server.listen.now server.workers server.sessions)
