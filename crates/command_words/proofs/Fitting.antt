@@ -1,20 +1,20 @@
 -- What clap answers on all words is their reading.
-use Rattle.std.proofs.Common.{◌≡◌, ◌==◌, Bool, true, false, not, ◌&&◌, ◌||◌, cond, List, [], ◌∷◌, ◌++◌, map, refl, sym, ap, ◌∙◌, true≢false, eqb-true, subst, ⊎_elim}
-use Rattle.std.specs.Prelude.{Option, Some, None, option_map, option_and_then, is_some, find, slice_get, unwrap_or, bytes_eq, codes, if◌then◌else◌}
+use Rattle.std.proofs.Common.{◌≡◌, ◌==◌, Bool, true, false, not, ◌&&◌, ◌||◌, cond, List, [], ◌∷◌, ◌++◌, refl, sym, ap, ◌∙◌, true≢false, eqb-true, ⊎_elim}
+use Rattle.std.specs.Prelude.{Option, Some, None, option_map, option_and_then, is_some, find, bytes_eq, if◌then◌else◌}
 use Rattle.std.specs.List.{list_all, list_any}
 use Rattle.std.proofs.Math.Bool.{and-false}
 use Rattle.std.proofs.lemmas.Bool.{and_parts}
 use Rattle.std.proofs.lemmas.Slice.Eq.{bytes_eq-Decides}
-use Rattle.clap.specs.Words.{HasKind, Row, Text, Kinds, fault_of, first_of, kind_of, subcommand_of}
+use Rattle.clap.specs.Words.{HasKind, Row, Text, Kinds, fault_of, kind_of, subcommand_of}
 use Rattle.clap.specs.declared.error.Error.{Error}
 use Rattle.clap.specs.declared.error.kind.ErrorKind.TheVariants.{OutOfMemory}
 use Rattle.clap.specs.Lexer.{has_byte}
 use Rattle.command_words.specs.Uses.{OptionRow, Use, alone, name_and_value, option_of, is_flag, is_value_word, in_front, uses_of, followed}
 use Rattle.command_words.specs.Readings.{CommandRow, Reading, command_of, do_fit, has_no_repeat, is_used, reading_by, reading_of, reading_with}
 use Rattle.command_words.specs.Matched.{command_with, is_short, program}
-use Rattle.command_words.proofs.Options.{Sort, is_complete, needs, none, or_false, sort_of}
+use Rattle.command_words.proofs.Options.{is_complete, needs, none, or_false, sort_of}
 use Rattle.command_words.proofs.Turns.{Named, plain_word, option_word, named, option_at, name_at, value_at}
-use Rattle.command_words.proofs.Walks.{completes, extends, gives, rows_at_end, uses_apart, uses_attached, uses_flag}
+use Rattle.command_words.proofs.Walks.{completes, extends, gives, uses_apart, uses_attached, uses_flag}
 use Rattle.command_words.proofs.Entering.{enters, no_command, no_words}
 use Rattle.command_words.proofs.Said.{command_reading}
 

@@ -1,6 +1,6 @@
 -- What is made of the rows of a command is what it says with the uses.
-use Rattle.std.proofs.Common.{◌≡◌, Bool, true, false, not, ◌&&◌, ◌||◌, cond, List, [], ◌∷◌, ◌++◌, refl, ap, ◌∙◌, subst}
-use Rattle.std.specs.Prelude.{⊤, Option, Some, None, option_map, option_and_then, find, slice_get, unwrap_or, bytes_eq, codes, if◌then◌else◌}
+use Rattle.std.proofs.Common.{◌≡◌, Bool, true, false, not, ◌||◌, cond, List, [], ◌∷◌, ◌++◌, refl, ap, ◌∙◌, subst}
+use Rattle.std.specs.Prelude.{⊤, Option, Some, None, option_map, option_and_then, find, slice_get, unwrap_or, bytes_eq, codes}
 use Rattle.std.specs.List.{list_all}
 use Rattle.std.specs.Option.{option_map_or}
 use Rattle.std.proofs.lemmas.Bool.{and_parts}
@@ -8,8 +8,8 @@ use Rattle.std.proofs.lemmas.Slice.Eq.{bytes_eq-Decides}
 use Rattle.clap.specs.Words.{Row, Text, first_of}
 use Rattle.clap.specs.Walk.{with_default}
 use Rattle.command_words.specs.Uses.{OptionRow, Use, is_flag}
-use Rattle.command_words.specs.Numbers.{number_from}
-use Rattle.command_words.specs.Readings.{CommandRow, FileNames, audit_row, audit_said, batch_row, case_row, command_of, commands, files_of, files_said, init_row, is_used, runs_batch, runs_init, selfrun_row, selfrun_said, value_of}
+use Rattle.command_words.specs.Numbers.{number_from, number_or}
+use Rattle.command_words.specs.Readings.{CommandRow, audit_row, audit_said, batch_row, command_of, commands, files_of, files_said, init_row, is_used, runs_batch, runs_init, selfrun_row, selfrun_said, serve_row, serve_said, value_of}
 use Rattle.command_words.specs.Matched.{command_with, files_in, says_true}
 use Rattle.command_words.proofs.Options.{default_is, finished_rows, rows_of_uses, row_of_use, rule_for, text_of, unused_row}
 use Rattle.command_words.proofs.Walks.{rows_at_end}
@@ -134,6 +134,12 @@ selfrun_is uses =
     λ i. selfrun_said (number_from 0 4294967295 (value_at options uses (codes "seed") refl i)) (number_from 1 256 (value_at options uses (codes "users") refl i))
     (number_from 1 10000 (value_at options uses (codes "asks") refl i))
 
+serve_is : (uses : List Use) → IsSaid uses serve_row
+serve_is uses =
+    let options = serve_row.options in
+    λ i. serve_said (files_are options uses refl refl refl i) (value_at options uses (codes "listen") refl i) (number_or 4 1 64 (value_at options uses (codes "workers") refl i))
+    (number_or 1073741824 1 1000000 (value_at options uses (codes "sessions") refl i))
+
 -- what all commands of a table have
 abbrev Each : (CommandRow → Type 0) → List CommandRow → Type 0
 Each P [] = ⊤
@@ -154,6 +160,6 @@ command_reading word row uses known =
       refl,
       (
         ap (option_map runs_init) (files_are init_row.options uses refl refl refl),
-        (ap (option_map runs_batch) (files_are batch_row.options uses refl refl refl), (audit_is uses, (selfrun_is uses, tt))),
+        (ap (option_map runs_batch) (files_are batch_row.options uses refl refl refl), (audit_is uses, (selfrun_is uses, (serve_is uses, tt)))),
       ),
     )

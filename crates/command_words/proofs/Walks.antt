@@ -1,6 +1,6 @@
 -- The walk over the options of a command gives the uses that the words make.
 use Rattle.std.proofs.Common.{◌≡◌, ℕ, Bool, true, false, not, ◌&&◌, ◌||◌, List, [], ◌∷◌, ◌++◌, refl, sym, ap, ◌∙◌, true≢false, arith}
-use Rattle.std.specs.Prelude.{Option, Some, None, is_some, fold, nat_lt, length, unwrap_or, if◌then◌else◌}
+use Rattle.std.specs.Prelude.{Option, Some, None, is_some, nat_lt, length, unwrap_or, if◌then◌else◌}
 use Rattle.std.specs.List.{list_any}
 use Rattle.std.specs.Option.{option_map_or}
 use Rattle.std.proofs.Math.Bool.{and-false}
@@ -9,7 +9,7 @@ use Rattle.clap.specs.Words.{Row, Rule, Text, Kinds}
 use Rattle.clap.specs.Lexer.{has_byte}
 use Rattle.clap.specs.Walk.{Held, Walk, settled, used, used_by_id, walk_from, walked}
 use Rattle.clap.specs.Faults.{check_fault, defaults_fault, settle_fault, use_fault, walk_fault}
-use Rattle.command_words.specs.Uses.{OptionRow, Use, alone, in_front, is_flag, uses_from, uses_of, with_value, followed, is_value_word}
+use Rattle.command_words.specs.Uses.{OptionRow, Use, alone, in_front, is_flag, uses_of, with_value, followed, is_value_word}
 use Rattle.command_words.specs.Readings.{CommandRow, is_used}
 use Rattle.command_words.specs.Matched.{is_short}
 use Rattle.command_words.proofs.Options.{Sort, append_nil, check_passes, defaults_pass, finished_rows, flag_behind, flag_is, flag_passes, is_complete, needs, none, none_both, or_false, push_front, rows_of_uses, rule_named, rules_for, shape_for, use_passes, used_behind}

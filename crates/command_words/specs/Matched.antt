@@ -4,8 +4,8 @@ use Rattle.clap.specs.Words.{App, Row, Rule, Shape, first_of, new_app, new_rule,
 use Rattle.clap.specs.Simple.{on_top}
 use Rattle.clap.specs.declared.builder.action.ArgAction.TheVariants.{Set, SetTrue}
 use Rattle.clap.specs.declared.builder.value_parser.ValueParser.TheVariants.{NonEmptyString}
-use Rattle.command_words.specs.Numbers.{number_from}
-use Rattle.command_words.specs.Readings.{FileNames, Reading, runs_case, runs_init, runs_batch, files_said, audit_said, selfrun_said}
+use Rattle.command_words.specs.Numbers.{number_from, number_or}
+use Rattle.command_words.specs.Readings.{FileNames, Reading, runs_case, runs_init, runs_batch, files_said, audit_said, selfrun_said, serve_said}
 
 -- `--`, or a hyphen and a further byte that isn't one: no reading has such a word
 abbrev pub is_short : List ℕ → Bool
@@ -14,9 +14,13 @@ is_short (a ∷ []) = false
 is_short (a ∷ b ∷ []) = a == 45
 is_short (a ∷ b ∷ c ∷ rest) = a == 45 && not (b == 45)
 
--- the argument for an option that must be there and has a text that isn't empty
+-- the argument for an option that may be there and has a text that isn't empty
+abbrev pub optional_rule : List ℕ → Rule
+optional_rule name = record (new_rule name) { long = Some name; action = Some Set; parser = Some NonEmptyString }
+
+-- the same of an option that must be there
 abbrev pub needed_rule : List ℕ → Rule
-needed_rule name = record (new_rule name) { long = Some name; action = Some Set; parser = Some NonEmptyString; required = true }
+needed_rule name = record (optional_rule name) { required = true }
 
 -- the argument for an option without a value, which may be there
 abbrev pub flag_rule : List ℕ → Rule
@@ -47,14 +51,18 @@ audit_command = with_rule (with_rule (file_command (codes "audit")) (needed_rule
 abbrev pub selfrun_command : App
 selfrun_command = three_command (codes "selfrun") (codes "seed") (codes "users") (codes "asks")
 
+-- the subcommand `serve`
+abbrev pub serve_command : App
+serve_command = with_rule (with_rule (with_rule (file_command (codes "serve")) (needed_rule (codes "listen"))) (optional_rule (codes "workers"))) (optional_rule (codes "sessions"))
+
 -- a command line with no subcommand yet
 abbrev pub bare : App
 bare = on_top with_settings (new_app (codes "cqe"))
 
 -- the command line of the program
 abbrev pub program : App
-program = with_subcommand (with_subcommand (with_subcommand (with_subcommand (with_subcommand bare
-    (new_app (codes "case")).top) (file_command (codes "init")).top) (file_command (codes "batch")).top) audit_command.top) selfrun_command.top
+program = with_subcommand (with_subcommand (with_subcommand (with_subcommand (with_subcommand (with_subcommand bare
+    (new_app (codes "case")).top) (file_command (codes "init")).top) (file_command (codes "batch")).top) audit_command.top) selfrun_command.top) serve_command.top
 
 -- the files that the rows that were matched name
 abbrev pub files_in : List Row → Option FileNames
@@ -73,6 +81,11 @@ audit_in rows = audit_said (files_in rows) (first_of (codes "user") rows) (says_
 abbrev pub selfrun_in : List Row → Option Reading
 selfrun_in rows = selfrun_said (number_from 0 4294967295 (first_of (codes "seed") rows)) (number_from 1 256 (first_of (codes "users") rows)) (number_from 1 10000 (first_of (codes "asks") rows))
 
+-- the server that rows say
+abbrev pub serve_in : List Row → Option Reading
+serve_in rows =
+    serve_said (files_in rows) (first_of (codes "listen") rows) (number_or 4 1 64 (first_of (codes "workers") rows)) (number_or 1073741824 1 1000000 (first_of (codes "sessions") rows))
+
 -- the reading of a command with the rows that were matched
 abbrev pub command_with : List ℕ → List Row → Option Reading
 command_with command rows =
@@ -81,4 +94,5 @@ command_with command rows =
     else if bytes_eq command (codes "batch") then option_map runs_batch (files_in rows)
     else if bytes_eq command (codes "audit") then audit_in rows
     else if bytes_eq command (codes "selfrun") then selfrun_in rows
+    else if bytes_eq command (codes "serve") then serve_in rows
     else None

@@ -2,9 +2,9 @@
 use Rattle.std.specs.Prelude.{ℕ, Bool, true, false, not, ◌&&◌, ◌||◌, List, [], ◌∷◌, find, Option, Some, None, option_map, codes, bytes_eq, if◌then◌else◌}
 use Rattle.std.specs.List.{list_all, list_any}
 use Rattle.command_words.specs.Uses.{OptionRow, Use, uses_of}
-use Rattle.command_words.specs.Numbers.{number_from}
+use Rattle.command_words.specs.Numbers.{number_from, number_or}
 use Rattle.command_words.specs.declared.command.Command.{Command}
-use Rattle.command_words.specs.declared.command.Command.TheVariants.{Case, Init, Batch, Audit, Selfrun}
+use Rattle.command_words.specs.declared.command.Command.TheVariants.{Case, Init, Batch, Audit, Selfrun, Serve}
 use Rattle.command_words.specs.declared.command.Files.{Files}
 
 -- ---- what words say
@@ -27,6 +27,8 @@ pub data Reading : Type 0 where
   runs_audit : FileNames → List ℕ → Bool → Reading
   -- the workload of this seed, with so many users and so many asks
   runs_selfrun : ℕ → ℕ → ℕ → Reading
+  -- a server over these files, at this address, with so many workers, for so many sessions
+  runs_serve : FileNames → List ℕ → ℕ → ℕ → Reading
 
 -- ---- the uses of options
 
@@ -66,6 +68,11 @@ abbrev pub selfrun_said : Option ℕ → Option ℕ → Option ℕ → Option Re
 selfrun_said (Some seed) (Some users) (Some asks) = Some (runs_selfrun seed users asks)
 selfrun_said _ _ _ = None
 
+-- a server over these files, at this address, with these numbers
+abbrev pub serve_said : Option FileNames → Option (List ℕ) → Option ℕ → Option ℕ → Option Reading
+serve_said (Some files) (Some address) (Some workers) (Some sessions) = Some (runs_serve files address workers sessions)
+serve_said _ _ _ _ = None
+
 -- the files that uses name
 abbrev pub files_of : List Use → Option FileNames
 files_of uses = files_said (value_of uses (codes "policy")) (value_of uses (codes "facts")) (value_of uses (codes "journals"))
@@ -79,6 +86,11 @@ abbrev pub selfrun_of : List Use → Option Reading
 selfrun_of uses =
     selfrun_said (number_from 0 4294967295 (value_of uses (codes "seed"))) (number_from 1 256 (value_of uses (codes "users"))) (number_from 1 10000 (value_of uses (codes "asks")))
 
+-- the server that uses say: 1 to 64 workers, else 4, and 1 to 1,000,000 sessions, else 2^30
+abbrev pub serve_of : List Use → Option Reading
+serve_of uses =
+    serve_said (files_of uses) (value_of uses (codes "listen")) (number_or 4 1 64 (value_of uses (codes "workers"))) (number_or 1073741824 1 1000000 (value_of uses (codes "sessions")))
+
 -- ---- the table
 
 -- a command: its name, its options, and what it says with uses of these
@@ -90,6 +102,10 @@ pub record CommandRow : Type 0 where
 -- an option that must be there, with a value
 abbrev pub needed : List ℕ → OptionRow
 needed name = record { name = name; is_needed = true; has_value = true }
+
+-- an option with a value, which may be there
+abbrev pub optional : List ℕ → OptionRow
+optional name = record { name = name; is_needed = false; has_value = true }
 
 -- an option without a value, which may be there
 abbrev pub flag : List ℕ → OptionRow
@@ -119,9 +135,13 @@ audit_row = record { name = codes "audit"; options = file_options (needed (codes
 abbrev pub selfrun_row : CommandRow
 selfrun_row = record { name = codes "selfrun"; options = needed (codes "seed") ∷ needed (codes "users") ∷ needed (codes "asks") ∷ []; says = selfrun_of }
 
+-- `serve --policy P --facts F --journals DIR --listen ADDRESS [--workers N] [--sessions N]`
+abbrev pub serve_row : CommandRow
+serve_row = record { name = codes "serve"; options = file_options (needed (codes "listen") ∷ optional (codes "workers") ∷ optional (codes "sessions") ∷ []); says = serve_of }
+
 -- all commands
 abbrev pub commands : List CommandRow
-commands = case_row ∷ init_row ∷ batch_row ∷ audit_row ∷ selfrun_row ∷ []
+commands = case_row ∷ init_row ∷ batch_row ∷ audit_row ∷ selfrun_row ∷ serve_row ∷ []
 
 -- the command of this name
 abbrev pub command_of : List ℕ → Option CommandRow
@@ -157,3 +177,4 @@ reading_in (Init files) = runs_init (names_of_files files)
 reading_in (Batch files) = runs_batch (names_of_files files)
 reading_in (Audit words) = runs_audit (names_of_files words.files) words.user.now words.json
 reading_in (Selfrun words) = runs_selfrun words.seed words.users words.asks
+reading_in (Serve words) = runs_serve (names_of_files words.files) words.listen.now words.workers words.sessions

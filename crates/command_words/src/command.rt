@@ -2,10 +2,10 @@
 ghost use Rattle.std.specs.Prelude.{◌≡◌, true, map, option_map, option_and_then, string_bytes, IfOk};
 ghost use Rattle.std.specs.List.{list_any};
 ghost use Rattle.clap.specs.Words.{found_of, kind_of, rows_of, subcommand_rows_of};
-ghost use Rattle.command_words.specs.Readings.{reading_of, reading_in, names_of_files, files_said, audit_said, selfrun_said};
-ghost use Rattle.command_words.specs.Matched.{is_short, says_true, files_in, audit_in, selfrun_in, command_with};
+ghost use Rattle.command_words.specs.Readings.{reading_of, reading_in, names_of_files, files_said, audit_said, selfrun_said, serve_said};
+ghost use Rattle.command_words.specs.Matched.{is_short, says_true, files_in, audit_in, selfrun_in, serve_in, command_with};
 
-use crate::number::{number_from, small_number_from};
+use crate::number::{number_from, number_or, small_number_from, small_number_or};
 use crate::program::program;
 use clap::error::ErrorKind;
 use clap::{ArgMatches, Error};
@@ -44,6 +44,19 @@ pub struct SelfrunWords {
     pub asks: u32,
 }
 
+/// What a server is to do.
+#[derive(Clone, Copy, Debug, PartialEq, Eq)]
+pub struct ServeWords<'a> {
+    /// the files
+    pub files: Files<'a>,
+    /// the address at which it listens
+    pub listen: &'a str,
+    /// how many workers serve, 1 to 64, and 4 without the option
+    pub workers: u32,
+    /// how many connections they serve together, 1 to 1,000,000, and 2^30 without the option
+    pub sessions: u64,
+}
+
 /// What the program is to do. The texts are those of the words.
 #[derive(Clone, Copy, Debug, PartialEq, Eq)]
 pub enum Command<'a> {
@@ -57,14 +70,17 @@ pub enum Command<'a> {
     Audit(AuditWords<'a>),
     /// `selfrun`: a workload that the program makes and runs itself.
     Selfrun(SelfrunWords),
+    /// `serve`: a server of connections.
+    Serve(ServeWords<'a>),
 }
 
 /// Reads the words behind the program's name.
 ///
 /// The first word is the command. Its options come behind it in any order, each at most once, as `--name value` or
-/// `--name=value`; only `--json` may be left out, and it has no value. Words that begin with a hyphen, but for `-` alone,
-/// are values only in the second form, and no value is empty. Numbers are one to ten decimal digits, within their limits.
-/// There is no help among the words and no short form of a name. An error is want of memory.
+/// `--name=value`; only `--json`, `--workers` and `--sessions` may be left out, and `--json` has no value. Words that
+/// begin with a hyphen, but for `-` alone, are values only in the second form, and no value is empty. Numbers are one to
+/// ten decimal digits, within their limits. There is no help among the words and no short form of a name. An error is
+/// want of memory.
 pub fn read_words<'a>(alloc: Global, words: &'a [String]) -> Result<Option<Command<'a>>, AllocError>
     ensures { IfOk result (λ read. option_map reading_in read ≡ reading_of (map string_bytes words.now)) }
 {
@@ -129,6 +145,7 @@ fn command_with<'a>(name: &str, given: &ArgMatches<'a>) -> Option<Command<'a>>
         "batch" => Some(Command::Batch(files_in(given)?)),
         "audit" => audit_in(given),
         "selfrun" => selfrun_in(given),
+        "serve" => serve_in(given),
         _ => None,
     }
 }
@@ -212,6 +229,39 @@ fn selfrun_with<'a>(seed: Option<u64>, users: Option<u32>, asks: Option<u32>) ->
     match (seed, users, asks) {
         (Some(seed), Some(users), Some(asks)) => {
             Some(Command::Selfrun(SelfrunWords { seed, users, asks }))
+        }
+        _ => None,
+    }
+}
+
+// The server that was matched.
+fn serve_in<'a>(given: &ArgMatches<'a>) -> Option<Command<'a>>
+    ensures { option_map reading_in result ≡ serve_in (rows_of (found_of given.now)) }
+{
+    serve_with(
+        files_in(given),
+        given.get_str("listen"),
+        small_number_or(4, 1, 64, given.get_str("workers")),
+        number_or(1_073_741_824, 1, 1_000_000, given.get_str("sessions")),
+    )
+}
+
+fn serve_with<'a>(
+    files: Option<Files<'a>>,
+    listen: Option<&'a str>,
+    workers: Option<u32>,
+    sessions: Option<u64>,
+) -> Option<Command<'a>>
+    ensures { option_map reading_in result ≡ serve_said (option_map names_of_files files.entry) (option_map (λ s. s.now) listen.entry) workers sessions }
+{
+    match (files, listen, workers, sessions) {
+        (Some(files), Some(listen), Some(workers), Some(sessions)) => {
+            Some(Command::Serve(ServeWords {
+                files,
+                listen,
+                workers,
+                sessions,
+            }))
         }
         _ => None,
     }

@@ -4,9 +4,9 @@
 //! definition: a table of the commands with their options, the uses of options that the words make, and the test that
 //! the uses fit the table. Every list of words has one reading or none. Only want of memory is an answer of its own.
 //!
-//! Read `specs/Uses.antt` and `specs/Readings.antt`, then `command`, which has the promise, and `program`, which tells
-//! `clap` of the commands; `specs/Matched.antt` and `proofs` tie `clap`'s answer to the definition. A further command is
-//! added to the table, to `program`, and to `command`.
+//! Read `specs/Uses.antt`, `specs/Numbers.antt` and `specs/Readings.antt`, then `command`, which has the promise,
+//! `number`, and `program`, which tells `clap` of the commands; `specs/Matched.antt` and `proofs` tie `clap`'s answer to
+//! the definition. A further command is added to the table, to `program`, and to `command`.
 #![tactic(auto)]
 
 mod command;
@@ -15,4 +15,4 @@ mod program;
 #[cfg(test)]
 mod tests;
 
-pub use command::{AuditWords, Command, Files, SelfrunWords, read_words};
+pub use command::{AuditWords, Command, Files, SelfrunWords, ServeWords, read_words};

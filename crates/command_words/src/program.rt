@@ -2,7 +2,7 @@
 ghost use Rattle.std.specs.Prelude.{◌≡◌, false, IfOk};
 ghost use Rattle.clap.specs.Words.{app_of, rule_of};
 ghost use Rattle.clap.specs.declared.builder.command.Command.TheViews.{out-Command};
-ghost use Rattle.command_words.specs.Matched.{audit_command, file_command, flag_rule, needed_rule, program, three_command};
+ghost use Rattle.command_words.specs.Matched.{audit_command, file_command, flag_rule, needed_rule, optional_rule, program, serve_command, three_command};
 
 use clap::builder::ValueParser;
 use clap::{Arg, ArgAction, Command};
@@ -17,6 +17,7 @@ pub(crate) fn program<'a>(alloc: Global) -> Result<Command<'a>, AllocError>
     let batch = with_files(alloc, "batch")?;
     let audit = audit(alloc)?;
     let selfrun = with_three(alloc, "selfrun", "seed", "users", "asks")?;
+    let serve = serve(alloc)?;
     let program = Command::new(alloc, "cqe")
         .no_binary_name(true)
         .disable_help_flag(true)
@@ -27,7 +28,8 @@ pub(crate) fn program<'a>(alloc: Global) -> Result<Command<'a>, AllocError>
         .subcommand(init)?
         .subcommand(batch)?
         .subcommand(audit)?
-        .subcommand(selfrun)?;
+        .subcommand(selfrun)?
+        .subcommand(serve)?;
     Ok(program)
 }
 
@@ -40,6 +42,19 @@ fn audit<'a>(alloc: Global) -> Result<Command<'a>, AllocError>
     let json = flag(alloc, "json");
     let files = with_files(alloc, "audit")?;
     let command = files.arg(user)?.arg(json)?;
+    Ok(command)
+}
+
+// The server.
+fn serve<'a>(alloc: Global) -> Result<Command<'a>, AllocError>
+    ensures shape { IfOk result (λ command. app_of command ≡ serve_command) }
+    ensures plain { IfOk result (λ command. (out-Command command).has_globals ≡ false) }
+{
+    let listen = needed(alloc, "listen");
+    let workers = optional(alloc, "workers");
+    let sessions = optional(alloc, "sessions");
+    let files = with_files(alloc, "serve")?;
+    let command = files.arg(listen)?.arg(workers)?.arg(sessions)?;
     Ok(command)
 }
 
@@ -75,11 +90,18 @@ fn needed<'a>(alloc: Global, name: &'a str) -> Arg<'a>
     ensures rule { rule_of result ≡ needed_rule name.now }
     ensures plain { result.global ≡ false }
 {
+    optional(alloc, name).required(true)
+}
+
+// An option that may be there, with a value.
+fn optional<'a>(alloc: Global, name: &'a str) -> Arg<'a>
+    ensures rule { rule_of result ≡ optional_rule name.now }
+    ensures plain { result.global ≡ false }
+{
     Arg::new(alloc, name)
         .long(name)
         .action(ArgAction::Set)
         .value_parser(ValueParser::NonEmptyString)
-        .required(true)
 }
 
 // An option without a value, which may be there.

@@ -1,5 +1,6 @@
 mod audit;
 mod selfrun;
+mod serve;
 
 use crate::{Command, Files, read_words};
 use std::alloc::{AllocError, Global};
@@ -238,7 +239,7 @@ const MISNAMED: [&[&str]; 58] = [
     &["--policy", "p", "--facts", "f", "--journals/", "d"],
     &["--policy", "p", "--facts", "f", "--directory", "d"],
     &["--policy", "p", "--facts", "f", "-j", "d"],
-    // options of commands that aren't there yet, or of none
+    // options of other commands
     &[
         "--workers",
         "4",
@@ -292,7 +293,7 @@ const MISNAMED: [&[&str]; 58] = [
 ];
 
 // Whole lists of words that have no reading.
-const REFUSED: [&[&str]; 32] = [
+const REFUSED: [&[&str]; 33] = [
     // no words, and words that are nearly a command
     &[],
     &[""],
@@ -304,6 +305,17 @@ const REFUSED: [&[&str]; 32] = [
     &["case=case"],
     &["cases"],
     &["serve"],
+    &[
+        "serve",
+        "--policy",
+        "p",
+        "--facts",
+        "f",
+        "--journals",
+        "d",
+        "--listen",
+        "",
+    ],
     &["audit", "--policy", "p", "--facts", "f", "--journals", "d"],
     &["Init", "--policy", "p", "--facts", "f", "--journals", "d"],
     &["in", "--policy", "p", "--facts", "f", "--journals", "d"],

@@ -1,9 +1,9 @@
-//! The program: it makes the real files and streams, calls `top` and ends with its answer.
+//! The program: it makes the real files, streams and sockets, calls `top` and ends with its answer.
 #![tactic(auto)]
 
 use cqe_top::top;
 use outside::{OpenGate, write_all};
-use real_edge::{FileShelf, StreamSink, StreamSource};
+use real_edge::{FileShelf, StreamSink, StreamSource, TcpLinks};
 use std::process::ExitCode;
 use std::{env, io};
 
@@ -14,6 +14,7 @@ fn main(rt: HostRuntime) -> ExitCode {
     let mut source = StreamSource::new(rt.stdin());
     let mut sink = StreamSink::new(rt.stdout());
     let mut complaints = StreamSink::new(rt.stderr());
+    let mut links = TcpLinks::new(&rt);
     let Ok(words) = words(&rt) else {
         let _given = write_all(&mut complaints, b"cqe: out of memory\n");
         return ExitCode::from(OUT_OF_MEMORY);
@@ -26,6 +27,7 @@ fn main(rt: HostRuntime) -> ExitCode {
         &mut source,
         &mut sink,
         &mut complaints,
+        &mut links,
         &OpenGate,
     );
     ExitCode::from(status)

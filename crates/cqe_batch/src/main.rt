@@ -3,7 +3,7 @@
 #![tactic(auto)]
 
 use cqe_top::top;
-use outside::OpenGate;
+use outside::{MemoryLinks, OpenGate, Plan};
 use real_edge::{FileShelf, StreamSink, StreamSource};
 use std::alloc::{AllocError, Global};
 use std::process::ExitCode;
@@ -33,6 +33,8 @@ fn main(rt: HostRuntime) -> ExitCode {
     let mut shelf = FileShelf::new(rt.alloc(), &rt);
     let (mut source, mut sink) = (StreamSource::new(rt.stdin()), StreamSink::new(rt.stdout()));
     let mut complaints = StreamSink::new(rt.stderr());
+    let (none, plans) = (Vec::new(rt.alloc()), Vec::new(rt.alloc()));
+    let mut links = MemoryLinks::with_plans(rt.alloc(), none, Plan::From(0), plans);
     let (Ok(init), Ok(batch)) = (words(rt.alloc(), &INIT), words(rt.alloc(), &BATCH)) else {
         return ExitCode::from(13);
     };
@@ -44,6 +46,7 @@ fn main(rt: HostRuntime) -> ExitCode {
         &mut source,
         &mut sink,
         &mut complaints,
+        &mut links,
         &OpenGate,
     );
     if made != 0 {
@@ -57,6 +60,7 @@ fn main(rt: HostRuntime) -> ExitCode {
         &mut source,
         &mut sink,
         &mut complaints,
+        &mut links,
         &OpenGate,
     );
     ExitCode::from(status)

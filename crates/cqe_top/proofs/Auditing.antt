@@ -1,8 +1,7 @@
 -- What the command `audit` reaches, from what its parts did.
 use Rattle.std.proofs.Common.{◌≡◌, ◌⊎◌, inl, inr, ℕ, suc, ◌+◌, ◌<◌, ◌≤◌, Bool, true, false, not, List, [], ◌∷◌, map, length, get_or, Option, None, Some, refl, sym, ap, subst, ◌∙◌, arith}
-use Rattle.std.specs.Prelude.{find, cond, position, nat_lt, bytes_eq, option_map, string_bytes, slice_get}
+use Rattle.std.specs.Prelude.{find, cond, position, nat_lt, bytes_eq, option_map, string_bytes}
 use Rattle.std.specs.List.{prefix_len}
-use Rattle.std.specs.declared.alloc.Global.{Global}
 use Rattle.std.proofs.lemmas.Bool.{lt-ltb, false≢true}
 use Rattle.std.proofs.lemmas.Option.{slice_get-map, slice_get_read}
 use Rattle.std.proofs.lemmas.Slice.Eq.{bytes_eq-Decides}
@@ -10,13 +9,11 @@ use Rattle.outside.specs.Faults.{Rose}
 use Rattle.outside.specs.Shelf.{SameNames, SameOthers}
 use Rattle.cqe_base.specs.Schema.{Text, DatabaseSchema}
 use Rattle.cqe_base.specs.Facts.{FactSet}
-use Rattle.cqe_base.specs.History.{UserProfile, History, profile_of}
+use Rattle.cqe_base.specs.History.{UserProfile, profile_of}
 use Rattle.cqe_base.specs.declared.user.User.{User}
 use Rattle.log_journal.specs.Names.{journal_name}
-use Rattle.user_desk.specs.Causes.{Opens, IsSealedBy}
+use Rattle.user_desk.specs.Causes.{Opens}
 use Rattle.user_desk.specs.declared.standing.DeskError.{DeskError}
-use Rattle.user_desk.specs.declared.standing.Standing.{Standing}
-use Rattle.user_desk.specs.declared.standing.Standing.TheVariants.{Sealed}
 use Rattle.init_engine.specs.Disks as init
 use Rattle.desk_crew.specs.Shelved.{Journals}
 use Rattle.desk_crew.specs.Openings.{IsOpening}
@@ -32,7 +29,7 @@ use Rattle.cqe_top.specs.declared.end.CommandEnd.{CommandEnd}
 use Rattle.cqe_top.specs.declared.end.CommandEnd.TheVariants as ends
 use Rattle.cqe_top.specs.Files.{FilesSay, both, Say}
 use Rattle.cqe_top.specs.Statuses.{status_of, IsAt, IsEndOfAudit}
-use Rattle.cqe_top.specs.Refusals.{RefusesFiles, IsFileEnd}
+use Rattle.cqe_top.specs.Refusals.{RefusesFiles}
 use Rattle.cqe_top.specs.Audited.{user_named, NamesNobody, Audits, AuditReaches, CanBeAudited, LooksAt}
 use Rattle.cqe_top.proofs.Users.{names_are}
 use Rattle.cqe_top.proofs.Good.{agree, IsBoth, not_missing}
@@ -133,6 +130,7 @@ module _ (journals : Journals) (json : Bool) (old new policy_name facts_name : L
   refused_audit (ends.Journal owner why) refused same = absurd refused
   refused_audit (ends.Journals users refusals) refused same = absurd refused
   refused_audit ends.DiskFault refused same = absurd refused
+  refused_audit ends.LinksFault refused same = absurd refused
   refused_audit ends.Memory refused same = same
 
   module _ (policy : PolicyValue) (world : FactSet) (header : List ℕ) (users : List User) (say : files ≡ both policy world header) (same : init.names_of users ≡ names_of policy.users)
@@ -183,6 +181,7 @@ module _ (journals : Journals) (json : Bool) (old new policy_name facts_name : L
   good_audit ends.ReadFault reached says shelf write = absurd reached
   good_audit (ends.Journals users refusals) reached says shelf write = absurd reached
   good_audit ends.DiskFault reached says shelf write = absurd reached
+  good_audit ends.LinksFault reached says shelf write = absurd reached
   good_audit (ends.Policy why) reached (policy, world, header, say, can) shelf write = absurd (subst IsBoth (sym say ∙ reached.0) tt)
   good_audit (ends.Facts why) reached (policy, world, header, say, can) shelf write = absurd (subst IsBoth (sym say ∙ reached.0) tt)
   good_audit (ends.Missing missing) reached (policy, world, header, say, can) shelf write = absurd (not_missing files policy_name facts_name missing.now (subst IsBoth (sym say) tt) reached.0)
@@ -251,7 +250,7 @@ pub nobody_over : (journals : Journals) (json : Bool) (old policy_name facts_nam
     → files ≡ both (policy_value_of policy) world header → None ≡ position (is_named name) policy.users.items → AuditReaches journals json old old policy_name facts_name name files ends.Usage
 nobody_over journals json old policy_name facts_name name files policy world header say none = ((policy_value_of policy, world, header, say, nobody_named name policy.users.items none), refl)
 
--- the audit of a user is never usage, and reads nothing
+-- the audit of a user is never usage, reads nothing and listens nowhere
 pub not_usage : (users : List User) (number : ℕ) (audited : AuditEnd) (end : CommandEnd) → IsEndOfAudit users number audited end → end ≡ ends.Usage → ⊥
 not_usage users number audit_end.Done end is same = let clash : ends.Done ≡ ends.Usage = sym is ∙ same in cc
 not_usage users number (audit_end.Refused why) end (owner, owned, is) same = let clash : ends.Journal owner why ≡ ends.Usage = sym is ∙ same in cc
@@ -265,6 +264,13 @@ not_read users number (audit_end.Refused why) end (owner, owned, is) same = let 
 not_read users number audit_end.WriteFault end is same = let clash : ends.WriteFault ≡ ends.ReadFault = sym is ∙ same in cc
 not_read users number audit_end.ShelfFault end is same = let clash : ends.ShelfFault ≡ ends.ReadFault = sym is ∙ same in cc
 not_read users number audit_end.Memory end is same = let clash : ends.Memory ≡ ends.ReadFault = sym is ∙ same in cc
+
+pub not_links : (users : List User) (number : ℕ) (audited : AuditEnd) (end : CommandEnd) → IsEndOfAudit users number audited end → end ≡ ends.LinksFault → ⊥
+not_links users number audit_end.Done end is same = let clash : ends.Done ≡ ends.LinksFault = sym is ∙ same in cc
+not_links users number (audit_end.Refused why) end (owner, owned, is) same = let clash : ends.Journal owner why ≡ ends.LinksFault = sym is ∙ same in cc
+not_links users number audit_end.WriteFault end is same = let clash : ends.WriteFault ≡ ends.LinksFault = sym is ∙ same in cc
+not_links users number audit_end.ShelfFault end is same = let clash : ends.ShelfFault ≡ ends.LinksFault = sym is ∙ same in cc
+not_links users number audit_end.Memory end is same = let clash : ends.Memory ≡ ends.LinksFault = sym is ∙ same in cc
 
 -- a fault of the sink or of the shelf is that of the audit
 pub write_fault : (users : List User) (number : ℕ) (audited : AuditEnd) (end : CommandEnd) → IsEndOfAudit users number audited end → end ≡ ends.WriteFault → audited ≡ audit_end.WriteFault

@@ -73,6 +73,7 @@ module _ (journals : Journals) (before after old new policy_name facts_name : Li
   good_batch ends.Memory reached script says shelf read write = inr refl
   good_batch ends.Usage reached script says shelf read write = absurd reached
   good_batch (ends.Journal name why) reached script says shelf read write = absurd reached
+  good_batch ends.LinksFault reached script says shelf read write = absurd reached
   good_batch ends.ShelfFault reached script says shelf read write = absurd (shelf refl)
   good_batch ends.ReadFault reached script says shelf read write = absurd (read refl)
   good_batch ends.WriteFault reached script says shelf read write = absurd (write refl)
@@ -122,6 +123,7 @@ module _ {D : Type 0} (told : Type 0) (reads : D → List ℕ) (image : D → Li
     good_init ends.ReadFault is reached says shelf = absurd reached
     good_init ends.WriteFault is reached says shelf = absurd reached
     good_init (ends.Journals users refusals) is reached says shelf = absurd reached
+    good_init ends.LinksFault is reached says shelf = absurd reached
     good_init ends.ShelfFault is reached says shelf = absurd (shelf refl)
     good_init (ends.Policy why) is reached (policy, world, header, say, can) shelf = absurd (subst IsBoth (sym say ∙ reached.0) tt)
     good_init (ends.Facts why) is reached (policy, world, header, say, can) shelf = absurd (subst IsBoth (sym say ∙ reached.0) tt)

@@ -72,6 +72,7 @@ module _ {D : Type 0} (told : Type 0) (reads : D → List ℕ) (image : D → Li
   refused_makes policy_name facts_name files (ends.Journal name why) refused same = absurd refused
   refused_makes policy_name facts_name files (ends.Journals users refusals) refused same = absurd refused
   refused_makes policy_name facts_name files ends.DiskFault refused same = absurd refused
+  refused_makes policy_name facts_name files ends.LinksFault refused same = absurd refused
   refused_makes policy_name facts_name files ends.Memory refused same = inl same
 
 -- the same, where the shelf's disks and counts were the same before the files were read, and its own count may have risen
@@ -110,6 +111,7 @@ of_files ends.WriteFault is = absurd is
 of_files (ends.Journal name why) is = absurd is
 of_files (ends.Journals users refusals) is = absurd is
 of_files ends.DiskFault is = absurd is
+of_files ends.LinksFault is = absurd is
 of_files ends.Memory is = tt
 
 -- and so are the ends of the making itself

@@ -81,4 +81,5 @@ refused_reaches journals policy_name facts_name files ends.WriteFault before aft
 refused_reaches journals policy_name facts_name files (ends.Journal name why) before after old refused = absurd refused
 refused_reaches journals policy_name facts_name files (ends.Journals users refusals) before after old refused = absurd refused
 refused_reaches journals policy_name facts_name files ends.DiskFault before after old refused = absurd refused
+refused_reaches journals policy_name facts_name files ends.LinksFault before after old refused = absurd refused
 refused_reaches journals policy_name facts_name files ends.Memory before after old refused = inl refl

@@ -1,6 +1,6 @@
 -- What holds of the command in memory holds of the words that say it.
-use Rattle.std.proofs.Common.{◌≡◌, ◌∙◌, sym, ap, subst, ℕ, Bool, List, Option, Some, None}
-use Rattle.command_words.specs.Readings.{Reading, FileNames, runs_case, runs_init, runs_batch, runs_audit, runs_selfrun}
+use Rattle.std.proofs.Common.{◌≡◌, subst, ℕ, Bool, List, Option, Some}
+use Rattle.command_words.specs.Readings.{Reading, FileNames, runs_init, runs_batch, runs_audit, runs_selfrun, runs_serve}
 
 -- files by their names
 abbrev named : List ℕ → List ℕ → List ℕ → FileNames
@@ -27,6 +27,18 @@ module _ (read : Option Reading) (policy facts journals policy' facts' journals'
       let same_user : user ≡ user' = cc in
       let same_json : json ≡ json' = cc in
       subst (λ j. P policy' facts' journals' user' j) same_json (subst (λ u. P policy' facts' journals' u json) same_user (subst (λ f. P f.policy f.facts f.journals user json) same holds))
+
+  -- a server
+  pub by_serve : (address address' : List ℕ) (workers sessions workers' sessions' : ℕ) (P : List ℕ → List ℕ → List ℕ → List ℕ → ℕ → ℕ → Type 0)
+      → Some (runs_serve (named policy facts journals) address workers sessions) ≡ read → read ≡ Some (runs_serve (named policy' facts' journals') address' workers' sessions')
+      → P policy facts journals address workers sessions → P policy' facts' journals' address' workers' sessions'
+  by_serve address address' workers sessions workers' sessions' P first second holds =
+      let same : named policy facts journals ≡ named policy' facts' journals' = cc in
+      let same_address : address ≡ address' = cc in
+      let same_workers : workers ≡ workers' = cc in
+      let same_sessions : sessions ≡ sessions' = cc in
+      subst (λ n. P policy' facts' journals' address' workers' n) same_sessions (subst (λ n. P policy' facts' journals' address' n sessions) same_workers
+      (subst (λ a. P policy' facts' journals' a workers sessions) same_address (subst (λ f. P f.policy f.facts f.journals address workers sessions) same holds)))
 
 -- a run
 pub by_selfrun : (read : Option Reading) (seed users asks seed' users' asks' : ℕ) (P : ℕ → ℕ → ℕ → Type 0) → Some (runs_selfrun seed users asks) ≡ read → read ≡ Some (runs_selfrun seed' users' asks') → P seed users asks → P seed' users' asks'

@@ -20,3 +20,4 @@ good_selfrun seed users asks ends.ReadFault old new reached write = absurd reach
 good_selfrun seed users asks (ends.Journal name why) old new reached write = absurd reached
 good_selfrun seed users asks (ends.Journals names refusals) old new reached write = absurd reached
 good_selfrun seed users asks ends.DiskFault old new reached write = absurd reached
+good_selfrun seed users asks ends.LinksFault old new reached write = absurd reached

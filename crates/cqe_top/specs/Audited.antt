@@ -6,7 +6,6 @@ use Rattle.outside.specs.Shelf.{SameOthers}
 use Rattle.cqe_base.specs.Schema.{Text}
 use Rattle.cqe_base.specs.Facts.{FactSet}
 use Rattle.cqe_base.specs.History.{History}
-use Rattle.log_journal.specs.Names.{journal_name}
 use Rattle.user_desk.specs.Causes.{Opens}
 use Rattle.desk_crew.specs.Shelved.{Journals}
 use Rattle.desk_crew.specs.Shelved.{SameBytes}
@@ -19,7 +18,7 @@ use Rattle.cqe_top.specs.Files.{FilesSay, bad_policy, bad_facts, Say, files_say}
 use Rattle.cqe_top.specs.Reaches.{IsMissing}
 use Rattle.cqe_top.specs.declared.end.CommandEnd.{CommandEnd}
 use Rattle.cqe_top.specs.declared.end.CommandEnd.TheVariants as end
-use Rattle.cqe_top.specs.declared.end.CommandEnd.TheVariants.{Done, Usage, Missing, ShelfFault, Policy, Facts, Script, ReadFault, WriteFault, Journal, DiskFault, Memory}
+use Rattle.cqe_top.specs.declared.end.CommandEnd.TheVariants.{Done, Usage, Missing, ShelfFault, Policy, Facts, Script, ReadFault, WriteFault, Journal, DiskFault, LinksFault, Memory}
 
 -- the user of this name, if there is one
 abbrev pub user_named : Text → List NamedUser → Option NamedUser
@@ -52,6 +51,7 @@ module _ (journals : Journals) where
     AuditReaches policy_name facts_name name files ReadFault = ⊥
     AuditReaches policy_name facts_name name files (end.Journals users refusals) = ⊥
     AuditReaches policy_name facts_name name files DiskFault = ⊥
+    AuditReaches policy_name facts_name name files LinksFault = ⊥
 
   -- the policy has a user of this name, whose journal stands for a legal history of his within the limits, and the count of its disk's faults didn't rise
   abbrev pub CanBeAudited : Text → PolicyValue → FactSet → List ℕ → Type 0

@@ -20,7 +20,7 @@ use Rattle.policy_files.specs.declared.error.FactsError.{FactsError}
 use Rattle.policy_files.specs.declared.error.FactsError.TheVariants as facts_errors
 use Rattle.outside.specs.Streams.{AppendsPart}
 use Rattle.cqe_top.specs.declared.end.CommandEnd.{CommandEnd}
-use Rattle.cqe_top.specs.declared.end.CommandEnd.TheVariants.{Done, Usage, Missing, ShelfFault, Policy, Facts, Script, ReadFault, WriteFault, Journal, Journals, DiskFault, Memory}
+use Rattle.cqe_top.specs.declared.end.CommandEnd.TheVariants.{Done, Usage, Missing, ShelfFault, Policy, Facts, Script, ReadFault, WriteFault, Journal, Journals, DiskFault, LinksFault, Memory}
 
 -- the number of a script's refusal
 abbrev pub kind_number : ScriptKind → ℕ
@@ -147,6 +147,7 @@ complaint_of ShelfFault = codes "cqe: shelf fault\n"
 complaint_of (Journal name why) = journal_line (string_bytes name) why
 complaint_of (Journals users refusals) = journal_lines users.items refusals.items
 complaint_of DiskFault = codes "cqe: disk fault\n"
+complaint_of LinksFault = codes "cqe: links fault\n"
 complaint_of Memory = codes "cqe: out of memory\n"
 
 -- a text was appended, or a part of it where the sink failed

@@ -19,7 +19,7 @@ use Rattle.cqe_top.specs.Files.{FilesSay, no_policy, bad_policy, no_facts, bad_f
 use Rattle.cqe_top.specs.Statuses.{status_of, has_refusal, IsAt}
 use Rattle.cqe_top.specs.declared.end.CommandEnd.{CommandEnd}
 use Rattle.cqe_top.specs.declared.end.CommandEnd.TheVariants as end
-use Rattle.cqe_top.specs.declared.end.CommandEnd.TheVariants.{Done, Usage, Missing, ShelfFault, Policy, Facts, Script, ReadFault, WriteFault, Journal, DiskFault, Memory}
+use Rattle.cqe_top.specs.declared.end.CommandEnd.TheVariants.{Done, Usage, Missing, ShelfFault, Policy, Facts, Script, ReadFault, WriteFault, Journal, DiskFault, LinksFault, Memory}
 
 -- an end of the command `case`, by the bytes that were left before and after, and the output before and after
 abbrev pub CaseReaches : CommandEnd → List ℕ → List ℕ → List ℕ → List ℕ → Type 0
@@ -36,6 +36,7 @@ CaseReaches ShelfFault before after old new = ⊥
 CaseReaches (Journal name why) before after old new = ⊥
 CaseReaches (end.Journals users refusals) before after old new = ⊥
 CaseReaches DiskFault before after old new = ⊥
+CaseReaches LinksFault before after old new = ⊥
 
 -- one of the files isn't there, and it has this name
 abbrev pub IsMissing : FilesSay → List ℕ → List ℕ → List ℕ → Type 0
@@ -72,6 +73,7 @@ module _ {D : Type 0} (told : Type 0) (reads : D → List ℕ) (image : D → Li
   InitReaches policy_name facts_name files ReadFault = ⊥
   InitReaches policy_name facts_name files WriteFault = ⊥
   InitReaches policy_name facts_name files (end.Journals users refusals) = ⊥
+  InitReaches policy_name facts_name files LinksFault = ⊥
 
 module _ (journals : Journals) (before after old new : List ℕ) where
   -- all items of the batch were answered, over these journals of a policy's users; of each user there is the first refusal of his journal, if one was, and
@@ -102,6 +104,7 @@ module _ (journals : Journals) (before after old new : List ℕ) where
   BatchReaches policy_name facts_name files ShelfFault = new ≡ old
   BatchReaches policy_name facts_name files Usage = ⊥
   BatchReaches policy_name facts_name files (Journal name why) = ⊥
+  BatchReaches policy_name facts_name files LinksFault = ⊥
 
 -- a status is that of an end, which is one of the words' command, and of which the complaints are told
 pub record Ends (status : ℕ) (AsCase AsInit AsBatch AsAudit AsSelfrun IsTold : CommandEnd → Type 0) : Type 0 where

@@ -7,7 +7,7 @@ use Rattle.policy_files.specs.Policies.{PolicyValue}
 use Rattle.cqe_top.specs.Files.{FilesSay, bad_policy, bad_facts}
 use Rattle.cqe_top.specs.Reaches.{IsMissing}
 use Rattle.cqe_top.specs.declared.end.CommandEnd.{CommandEnd}
-use Rattle.cqe_top.specs.declared.end.CommandEnd.TheVariants.{Done, Usage, Missing, ShelfFault, Policy, Facts, Script, ReadFault, WriteFault, Journal, Journals, DiskFault, Memory}
+use Rattle.cqe_top.specs.declared.end.CommandEnd.TheVariants.{Done, Usage, Missing, ShelfFault, Policy, Facts, Script, ReadFault, WriteFault, Journal, Journals, DiskFault, LinksFault, Memory}
 
 -- why one file wasn't read
 abbrev pub RefusesFile : List ℕ → Option (List ℕ) → CommandEnd → Type 0
@@ -51,6 +51,7 @@ IsFileEnd WriteFault = ⊥
 IsFileEnd (Journal name why) = ⊥
 IsFileEnd (Journals users refusals) = ⊥
 IsFileEnd DiskFault = ⊥
+IsFileEnd LinksFault = ⊥
 IsFileEnd Memory = Unit {0}
 
 -- an end that the making of journals may have
@@ -67,4 +68,5 @@ IsOfInit WriteFault = ⊥
 IsOfInit (Journal name why) = Unit {0}
 IsOfInit (Journals users refusals) = ⊥
 IsOfInit DiskFault = Unit {0}
+IsOfInit LinksFault = ⊥
 IsOfInit Memory = Unit {0}

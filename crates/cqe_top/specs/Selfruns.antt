@@ -29,3 +29,4 @@ module _ (seed users asks : ℕ) where
   SelfrunReaches (end.Journal name why) old new = ⊥
   SelfrunReaches (end.Journals names refusals) old new = ⊥
   SelfrunReaches end.DiskFault old new = ⊥
+  SelfrunReaches end.LinksFault old new = ⊥

@@ -15,7 +15,7 @@ use Rattle.batch_engine.specs.declared.run.BatchEnd.TheVariants as batch_end
 use Rattle.audit_engine.specs.declared.end.AuditEnd.{AuditEnd}
 use Rattle.audit_engine.specs.declared.end.AuditEnd.TheVariants as audit_end
 use Rattle.cqe_top.specs.declared.end.CommandEnd.{CommandEnd}
-use Rattle.cqe_top.specs.declared.end.CommandEnd.TheVariants.{Done, Usage, Missing, ShelfFault, Policy, Facts, Script, ReadFault, WriteFault, Journal, Journals, DiskFault, Memory}
+use Rattle.cqe_top.specs.declared.end.CommandEnd.TheVariants.{Done, Usage, Missing, ShelfFault, Policy, Facts, Script, ReadFault, WriteFault, Journal, Journals, DiskFault, LinksFault, Memory}
 
 -- the status of an end
 abbrev pub status_of : CommandEnd → ℕ
@@ -31,6 +31,7 @@ status_of ShelfFault = 9
 status_of (Journal name why) = 10
 status_of (Journals users refusals) = 10
 status_of DiskFault = 11
+status_of LinksFault = 12
 status_of Memory = 13
 
 -- the end of the command `case` for the end of its case

@@ -1,7 +1,7 @@
 -- The commands that words can say.
 use Rattle.std.specs.Prelude.{◌≡◌, ℕ, Bool, List, map, Some, None, String, string_bytes}
 use Rattle.std.specs.declared.alloc.Global.{Global}
-use Rattle.command_words.specs.Readings.{reading_of, runs_case, runs_init, runs_batch, runs_audit, runs_selfrun}
+use Rattle.command_words.specs.Readings.{reading_of, runs_case, runs_init, runs_batch, runs_audit, runs_selfrun, runs_serve}
 
 -- no command
 abbrev pub IsUsage : List (String Global) → Type 0
@@ -27,3 +27,12 @@ IsAudit words policy facts journals user json =
 -- `selfrun` with this seed, so many users and so many asks
 abbrev pub IsSelfrun : List (String Global) → ℕ → ℕ → ℕ → Type 0
 IsSelfrun words seed users asks = reading_of (map string_bytes words) ≡ Some (runs_selfrun seed users asks)
+
+-- `serve` over the same files and journals, at this address, with so many workers and for so many connections
+abbrev pub IsServe : List (String Global) → List ℕ → List ℕ → List ℕ → List ℕ → ℕ → ℕ → Type 0
+IsServe words policy facts journals address workers sessions =
+    reading_of (map string_bytes words) ≡ Some (runs_serve (record { policy = policy; facts = facts; journals = journals }) address workers sessions)
+
+-- anything but `serve`
+abbrev pub IsNoServer : List (String Global) → Type 0
+IsNoServer words = (policy facts journals address : List ℕ) (workers sessions : ℕ) → IsServe words policy facts journals address workers sessions → ⊥

@@ -32,6 +32,7 @@ pub(crate) fn audit<'w, F: Shelf, K: Sink>(
     ensures looks { F.told → LooksAt F.D.reads F.D.image (journal_name files.now.journals.now name.now) (F.disk shelf.old) (F.disk shelf.new) }
     ensures nobody { result ≡ CommandEnd.Usage → sink.new ≡ sink.old }
     ensures read { result ≡ CommandEnd.ReadFault → ⊥ }
+    ensures links { result ≡ CommandEnd.LinksFault → ⊥ }
     ensures write_cause { result ≡ CommandEnd.WriteFault → Rose (K.faults sink.old) (K.faults sink.new) }
     ensures shelf_cause { result ≡ CommandEnd.ShelfFault → Rose (F.faults shelf.old) (F.faults shelf.new) }
     ensures inside { NoneOut (F.is_out shelf.new) }

@@ -6,7 +6,7 @@ ghost use Rattle.batch_engine.specs.BatchLines.{batch_of};
 ghost use Rattle.desk_crew.specs.Shelved.{journals_on, NoneOut, NoneFell};
 ghost use Rattle.cqe_top.specs.declared.end.CommandEnd.{CommandEnd};
 ghost use Rattle.log_journal.specs.Names.{journal_name};
-ghost use Rattle.cqe_top.specs.Words.{IsUsage, IsCase, IsInit, IsBatch, IsAudit, IsSelfrun};
+ghost use Rattle.cqe_top.specs.Words.{IsUsage, IsCase, IsInit, IsBatch, IsAudit, IsSelfrun, IsServe, IsNoServer};
 ghost use Rattle.cqe_top.specs.Files.{files_say, Say};
 ghost use Rattle.cqe_top.specs.Ready.{CanBeMade, CanBeOpened};
 ghost use Rattle.cqe_top.specs.Refusals.{IsOfInit};
@@ -20,26 +20,37 @@ use crate::complaint::complain;
 use crate::end::{CommandEnd, end_of_batch, end_of_case, end_of_init, status_of};
 use crate::files::read_files;
 use crate::selfrun::selfrun;
+use crate::serve::serve;
 use batch_engine::run_batch;
-use desk_crew::Registry;
 use case_engine::run_case;
 use command_words::{Command, read_words};
+use desk_crew::Registry;
 use init_engine::run_init;
-use outside::{Gate, Shelf, Sink, Source};
+use outside::{Gate, Links, Shelf, Sink, Source};
 use std::alloc::{AllocError, Global};
 use std::sync::Wait;
+use std::thread::Threads;
 
 /// Does all that the program does, and answers the status with which it ends: 0 done, 2 usage, 3 policy, 4 facts,
-/// 5 script, 6 read, 7 write, 8 missing file, 9 shelf, 10 journal, 11 disk, 13 memory.
+/// 5 script, 6 read, 7 write, 8 missing file, 9 shelf, 10 journal, 11 disk, 12 links, 13 memory.
 ///
 /// The command `case` reads a script with one user from the source and writes one line for each ask to the sink. `init`
 /// reads a policy and facts from the shelf and makes an empty journal on the disk of each user, where that is empty.
 /// `batch` reads the same files and a script of many users from the source, over their journals; a user whose journal is
 /// refused doesn't stop the others, and each ask passes the gate. `audit` reads the same files and prints what the journal
 /// of one of the users holds. `selfrun` makes a workload, runs it over objects in memory, and prints how often each reply
-/// came. It may wait, at the desks and at the gate. What can't be done is said to the complaints; where they fail too,
-/// nothing else changes.
-pub fn top<R: Wait, F: Shelf, S: Source, K: Sink, E: Sink, G: Gate>(
+/// came. `serve` reads the same files as `batch` and serves the connections that the links give at an address, side by
+/// side, until the links end or so many connections were served. It may wait, for a client, at the desks and at the gate.
+/// What can't be done is said to the complaints; where they fail too, nothing else changes.
+pub fn top<
+    R: Threads + Wait + Sync,
+    F: Shelf,
+    S: Source,
+    K: Sink,
+    E: Sink,
+    L: Links,
+    G: Gate + Sync,
+>(
     rt: &R,
     alloc: Global,
     words: &[String],
@@ -47,6 +58,7 @@ pub fn top<R: Wait, F: Shelf, S: Source, K: Sink, E: Sink, G: Gate>(
     source: &mut S,
     sink: &mut K,
     complaints: &mut E,
+    links: &mut L,
     gate: &G,
 ) -> u8
     requires inside { NoneOut (F.is_out shelf.old) }
@@ -88,10 +100,16 @@ pub fn top<R: Wait, F: Shelf, S: Source, K: Sink, E: Sink, G: Gate>(
     ensures selfrun_takes_nothing { (seed users asks : ℕ) → IsSelfrun words.now seed users asks → shelf.new ≡ shelf.old }
     ensures selfrun_reads_nothing { (seed users asks : ℕ) → IsSelfrun words.now seed users asks → source.new ≡ source.old }
 
+    // A server has no input and no output but its connections, and nothing else listens.
+    ensures serve_reads_nothing { (policy facts journals address : List ℕ) (workers sessions : ℕ) → IsServe words.now policy facts journals address workers sessions → source.new ≡ source.old }
+    ensures serve_writes_nothing { (policy facts journals address : List ℕ) (workers sessions : ℕ) → IsServe words.now policy facts journals address workers sessions → sink.new ≡ sink.old }
+    ensures only_serve_listens { IsNoServer words.now → links.new ≡ links.old }
+
     // A fault has its cause.
     ensures read_cause { result ≡ 6 → Rose (S.faults source.old) (S.faults source.new) }
     ensures write_cause { result ≡ 7 → Rose (K.faults sink.old) (K.faults sink.new) }
     ensures shelf_cause { result ≡ 9 → Rose (F.faults shelf.old) (F.faults shelf.new) }
+    ensures links_cause { result ≡ 12 → Rose (L.faults links.old) (L.faults links.new) }
 
     // Without a fault, all that is right is done, or memory was wanting.
     ensures good_case { S.told → K.told → IsCase words.now → IsOk (script_of (S.left source.old))
@@ -121,20 +139,22 @@ pub fn top<R: Wait, F: Shelf, S: Source, K: Sink, E: Sink, G: Gate>(
     ensures source_later { S.faults source.old ≤ S.faults source.new }
     ensures sink_later { K.faults sink.old ≤ K.faults sink.new }
     ensures complaints_later { E.faults complaints.old ≤ E.faults complaints.new }
+    ensures links_later { L.faults links.old ≤ L.faults links.new }
 {
-    let end = run(rt, alloc, words, shelf, source, sink, gate);
+    let end = run(rt, alloc, words, shelf, source, sink, links, gate);
     complain(complaints, &end);
     status_of(&end)
 }
 
 /// Runs the command of the words.
-fn run<'w, R: Wait, F: Shelf, S: Source, K: Sink, G: Gate>(
+fn run<'w, R: Threads + Wait + Sync, F: Shelf, S: Source, K: Sink, L: Links, G: Gate + Sync>(
     rt: &R,
     alloc: Global,
     words: &'w [String],
     shelf: &mut F,
     source: &mut S,
     sink: &mut K,
+    links: &mut L,
     gate: &G,
 ) -> CommandEnd<'w>
     requires inside { NoneOut (F.is_out shelf.old) }
@@ -162,15 +182,20 @@ fn run<'w, R: Wait, F: Shelf, S: Source, K: Sink, G: Gate>(
     ensures audit_reads_nothing { (policy facts journals user : List ℕ) (json : Bool) → IsAudit words.now policy facts journals user json → source.new ≡ source.old }
     ensures selfrun_takes_nothing { (seed users asks : ℕ) → IsSelfrun words.now seed users asks → shelf.new ≡ shelf.old }
     ensures selfrun_reads_nothing { (seed users asks : ℕ) → IsSelfrun words.now seed users asks → source.new ≡ source.old }
+    ensures serve_reads_nothing { (policy facts journals address : List ℕ) (workers sessions : ℕ) → IsServe words.now policy facts journals address workers sessions → source.new ≡ source.old }
+    ensures serve_writes_nothing { (policy facts journals address : List ℕ) (workers sessions : ℕ) → IsServe words.now policy facts journals address workers sessions → sink.new ≡ sink.old }
+    ensures only_serve_listens { IsNoServer words.now → links.new ≡ links.old }
     ensures read_cause { result ≡ CommandEnd.ReadFault → Rose (S.faults source.old) (S.faults source.new) }
     ensures write_cause { result ≡ CommandEnd.WriteFault → Rose (K.faults sink.old) (K.faults sink.new) }
     ensures shelf_cause { result ≡ CommandEnd.ShelfFault → Rose (F.faults shelf.old) (F.faults shelf.new) }
+    ensures links_cause { result ≡ CommandEnd.LinksFault → Rose (L.faults links.old) (L.faults links.new) }
     ensures inside { NoneOut (F.is_out shelf.new) }
     ensures counts { NoneFell (F.disk_faults shelf.old) (F.disk_faults shelf.new) }
     ensures held { S.held source.new ≡ S.held source.old }
     ensures shelf_later { F.faults shelf.old ≤ F.faults shelf.new }
     ensures source_later { S.faults source.old ≤ S.faults source.new }
     ensures sink_later { K.faults sink.old ≤ K.faults sink.new }
+    ensures links_later { L.faults links.old ≤ L.faults links.new }
 {
     match read_words(alloc, words) {
         Ok(Some(Command::Case)) => end_of_case(run_case(alloc, source, sink)),
@@ -192,6 +217,7 @@ fn run<'w, R: Wait, F: Shelf, S: Source, K: Sink, G: Gate>(
             audit(alloc, &words.files, words.user, words.json, shelf, sink)
         }
         Ok(Some(Command::Selfrun(words))) => selfrun(rt, alloc, &words, sink),
+        Ok(Some(Command::Serve(words))) => serve(rt, alloc, &words, shelf, links, gate),
         Ok(None) => CommandEnd::Usage,
         Err(AllocError) => CommandEnd::Memory,
     }
@@ -243,6 +269,7 @@ fn batch<'w, R: Wait, F: Shelf, S: Source, K: Sink, G: Gate>(
         → BatchReaches (journals_on F.D.reads F.D.image journals.now (F.disk shelf.old) (F.disk shelf.new) (F.disk_faults shelf.old) (F.disk_faults shelf.new))
         (S.left source.old) (S.left source.new) (K.written sink.old) (K.written sink.new) policy.now facts.now (files_say (F.file shelf.old policy.now) (F.file shelf.old facts.now)) result }
     ensures used { result ≡ CommandEnd.Usage → ⊥ }
+    ensures links { result ≡ CommandEnd.LinksFault → ⊥ }
     ensures read_cause { result ≡ CommandEnd.ReadFault → Rose (S.faults source.old) (S.faults source.new) }
     ensures write_cause { result ≡ CommandEnd.WriteFault → Rose (K.faults sink.old) (K.faults sink.new) }
     ensures shelf_cause { result ≡ CommandEnd.ShelfFault → Rose (F.faults shelf.old) (F.faults shelf.new) }

@@ -46,6 +46,7 @@ fn give<E: Sink>(complaints: &mut E, end: &CommandEnd<'_>) -> Result<(), Failed>
             give_journals(complaints, users.as_slice(), refusals.as_slice())
         }
         CommandEnd::DiskFault => write_all(complaints, b"cqe: disk fault\n"),
+        CommandEnd::LinksFault => write_all(complaints, b"cqe: links fault\n"),
         CommandEnd::Memory => write_all(complaints, b"cqe: out of memory\n"),
     }
 }

@@ -41,6 +41,8 @@ pub enum CommandEnd<'w> {
     /// A call of a disk failed: `init` stopped there, or `batch` answered all items, some of them by it, and no journal
     /// was refused.
     DiskFault,
+    /// The links failed: nothing listens at the address of `serve`, or no further client could be taken in.
+    LinksFault,
     /// Memory was wanting.
     Memory,
 }
@@ -151,6 +153,7 @@ pub(crate) fn status_of(end: &CommandEnd<'_>) -> u8
         CommandEnd::ShelfFault => 9,
         CommandEnd::Journal(..) | CommandEnd::Journals(..) => 10,
         CommandEnd::DiskFault => 11,
+        CommandEnd::LinksFault => 12,
         CommandEnd::Memory => 13,
     }
 }

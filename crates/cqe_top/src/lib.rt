@@ -13,6 +13,7 @@ mod complaint;
 mod end;
 mod files;
 mod selfrun;
+mod serve;
 #[cfg(test)]
 mod tests;
 

@@ -4,16 +4,18 @@ ghost use Rattle.std.specs.Prelude.{◌≡◌, List, ℕ, false};
 ghost use Rattle.outside.specs.MemoryShelves.{is_disk_out};
 
 use crate::top;
-use outside::{MemoryShelf, MemorySink, MemorySource, OpenGate, Pieces, Plan};
+use outside::{Gate, MemoryLinks, MemoryShelf, MemorySink, MemorySource, OpenGate, Pieces, Plan};
 use std::alloc::{AllocError, Global};
 use std::process::Abort;
 use std::sync::Wait;
+use std::thread::Threads;
 
 mod audit;
 mod batch;
 mod case;
 mod lives;
 mod selfrun;
+mod serve;
 mod ward;
 
 // What the program did.
@@ -25,15 +27,36 @@ struct Run {
     complaints: MemorySink,
 }
 
-// Calls the program over a shelf that has all its disks, and has them all again.
+// Calls the program over a shelf that has all its disks, and has them all again. No client comes.
 fn run_over(
-    rt: &impl Wait,
+    rt: &(impl Threads + Wait + Sync),
     alloc: Global,
     words: &[&str],
     shelf: &mut MemoryShelf,
     source: MemorySource,
     sink: MemorySink,
     complaints: MemorySink,
+) -> Result<Run, AllocError>
+    requires { (name : List ℕ) → is_disk_out shelf.old name ≡ false }
+    ensures { (name : List ℕ) → is_disk_out shelf.new name ≡ false }
+{
+    let mut links = MemoryLinks::new(alloc, Vec::new(alloc));
+    run_linked(
+        rt, alloc, words, shelf, source, sink, complaints, &mut links, &OpenGate,
+    )
+}
+
+// The same over these links, where each ask passes this gate.
+fn run_linked(
+    rt: &(impl Threads + Wait + Sync),
+    alloc: Global,
+    words: &[&str],
+    shelf: &mut MemoryShelf,
+    source: MemorySource,
+    sink: MemorySink,
+    complaints: MemorySink,
+    links: &mut MemoryLinks,
+    gate: &(impl Gate + Sync),
 ) -> Result<Run, AllocError>
     requires { (name : List ℕ) → is_disk_out shelf.old name ≡ false }
     ensures { (name : List ℕ) → is_disk_out shelf.new name ≡ false }
@@ -51,7 +74,8 @@ fn run_over(
         &mut source,
         &mut sink,
         &mut complaints,
-        &OpenGate,
+        links,
+        gate,
     );
     Ok(Run {
         status,
@@ -64,7 +88,7 @@ fn run_over(
 impl Run {
     /// The program over a shelf that nobody asks for afterwards.
     fn new(
-        rt: &impl Wait,
+        rt: &(impl Threads + Wait + Sync),
         alloc: Global,
         words: &[&str],
         mut shelf: MemoryShelf,
@@ -78,11 +102,19 @@ impl Run {
     }
 
     /// A case whose script has these parts.
-    fn case(rt: &impl Wait, alloc: Global, script: &[&str]) -> Result<Run, AllocError> {
+    fn case(
+        rt: &(impl Threads + Wait + Sync),
+        alloc: Global,
+        script: &[&str],
+    ) -> Result<Run, AllocError> {
         Run::script(rt, alloc, joined(alloc, script)?)
     }
 
-    fn script(rt: &impl Wait, alloc: Global, script: Vec<u8>) -> Result<Run, AllocError> {
+    fn script(
+        rt: &(impl Threads + Wait + Sync),
+        alloc: Global,
+        script: Vec<u8>,
+    ) -> Result<Run, AllocError> {
         let sink = MemorySink::new(alloc);
         let complaints = MemorySink::new(alloc);
         Run::new(
@@ -98,7 +130,7 @@ impl Run {
 
     /// The same, where the streams cut.
     fn cut_case(
-        rt: &impl Wait,
+        rt: &(impl Threads + Wait + Sync),
         alloc: Global,
         script: &[&str],
         taken: Pieces,

@@ -4,10 +4,15 @@ use outside::{MemoryShelf, MemorySink, MemorySource, Pieces, Plan};
 use std::alloc::{AllocError, Global};
 use std::sync::Wait;
 use std::test::Fail;
+use std::thread::Threads;
 
 const WORDS: [&str; 7] = ["selfrun", "--seed", "7", "--users", "3", "--asks", "60"];
 
-fn selfrun(rt: &impl Wait, alloc: Global, sink: MemorySink) -> Result<Run, AllocError> {
+fn selfrun(
+    rt: &(impl Threads + Wait + Sync),
+    alloc: Global,
+    sink: MemorySink,
+) -> Result<Run, AllocError> {
     Run::new(
         rt,
         alloc,

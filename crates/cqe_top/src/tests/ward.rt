@@ -6,6 +6,7 @@ use super::{Run, joined, run_over};
 use outside::{MemoryDisk, MemoryShelf, MemorySink, MemorySource};
 use std::alloc::{AllocError, Global};
 use std::sync::Wait;
+use std::thread::Threads;
 
 // Two persons, and six users: one is lied to, one refused, one both; and three of whom each knows too much.
 pub(super) const POLICY: &str = "version = 1\n
@@ -91,7 +92,10 @@ pub(super) fn shelf_of(
 }
 
 /// A shelf with the ward's files, and empty journals.
-pub(super) fn ward(rt: &impl Wait, alloc: Global) -> Result<MemoryShelf, AllocError>
+pub(super) fn ward(
+    rt: &(impl Threads + Wait + Sync),
+    alloc: Global,
+) -> Result<MemoryShelf, AllocError>
     ensures { IfOk result (λ shelf. (name : List ℕ) → is_disk_out shelf name ≡ false) }
 {
     let mut shelf = shelf_of(alloc, POLICY.as_bytes(), FACTS.as_bytes())?;
@@ -101,7 +105,7 @@ pub(super) fn ward(rt: &impl Wait, alloc: Global) -> Result<MemoryShelf, AllocEr
 
 /// `init` on this shelf.
 pub(super) fn init(
-    rt: &impl Wait,
+    rt: &(impl Threads + Wait + Sync),
     alloc: Global,
     shelf: &mut MemoryShelf,
 ) -> Result<Run, AllocError>
@@ -115,7 +119,7 @@ pub(super) fn init(
 
 /// `batch` of this script on this shelf.
 pub(super) fn batch(
-    rt: &impl Wait,
+    rt: &(impl Threads + Wait + Sync),
     alloc: Global,
     shelf: &mut MemoryShelf,
     script: &str,
@@ -130,7 +134,7 @@ pub(super) fn batch(
 
 /// `audit` of this user on this shelf, as text or in JSON.
 pub(super) fn audit(
-    rt: &impl Wait,
+    rt: &(impl Threads + Wait + Sync),
     alloc: Global,
     shelf: &mut MemoryShelf,
     user: &str,

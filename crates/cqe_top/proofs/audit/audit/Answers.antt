@@ -3,7 +3,7 @@ use Rattle.std.specs.Prelude.{position}
 use Rattle.log_journal.specs.Opening.{header_bytes}
 use Rattle.desk_crew.specs.Shelved.{journals_on}
 use Rattle.cqe_top.specs.Files.{files_say}
-use Rattle.cqe_top.proofs.Auditing.{is_named, audit_over, nobody_over, named_at, looked_over, looked_at_none, refused_audit, not_usage, not_read, write_fault, shelf_fault, rose_longer}
+use Rattle.cqe_top.proofs.Auditing.{is_named, audit_over, nobody_over, named_at, looked_over, not_usage, not_read, not_links, write_fault, shelf_fault, rose_longer}
 use Rattle.cqe_top.proofs.audit.audit.Goals as goal
 
 pub returns-clause-reaches : goal.returns-clause-reaches
@@ -35,6 +35,9 @@ returns-clause-nobody g c = λ is. absurd (not_usage c.in-Ok.inputs.policy.users
 
 pub returns-clause-read : goal.returns-clause-read
 returns-clause-read g c = λ is. not_read c.in-Ok.inputs.policy.users.items c.in-Some.place c.run_audit-end.result c.end_of_audit.result c.end_of_audit.ensures is
+
+pub returns-clause-links : goal.returns-clause-links
+returns-clause-links g c = λ is. not_links c.in-Ok.inputs.policy.users.items c.in-Some.place c.run_audit-end.result c.end_of_audit.result c.end_of_audit.ensures is
 
 pub returns-clause-write_cause : goal.returns-clause-write_cause
 returns-clause-write_cause g c = λ is. c.run_audit-end.ensures.write_cause (write_fault c.in-Ok.inputs.policy.users.items c.in-Some.place c.run_audit-end.result c.end_of_audit.result c.end_of_audit.ensures is)

@@ -1,10 +1,10 @@
 use Rattle.std.proofs.Common.{inr, sym, ap, ◌∙◌, subst, map, string_bytes}
 use Rattle.std.specs.Prelude.{Some, option_map}
 use Rattle.desk_crew.specs.Shelved.{journals_on}
-use Rattle.command_words.specs.Readings.{reading_of, reading_in}
+use Rattle.command_words.specs.Readings.{reading_of, reading_in, names_of_files, runs_selfrun, runs_serve}
 use Rattle.cqe_top.specs.Files.{files_say}
 use Rattle.cqe_top.specs.Audited.{AuditReaches}
-use Rattle.cqe_top.proofs.Numbers.{in_bounds}
+use Rattle.cqe_top.proofs.Numbers.{kept}
 use Rattle.cqe_top.proofs.Saying.{by_audit}
 use Rattle.cqe_top.proofs.command.run.Goals as goal
 
@@ -12,25 +12,53 @@ pub selfrun-requires-clause-some_user : goal.selfrun-requires-clause-some_user
 selfrun-requires-clause-some_user g c =
     let read = c.in-Ok-Some-Selfrun in
     let run = read.words in
-    (in_bounds run.seed run.users run.asks (map string_bytes c.args.words.now) (sym read.ensures ∙ ap (option_map reading_in) (read.field-0-is ∙ ap Some read.field-0-0-is))).some_user
+    (kept (map string_bytes c.args.words.now) (runs_selfrun run.seed run.users run.asks) (sym read.ensures ∙ ap (option_map reading_in) (read.field-0-is ∙ ap Some read.field-0-0-is))).some_user
 
 pub selfrun-requires-clause-few_users : goal.selfrun-requires-clause-few_users
 selfrun-requires-clause-few_users g c =
     let read = c.in-Ok-Some-Selfrun in
     let run = read.words in
-    (in_bounds run.seed run.users run.asks (map string_bytes c.args.words.now) (sym read.ensures ∙ ap (option_map reading_in) (read.field-0-is ∙ ap Some read.field-0-0-is))).few_users
+    (kept (map string_bytes c.args.words.now) (runs_selfrun run.seed run.users run.asks) (sym read.ensures ∙ ap (option_map reading_in) (read.field-0-is ∙ ap Some read.field-0-0-is))).few_users
 
 pub selfrun-requires-clause-some_ask : goal.selfrun-requires-clause-some_ask
 selfrun-requires-clause-some_ask g c =
     let read = c.in-Ok-Some-Selfrun in
     let run = read.words in
-    (in_bounds run.seed run.users run.asks (map string_bytes c.args.words.now) (sym read.ensures ∙ ap (option_map reading_in) (read.field-0-is ∙ ap Some read.field-0-0-is))).some_ask
+    (kept (map string_bytes c.args.words.now) (runs_selfrun run.seed run.users run.asks) (sym read.ensures ∙ ap (option_map reading_in) (read.field-0-is ∙ ap Some read.field-0-0-is))).some_ask
 
 pub selfrun-requires-clause-few_asks : goal.selfrun-requires-clause-few_asks
 selfrun-requires-clause-few_asks g c =
     let read = c.in-Ok-Some-Selfrun in
     let run = read.words in
-    (in_bounds run.seed run.users run.asks (map string_bytes c.args.words.now) (sym read.ensures ∙ ap (option_map reading_in) (read.field-0-is ∙ ap Some read.field-0-0-is))).few_asks
+    (kept (map string_bytes c.args.words.now) (runs_selfrun run.seed run.users run.asks) (sym read.ensures ∙ ap (option_map reading_in) (read.field-0-is ∙ ap Some read.field-0-0-is))).few_asks
+
+pub serve-requires-clause-some_worker : goal.serve-requires-clause-some_worker
+serve-requires-clause-some_worker g c = λ lifetimes fit.
+    let read = c.in-Ok-Some-Serve in
+    let server = read.words in
+    (kept (map string_bytes c.args.words.now) (runs_serve (names_of_files server.files) server.listen.now server.workers server.sessions)
+    (sym read.ensures ∙ ap (option_map reading_in) (read.field-0-is ∙ ap Some read.field-0-0-is))).some_worker
+
+pub serve-requires-clause-few_workers : goal.serve-requires-clause-few_workers
+serve-requires-clause-few_workers g c = λ lifetimes fit.
+    let read = c.in-Ok-Some-Serve in
+    let server = read.words in
+    (kept (map string_bytes c.args.words.now) (runs_serve (names_of_files server.files) server.listen.now server.workers server.sessions)
+    (sym read.ensures ∙ ap (option_map reading_in) (read.field-0-is ∙ ap Some read.field-0-0-is))).few_workers
+
+pub serve-requires-clause-some_session : goal.serve-requires-clause-some_session
+serve-requires-clause-some_session g c = λ lifetimes fit.
+    let read = c.in-Ok-Some-Serve in
+    let server = read.words in
+    (kept (map string_bytes c.args.words.now) (runs_serve (names_of_files server.files) server.listen.now server.workers server.sessions)
+    (sym read.ensures ∙ ap (option_map reading_in) (read.field-0-is ∙ ap Some read.field-0-0-is))).some_session
+
+pub serve-requires-clause-few_sessions : goal.serve-requires-clause-few_sessions
+serve-requires-clause-few_sessions g c = λ lifetimes fit.
+    let read = c.in-Ok-Some-Serve in
+    let server = read.words in
+    (kept (map string_bytes c.args.words.now) (runs_serve (names_of_files server.files) server.listen.now server.workers server.sessions)
+    (sym read.ensures ∙ ap (option_map reading_in) (read.field-0-is ∙ ap Some read.field-0-0-is))).few_sessions
 
 pub returns-in-Ok-Some-Audit-clause-as_audit : goal.returns-in-Ok-Some-Audit-clause-as_audit
 returns-in-Ok-Some-Audit-clause-as_audit g c = λ told sink_told policy facts journals user json is.

@@ -47,6 +47,16 @@ returns-in-DiskFault-clause-part g c = λ told.
     subst (λ end. OnErr c.write_all-in-DiskFault.result (AppendsPart (g.E.Sink.written c.args.complaints.now) (g.E.Sink.written c.write_all-in-DiskFault.new.sink) (complaint_of end))) (sym c.in-DiskFault.is)
     (c.write_all-in-DiskFault.ensures.part told)
 
+pub returns-in-LinksFault-clause-all : goal.returns-in-LinksFault-clause-all
+returns-in-LinksFault-clause-all g c = λ told.
+    subst (λ end. OnOk c.write_all-in-LinksFault.result (g.E.Sink.written c.write_all-in-LinksFault.new.sink ≡ g.E.Sink.written c.args.complaints.now ++ complaint_of end)) (sym c.in-LinksFault.is)
+    (c.write_all-in-LinksFault.ensures.all told)
+
+pub returns-in-LinksFault-clause-part : goal.returns-in-LinksFault-clause-part
+returns-in-LinksFault-clause-part g c = λ told.
+    subst (λ end. OnErr c.write_all-in-LinksFault.result (AppendsPart (g.E.Sink.written c.args.complaints.now) (g.E.Sink.written c.write_all-in-LinksFault.new.sink) (complaint_of end))) (sym c.in-LinksFault.is)
+    (c.write_all-in-LinksFault.ensures.part told)
+
 pub returns-in-Journals-clause-part : goal.returns-in-Journals-clause-part
 returns-in-Journals-clause-part g c = λ told.
     subst (λ text. OnErr c.give_journals.result (AppendsPart (g.E.Sink.written c.args.complaints.now) (g.E.Sink.written c.give_journals.new.complaints) text))
