@@ -3,3 +3,4 @@ pub mod Holding
 pub mod Later
 pub mod Visiting
 pub mod Reading
+pub mod Meeting
