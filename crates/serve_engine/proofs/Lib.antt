@@ -4,3 +4,4 @@ pub mod Later
 pub mod Visiting
 pub mod Reading
 pub mod Meeting
+pub mod Outcomes
