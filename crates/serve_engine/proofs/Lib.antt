@@ -5,3 +5,4 @@ pub mod Visiting
 pub mod Reading
 pub mod Meeting
 pub mod Outcomes
+pub mod Apart

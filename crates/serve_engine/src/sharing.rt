@@ -47,6 +47,8 @@ fn take_apart<'w, D: Disk + Drop>(rooms: Apart<'w, D>, seats: Vec<DeskSeat<'w, D
     ensures keepers { result.0.items ≡ map keeper_of seats.entry.items }
     ensures counters { result.1.items ≡ map seat_counter seats.entry.items }
     ensures passes { result.2.items ≡ map seat_pass seats.entry.items }
+    ensures places { ArePasses result.2.items result.1.items }
+    ensures all { AllByRecursion (λ pass. shares pass ≡ 65) result.2.items }
 {
     let (mut keepers, mut counters, mut passes) = rooms;
     for seat in seats {

@@ -1,3 +1,4 @@
+pub mod Crossing
 pub mod Replying
 pub mod Passing
 pub mod Talking

@@ -1,8 +1,23 @@
-use Rattle.std.proofs.Common.{◌≤◌, ◌++◌, ◌∷◌, [], length, ap, ◌∙◌, rules, arith}
+use Rattle.std.proofs.Common.{◌≡◌, ◌≤◌, ◌++◌, ◌∷◌, [], length, refl, sym, ap, subst, ◌∙◌, rules, arith}
 use Rattle.serve_engine.specs.Sharing.{keeper_of, seat_counter, seat_pass}
 use Rattle.worker_pool.proofs.Seating.{read_on}
+use Rattle.std.specs.List.{AllByRecursion}
+use Rattle.turnstile.specs.Passes.{shares}
+use Rattle.session_core.specs.Members.{ArePasses}
+use Rattle.serve_engine.proofs.Apart.{passes_more, shares_more}
 use Rattle.serve_engine.proofs.Reading.{grown, room_left, grown_all}
 use Rattle.serve_engine.proofs.sharing.take_apart.Goals as goal
+
+pub loop-seat-init : goal.loop-seat-init
+loop-seat-init g c = record {
+  rest = search rules;
+  keepers = c.requires.empty.0;
+  counters = c.requires.empty.1;
+  passes = c.requires.empty.2;
+  places = subst (λ ps. ArePasses ps c.args.rooms.1.items) (sym c.requires.empty.2) (subst (λ cs. ArePasses [] cs) (sym c.requires.empty.1) tt);
+  all = subst (AllByRecursion (λ pass. shares pass ≡ 65)) (sym c.requires.empty.2) tt;
+  rooms = (refl, refl, refl);
+}
 
 pub loop-seat-preserved : goal.loop-seat-preserved
 loop-seat-preserved g c =
@@ -13,6 +28,9 @@ loop-seat-preserved g c =
       keepers = grown keeper_of _ _ c.loop-seat.yielded c.in-Some.seat c.push_reserved-in-loop-seat-2.ensures.items so_far.keepers;
       counters = grown seat_counter _ _ c.loop-seat.yielded c.in-Some.seat (c.push_reserved.ensures.items ∙ ap (λ x. c.loop-seat.counters.items ++ x ∷ []) parts.counter) so_far.counters;
       passes = grown seat_pass _ _ c.loop-seat.yielded c.in-Some.seat (c.push_reserved-in-loop-seat.ensures.items ∙ ap (λ x. c.loop-seat.passes.items ++ x ∷ []) parts.pass) so_far.passes;
+      places = subst (λ ps. ArePasses ps c.push_reserved.new.self.items) (sym c.push_reserved-in-loop-seat.ensures.items) (subst (ArePasses (c.loop-seat.passes.items ++ c.into_parts-counter.result.1 ∷ [])) (sym c.push_reserved.ensures.items)
+          (passes_more c.loop-seat.passes.items c.loop-seat.counters.items c.into_parts-counter.result.1 c.into_parts-counter.result.0 so_far.places parts.place));
+      all = subst (AllByRecursion (λ pass. shares pass ≡ 65)) (sym c.push_reserved-in-loop-seat.ensures.items) (shares_more c.loop-seat.passes.items c.into_parts-counter.result.1 so_far.all parts.all);
       rooms = (c.push_reserved-in-loop-seat-2.ensures.capacity ∙ so_far.rooms.0, c.push_reserved.ensures.capacity ∙ so_far.rooms.1, c.push_reserved-in-loop-seat.ensures.capacity ∙ so_far.rooms.2);
     }
 

@@ -1,5 +1,8 @@
 use Rattle.std.proofs.Common.{◌≡◌, ◌++◌, map, vec_capacity}
 use Rattle.std.specs.Vec.Iter.{into_iter_items}
+use Rattle.std.specs.List.{AllByRecursion}
+use Rattle.turnstile.specs.Passes.{shares}
+use Rattle.session_core.specs.Members.{ArePasses}
 use Rattle.serve_engine.specs.Sharing.{keeper_of, seat_counter, seat_pass}
 use Rattle.serve_engine.proofs.sharing.take_apart.Given as goal
 
@@ -10,5 +13,7 @@ invariant-loop-seat g l = record {
   keepers : l.keepers.items ≡ map keeper_of l.yielded;
   counters : l.counters.items ≡ map seat_counter l.yielded;
   passes : l.passes.items ≡ map seat_pass l.yielded;
+  places : ArePasses l.passes.items l.counters.items;
+  all : AllByRecursion (λ pass. shares pass ≡ 65) l.passes.items;
   rooms : (vec_capacity l.keepers ≡ vec_capacity l.initial.keepers) × (vec_capacity l.counters ≡ vec_capacity l.initial.counters) × (vec_capacity l.passes ≡ vec_capacity l.initial.passes);
 }

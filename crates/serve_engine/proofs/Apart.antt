@@ -1,0 +1,141 @@
+-- Seats that are taken apart and put together, and what was served at them.
+use Rattle.std.proofs.Common.{◌≡◌, ℕ, ◌+◌, ◌*◌, ◌^◌, ◌≤◌, List, [], ◌∷◌, ◌++◌, length, map, refl, sym, ap, ◌∙◌, subst, append-nil, arith}
+use Rattle.std.specs.Prelude.{All, string_bytes}
+use Rattle.std.specs.List.{AllByRecursion, AllZip}
+use Rattle.std.proofs.lemmas.List.Elements.{All-head, All-tail}
+use Rattle.cqe_base.specs.Schema.{DatabaseSchema}
+use Rattle.cqe_base.specs.Facts.{FactSet}
+use Rattle.cqe_base.specs.declared.user.User.{User}
+use Rattle.outside.specs.Visits.{Visit}
+use Rattle.turnstile.specs.declared.pass.Pass.{Pass}
+use Rattle.turnstile.specs.History.{IsPrefix}
+use Rattle.turnstile.specs.Passes.{seen, shares, turns}
+use Rattle.desk_counter.specs.declared.item.Item.{Item}
+use Rattle.desk_counter.specs.declared.item.Fixed.{Fixed}
+use Rattle.desk_counter.specs.declared.counter.CounterOf.{CounterOf}
+use Rattle.desk_counter.specs.declared.ticketed_desk.TicketedDesk.{TicketedDesk}
+use Rattle.desk_counter.specs.Counters.{kept_by, IsPassOf}
+use Rattle.desk_crew.specs.Crew.{IsFresh}
+use Rattle.desk_crew.specs.Seats.{DeskSeat}
+use Rattle.session_core.specs.Members.{ArePasses}
+use Rattle.worker_pool.specs.Workers.{HasVisits}
+use Rattle.serve_engine.specs.declared.sharing.Keeper.{Keeper}
+use Rattle.serve_engine.specs.Doors.{IsServedDoor, AreServedDoors}
+use Rattle.serve_engine.specs.Members.{members_of, AreIn, HaveSeenOpenings}
+use Rattle.serve_engine.specs.Served.{Member, Served}
+use Rattle.serve_engine.specs.Sharing.{keeper_of, seat_counter, seat_pass, seat_member, IsSeatOn, AreSeatsOn, AreAllIn, IsServedAt}
+
+-- two lists that are the same begin alike, and so do their rests
+first_same : {X : Type 0} (x y : X) (xs ys : List X) → x ∷ xs ≡ y ∷ ys → (x ≡ y) × (xs ≡ ys)
+first_same x y xs ys same = (cc, cc)
+
+-- ---- doors
+
+module _ {O : Type 0} (told : Type 0) (given_of left_of faults_of : O → ℕ) (back_of : O → List Visit) where
+  all_stand : (stands stands' : Visit → Type 0) → ((visit : Visit) → stands visit → stands' visit) → (visits : List Visit) → AllByRecursion stands visits → AllByRecursion stands' visits
+  all_stand stands stands' still [] all = tt
+  all_stand stands stands' still (v ∷ visits) all = (still v all.0, all_stand stands stands' still visits all.1)
+
+  -- connections that stand in one way and so in another
+  pub served_still : (stands stands' : Visit → Type 0) → ((visit : Visit) → stands visit → stands' visit) → (total : ℕ) (doors others : List O)
+      → AreServedDoors told given_of left_of faults_of back_of stands total doors others → AreServedDoors told given_of left_of faults_of back_of stands' total doors others
+  served_still stands stands' still total [] [] is = is
+  served_still stands stands' still total (d ∷ doors) (e ∷ others) is =
+      let door = is.3 in (
+        is.0,
+        is.1,
+        is.2,
+        record {
+          given = door.given;
+          left = door.left;
+          back = λ t. let visits = door.back t in record { visits = visits.visits; behind = visits.behind; many = visits.many; stand = all_stand stands stands' still visits.visits visits.stand };
+          faults = door.faults;
+        },
+        served_still stands stands' still is.1 doors others is.4,
+      )
+  served_still stands stands' still total [] (e ∷ others) is = absurd is
+  served_still stands stands' still total (d ∷ doors) [] is = absurd is
+
+  -- doors that gave nothing
+  pub none_served : (stands : Visit → Type 0) (doors : List O) → AreServedDoors told given_of left_of faults_of back_of stands 0 doors doors
+  none_served stands [] = refl
+  none_served stands (d ∷ doors) = (
+    0,
+    0,
+    refl,
+    record {
+      given = λ t. omega arith;
+      left = λ t. omega arith;
+      back = λ t. record { visits = []; behind = sym (append-nil (back_of d)); many = refl; stand = tt };
+      faults = omega arith;
+    },
+    none_served stands doors,
+  )
+
+-- ---- seats
+
+-- a pass more that has all shares
+pub shares_more : {D : Type 0} (passes : List (Pass Item (Fixed D))) (pass : Pass Item (Fixed D)) → AllByRecursion (λ pass. shares pass ≡ 65) passes → shares pass ≡ 65 → AllByRecursion (λ pass. shares pass ≡ 65) (passes ++ pass ∷ [])
+shares_more [] pass all this = (this, tt)
+shares_more (p ∷ passes) pass all this = (all.0, shares_more passes pass all.1 this)
+
+module _ {D : Type 0} {g h : _} where
+  -- a pass and its counter more
+  pub passes_more : (passes : List (Pass Item (Fixed D))) (counters : List (CounterOf (TicketedDesk D g) Item (Fixed D) h)) (pass : Pass Item (Fixed D)) (counter : CounterOf (TicketedDesk D g) Item (Fixed D) h)
+      → ArePasses passes counters → IsPassOf pass counter → ArePasses (passes ++ pass ∷ []) (counters ++ counter ∷ [])
+  passes_more [] [] pass counter all this = (this, tt)
+  passes_more (p ∷ passes) (c ∷ counters) pass counter all this = (all.0, passes_more passes counters pass counter all.1 this)
+  passes_more [] (c ∷ counters) pass counter all this = absurd all
+  passes_more (p ∷ passes) [] pass counter all this = absurd all
+
+  -- the passes of seats that were just opened have all turns
+  pub apart_turns : (seats : List (DeskSeat D g h)) → All (λ seat. turns (seat_pass seat) ≡ 65 * 2 ^ 57) seats → AllByRecursion (λ pass. 65 * 2 ^ 57 ≤ turns pass) (map seat_pass seats)
+  apart_turns [] all = tt
+  apart_turns (seat ∷ seats) all =
+      let this = All-head (λ (s : DeskSeat D g h). turns (seat_pass s) ≡ 65 * 2 ^ 57) seat seats all in
+      (omega (arith, this), apart_turns seats (All-tail (λ (s : DeskSeat D g h). turns (seat_pass s) ≡ 65 * 2 ^ 57) seat seats all))
+
+  pub apart_opened : (seats : List (DeskSeat D g h)) → All IsFresh seats → HaveSeenOpenings (map kept_by (map seat_counter seats)) (map seat_pass seats)
+  apart_opened [] all = tt
+  apart_opened (seat ∷ seats) all =
+      let this = (All-head IsFresh seat seats all).count in
+      (omega (arith, this), apart_opened seats (All-tail IsFresh seat seats all))
+
+  -- seats that were put together of the same, by passes that have seen more
+  pub seats_on : (olds news : List (DeskSeat D g h)) → map keeper_of news ≡ map keeper_of olds → map seat_counter news ≡ map seat_counter olds
+      → AllZip (λ earlier later. IsPrefix (seen earlier) (seen later)) (map seat_pass olds) (map seat_pass news) → AreSeatsOn olds news
+  seats_on [] [] keepers counters on = tt
+  seats_on (old ∷ olds) (new ∷ news) keepers counters on =
+      let keeper = first_same (keeper_of new) (keeper_of old) (map keeper_of news) (map keeper_of olds) keepers in
+      let counter = first_same (seat_counter new) (seat_counter old) (map seat_counter news) (map seat_counter olds) counters in (
+        record {
+          user_is = ap (λ (k : Keeper). k.user.now) keeper.0;
+          journal_is = ap (λ (k : Keeper). string_bytes k.journal) keeper.0;
+          refusal_is = ap (λ (k : Keeper). k.refusal) keeper.0;
+          kept_is = ap kept_by counter.0;
+          on = on.0;
+        },
+        seats_on olds news keeper.1 counter.1 on.1,
+      )
+  seats_on [] (new ∷ news) keepers counters on = absurd on
+  seats_on (old ∷ olds) [] keepers counters on = absurd on
+
+  -- seats as they were
+  pub seats_same : (seats : List (DeskSeat D g h)) → AreSeatsOn seats seats
+  seats_same [] = tt
+  seats_same (seat ∷ seats) = (record { user_is = refl; journal_is = refl; refusal_is = refl; kept_is = refl; on = ([], sym (append-nil (seen (seat_pass seat)))) }, seats_same seats)
+
+  members_are : (seats : List (DeskSeat D g h)) → members_of (map kept_by (map seat_counter seats)) (map seat_pass seats) ≡ map seat_member seats
+  members_are [] = refl
+  members_are (seat ∷ seats) = ap (λ (ms : List Member). seat_member seat ∷ ms) (members_are seats)
+
+  all_in : (schema : DatabaseSchema) (world : FactSet) (seats : List (DeskSeat D g h)) → AreAllIn schema world seats → AreIn schema world (map kept_by (map seat_counter seats))
+  all_in schema world [] is = tt
+  all_in schema world (seat ∷ seats) is = ((is.0, is.1), all_in schema world seats is.2)
+
+  -- what was served by the desks' passes was served at the seats
+  pub served_at : (users : List User) (seats : List (DeskSeat D g h)) (fixeds : List (Fixed D)) (passes : List (Pass Item (Fixed D))) → fixeds ≡ map kept_by (map seat_counter seats) → passes ≡ map seat_pass seats → (visit : Visit)
+      → ((schema : DatabaseSchema) (world : FactSet) → AreIn schema world fixeds → Served schema world users (members_of fixeds passes) visit) → IsServedAt users seats visit
+  served_at users seats fixeds passes fixed_is pass_is visit served schema world within =
+      subst (λ ms. Served schema world users ms visit) (ap (λ fs. members_of fs passes) fixed_is ∙ ap (members_of (map kept_by (map seat_counter seats))) pass_is ∙ members_are seats)
+      (served schema world (subst (AreIn schema world) (sym fixed_is) (all_in schema world seats within)))
