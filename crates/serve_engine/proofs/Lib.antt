@@ -6,3 +6,4 @@ pub mod Reading
 pub mod Meeting
 pub mod Outcomes
 pub mod Apart
+pub mod Crossing

@@ -2,9 +2,9 @@
 use Rattle.std.proofs.Common.{◌≡◌, ◌≢◌, ◌⊎◌, inl, inr, ℕ, ◌+◌, ◌<◌, ◌≤◌, ◌^◌, ◌||◌, Bool, true, false, List, [], ◌∷◌, length, map, All, sum_by, refl, sym, ap, ◌∙◌, subst, arith}
 use Rattle.std.specs.Prelude.{Option, Some, None, if◌then◌else◌}
 use Rattle.std.specs.List.{AllByRecursion, AllZip, list_any}
-use Rattle.std.proofs.lemmas.List.{append-nil, length-map}
+use Rattle.std.proofs.lemmas.List.{length-map}
 use Rattle.std.proofs.lemmas.List.Sums.{sum_by-cons}
-use Rattle.std.proofs.lemmas.List.Elements.{All-from_recursion}
+use Rattle.std.proofs.lemmas.List.Elements.{All-from_recursion, recursion_from_All}
 use Rattle.outside.specs.Faults.{Rose}
 use Rattle.outside.specs.Visits.{Visit}
 use Rattle.turnstile.specs.Passes.{shares}
@@ -20,6 +20,7 @@ use Rattle.worker_pool.specs.declared.worker.WorkerEnd.{WorkerEnd}
 use Rattle.worker_pool.specs.declared.worker.WorkerEnd.TheVariants.{LinksEnded, LimitReached, LinksFailed as LinksHaveFailed}
 use Rattle.worker_pool.specs.Workers.{HasVisits, IsServed}
 use Rattle.serve_engine.specs.declared.job.SessionJobOf.{SessionJobOf}
+use Rattle.serve_engine.specs.declared.serving.Outcome.{Outcome}
 use Rattle.serve_engine.specs.declared.serving.Outcome.TheVariants.{Served, LinksFailed}
 use Rattle.serve_engine.specs.Jobs.{job_counters, job_passes, job_runs}
 use Rattle.serve_engine.specs.Members.{IsServedBy, IsPassLater, ArePassesLater, members_of, room_in}
@@ -28,23 +29,6 @@ use Rattle.serve_engine.specs.Passing.{HaveShares, AreOn, IsFresh, IsBack}
 use Rattle.serve_engine.proofs.Growing.{served_later}
 use Rattle.serve_engine.proofs.Later.{members_later, room_enough}
 use Rattle.serve_engine.proofs.Meeting.{AllHave}
-
-module _ {O : Type 0} (told : Type 0) (given_of left_of faults_of : O → ℕ) (back_of : O → List Visit) (stands : Visit → Type 0) where
-  -- doors that weren't served
-  pub none_served : (doors : List O) → AreServedDoors told given_of left_of faults_of back_of stands 0 doors doors
-  none_served [] = refl
-  none_served (door ∷ doors) = (
-    0,
-    0,
-    refl,
-    record {
-      given = λ t. omega arith;
-      left = λ t. omega arith;
-      back = λ t. record { visits = []; behind = sym (append-nil (back_of door)); many = refl; stand = tt };
-      faults = omega arith;
-    },
-    none_served doors,
-  )
 
 module _ {D G O : Type 0} {g h : _} (told : Type 0) (given_of left_of ends_of faults_of : O → ℕ) (back_of : O → List Visit) where
   -- a worker before he served and after he ended
@@ -175,3 +159,24 @@ module _ {D G O : Type 0} {g h : _} (told : Type 0) (given_of left_of ends_of fa
       of_any true failed = failed
       of_any false (inl all) = λ t. inl (All-from_recursion (λ door. left_of door ≡ 0) (map (λ worker. worker.door) after) (all t))
       of_any false (inr most) = λ t. inr (omega (arith, most, many))
+
+  -- all that is said of doors whose workers served them
+  pub served_together : (counters : CountersOf (TicketedDesk D g) Item (Fixed D) h) (first final : Passes D) (limit : ℕ) (outcome : Outcome) (doors others : List O) (before after : List (Worker (SessionJobOf (TicketedDesk D g) D G h) O))
+      → map (λ worker. worker.door) before ≡ doors → others ≡ map (λ worker. worker.door) after → outcome ≡ outcome_of after → All (λ door. faults_of door ≡ 0) doors
+      → All (IsFresh counters first) before → All (λ worker. AreOn (job_passes worker.job) final) after
+      → All (λ worker. worker.ended ≡ Some LimitReached → limit < sum_by (λ other. job_runs other.job) after + length after) after → AllZip Was before after
+      → (total : ℕ) × AreServedDoors told given_of left_of faults_of back_of (IsServedBy counters final) total doors others × HasOutcome told left_of faults_of limit outcome total others
+  served_together counters first final limit outcome doors others before after doors_are others_are outcome_is whole fresh on reached was =
+      let total = sum_by (λ (worker : Worker (SessionJobOf (TicketedDesk D g) D G h) O). job_runs worker.job) after in
+      let served = all_served counters first final before after (recursion_from_All (IsFresh counters first) before fresh) (recursion_from_All (λ worker. AreOn (job_passes worker.job) final) after on) was in
+      let ended = has_outcome limit before after (by_door before (recursion_from_All (λ door. faults_of door ≡ 0) (map (λ worker. worker.door) before) (subst (All (λ door. faults_of door ≡ 0)) (sym doors_are) whole)))
+      (recursion_from_All (λ worker. worker.ended ≡ Some LimitReached → limit < sum_by (λ other. job_runs other.job) after + length after) after reached) was in (
+        total,
+        subst (λ ds. AreServedDoors told given_of left_of faults_of back_of (IsServedBy counters final) total ds others) doors_are
+        (subst (λ ds. AreServedDoors told given_of left_of faults_of back_of (IsServedBy counters final) total (map (λ worker. worker.door) before) ds) (sym others_are) served),
+        subst (λ o. HasOutcome told left_of faults_of limit o total others) (sym outcome_is) (subst (λ ds. HasOutcome told left_of faults_of limit (outcome_of after) total ds) (sym others_are) ended),
+      )
+    where
+      by_door : (crew : List (Worker (SessionJobOf (TicketedDesk D g) D G h) O)) → AllByRecursion (λ door. faults_of door ≡ 0) (map (λ worker. worker.door) crew) → AllByRecursion (λ worker. faults_of worker.door ≡ 0) crew
+      by_door [] all = tt
+      by_door (w ∷ crew) all = (all.0, by_door crew all.1)
