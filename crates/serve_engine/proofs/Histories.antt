@@ -1,9 +1,11 @@
 -- Each user's one history, from the opening of his journal to the disk that is back.
-use Rattle.std.proofs.Common.{◌≡◌, ◌⊎◌, inl, inr, ℕ, ◌≤◌, Bool, true, false, List, [], ◌∷◌, ◌++◌, map, refl, sym, ap, subst, ◌∙◌, arith}
-use Rattle.std.specs.Prelude.{Option, Some, None, ◌||◌, string_bytes, All}
-use Rattle.std.specs.List.{list_any}
+use Rattle.std.proofs.Common.{◌≡◌, ◌⊎◌, inl, inr, ℕ, suc, ◌+◌, ◌<◌, ◌≤◌, Bool, true, false, List, [], ◌∷◌, ◌++◌, length, map, refl, sym, ap, subst, ◌∙◌, arith}
+use Rattle.std.specs.Prelude.{Option, Some, None, Vec, ◌||◌, string_bytes, All}
+use Rattle.std.specs.declared.alloc.Global.{Global}
+use Rattle.std.specs.List.{list_any, sum_by}
 use Rattle.std.proofs.lemmas.List.Elements.{All-head, All-tail}
 use Rattle.outside.specs.Faults.{Rose}
+use Rattle.outside.specs.Visits.{Visit}
 use Rattle.cqe_base.specs.Schema.{Text, DatabaseSchema, is_valid_schema}
 use Rattle.cqe_base.specs.Facts.{FactSet}
 use Rattle.cqe_base.specs.History.{UserProfile, History, is_user_of, profile_of}
@@ -27,10 +29,14 @@ use Rattle.desk_counter.specs.Sole.{pairs_of_sole, sole_state}
 use Rattle.session_core.proofs.Replying.{history_all}
 use Rattle.desk_crew.specs.Crew.{refusal_of, seat_user, seat_journal, seat_kept, seat_standing, seat_history, seat_disk, seat_broke, seat_state}
 use Rattle.desk_crew.specs.Seats.{DeskSeat}
-use Rattle.desk_crew.specs.Shelved.{bytes_on, image_on, journals, journals_on, AreLater, IsSeatOf, AreSeatsOf, IsBack, AreBack}
+use Rattle.desk_crew.specs.Shelved.{Journals, bytes_on, image_on, journals, journals_on, AreLater, IsSeatOf, AreSeatsOf, IsBack, AreBack}
 use Rattle.desk_crew.proofs.Taken.{rose_wide, taken_reads}
 use Rattle.serve_engine.specs.Served.{Member}
-use Rattle.serve_engine.specs.Serving.{HasServed, HaveServed}
+use Rattle.serve_engine.specs.Doors.{IsServedDoor, AreServedDoors, SomeFailed, HasOutcome}
+use Rattle.serve_engine.specs.Serving.{HasServed, HaveServed, ServesDoors, EndsAt, IsDone, end_of}
+use Rattle.serve_engine.specs.declared.serving.Outcome.{Outcome}
+use Rattle.serve_engine.specs.declared.serving.Outcome.TheVariants as outcome
+use Rattle.serve_engine.specs.declared.run.ServeEnd.TheVariants.{LinksFault}
 use Rattle.serve_engine.specs.Sharing.{seat_member, IsSeatOn, AreSeatsOn, AreAllIn}
 
 shut_closed : (standing : Standing) → is_sealed standing ≡ true → is_open standing ≡ false
@@ -92,11 +98,11 @@ module _ (schema : DatabaseSchema) (world : FactSet) (header directory : List �
         let standing_is : seat_standing old ≡ standing = ap (λ (f : Fixed D). f.standing) (sym kept) in
         let opening : seat_history old ≡ (seat_kept new).opening = sym is.opening_is ∙ ap (λ (f : Fixed D). f.opening) (sym kept) in
         let legal : IsLegal schema world (seat_kept new).user (seat_history new) =
-            subst (λ w. IsLegal schema w (seat_kept new).user (seat_history new)) world_is (subst (λ d. IsLegal d (seat_kept new).world (seat_kept new).user (seat_history new)) schema_is closed.legal) in
+        subst (λ w. IsLegal schema w (seat_kept new).user (seat_history new)) world_is (subst (λ d. IsLegal d (seat_kept new).world (seat_kept new).user (seat_history new)) schema_is closed.legal) in
         let holds : is_sealed standing ≡ false → (c : List ℕ) → image back.left.closed c → Holds schema world (seat_kept new).user header (seat_state new) c = λ served c here.
-            subst (λ hd. Holds schema world (seat_kept new).user hd (seat_state new) c) header_is
-            (subst (λ w. Holds schema w (seat_kept new).user (seat_kept new).header (seat_state new) c) world_is
-            (subst (λ d. Holds d (seat_kept new).world (seat_kept new).user (seat_kept new).header (seat_state new) c) schema_is (closed.holds s served c here))) in
+        subst (λ hd. Holds schema world (seat_kept new).user hd (seat_state new) c) header_is
+        (subst (λ w. Holds schema w (seat_kept new).user (seat_kept new).header (seat_state new) c) world_is
+        (subst (λ d. Holds d (seat_kept new).world (seat_kept new).user (seat_kept new).header (seat_state new) c) schema_is (closed.holds s served c here))) in
         record {
           profile_is = user_is;
           standing = standing;
@@ -169,3 +175,49 @@ module _ {D : Type 0} {g h : _} where
   )
   later_on_seats faults count [] (new ∷ news) on later = absurd on
   later_on_seats faults count (old ∷ olds) [] on later = absurd on
+
+-- ---- ends
+
+module _ {O : Type 0} (told : Type 0) (given_of left_of faults_of : O → ℕ) (back_of : O → List Visit) (stands : Visit → Type 0) where
+  -- as many doors come back
+  pub doors_many : (total : ℕ) (doors others : List O) → AreServedDoors told given_of left_of faults_of back_of stands total doors others → length others ≡ length doors
+  doors_many total [] [] is = refl
+  doors_many total (d ∷ doors) (e ∷ others) is = ap suc (doors_many is.1 doors others is.4)
+  doors_many total [] (e ∷ others) is = absurd is
+  doors_many total (d ∷ doors) [] is = absurd is
+
+  -- together they have given so many more
+  pub doors_gave : told → (total : ℕ) (doors others : List O) → AreServedDoors told given_of left_of faults_of back_of stands total doors others → sum_by given_of others ≡ sum_by given_of doors + total
+  doors_gave t total [] [] is = omega (arith, is)
+  doors_gave t total (d ∷ doors) (e ∷ others) is =
+      let rest = doors_gave t is.1 doors others is.4 in
+      let here = is.3.given t in
+      let both = is.2 in
+      omega (arith, rest, here, both)
+  doors_gave t total [] (e ∷ others) is = absurd is
+  doors_gave t total (d ∷ doors) [] is = absurd is
+
+  -- where serving came to its end, no door has a connection left, or the limit was reached
+  pub ended_at : told → (limit total : ℕ) (doors others : List O) (went : Outcome) (refusals : Vec (Option DeskError) Global) (is_broken : Bool) → AreServedDoors told given_of left_of faults_of back_of stands total doors others
+      → HasOutcome told left_of faults_of limit went total others → IsDone (end_of went refusals is_broken) → All (λ door. left_of door ≡ 0) others ⊎ (sum_by given_of doors + limit < sum_by given_of others + length others)
+  ended_at t limit total doors others outcome.Served refusals is_broken served has done = by (has t)
+    where
+      by : All (λ door. left_of door ≡ 0) others ⊎ (limit < total + length others) → All (λ door. left_of door ≡ 0) others ⊎ (sum_by given_of doors + limit < sum_by given_of others + length others)
+      by (inl none) = inl none
+      by (inr most) = let gave = doors_gave t total doors others served in inr (omega (arith, most, gave))
+  ended_at t limit total doors others outcome.LinksFailed refusals is_broken served has done = absurd done
+  ended_at t limit total doors others outcome.Memory refusals is_broken served has done = absurd done
+
+  pub failed_at : (limit total : ℕ) (others : List O) (went : Outcome) (refusals : Vec (Option DeskError) Global) (is_broken : Bool) → HasOutcome told left_of faults_of limit went total others → end_of went refusals is_broken ≡ LinksFault
+      → SomeFailed faults_of others
+  failed_at limit total others outcome.Served refusals is_broken has is = absurd cc
+  failed_at limit total others outcome.LinksFailed refusals is_broken has is = has
+  failed_at limit total others outcome.Memory refusals is_broken has is = absurd cc
+
+module _ (schema : DatabaseSchema) (world : FactSet) (header : List ℕ) (journals : Journals) (users : List User) {O : Type 0} (told : Type 0) (given_of left_of faults_of : O → ℕ) (back_of : O → List Visit) (doors doors' : List O) where
+  -- each end of desks that were opened
+  pub ends_at : (went : Outcome) (refusals : Vec (Option DeskError) Global) (is_broken : Bool) → ServesDoors schema world header journals users told given_of left_of faults_of back_of doors doors' refusals.items is_broken
+      → EndsAt schema world header journals users told given_of left_of faults_of back_of doors doors' (end_of went refusals is_broken)
+  ends_at outcome.Served refusals is_broken serves = serves
+  ends_at outcome.LinksFailed refusals is_broken serves = inr (refusals.items, is_broken, serves)
+  ends_at outcome.Memory refusals is_broken serves = inr (refusals.items, is_broken, serves)

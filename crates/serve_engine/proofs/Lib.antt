@@ -4,6 +4,8 @@ pub mod Holding
 pub mod Later
 pub mod Visiting
 pub mod Reading
+pub mod Meeting
+pub mod Outcomes
 pub mod Apart
 pub mod Backing
 pub mod Histories

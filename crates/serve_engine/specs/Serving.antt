@@ -1,5 +1,6 @@
 -- What serving connections means for the users and for the connections.
-use Rattle.std.specs.Prelude.{◌≡◌, ◌⊎◌, ℕ, ◌+◌, ◌<◌, Bool, true, false, List, [], ◌∷◌, ◌++◌, Option, is_some, string_bytes}
+use Rattle.std.specs.Prelude.{◌≡◌, ◌⊎◌, ℕ, ◌+◌, ◌<◌, Bool, true, false, List, [], ◌∷◌, ◌++◌, Option, Vec, is_some, string_bytes}
+use Rattle.std.specs.declared.alloc.Global.{Global}
 use Rattle.std.specs.List.{list_any}
 use Rattle.outside.specs.Faults.{Rose}
 use Rattle.outside.specs.Visits.{Visit}
@@ -19,6 +20,8 @@ use Rattle.desk_crew.specs.Shelved.{Journals}
 use Rattle.worker_pool.specs.Workers.{HasVisits}
 use Rattle.serve_engine.specs.Doors.{AreServedDoors}
 use Rattle.serve_engine.specs.Served.{Member, Served}
+use Rattle.serve_engine.specs.declared.serving.Outcome.{Outcome}
+use Rattle.serve_engine.specs.declared.serving.Outcome.TheVariants as outcome
 use Rattle.serve_engine.specs.declared.run.ServeEnd.{ServeEnd}
 use Rattle.serve_engine.specs.declared.run.ServeEnd.TheVariants.{Done, LinksFault, ShelfFault, Memory}
 
@@ -102,3 +105,9 @@ IsDone (Done refusals is_broken) = Unit {0}
 IsDone LinksFault = ⊥
 IsDone ShelfFault = ⊥
 IsDone Memory = ⊥
+
+-- the end of serving with this outcome
+abbrev pub end_of : Outcome → Vec (Option DeskError) Global → Bool → ServeEnd
+end_of outcome.Served refusals is_broken = Done refusals is_broken
+end_of outcome.LinksFailed refusals is_broken = LinksFault
+end_of outcome.Memory refusals is_broken = Memory

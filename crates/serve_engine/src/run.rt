@@ -9,7 +9,7 @@ ghost use Rattle.log_journal.specs.Opening.{header_bytes};
 ghost use Rattle.desk_crew.specs.Crew.{named_user};
 ghost use Rattle.desk_crew.specs.Shelved.{journals_on, NoneOut, NoneFell};
 ghost use Rattle.serve_engine.specs.Doors.{SomeFailed};
-ghost use Rattle.serve_engine.specs.Serving.{Ends, EndsAt, IsDone};
+ghost use Rattle.serve_engine.specs.Serving.{Ends, EndsAt, IsDone, end_of};
 ghost use Rattle.serve_engine.specs.declared.run.ServeEnd.{ServeEnd};
 
 use crate::serving::Outcome;
@@ -142,12 +142,18 @@ where
     let refusals = refusals_of(room, seats.as_slice());
     let (outcome, seats, doors) = serve_seats(rt, alloc, registry.users, seats, doors, limit, gate);
     let is_broken = give_back(shelf, seats);
-    let end = match outcome {
+    (end_of(outcome, refusals, is_broken), doors)
+}
+
+/// The end of serving that went so, with what is to be told where it came to its end.
+fn end_of(outcome: Outcome, refusals: Vec<Option<DeskError>>, is_broken: bool) -> ServeEnd
+    ensures { result ≡ end_of outcome refusals is_broken }
+{
+    match outcome {
         Outcome::Served => ServeEnd::Done(refusals, is_broken),
         Outcome::LinksFailed => ServeEnd::LinksFault,
         Outcome::Memory => ServeEnd::Memory,
-    };
-    (end, doors)
+    }
 }
 
 /// Gives all doors back.

@@ -1,7 +1,7 @@
 //! Connections that are served at counters, side by side.
 ghost use Rattle.std.specs.Prelude.{◌≡◌, ◌≤◌, ◌+◌, ◌*◌, ◌^◌, ℕ, [], All, length, map, vec_capacity, None, IfSome, IfNone};
 ghost use Rattle.session_core.specs.Members.{ArePassesOf, users_of, fixeds_of, passes_in};
-ghost use Rattle.serve_engine.specs.Doors.{AreServedDoors, HasOutcome, outcome_of};
+ghost use Rattle.serve_engine.specs.Doors.{AreServedDoors, HasOutcome, has_failed, outcome_of};
 ghost use Rattle.serve_engine.specs.Jobs.{job_counters, job_passes};
 ghost use Rattle.serve_engine.specs.Members.{HaveSeenOpenings, IsServedBy};
 ghost use Rattle.serve_engine.specs.Passing.{HaveShares, HaveTurns, AreOn, AreParts, IsFresh, IsBack};
@@ -133,14 +133,21 @@ fn dismiss<'a, 'w, D: Disk, G: Gate, O: Door + Drop>(
     doors
 }
 
+/// Whether a worker's links failed.
+fn has_failed(ended: Option<WorkerEnd>) -> bool
+    ensures { result ≡ has_failed ended }
+{
+    match ended {
+        Some(WorkerEnd::LinksFailed) => true,
+        Some(WorkerEnd::LinksEnded | WorkerEnd::LimitReached) | None => false,
+    }
+}
+
 /// How workers that have ended served.
 fn outcome_of<J, O>(crew: &[Worker<J, O>]) -> Outcome
     ensures { result ≡ outcome_of crew.now }
 {
-    if crew
-        .iter()
-        .any(|worker| worker.ended == Some(WorkerEnd::LinksFailed))
-    {
+    if crew.iter().any(|worker| has_failed(worker.ended)) {
         Outcome::LinksFailed
     } else {
         Outcome::Served
@@ -186,9 +193,11 @@ pub(crate) fn serve_doors<
         return (Outcome::Memory, doors);
     };
     let crew = crew_of(crew_room, counters, gate, parts, doors);
-    let (outcome, crew) = match serve_all(rt, alloc, crew, limit) {
-        Ok(crew) => (outcome_of(crew.as_slice()), crew),
-        Err(crew) => (Outcome::Memory, crew),
-    };
-    (outcome, dismiss(counters, passes, crew, room))
+    match serve_all(rt, alloc, crew, limit) {
+        Ok(crew) => {
+            let outcome = outcome_of(crew.as_slice());
+            (outcome, dismiss(counters, passes, crew, room))
+        }
+        Err(crew) => (Outcome::Memory, dismiss(counters, passes, crew, room)),
+    }
 }

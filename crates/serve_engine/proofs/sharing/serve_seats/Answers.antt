@@ -83,12 +83,15 @@ returns-clause-served g c =
     let made = c.new-counters.ensures in
     let parts = c.into_parts-counters.ensures in
     let again = c.put_together-seats.ensures in
-    let served = c.serve_doors-outcome.ensures.served in
-    (served.0, served_still g.O.Door.told g.O.Door.given g.O.Door.left g.O.Door.faults g.O.Door.back _ (IsServedAt c.args.users.now c.put_together-seats.result.items)
-        (λ visit is. served_at c.args.users.now c.put_together-seats.result.items (map kept_by c.new-counters.result.0.counters.items) c.serve_doors-outcome.new.passes.passes.items
-            (ap (map kept_by) (sym (again.counters ∙ parts.counters))) (sym (again.passes ∙ parts.passes)) visit
-            (λ schema world all. subst (λ us. Served schema world us (members_of (map kept_by c.new-counters.result.0.counters.items) c.serve_doors-outcome.new.passes.passes.items) visit) made.users (is schema world all)))
-        served.0 c.args.doors.items c.serve_doors-outcome.result.1.items served.1, served.2)
+    let served = c.serve_doors-outcome.ensures.served in (
+      served.0,
+      served_still g.O.Door.told g.O.Door.given g.O.Door.left g.O.Door.faults g.O.Door.back _ (IsServedAt c.args.users.now c.put_together-seats.result.items)
+          (λ visit is. served_at c.args.users.now c.put_together-seats.result.items (map kept_by c.new-counters.result.0.counters.items) c.serve_doors-outcome.new.passes.passes.items
+          (ap (map kept_by) (sym (again.counters ∙ parts.counters))) (sym (again.passes ∙ parts.passes)) visit
+          (λ schema world all. subst (λ us. Served schema world us (members_of (map kept_by c.new-counters.result.0.counters.items) c.serve_doors-outcome.new.passes.passes.items) visit) made.users (is schema world all)))
+          served.0 c.args.doors.items c.serve_doors-outcome.result.1.items served.1,
+      served.2,
+    )
 
 pub returns-in_default-clause-on : goal.returns-in_default-clause-on
 returns-in_default-clause-on g c = seats_same c.args.seats.items
