@@ -1,9 +1,9 @@
 -- Each user's one history, from the opening of his journal to the disk that is back.
-use Rattle.std.proofs.Common.{◌≡◌, ◌⊎◌, inl, inr, ℕ, suc, ◌+◌, ◌<◌, ◌≤◌, Bool, true, false, List, [], ◌∷◌, ◌++◌, length, map, refl, sym, ap, subst, ◌∙◌, arith}
+use Rattle.std.proofs.Common.{◌≡◌, ◌⊎◌, inl, inr, ℕ, suc, ◌+◌, ◌*◌, ◌^◌, ◌<◌, ◌≤◌, Bool, true, false, List, [], ◌∷◌, ◌++◌, length, map, refl, sym, ap, subst, ◌∙◌, arith}
 use Rattle.std.specs.Prelude.{Option, Some, None, Vec, ◌||◌, string_bytes, All}
 use Rattle.std.specs.declared.alloc.Global.{Global}
-use Rattle.std.specs.List.{list_any, sum_by}
-use Rattle.std.proofs.lemmas.List.Elements.{All-head, All-tail}
+use Rattle.std.specs.List.{AllByRecursion, list_any, sum_by}
+use Rattle.std.proofs.lemmas.List.Elements.{All-head, All-tail, All-from_recursion}
 use Rattle.outside.specs.Faults.{Rose}
 use Rattle.outside.specs.Visits.{Visit}
 use Rattle.cqe_base.specs.Schema.{Text, DatabaseSchema, is_valid_schema}
@@ -27,7 +27,8 @@ use Rattle.desk_counter.specs.declared.item.Fixed.{Fixed}
 use Rattle.desk_counter.specs.Items.{history_of, flying}
 use Rattle.desk_counter.specs.Sole.{pairs_of_sole, sole_state}
 use Rattle.session_core.proofs.Replying.{history_all}
-use Rattle.desk_crew.specs.Crew.{refusal_of, seat_user, seat_journal, seat_kept, seat_standing, seat_history, seat_disk, seat_broke, seat_state}
+use Rattle.turnstile.specs.Passes.{turns}
+use Rattle.desk_crew.specs.Crew.{IsFresh, refusal_of, seat_user, seat_journal, seat_kept, seat_standing, seat_history, seat_disk, seat_broke, seat_state}
 use Rattle.desk_crew.specs.Seats.{DeskSeat}
 use Rattle.desk_crew.specs.Shelved.{Journals, bytes_on, image_on, journals, journals_on, AreLater, IsSeatOf, AreSeatsOf, IsBack, AreBack}
 use Rattle.desk_crew.proofs.Taken.{rose_wide, taken_reads}
@@ -37,7 +38,7 @@ use Rattle.serve_engine.specs.Serving.{HasServed, HaveServed, ServesDoors, EndsA
 use Rattle.serve_engine.specs.declared.serving.Outcome.{Outcome}
 use Rattle.serve_engine.specs.declared.serving.Outcome.TheVariants as outcome
 use Rattle.serve_engine.specs.declared.run.ServeEnd.TheVariants.{LinksFault}
-use Rattle.serve_engine.specs.Sharing.{seat_member, IsSeatOn, AreSeatsOn, AreAllIn}
+use Rattle.serve_engine.specs.Sharing.{seat_pass, seat_member, IsSeatOn, AreSeatsOn, AreAllIn}
 
 shut_closed : (standing : Standing) → is_sealed standing ≡ true → is_open standing ≡ false
 shut_closed Open sealed = absurd cc
@@ -221,3 +222,26 @@ module _ (schema : DatabaseSchema) (world : FactSet) (header : List ℕ) (journa
   ends_at outcome.Served refusals is_broken serves = serves
   ends_at outcome.LinksFailed refusals is_broken serves = inr (refusals.items, is_broken, serves)
   ends_at outcome.Memory refusals is_broken serves = inr (refusals.items, is_broken, serves)
+
+module _ {D : Type 0} {g h : _} (told disk_told : Type 0) (reads : D → List ℕ) (image : D → List ℕ → Type 0) (faults : D → ℕ) (schema : DatabaseSchema) (world : FactSet) (header directory : List ℕ) (disk : Text → Option D) (count : Text → ℕ) where
+  -- seats that were just opened
+  seat_by_seat : (users : List User) (seats : List (DeskSeat D g h)) → AreSeatsOf told reads image faults disk_told schema world header directory disk count users seats
+      → AllByRecursion (λ (seat : DeskSeat D g h). IsFresh seat × (turns (seat_pass seat) ≡ 65 * 2 ^ 57)) seats
+  seat_by_seat [] [] opened = tt
+  seat_by_seat (user ∷ users) (seat ∷ seats) opened = ((opened.0.opened.fresh, opened.0.opened.turns_are), seat_by_seat users seats opened.1)
+  seat_by_seat [] (seat ∷ seats) opened = absurd opened
+  seat_by_seat (user ∷ users) [] opened = absurd opened
+
+  all_fresh : (seats : List (DeskSeat D g h)) → AllByRecursion (λ (seat : DeskSeat D g h). IsFresh seat × (turns (seat_pass seat) ≡ 65 * 2 ^ 57)) seats → AllByRecursion IsFresh seats
+  all_fresh [] all = tt
+  all_fresh (seat ∷ seats) all = (all.0.0, all_fresh seats all.1)
+
+  all_turns : (seats : List (DeskSeat D g h)) → AllByRecursion (λ (seat : DeskSeat D g h). IsFresh seat × (turns (seat_pass seat) ≡ 65 * 2 ^ 57)) seats → AllByRecursion (λ (seat : DeskSeat D g h). turns (seat_pass seat) ≡ 65 * 2 ^ 57) seats
+  all_turns [] all = tt
+  all_turns (seat ∷ seats) all = (all.0.1, all_turns seats all.1)
+
+  pub seats_fresh : (users : List User) (seats : List (DeskSeat D g h)) → AreSeatsOf told reads image faults disk_told schema world header directory disk count users seats → All IsFresh seats
+  seats_fresh users seats opened = All-from_recursion IsFresh seats (all_fresh seats (seat_by_seat users seats opened))
+
+  pub seats_turns : (users : List User) (seats : List (DeskSeat D g h)) → AreSeatsOf told reads image faults disk_told schema world header directory disk count users seats → All (λ (seat : DeskSeat D g h). turns (seat_pass seat) ≡ 65 * 2 ^ 57) seats
+  seats_turns users seats opened = All-from_recursion (λ (seat : DeskSeat D g h). turns (seat_pass seat) ≡ 65 * 2 ^ 57) seats (all_turns seats (seat_by_seat users seats opened))
