@@ -4,7 +4,7 @@ use Rattle.std.specs.Prelude.{Option, Some, None, IsSome, if◌then◌else◌}
 use Rattle.std.specs.List.{AllByRecursion, AllZip, list_any}
 use Rattle.std.proofs.lemmas.List.{length-map}
 use Rattle.std.proofs.lemmas.List.Sums.{sum_by-cons}
-use Rattle.std.proofs.lemmas.List.Elements.{All-from_recursion, recursion_from_All}
+use Rattle.std.proofs.lemmas.List.Elements.{All-from_recursion, recursion_from_All, length_all_zip}
 use Rattle.outside.specs.Faults.{Rose}
 use Rattle.outside.specs.Visits.{Visit}
 use Rattle.turnstile.specs.Passes.{shares}
@@ -78,6 +78,9 @@ module _ {D G O : Type 0} {g h : _} (told : Type 0) (given_of left_of ends_of fa
   abbrev pub Was : Worker (SessionJobOf (TicketedDesk D g) D G h) O → Worker (SessionJobOf (TicketedDesk D g) D G h) O → Type 0
   Was = IsServed told given_of left_of ends_of faults_of back_of (λ job. room_in (passes_in (job_passes job))) job_runs (λ job visit. IsServedBy (job_counters job) (job_passes job) visit)
       (λ before after. (job_counters after ≡ job_counters before) × ArePassesLater (job_passes before) (job_passes after))
+
+  pub as_long : (before after : List (Worker (SessionJobOf (TicketedDesk D g) D G h) O)) → AllZip Was before after → length before ≡ length after
+  as_long before after was = length_all_zip Was before after was
 
   module _ (counters : CountersOf (TicketedDesk D g) Item (Fixed D) h) where
     -- ---- the jobs
