@@ -1,13 +1,14 @@
 -- What workers did at their doors, and how they served together.
-use Rattle.std.proofs.Common.{◌≡◌, ◌≢◌, ◌⊎◌, inl, inr, ℕ, ◌+◌, ◌<◌, ◌≤◌, ◌^◌, ◌||◌, Bool, true, false, List, [], ◌∷◌, length, map, All, sum_by, refl, sym, ap, ◌∙◌, subst, arith}
+use Rattle.std.proofs.Common.{◌≡◌, ◌≢◌, ◌⊎◌, inl, inr, ℕ, ◌+◌, ◌<◌, ◌||◌, Bool, true, false, List, [], ◌∷◌, length, map, All, sum_by, refl, sym, ◌∙◌, subst, arith}
 use Rattle.std.specs.Prelude.{Option, Some, None, IsSome, if◌then◌else◌}
 use Rattle.std.specs.List.{AllByRecursion, AllZip, list_any}
 use Rattle.std.proofs.lemmas.List.{length-map}
 use Rattle.std.proofs.lemmas.List.Sums.{sum_by-cons}
-use Rattle.std.proofs.lemmas.List.Elements.{All-from_recursion, recursion_from_All, length_all_zip}
+use Rattle.std.proofs.lemmas.List.Elements.{All-from_recursion, All-weaker, recursion_from_All, length_all_zip}
 use Rattle.outside.specs.Faults.{Rose}
 use Rattle.outside.specs.Visits.{Visit}
-use Rattle.turnstile.specs.Passes.{shares}
+use Rattle.cqe_base.specs.Schema.{DatabaseSchema}
+use Rattle.cqe_base.specs.Facts.{FactSet}
 use Rattle.turnstile.specs.declared.pass.Pass.{Pass}
 use Rattle.desk_counter.specs.declared.item.Item.{Item}
 use Rattle.desk_counter.specs.declared.item.Fixed.{Fixed}
@@ -18,16 +19,16 @@ use Rattle.session_core.specs.Members.{users_of, fixeds_of, passes_in}
 use Rattle.worker_pool.specs.declared.worker.Worker.{Worker}
 use Rattle.worker_pool.specs.declared.worker.WorkerEnd.{WorkerEnd}
 use Rattle.worker_pool.specs.declared.worker.WorkerEnd.TheVariants.{LinksEnded, LimitReached, LinksFailed as LinksHaveFailed}
-use Rattle.worker_pool.specs.Workers.{HasVisits, IsServed}
+use Rattle.worker_pool.specs.Workers.{IsServed}
 use Rattle.serve_engine.specs.declared.job.SessionJobOf.{SessionJobOf}
 use Rattle.serve_engine.specs.declared.serving.Outcome.{Outcome}
 use Rattle.serve_engine.specs.declared.serving.Outcome.TheVariants.{Served, LinksFailed}
 use Rattle.serve_engine.specs.Jobs.{job_counters, job_passes, job_runs}
-use Rattle.serve_engine.specs.Members.{IsServedBy, IsPassLater, ArePassesLater, members_of, room_in}
+use Rattle.serve_engine.specs.Members.{AreIn, IsServedBy, IsPassLater, ArePassesLater, members_of, room_in}
 use Rattle.serve_engine.specs.Doors.{IsServedDoor, AreServedDoors, SomeFailed, HasOutcome, has_failed, outcome_of}
-use Rattle.serve_engine.specs.Passing.{HaveShares, AreOn, IsFresh, IsBack}
+use Rattle.serve_engine.specs.Passing.{AreOn, IsFresh, IsBack}
 use Rattle.serve_engine.proofs.Growing.{served_later}
-use Rattle.serve_engine.proofs.Later.{members_later, room_enough}
+use Rattle.serve_engine.proofs.Later.{members_later}
 use Rattle.serve_engine.proofs.Meeting.{AllHave}
 
 module _ {D : Type 0} where
@@ -41,12 +42,11 @@ module _ {D : Type 0} where
   module _ {g h : _} (counters : CountersOf (TicketedDesk D g) Item (Fixed D) h) where
     -- what was served by some passes is served by those that have seen more
     stay : (at : CountersOf (TicketedDesk D g) Item (Fixed D) h) (passes final : Passes D) (visits : List Visit) → at ≡ counters → AreOn passes final → AllByRecursion (IsServedBy at passes) visits → AllByRecursion (IsServedBy counters final) visits
-    stay at passes final [] same on stand = tt
-    stay at passes final (visit ∷ visits) same on stand = (
-      (λ schema world within. served_later schema world (users_of counters) (members_of (fixeds_of counters) (passes_in passes)) (members_of (fixeds_of counters) (passes_in final)) visit
-      (members_later (fixeds_of counters) (passes_in passes) (passes_in final) on) (subst (λ c. IsServedBy c passes visit) same stand.0 schema world within)),
-      stay at passes final visits same on stand.1,
-    )
+    stay at passes final visits same on stand =
+        let still = λ (visit : Visit) (stood : IsServedBy at passes visit) (schema : DatabaseSchema) (world : FactSet) (within : AreIn schema world (fixeds_of counters)).
+        served_later schema world (users_of counters) (members_of (fixeds_of counters) (passes_in passes)) (members_of (fixeds_of counters) (passes_in final)) visit
+        (members_later (fixeds_of counters) (passes_in passes) (passes_in final) on) (subst (λ c. IsServedBy c passes visit) same stood schema world within) in
+        recursion_from_All (IsServedBy counters final) visits (All-weaker (IsServedBy at passes) (IsServedBy counters final) still visits (All-from_recursion (IsServedBy at passes) visits stand))
 
 module _ {O : Type 0} (told : Type 0) (left_of faults_of : O → ℕ) where
   -- Workers that ended: where links of one failed, a door has; else no door has a connection left, or one came to the limit.
@@ -185,7 +185,7 @@ module _ {D G O : Type 0} {g h : _} (told : Type 0) (given_of left_of ends_of fa
       (recursion_from_All (λ worker. worker.ended ≡ Some LimitReached → limit < sum_by (λ other. job_runs other.job) after + length after) after reached) was in (
         total,
         subst (λ ds. AreServedDoors told given_of left_of faults_of back_of (IsServedBy counters final) total ds others) doors_are
-        (subst (λ ds. AreServedDoors told given_of left_of faults_of back_of (IsServedBy counters final) total (map (λ worker. worker.door) before) ds) (sym others_are) served),
+            (subst (λ ds. AreServedDoors told given_of left_of faults_of back_of (IsServedBy counters final) total (map (λ worker. worker.door) before) ds) (sym others_are) served),
         subst (λ o. HasOutcome told left_of faults_of limit o total others) (sym outcome_is) (subst (λ ds. HasOutcome told left_of faults_of limit (outcome_of after) total ds) (sym others_are) ended),
       )
     where

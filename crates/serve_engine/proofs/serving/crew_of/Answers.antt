@@ -1,11 +1,8 @@
-use Rattle.std.proofs.Common.{◌≡◌, ◌<◌, ◌≤◌, ◌+◌, [], ◌∷◌, ◌++◌, length, map, All, refl, sym, ap, subst, ◌∙◌, rules, arith}
+use Rattle.std.proofs.Common.{◌∷◌, length, refl, sym, ap, subst, ◌∙◌, arith}
 use Rattle.std.specs.Vec.Iter.{into_iter_items}
-use Rattle.std.proofs.lemmas.List.Elements.{All-push, All-same, All-nil, All-rest, All-head}
-use Rattle.turnstile.specs.Passes.{shares}
+use Rattle.std.proofs.lemmas.List.Elements.{All-push, All-same, All-rest, All-head}
 use Rattle.session_core.specs.Members.{ArePassesOf, passes_in, fixeds_of}
-use Rattle.session_core.specs.declared.counters.Passes.{Passes}
-use Rattle.worker_pool.specs.declared.worker.Worker.{Worker}
-use Rattle.worker_pool.proofs.Seating.{read_on, read_all}
+use Rattle.worker_pool.proofs.Seating.{read_on}
 use Rattle.serve_engine.specs.Members.{HaveSeenOpenings}
 use Rattle.serve_engine.specs.Passing.{AreParts, IsFresh}
 use Rattle.serve_engine.proofs.Reading.{taken_first, regrown}
@@ -47,7 +44,7 @@ loop-door-preserved g c =
           let both = so_far.fresh before parts in
           let here = All-head (AreParts before) c.remove-part.result c.remove-part.new.self.items (All-same (AreParts before) (c.remove-part.result ∷ c.remove-part.new.self.items) c.loop-door.parts.items (sym first) both.1) in (
             All-same (IsFresh c.args.counters.now before) c.push_reserved.new.self.items _ added (All-push (IsFresh c.args.counters.now before) c.loop-door.crew.items _ both.0
-            (record { counters_are = c.new-job.ensures.counters; parts = subst (AreParts before) (sym c.new-job.ensures.passes) here; none = c.new-job.ensures.none; running = refl })),
+                (record { counters_are = c.new-job.ensures.counters; parts = subst (AreParts before) (sym c.new-job.ensures.passes) here; none = c.new-job.ensures.none; running = refl })),
             All-rest (AreParts before) c.remove-part.result c.remove-part.new.self.items c.loop-door.parts.items first both.1,
           );
       room = c.push_reserved.ensures.capacity ∙ so_far.room;

@@ -1,5 +1,5 @@
 use denote.Param.Send.{sendable}
-use Rattle.std.proofs.Common.{rules, arith, ◌≡◌, ◌≤◌, ◌+◌, ◌^◌, [], length, map, All, refl, sym, ap, subst, ◌∙◌}
+use Rattle.std.proofs.Common.{rules, arith, ◌≡◌, ◌≤◌, length, sym, ap, subst}
 use Rattle.std.specs.Prelude.{None}
 use Rattle.std.proofs.lemmas.List.{length-map}
 use Rattle.std.proofs.lemmas.List.Elements.{All-same, All-weaker, All-from_recursion, recursion_from_All}
@@ -118,6 +118,6 @@ returns-in-Err-clause-served g c =
     let back : c.dismiss-in-Err.result.items ≡ c.args.doors.items = cc (c.dismiss-in-Err.ensures.doors, same, c.crew_of-crew.ensures.doors) in (
       0,
       subst (λ ds. AreServedDoors g.O.Door.told g.O.Door.given g.O.Door.left g.O.Door.faults g.O.Door.back stands 0 c.args.doors.items ds) (sym back)
-      (none_served g.O.Door.told g.O.Door.given g.O.Door.left g.O.Door.faults g.O.Door.back stands c.args.doors.items),
+          (none_served g.O.Door.told g.O.Door.given g.O.Door.left g.O.Door.faults g.O.Door.back stands c.args.doors.items),
       tt,
     )
