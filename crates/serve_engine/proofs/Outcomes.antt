@@ -1,13 +1,14 @@
 -- What workers did at their doors, and how they served together.
-use Rattle.std.proofs.Common.{◌≡◌, ◌≢◌, ◌⊎◌, inl, inr, ℕ, ◌+◌, ◌<◌, ◌≤◌, ◌^◌, ◌||◌, Bool, true, false, List, [], ◌∷◌, length, map, All, sum_by, refl, sym, ap, ◌∙◌, subst, arith}
-use Rattle.std.specs.Prelude.{Option, Some, None, if◌then◌else◌}
+use Rattle.std.proofs.Common.{◌≡◌, ◌≢◌, ◌⊎◌, inl, inr, ℕ, ◌+◌, ◌<◌, ◌||◌, Bool, true, false, List, [], ◌∷◌, length, map, All, sum_by, refl, sym, ◌∙◌, subst, arith}
+use Rattle.std.specs.Prelude.{Option, Some, None, IsSome, if◌then◌else◌}
 use Rattle.std.specs.List.{AllByRecursion, AllZip, list_any}
 use Rattle.std.proofs.lemmas.List.{length-map}
 use Rattle.std.proofs.lemmas.List.Sums.{sum_by-cons}
-use Rattle.std.proofs.lemmas.List.Elements.{All-from_recursion, recursion_from_All}
+use Rattle.std.proofs.lemmas.List.Elements.{All-from_recursion, All-weaker, recursion_from_All, length_all_zip}
 use Rattle.outside.specs.Faults.{Rose}
 use Rattle.outside.specs.Visits.{Visit}
-use Rattle.turnstile.specs.Passes.{shares}
+use Rattle.cqe_base.specs.Schema.{DatabaseSchema}
+use Rattle.cqe_base.specs.Facts.{FactSet}
 use Rattle.turnstile.specs.declared.pass.Pass.{Pass}
 use Rattle.desk_counter.specs.declared.item.Item.{Item}
 use Rattle.desk_counter.specs.declared.item.Fixed.{Fixed}
@@ -18,17 +19,59 @@ use Rattle.session_core.specs.Members.{users_of, fixeds_of, passes_in}
 use Rattle.worker_pool.specs.declared.worker.Worker.{Worker}
 use Rattle.worker_pool.specs.declared.worker.WorkerEnd.{WorkerEnd}
 use Rattle.worker_pool.specs.declared.worker.WorkerEnd.TheVariants.{LinksEnded, LimitReached, LinksFailed as LinksHaveFailed}
-use Rattle.worker_pool.specs.Workers.{HasVisits, IsServed}
+use Rattle.worker_pool.specs.Workers.{IsServed}
 use Rattle.serve_engine.specs.declared.job.SessionJobOf.{SessionJobOf}
 use Rattle.serve_engine.specs.declared.serving.Outcome.{Outcome}
 use Rattle.serve_engine.specs.declared.serving.Outcome.TheVariants.{Served, LinksFailed}
 use Rattle.serve_engine.specs.Jobs.{job_counters, job_passes, job_runs}
-use Rattle.serve_engine.specs.Members.{IsServedBy, IsPassLater, ArePassesLater, members_of, room_in}
+use Rattle.serve_engine.specs.Members.{AreIn, IsServedBy, IsPassLater, ArePassesLater, members_of, room_in}
 use Rattle.serve_engine.specs.Doors.{IsServedDoor, AreServedDoors, SomeFailed, HasOutcome, has_failed, outcome_of}
-use Rattle.serve_engine.specs.Passing.{HaveShares, AreOn, IsFresh, IsBack}
+use Rattle.serve_engine.specs.Passing.{AreOn, IsFresh, IsBack}
 use Rattle.serve_engine.proofs.Growing.{served_later}
-use Rattle.serve_engine.proofs.Later.{members_later, room_enough}
+use Rattle.serve_engine.proofs.Later.{members_later}
 use Rattle.serve_engine.proofs.Meeting.{AllHave}
+
+module _ {D : Type 0} where
+  -- passes have as many shares later
+  as_many : (n : ℕ) (old new : List (Pass Item (Fixed D))) → AllZip IsPassLater old new → AllHave n old → AllHave n new
+  as_many n [] [] later have = tt
+  as_many n (p ∷ old) (q ∷ new) later have = (later.0.same_shares ∙ have.0, as_many n old new later.1 have.1)
+  as_many n [] (q ∷ new) later have = absurd later
+  as_many n (p ∷ old) [] later have = absurd later
+
+  module _ {g h : _} (counters : CountersOf (TicketedDesk D g) Item (Fixed D) h) where
+    -- what was served by some passes is served by those that have seen more
+    stay : (at : CountersOf (TicketedDesk D g) Item (Fixed D) h) (passes final : Passes D) (visits : List Visit) → at ≡ counters → AreOn passes final → AllByRecursion (IsServedBy at passes) visits → AllByRecursion (IsServedBy counters final) visits
+    stay at passes final visits same on stand =
+        let still = λ (visit : Visit) (stood : IsServedBy at passes visit) (schema : DatabaseSchema) (world : FactSet) (within : AreIn schema world (fixeds_of counters)).
+        served_later schema world (users_of counters) (members_of (fixeds_of counters) (passes_in passes)) (members_of (fixeds_of counters) (passes_in final)) visit
+        (members_later (fixeds_of counters) (passes_in passes) (passes_in final) on) (subst (λ c. IsServedBy c passes visit) same stood schema world within) in
+        recursion_from_All (IsServedBy counters final) visits (All-weaker (IsServedBy at passes) (IsServedBy counters final) still visits (All-from_recursion (IsServedBy at passes) visits stand))
+
+module _ {O : Type 0} (told : Type 0) (left_of faults_of : O → ℕ) where
+  -- Workers that ended: where links of one failed, a door has; else no door has a connection left, or one came to the limit.
+  abbrev Ended : Type 0 → Bool → List O → Type 0
+  Ended at_limit true doors = SomeFailed faults_of doors
+  Ended at_limit false doors = (told → AllByRecursion (λ door. left_of door ≡ 0) doors) ⊎ at_limit
+
+  at_end : (at_limit : Type 0) (any : Bool) (door : O) (doors : List O) → (told → left_of door ≡ 0) → Ended at_limit any doors → Ended at_limit any (door ∷ doors)
+  at_end at_limit true door doors none others = inr others
+  at_end at_limit false door doors none (inl all) = inl (λ t. (none t, all t))
+  at_end at_limit false door doors none (inr limit) = inr limit
+
+  at_most : (at_limit : Type 0) (any : Bool) (door : O) (doors : List O) → at_limit → Ended at_limit any doors → Ended at_limit any (door ∷ doors)
+  at_most at_limit true door doors limit others = inr others
+  at_most at_limit false door doors limit others = inr limit
+
+-- none isn't some
+none_isnt : (end : Option WorkerEnd) → end ≡ None → IsSome end → ⊥
+none_isnt None is some = absurd cc
+none_isnt (Some end) is some = absurd cc
+
+-- a count that rose isn't 0
+rose : (n m : ℕ) → n ≡ 0 → Rose n m → m ≢ 0
+rose n m none (inl more) = λ e. omega (arith, none, more, e)
+rose n m none (inr most) = λ e. omega (arith, most, e)
 
 module _ {D G O : Type 0} {g h : _} (told : Type 0) (given_of left_of ends_of faults_of : O → ℕ) (back_of : O → List Visit) where
   -- a worker before he served and after he ended
@@ -36,15 +79,11 @@ module _ {D G O : Type 0} {g h : _} (told : Type 0) (given_of left_of ends_of fa
   Was = IsServed told given_of left_of ends_of faults_of back_of (λ job. room_in (passes_in (job_passes job))) job_runs (λ job visit. IsServedBy (job_counters job) (job_passes job) visit)
       (λ before after. (job_counters after ≡ job_counters before) × ArePassesLater (job_passes before) (job_passes after))
 
+  pub as_long : (before after : List (Worker (SessionJobOf (TicketedDesk D g) D G h) O)) → AllZip Was before after → length before ≡ length after
+  as_long before after was = length_all_zip Was before after was
+
   module _ (counters : CountersOf (TicketedDesk D g) Item (Fixed D) h) where
     -- ---- the jobs
-
-    -- passes have as many shares later
-    as_many : (n : ℕ) (old new : List (Pass Item (Fixed D))) → AllZip IsPassLater old new → AllHave n old → AllHave n new
-    as_many n [] [] later have = tt
-    as_many n (p ∷ old) (q ∷ new) later have = (later.0.same_shares ∙ have.0, as_many n old new later.1 have.1)
-    as_many n [] (q ∷ new) later have = absurd later
-    as_many n (p ∷ old) [] later have = absurd later
 
     -- the workers' passes can be joined again
     pub are_back : (first : Passes D) (before after : List (Worker (SessionJobOf (TicketedDesk D g) D G h) O)) → AllByRecursion (IsFresh counters first) before → AllZip Was before after → AllByRecursion (IsBack counters) after
@@ -61,15 +100,6 @@ module _ {D G O : Type 0} {g h : _} (told : Type 0) (given_of left_of ends_of fa
 
     -- ---- the doors
 
-    -- what was served by some passes is served by those that have seen more
-    stay : (at : CountersOf (TicketedDesk D g) Item (Fixed D) h) (passes final : Passes D) (visits : List Visit) → at ≡ counters → AreOn passes final → AllByRecursion (IsServedBy at passes) visits → AllByRecursion (IsServedBy counters final) visits
-    stay at passes final [] same on stand = tt
-    stay at passes final (visit ∷ visits) same on stand = (
-      (λ schema world within. served_later schema world (users_of counters) (members_of (fixeds_of counters) (passes_in passes)) (members_of (fixeds_of counters) (passes_in final)) visit
-          (members_later (fixeds_of counters) (passes_in passes) (passes_in final) on) (subst (λ c. IsServedBy c passes visit) same stand.0 schema world within)),
-      stay at passes final visits same on stand.1,
-    )
-
     one_served : (first final : Passes D) (before after : Worker (SessionJobOf (TicketedDesk D g) D G h) O) → IsFresh counters first before → AreOn (job_passes after.job) final → Was before after
         → IsServedDoor told given_of left_of faults_of back_of (IsServedBy counters final) (job_runs after.job) before.door after.door
     one_served first final before after fresh on was = record {
@@ -79,7 +109,7 @@ module _ {D G O : Type 0} {g h : _} (told : Type 0) (given_of left_of ends_of fa
         visits = v.visits;
         behind = v.behind;
         many = v.many;
-        stand = stay (job_counters after.job) (job_passes after.job) final v.visits (was.keeps.0 ∙ fresh.counters_are) on v.stand;
+        stand = stay counters (job_counters after.job) (job_passes after.job) final v.visits (was.keeps.0 ∙ fresh.counters_are) on v.stand;
       };
       faults = was.faults;
     }
@@ -101,43 +131,25 @@ module _ {D G O : Type 0} {g h : _} (told : Type 0) (given_of left_of ends_of fa
 
   -- ---- the outcome
 
-  -- Workers that ended: where links of one failed, a door has; else no door has a connection left, or one came to the limit.
-  abbrev Ended : Type 0 → Bool → List O → Type 0
-  Ended at_limit true doors = SomeFailed faults_of doors
-  Ended at_limit false doors = (told → AllByRecursion (λ door. left_of door ≡ 0) doors) ⊎ at_limit
-
   have_ended : (at_limit : Type 0) (before after : List (Worker (SessionJobOf (TicketedDesk D g) D G h) O)) → AllByRecursion (λ worker. faults_of worker.door ≡ 0) before
-      → AllByRecursion (λ worker. worker.ended ≡ Some LimitReached → at_limit) after → AllZip Was before after → Ended at_limit (list_any (λ worker. has_failed worker.ended) after) (map (λ worker. worker.door) after)
+      → AllByRecursion (λ worker. worker.ended ≡ Some LimitReached → at_limit) after → AllZip Was before after → Ended told left_of faults_of at_limit (list_any (λ worker. has_failed worker.ended) after) (map (λ worker. worker.door) after)
   have_ended at_limit [] [] whole reached was = inl (λ t. tt)
-  have_ended at_limit (b ∷ before) (a ∷ after) whole reached was = by_end a.ended refl
+  have_ended at_limit (b ∷ before) (a ∷ after) whole reached was = by_end a.ended refl was.0.ended (have_ended at_limit before after whole.1 reached.1 was.1)
     where
-      rest : Ended at_limit (list_any (λ worker. has_failed worker.ended) after) (map (λ worker. worker.door) after)
-      rest = have_ended at_limit before after whole.1 reached.1 was.1
+      doors : List O
+      doors = map (λ worker. worker.door) after
 
-      at_end : (any : Bool) → (told → left_of a.door ≡ 0) → Ended at_limit any (map (λ worker. worker.door) after) → Ended at_limit any (a.door ∷ map (λ worker. worker.door) after)
-      at_end true none others = inr others
-      at_end false none (inl all) = inl (λ t. (none t, all t))
-      at_end false none (inr limit) = inr limit
+      any : Bool
+      any = list_any (λ worker. has_failed worker.ended) after
 
-      at_most : (any : Bool) → at_limit → Ended at_limit any (map (λ worker. worker.door) after) → Ended at_limit any (a.door ∷ map (λ worker. worker.door) after)
-      at_most true limit others = inr others
-      at_most false limit others = inr limit
-
-      rose : (n m : ℕ) → n ≡ 0 → Rose n m → m ≢ 0
-      rose n m none (inl more) = λ e. omega (arith, none, more, e)
-      rose n m none (inr most) = λ e. omega (arith, most, e)
-
-      by_end : (end : Option WorkerEnd) → a.ended ≡ end → Ended at_limit (list_any (λ worker. has_failed worker.ended) (a ∷ after)) (a.door ∷ map (λ worker. worker.door) after)
-      by_end None is = absurd cc
-      by_end (Some LinksEnded) is =
-          subst (λ end. Ended at_limit (has_failed end || list_any (λ worker. has_failed worker.ended) after) (a.door ∷ map (λ worker. worker.door) after)) (sym is)
-          (at_end (list_any (λ worker. has_failed worker.ended) after) (was.0.at_end is).1 rest)
-      by_end (Some LimitReached) is =
-          subst (λ end. Ended at_limit (has_failed end || list_any (λ worker. has_failed worker.ended) after) (a.door ∷ map (λ worker. worker.door) after)) (sym is)
-          (at_most (list_any (λ worker. has_failed worker.ended) after) (reached.0 is) rest)
-      by_end (Some LinksHaveFailed) is =
-          subst (λ end. Ended at_limit (has_failed end || list_any (λ worker. has_failed worker.ended) after) (a.door ∷ map (λ worker. worker.door) after)) (sym is)
-          (inl (rose (faults_of b.door) (faults_of a.door) whole.0 (was.0.at_failure is)))
+      by_end : (end : Option WorkerEnd) → a.ended ≡ end → IsSome a.ended → Ended told left_of faults_of at_limit any doors → Ended told left_of faults_of at_limit (has_failed a.ended || any) (a.door ∷ doors)
+      by_end None is some rest = absurd (none_isnt a.ended is some)
+      by_end (Some LinksEnded) is some rest =
+          subst (λ end. Ended told left_of faults_of at_limit (has_failed end || any) (a.door ∷ doors)) (sym is) (at_end told left_of faults_of at_limit any a.door doors (was.0.at_end is).1 rest)
+      by_end (Some LimitReached) is some rest =
+          subst (λ end. Ended told left_of faults_of at_limit (has_failed end || any) (a.door ∷ doors)) (sym is) (at_most told left_of faults_of at_limit any a.door doors (reached.0 is) rest)
+      by_end (Some LinksHaveFailed) is some rest =
+          subst (λ end. Ended told left_of faults_of at_limit (has_failed end || any) (a.door ∷ doors)) (sym is) (inl (rose (faults_of b.door) (faults_of a.door) whole.0 (was.0.at_failure is)))
   have_ended at_limit [] (a ∷ after) whole reached was = absurd was
   have_ended at_limit (b ∷ before) [] whole reached was = absurd was
 
@@ -154,7 +166,7 @@ module _ {D G O : Type 0} {g h : _} (told : Type 0) (given_of left_of ends_of fa
       many : length doors ≡ length after
       many = length-map after (λ worker. worker.door)
 
-      of_any : (any : Bool) → Ended (limit < sum_by (λ other. job_runs other.job) after + length after) any (map (λ worker. worker.door) after)
+      of_any : (any : Bool) → Ended told left_of faults_of (limit < sum_by (λ other. job_runs other.job) after + length after) any (map (λ worker. worker.door) after)
           → HasOutcome told left_of faults_of limit (if any then LinksFailed else Served) (sum_by (λ worker. job_runs worker.job) after) (map (λ worker. worker.door) after)
       of_any true failed = failed
       of_any false (inl all) = λ t. inl (All-from_recursion (λ door. left_of door ≡ 0) (map (λ worker. worker.door) after) (all t))

@@ -1,11 +1,8 @@
-use Rattle.std.proofs.Common.{◌≡◌, ◌<◌, ◌≤◌, ◌+◌, [], ◌∷◌, ◌++◌, length, map, All, refl, sym, ap, subst, ◌∙◌, rules, arith}
+use Rattle.std.proofs.Common.{◌∷◌, length, refl, sym, ap, subst, ◌∙◌, arith}
 use Rattle.std.specs.Vec.Iter.{into_iter_items}
-use Rattle.std.proofs.lemmas.List.Elements.{All-push, All-same, All-nil, All-rest, All-head}
-use Rattle.turnstile.specs.Passes.{shares}
+use Rattle.std.proofs.lemmas.List.Elements.{All-push, All-same, All-rest, All-head}
 use Rattle.session_core.specs.Members.{ArePassesOf, passes_in, fixeds_of}
-use Rattle.session_core.specs.declared.counters.Passes.{Passes}
-use Rattle.worker_pool.specs.declared.worker.Worker.{Worker}
-use Rattle.worker_pool.proofs.Seating.{read_on, read_all}
+use Rattle.worker_pool.proofs.Seating.{read_on}
 use Rattle.serve_engine.specs.Members.{HaveSeenOpenings}
 use Rattle.serve_engine.specs.Passing.{AreParts, IsFresh}
 use Rattle.serve_engine.proofs.Reading.{taken_first, regrown}
@@ -17,7 +14,7 @@ new-job-requires-clause-passes g c =
     let next = ap length c.in-Some.ensures.steps.0 in
     let count = so_far.count in
     let first = taken_first c.loop-door.parts.items c.remove-part.result c.remove-part.new.self.items (omega (arith, next, count)) c.remove-part.ensures.value c.remove-part.ensures.items in
-    All-head (λ part. ArePassesOf part c.args.counters.now) c.remove-part.result c.remove-part.new.self.items (All-same (λ part. ArePassesOf part c.args.counters.now) _ _ (sym first) so_far.those)
+    All-head (λ part. ArePassesOf part c.args.counters.now) c.remove-part.result c.remove-part.new.self.items (All-same (λ part. ArePassesOf part c.args.counters.now) (c.remove-part.result ∷ c.remove-part.new.self.items) c.loop-door.parts.items (sym first) so_far.those)
 
 pub new-job-requires-clause-opened : goal.new-job-requires-clause-opened
 new-job-requires-clause-opened g c =
@@ -26,7 +23,7 @@ new-job-requires-clause-opened g c =
     let count = so_far.count in
     let first = taken_first c.loop-door.parts.items c.remove-part.result c.remove-part.new.self.items (omega (arith, next, count)) c.remove-part.ensures.value c.remove-part.ensures.items in
     All-head (λ part. HaveSeenOpenings (fixeds_of c.args.counters.now) (passes_in part)) c.remove-part.result c.remove-part.new.self.items
-    (All-same (λ part. HaveSeenOpenings (fixeds_of c.args.counters.now) (passes_in part)) _ _ (sym first) so_far.opened)
+    (All-same (λ part. HaveSeenOpenings (fixeds_of c.args.counters.now) (passes_in part)) (c.remove-part.result ∷ c.remove-part.new.self.items) c.loop-door.parts.items (sym first) so_far.opened)
 
 pub loop-door-preserved : goal.loop-door-preserved
 loop-door-preserved g c =
@@ -38,17 +35,17 @@ loop-door-preserved g c =
     let first = taken_first c.loop-door.parts.items c.remove-part.result c.remove-part.new.self.items (omega (arith, next, count)) c.remove-part.ensures.value c.remove-part.ensures.items in
     let one_less = ap length first in
     record {
-      rest = read_on c.args.doors.items c.loop-door.yielded _ _ _ so_far.rest step;
-      doors = regrown (λ worker. worker.door) c.loop-door.crew.items _ _ c.loop-door.yielded c.in-Some.door added refl so_far.doors;
+      rest = read_on c.args.doors.items c.loop-door.yielded _ (into_iter_items c.next.new.self) c.in-Some.door so_far.rest step;
+      doors = regrown (λ worker. worker.door) c.loop-door.crew.items c.push_reserved.new.self.items _ c.loop-door.yielded c.in-Some.door added refl so_far.doors;
       count = omega (arith, one_less, next, count);
-      those = All-rest (λ part. ArePassesOf part c.args.counters.now) c.remove-part.result _ _ first so_far.those;
-      opened = All-rest (λ part. HaveSeenOpenings (fixeds_of c.args.counters.now) (passes_in part)) c.remove-part.result _ _ first so_far.opened;
+      those = All-rest (λ part. ArePassesOf part c.args.counters.now) c.remove-part.result c.remove-part.new.self.items c.loop-door.parts.items first so_far.those;
+      opened = All-rest (λ part. HaveSeenOpenings (fixeds_of c.args.counters.now) (passes_in part)) c.remove-part.result c.remove-part.new.self.items c.loop-door.parts.items first so_far.opened;
       fresh = λ before parts.
           let both = so_far.fresh before parts in
-          let here = All-head (AreParts before) c.remove-part.result c.remove-part.new.self.items (All-same (AreParts before) _ _ (sym first) both.1) in (
-            All-same (IsFresh c.args.counters.now before) _ _ added (All-push (IsFresh c.args.counters.now before) c.loop-door.crew.items _ both.0
+          let here = All-head (AreParts before) c.remove-part.result c.remove-part.new.self.items (All-same (AreParts before) (c.remove-part.result ∷ c.remove-part.new.self.items) c.loop-door.parts.items (sym first) both.1) in (
+            All-same (IsFresh c.args.counters.now before) c.push_reserved.new.self.items _ added (All-push (IsFresh c.args.counters.now before) c.loop-door.crew.items _ both.0
                 (record { counters_are = c.new-job.ensures.counters; parts = subst (AreParts before) (sym c.new-job.ensures.passes) here; none = c.new-job.ensures.none; running = refl })),
-            All-rest (AreParts before) c.remove-part.result _ _ first both.1,
+            All-rest (AreParts before) c.remove-part.result c.remove-part.new.self.items c.loop-door.parts.items first both.1,
           );
       room = c.push_reserved.ensures.capacity ∙ so_far.room;
     }

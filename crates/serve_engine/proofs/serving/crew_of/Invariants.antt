@@ -1,4 +1,4 @@
-use Rattle.std.proofs.Common.{◌≡◌, ℕ, ◌++◌, All, length, map, vec_capacity}
+use Rattle.std.proofs.Common.{◌≡◌, ◌++◌, All, length, map, vec_capacity}
 use Rattle.std.specs.Vec.Iter.{into_iter_items}
 use Rattle.session_core.specs.Members.{ArePassesOf, fixeds_of, passes_in}
 use Rattle.session_core.specs.declared.counters.Passes.{Passes}

@@ -1,10 +1,10 @@
-use Rattle.std.proofs.Common.{◌≡◌, ◌<◌, ◌≤◌, ◌+◌, [], ◌∷◌, ◌++◌, length, map, All, refl, sym, ap, subst, ◌∙◌, rules, arith}
+use Rattle.std.proofs.Common.{◌≡◌, ◌+◌, length, refl, sym, ap, subst, ◌∙◌, rules, arith}
 use Rattle.std.specs.Vec.Iter.{into_iter_items}
 use Rattle.std.proofs.lemmas.List.Elements.{All-push, All-nil, All-weaker}
 use Rattle.session_core.specs.Members.{ArePassesOf, passes_in}
 use Rattle.session_core.specs.declared.counters.Passes.{Passes}
 use Rattle.worker_pool.proofs.Seating.{read_on, next_of}
-use Rattle.serve_engine.specs.Jobs.{job_counters, job_passes}
+use Rattle.serve_engine.specs.Jobs.{job_passes}
 use Rattle.serve_engine.specs.Passing.{HaveShares, AreOn, IsBack}
 use Rattle.serve_engine.proofs.Meeting.{on_same, on_then, have_met}
 use Rattle.serve_engine.proofs.Reading.{grown}

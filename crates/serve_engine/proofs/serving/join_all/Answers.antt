@@ -1,10 +1,9 @@
-use Rattle.std.proofs.Common.{◌≡◌, ◌+◌, [], ◌∷◌, length, subst, sym, ap, ◌∙◌, rules, arith}
+use Rattle.std.proofs.Common.{◌≡◌, ◌+◌, length, subst, ap, rules, arith}
 use Rattle.std.specs.Vec.Iter.{into_iter_items}
 use Rattle.session_core.specs.Members.{ArePassesOf, passes_in}
-use Rattle.session_core.specs.declared.counters.Passes.{Passes}
 use Rattle.worker_pool.proofs.Seating.{read_on, next_of}
 use Rattle.serve_engine.specs.Passing.{HaveShares}
-use Rattle.serve_engine.proofs.Meeting.{on_same, on_then, have_met, AllHave}
+use Rattle.serve_engine.proofs.Meeting.{on_same, on_then, have_met}
 use Rattle.serve_engine.proofs.serving.join_all.Goals as goal
 
 pub loop-part-init : goal.loop-part-init

@@ -1,4 +1,4 @@
-use Rattle.std.proofs.Common.{◌≡◌, ◌≤◌, ◌+◌, ◌-◌, ◌*◌, ◌^◌, [], ◌∷◌, length, All, sym, ap, subst, ◌∙◌, rules, arith, length-append}
+use Rattle.std.proofs.Common.{◌≡◌, ◌-◌, ◌*◌, ◌^◌, [], ◌∷◌, length, sym, ap, subst, ◌∙◌, rules, arith, length-append}
 use Rattle.std.proofs.lemmas.List.Elements.{All-push, All-same, All-nil, All-weaker}
 use Rattle.session_core.specs.Members.{ArePassesOf, passes_in}
 use Rattle.session_core.specs.declared.counters.Passes.{Passes}
