@@ -3,6 +3,7 @@ use Rattle.std.proofs.Common.{◌≡◌, ◌⊎◌, inl, inr, ℕ, suc, ◌+◌,
 use Rattle.std.specs.Prelude.{Option, Some, None, Vec, ◌||◌, string_bytes, All}
 use Rattle.std.specs.declared.alloc.Global.{Global}
 use Rattle.std.specs.List.{AllByRecursion, list_any, sum_by}
+use Rattle.std.proofs.lemmas.List.Sums.{sum_by-append}
 use Rattle.std.proofs.lemmas.List.Elements.{All-head, All-tail, All-from_recursion}
 use Rattle.outside.specs.Faults.{Rose}
 use Rattle.outside.specs.Visits.{Visit}
@@ -194,7 +195,9 @@ module _ {O : Type 0} (told : Type 0) (given_of left_of faults_of : O → ℕ) (
       let rest = doors_gave t is.1 doors others is.4 in
       let here = is.3.given t in
       let both = is.2 in
-      omega (arith, rest, here, both)
+      let first = sum_by-append given_of (d ∷ []) doors in
+      let second = sum_by-append given_of (e ∷ []) others in
+      omega (arith, rest, here, both, first, second)
   doors_gave t total [] (e ∷ others) is = absurd is
   doors_gave t total (d ∷ doors) [] is = absurd is
 

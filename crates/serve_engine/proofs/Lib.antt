@@ -9,3 +9,4 @@ pub mod Outcomes
 pub mod Apart
 pub mod Backing
 pub mod Histories
+pub mod Connections

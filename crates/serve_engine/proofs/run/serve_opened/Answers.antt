@@ -42,7 +42,7 @@ returns-clause-ends g c shelf_told door_told =
     let disk_told = g.met.F.Shelf.tells_disks shelf_told in
     let served = c.serve_seats-outcome.ensures.served in
     let refusals = c.refusals_of-refusals.ensures ∙ ap (map (λ x. x.refusal)) c.as_slice.ensures.value in
-    let each = have_served c.args.registry.now.schema.now c.args.registry.now.world.now (header_bytes c.args.registry.now.header.now) c.args.registry.now.directory.now g.F.D.Disk.told g.F.Shelf.told disk_told shelf_told g.F.D.Disk.reads g.F.D.Disk.image g.F.D.Disk.faults g.met.F.D.Disk.read_is_image (g.F.Shelf.disk c.args.shelf.now) (g.F.Shelf.disk c.give_back-is_broken.new.shelf) (g.F.Shelf.disk_faults c.args.shelf.now) (g.F.Shelf.disk_faults c.give_back-is_broken.new.shelf) c.known.ensures c.law_hides.ensures c.args.registry.now.users.now c.in-Ok-open_all.seats.items c.serve_seats-outcome.result.1.items c.requires.limits c.in-Ok-open_all.ensures.opened c.serve_seats-outcome.ensures.on c.give_back-is_broken.ensures.back in
+    let each = have_served c.args.registry.now.schema.now c.args.registry.now.world.now (header_bytes c.args.registry.now.header.now) c.args.registry.now.directory.now g.F.D.Disk.told g.F.Shelf.told disk_told shelf_told g.F.D.Disk.reads g.F.D.Disk.image g.F.D.Disk.faults (g.met.F.D.Disk g.world.𝓛 g.world.𝓜 g.world.𝓡 ((λ s x. x), (λ x. x), (λ x. x), λ x. x)).read_is_image (g.F.Shelf.disk c.args.shelf.now) (g.F.Shelf.disk c.give_back-is_broken.new.shelf) (g.F.Shelf.disk_faults c.args.shelf.now) (g.F.Shelf.disk_faults c.give_back-is_broken.new.shelf) c.known.ensures c.law_hides.ensures c.args.registry.now.users.now c.in-Ok-open_all.seats.items c.serve_seats-outcome.result.1.items c.requires.limits c.in-Ok-open_all.ensures.opened c.serve_seats-outcome.ensures.on c.give_back-is_broken.ensures.back in
     subst (EndsAt c.args.registry.now.schema.now c.args.registry.now.world.now (header_bytes c.args.registry.now.header.now) (journals_on g.F.D.Disk.reads g.F.D.Disk.image c.args.registry.now.directory.now (g.F.Shelf.disk c.args.shelf.now) (g.F.Shelf.disk c.give_back-is_broken.new.shelf) (g.F.Shelf.disk_faults c.args.shelf.now) (g.F.Shelf.disk_faults c.give_back-is_broken.new.shelf)) c.args.registry.now.users.now g.O.Door.told g.O.Door.given g.O.Door.left g.O.Door.faults g.O.Door.back c.args.doors.items c.serve_seats-outcome.result.2.items) (sym c.end_of.ensures)
     (ends_at c.args.registry.now.schema.now c.args.registry.now.world.now (header_bytes c.args.registry.now.header.now) (journals_on g.F.D.Disk.reads g.F.D.Disk.image c.args.registry.now.directory.now (g.F.Shelf.disk c.args.shelf.now) (g.F.Shelf.disk c.give_back-is_broken.new.shelf) (g.F.Shelf.disk_faults c.args.shelf.now) (g.F.Shelf.disk_faults c.give_back-is_broken.new.shelf)) c.args.registry.now.users.now g.O.Door.told g.O.Door.given g.O.Door.left g.O.Door.faults g.O.Door.back c.args.doors.items c.serve_seats-outcome.result.2.items c.serve_seats-outcome.result.0 c.refusals_of-refusals.result c.give_back-is_broken.result (record {
       members = map seat_member c.serve_seats-outcome.result.1.items;
@@ -50,7 +50,7 @@ returns-clause-ends g c shelf_told door_told =
       broken_is = c.give_back-is_broken.ensures.broke ∙ broke_at c.serve_seats-outcome.result.1.items;
       total = served.0;
       served = served_still g.O.Door.told g.O.Door.given g.O.Door.left g.O.Door.faults g.O.Door.back (IsServedAt c.args.registry.now.users.now c.serve_seats-outcome.result.1.items) (Served c.args.registry.now.schema.now c.args.registry.now.world.now c.args.registry.now.users.now (map seat_member c.serve_seats-outcome.result.1.items))
-          (λ visit is. is c.args.registry.now.schema.now c.args.registry.now.world.now (all_in_world c.args.registry.now.schema.now c.args.registry.now.world.now (header_bytes c.args.registry.now.header.now) c.args.registry.now.directory.now g.F.D.Disk.told g.F.Shelf.told disk_told shelf_told g.F.D.Disk.reads g.F.D.Disk.image g.F.D.Disk.faults g.met.F.D.Disk.read_is_image (g.F.Shelf.disk c.args.shelf.now) (g.F.Shelf.disk c.give_back-is_broken.new.shelf) (g.F.Shelf.disk_faults c.args.shelf.now) (g.F.Shelf.disk_faults c.give_back-is_broken.new.shelf) c.args.registry.now.users.now c.in-Ok-open_all.seats.items c.serve_seats-outcome.result.1.items c.in-Ok-open_all.ensures.opened c.serve_seats-outcome.ensures.on)) served.0 c.args.doors.items c.serve_seats-outcome.result.2.items served.1;
+          (λ visit is. is c.args.registry.now.schema.now c.args.registry.now.world.now (all_in_world c.args.registry.now.schema.now c.args.registry.now.world.now (header_bytes c.args.registry.now.header.now) c.args.registry.now.directory.now g.F.D.Disk.told g.F.Shelf.told disk_told shelf_told g.F.D.Disk.reads g.F.D.Disk.image g.F.D.Disk.faults (g.met.F.D.Disk g.world.𝓛 g.world.𝓜 g.world.𝓡 ((λ s x. x), (λ x. x), (λ x. x), λ x. x)).read_is_image (g.F.Shelf.disk c.args.shelf.now) (g.F.Shelf.disk c.give_back-is_broken.new.shelf) (g.F.Shelf.disk_faults c.args.shelf.now) (g.F.Shelf.disk_faults c.give_back-is_broken.new.shelf) c.args.registry.now.users.now c.in-Ok-open_all.seats.items c.serve_seats-outcome.result.1.items c.in-Ok-open_all.ensures.opened c.serve_seats-outcome.ensures.on)) served.0 c.args.doors.items c.serve_seats-outcome.result.2.items served.1;
     }))
 
 pub returns-clause-ended : goal.returns-clause-ended

@@ -1,0 +1,116 @@
+-- The connections of links, by those of the doors that they opened and took back.
+use Rattle.std.proofs.Common.{◌≡◌, ◌⊎◌, inl, inr, ℕ, ◌+◌, ◌<◌, Bool, true, false, List, [], ◌∷◌, ◌++◌, length, refl, sym, ap, subst, ◌∙◌, append-nil, arith, length-append}
+use Rattle.std.specs.Prelude.{Option, All}
+use Rattle.std.specs.List.{AllByRecursion, sum_by, flat_map}
+use Rattle.std.proofs.lemmas.List.Sums.{sum_by-append}
+use Rattle.std.proofs.lemmas.List.Elements.{All-head, All-tail}
+use Rattle.cqe_base.specs.Schema.{DatabaseSchema}
+use Rattle.cqe_base.specs.Facts.{FactSet}
+use Rattle.cqe_base.specs.declared.user.User.{User}
+use Rattle.outside.specs.Visits.{Visit}
+use Rattle.user_desk.specs.declared.standing.DeskError.{DeskError}
+use Rattle.desk_crew.specs.Shelved.{Journals}
+use Rattle.serve_engine.specs.Doors.{AreServedDoors}
+use Rattle.serve_engine.specs.Served.{Served}
+use Rattle.serve_engine.specs.Serving.{Serves, ServesNobody, ServesDoors, ServesNoDoor, Ends, EndsAt}
+use Rattle.serve_engine.specs.declared.run.ServeEnd.{ServeEnd}
+use Rattle.serve_engine.specs.declared.run.ServeEnd.TheVariants.{Done, LinksFault, ShelfFault, Memory}
+
+both_stand : (stands : Visit → Type 0) (xs ys : List Visit) → AllByRecursion stands xs → AllByRecursion stands ys → AllByRecursion stands (xs ++ ys)
+both_stand stands [] ys first second = second
+both_stand stands (x ∷ xs) ys first second = (first.0, both_stand stands xs ys first.1 second)
+
+-- where each counts nothing, all do
+pub sum_none : {X : Type 0} (f : X → ℕ) (xs : List X) → All (λ x. f x ≡ 0) xs → sum_by f xs ≡ 0
+sum_none f [] none = refl
+sum_none f (x ∷ xs) none =
+    let rest = sum_none f xs (All-tail (λ x. f x ≡ 0) x xs none) in
+    let this = All-head (λ x. f x ≡ 0) x xs none in
+    let both = sum_by-append f (x ∷ []) xs in
+    omega (arith, rest, this, both)
+
+module _ {O : Type 0} (given_of : O → ℕ) (back_of : O → List Visit) where
+  -- a door that has given nothing yet
+  abbrev pub AreNew : List O → Type 0
+  AreNew doors = All (λ door. (given_of door ≡ 0) × (back_of door ≡ [])) doors
+
+  pub new_given : (doors : List O) → AreNew doors → sum_by given_of doors ≡ 0
+  new_given [] new = refl
+  new_given (d ∷ doors) new =
+      let rest = new_given doors (All-tail (λ door. (given_of door ≡ 0) × (back_of door ≡ [])) d doors new) in
+      let this = (All-head (λ door. (given_of door ≡ 0) × (back_of door ≡ [])) d doors new).0 in
+      let both = sum_by-append given_of (d ∷ []) doors in
+      omega (arith, rest, this, both)
+
+  pub new_back : (doors : List O) → AreNew doors → flat_map back_of doors ≡ []
+  new_back [] new = refl
+  new_back (d ∷ doors) new =
+      ap (λ l. l ++ flat_map back_of doors) (All-head (λ door. (given_of door ≡ 0) × (back_of door ≡ [])) d doors new).1 ∙ new_back doors (All-tail (λ door. (given_of door ≡ 0) × (back_of door ≡ [])) d doors new)
+
+  module _ (told : Type 0) (t : told) (left_of faults_of : O → ℕ) (stands : Visit → Type 0) where
+    -- what doors that had given nothing have back: one visit for each connection that they gave, which stands so
+    record Have (total : ℕ) (others : List O) : Type 0 where
+      many : length (flat_map back_of others) ≡ total
+      stand : AllByRecursion stands (flat_map back_of others)
+      gave : sum_by given_of others ≡ total
+
+    have : (total : ℕ) (doors others : List O) → AreNew doors → AreServedDoors told given_of left_of faults_of back_of stands total doors others → Have total others
+    have total [] [] new is = record { many = sym is; stand = tt; gave = sym is }
+    have total (d ∷ doors) (e ∷ others) new is =
+        let rest : Have is.1 others = have is.1 doors others (All-tail (λ door. (given_of door ≡ 0) × (back_of door ≡ [])) d doors new) is.4 in
+        let fresh = All-head (λ door. (given_of door ≡ 0) × (back_of door ≡ [])) d doors new in
+        let visits = is.3.back t in
+        let behind : back_of e ≡ visits.visits = visits.behind ∙ ap (λ l. l ++ visits.visits) fresh.1 in
+        let here = is.3.given t in
+        let none = fresh.0 in
+        let both = is.2 in
+        let count = visits.many in
+        let long = ap length behind in
+        let all = length-append (back_of e) (flat_map back_of others) in
+        let more = rest.many in
+        let gave = rest.gave in
+        let first = sum_by-append given_of (e ∷ []) others in
+        record {
+          many = omega (arith, both, count, long, all, more);
+          stand = both_stand stands (back_of e) (flat_map back_of others) (subst (AllByRecursion stands) (sym behind) visits.stand) rest.stand;
+          gave = omega (arith, here, none, both, gave, first);
+        }
+    have total [] (e ∷ others) new is = absurd is
+    have total (d ∷ doors) [] new is = absurd is
+
+module _ (schema : DatabaseSchema) (world : FactSet) (header : List ℕ) (journals : Journals) (users : List User) {O : Type 0} (told : Type 0) (t : told) (given_of left_of faults_of : O → ℕ) (back_of : O → List Visit)
+    (doors others : List O) (new : AreNew given_of back_of doors) (given given' : ℕ) (back back' : List Visit) (gave : given' ≡ given + sum_by given_of others) (came : back' ≡ back ++ flat_map back_of others) where
+  serves_all : (refusals : List (Option DeskError)) (is_broken : Bool) → ServesDoors schema world header journals users told given_of left_of faults_of back_of doors others refusals is_broken
+      → Serves schema world header journals users given given' back back' refusals is_broken
+  serves_all refusals is_broken serves =
+      let has : Have given_of back_of told t left_of faults_of (Served schema world users serves.members) serves.total others = have given_of back_of told t left_of faults_of (Served schema world users serves.members) serves.total doors others new serves.served in
+      record {
+        members = serves.members;
+        each_user = serves.each_user;
+        broken_is = serves.broken_is;
+        count = serves.total;
+        given_is = gave ∙ ap (λ n. given + n) has.gave;
+        visits = record { visits = flat_map back_of others; behind = came; many = has.many; stand = has.stand };
+      }
+
+  serves_nobody : ServesNoDoor schema world header journals users told given_of left_of faults_of back_of doors others → ServesNobody schema world header journals users given given' back back'
+  serves_nobody none =
+      let nothing = ap (sum_by given_of) none.doors_same ∙ new_given given_of back_of doors new in
+      record {
+        given_same = omega (arith, gave, nothing);
+        back_same = came ∙ ap (λ ds. back ++ flat_map back_of ds) none.doors_same ∙ ap (λ l. back ++ l) (new_back given_of back_of doors new) ∙ append-nil back;
+        bytes_same = none.bytes_same;
+      }
+
+  either : ServesNoDoor schema world header journals users told given_of left_of faults_of back_of doors others
+      ⊎ ((refusals : List (Option DeskError)) × (is_broken : Bool) × ServesDoors schema world header journals users told given_of left_of faults_of back_of doors others refusals is_broken)
+      → ServesNobody schema world header journals users given given' back back' ⊎ ((refusals : List (Option DeskError)) × (is_broken : Bool) × Serves schema world header journals users given given' back back' refusals is_broken)
+  either (inl none) = inl (serves_nobody none)
+  either (inr some) = inr (some.0, some.1, serves_all some.0 some.1 some.2)
+
+  -- each end, of the doors and so of the links
+  pub ends_of : (end : ServeEnd) → EndsAt schema world header journals users told given_of left_of faults_of back_of doors others end → Ends schema world header journals users given given' back back' end
+  ends_of (Done refusals is_broken) is = serves_all refusals.items is_broken is
+  ends_of LinksFault is = either is
+  ends_of ShelfFault is = serves_nobody is
+  ends_of Memory is = either is
