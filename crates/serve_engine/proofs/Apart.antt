@@ -1,5 +1,5 @@
 -- Seats that are taken apart and put together, and what was served at them.
-use Rattle.std.proofs.Common.{◌≡◌, ℕ, ◌+◌, ◌*◌, ◌^◌, ◌≤◌, List, [], ◌∷◌, ◌++◌, length, map, refl, sym, ap, ◌∙◌, subst, append-nil, arith}
+use Rattle.std.proofs.Common.{◌≡◌, ℕ, ◌*◌, ◌^◌, ◌≤◌, List, [], ◌∷◌, ◌++◌, map, refl, sym, ap, ◌∙◌, subst, append-nil, arith}
 use Rattle.std.specs.Prelude.{All, string_bytes}
 use Rattle.std.specs.List.{AllByRecursion, AllZip}
 use Rattle.std.proofs.lemmas.List.Elements.{All-head, All-tail}
@@ -18,12 +18,11 @@ use Rattle.desk_counter.specs.Counters.{kept_by, IsPassOf}
 use Rattle.desk_crew.specs.Crew.{IsFresh}
 use Rattle.desk_crew.specs.Seats.{DeskSeat}
 use Rattle.session_core.specs.Members.{ArePasses}
-use Rattle.worker_pool.specs.Workers.{HasVisits}
 use Rattle.serve_engine.specs.declared.sharing.Keeper.{Keeper}
-use Rattle.serve_engine.specs.Doors.{IsServedDoor, AreServedDoors}
+use Rattle.serve_engine.specs.Doors.{AreServedDoors}
 use Rattle.serve_engine.specs.Members.{members_of, AreIn, HaveSeenOpenings}
 use Rattle.serve_engine.specs.Served.{Member, Served}
-use Rattle.serve_engine.specs.Sharing.{keeper_of, seat_counter, seat_pass, seat_member, IsSeatOn, AreSeatsOn, AreAllIn, IsServedAt}
+use Rattle.serve_engine.specs.Sharing.{keeper_of, seat_counter, seat_pass, seat_member, AreSeatsOn, AreAllIn, IsServedAt}
 
 -- two lists that are the same begin alike, and so do their rests
 first_same : {X : Type 0} (x y : X) (xs ys : List X) → x ∷ xs ≡ y ∷ ys → (x ≡ y) × (xs ≡ ys)

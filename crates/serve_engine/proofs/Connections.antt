@@ -1,5 +1,5 @@
 -- The connections of links, by those of the doors that they opened and took back.
-use Rattle.std.proofs.Common.{◌≡◌, ◌⊎◌, inl, inr, ℕ, ◌+◌, ◌<◌, Bool, true, false, List, [], ◌∷◌, ◌++◌, length, refl, sym, ap, subst, ◌∙◌, append-nil, arith, length-append}
+use Rattle.std.proofs.Common.{◌≡◌, ◌⊎◌, inl, inr, ℕ, ◌+◌, ◌<◌, Bool, List, [], ◌∷◌, ◌++◌, length, refl, sym, ap, subst, ◌∙◌, append-nil, arith, length-append}
 use Rattle.std.specs.Prelude.{Option, All}
 use Rattle.std.specs.List.{AllByRecursion, sum_by, flat_map}
 use Rattle.std.proofs.lemmas.List.Sums.{sum_by-append}
@@ -28,6 +28,12 @@ sum_none f (x ∷ xs) none =
     let this = All-head (λ x. f x ≡ 0) x xs none in
     let both = sum_by-append f (x ∷ []) xs in
     omega (arith, rest, this, both)
+
+-- at the end no connection is at hand, or the greatest number was reached
+pub at_end : {O : Type 0} (left_of : O → ℕ) (others : List O) {at_hand : ℕ} (at_hand' : ℕ) → at_hand ≡ 0 → at_hand' ≡ at_hand + sum_by left_of others → (a b : ℕ) → {c d : ℕ} → (c < d → a < b)
+    → All (λ door. left_of door ≡ 0) others ⊎ (c < d) → (at_hand' ≡ 0) ⊎ (a < b)
+at_end left_of others at_hand' none is a b more (inl empty) = let nothing = sum_none left_of others empty in inl (omega (arith, none, is, nothing))
+at_end left_of others at_hand' none is a b more (inr most) = inr (more most)
 
 module _ {O : Type 0} (given_of : O → ℕ) (back_of : O → List Visit) where
   -- a door that has given nothing yet

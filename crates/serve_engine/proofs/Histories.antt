@@ -1,40 +1,38 @@
 -- Each user's one history, from the opening of his journal to the disk that is back.
 use Rattle.std.proofs.Common.{◌≡◌, ◌⊎◌, inl, inr, ℕ, suc, ◌+◌, ◌*◌, ◌^◌, ◌<◌, ◌≤◌, Bool, true, false, List, [], ◌∷◌, ◌++◌, length, map, refl, sym, ap, subst, ◌∙◌, arith}
-use Rattle.std.specs.Prelude.{Option, Some, None, Vec, ◌||◌, string_bytes, All}
+use Rattle.std.specs.Prelude.{Option, Some, Vec, ◌||◌, string_bytes, All}
 use Rattle.std.specs.declared.alloc.Global.{Global}
 use Rattle.std.specs.List.{AllByRecursion, list_any, sum_by}
 use Rattle.std.proofs.lemmas.List.Sums.{sum_by-append}
 use Rattle.std.proofs.lemmas.List.Elements.{All-head, All-tail, All-from_recursion}
-use Rattle.outside.specs.Faults.{Rose}
 use Rattle.outside.specs.Visits.{Visit}
 use Rattle.cqe_base.specs.Schema.{Text, DatabaseSchema, is_valid_schema}
 use Rattle.cqe_base.specs.Facts.{FactSet}
 use Rattle.cqe_base.specs.History.{UserProfile, History, is_user_of, profile_of}
-use Rattle.cqe_base.specs.Censor.{IsLegal, admitted}
-use Rattle.cqe_base.specs.Hiding.{Hides, LegalHistoriesHide}
+use Rattle.cqe_base.specs.Censor.{IsLegal}
+use Rattle.cqe_base.specs.Hiding.{LegalHistoriesHide}
 use Rattle.cqe_base.specs.Limits.{KeepsLimits}
-use Rattle.cqe_base.specs.Run.{UserState}
 use Rattle.cqe_base.specs.declared.user.User.{User}
 use Rattle.log_journal.specs.Names.{journal_name}
 use Rattle.log_journal.specs.declared.header.OpenError.TheVariants as journal_error
 use Rattle.user_desk.specs.Causes.{IsStanding, IsSealedBy}
-use Rattle.user_desk.specs.Lives.{Holds, shown}
-use Rattle.user_desk.specs.Standings.{standing_of, is_open, is_sealed}
+use Rattle.user_desk.specs.Lives.{Holds}
+use Rattle.user_desk.specs.Standings.{is_open, is_sealed}
 use Rattle.user_desk.specs.declared.standing.DeskError.{DeskError}
 use Rattle.user_desk.specs.declared.standing.DeskError.TheVariants.{Journal, Stale, Unlawful, Size, NotAdmitted}
 use Rattle.user_desk.specs.declared.standing.Standing.{Standing}
 use Rattle.user_desk.specs.declared.standing.Standing.TheVariants.{Open, Closed, Sealed}
 use Rattle.desk_counter.specs.declared.item.Fixed.{Fixed}
 use Rattle.desk_counter.specs.Items.{history_of, flying}
-use Rattle.desk_counter.specs.Sole.{pairs_of_sole, sole_state}
+use Rattle.desk_counter.specs.Sole.{pairs_of_sole}
 use Rattle.session_core.proofs.Replying.{history_all}
 use Rattle.turnstile.specs.Passes.{turns}
-use Rattle.desk_crew.specs.Crew.{IsFresh, refusal_of, seat_user, seat_journal, seat_kept, seat_standing, seat_history, seat_disk, seat_broke, seat_state}
+use Rattle.desk_crew.specs.Crew.{IsFresh, refusal_of, seat_journal, seat_kept, seat_standing, seat_history, seat_disk, seat_broke, seat_state}
 use Rattle.desk_crew.specs.Seats.{DeskSeat}
 use Rattle.desk_crew.specs.Shelved.{Journals, bytes_on, image_on, journals, journals_on, AreLater, IsSeatOf, AreSeatsOf, IsBack, AreBack}
 use Rattle.desk_crew.proofs.Taken.{rose_wide, taken_reads}
 use Rattle.serve_engine.specs.Served.{Member}
-use Rattle.serve_engine.specs.Doors.{IsServedDoor, AreServedDoors, SomeFailed, HasOutcome}
+use Rattle.serve_engine.specs.Doors.{AreServedDoors, SomeFailed, HasOutcome}
 use Rattle.serve_engine.specs.Serving.{HasServed, HaveServed, ServesDoors, EndsAt, IsDone, end_of}
 use Rattle.serve_engine.specs.declared.serving.Outcome.{Outcome}
 use Rattle.serve_engine.specs.declared.serving.Outcome.TheVariants as outcome

@@ -1,16 +1,14 @@
 -- Passes that are split off for workers, and meet again.
-use Rattle.std.specs.Prelude.{◌≡◌, ℕ, ◌+◌, ◌*◌, ◌^◌, ◌≤◌, List, None}
+use Rattle.std.specs.Prelude.{◌≡◌, ℕ, ◌^◌, ◌≤◌, None}
 use Rattle.std.specs.List.{AllByRecursion, AllZip}
-use Rattle.turnstile.specs.declared.pass.Pass.{Pass}
 use Rattle.turnstile.specs.History.{IsPrefix}
 use Rattle.turnstile.specs.Passes.{seen, shares, turns}
-use Rattle.outside.specs.declared.disk.Disk.{Ghosts as DiskGhosts}
 use Rattle.desk_counter.specs.declared.item.Item.{Item}
 use Rattle.desk_counter.specs.declared.item.Fixed.{Fixed}
 use Rattle.desk_counter.specs.declared.ticketed_desk.TicketedDesk.{TicketedDesk}
 use Rattle.session_core.specs.declared.counters.CountersOf.{CountersOf}
 use Rattle.session_core.specs.declared.counters.Passes.{Passes}
-use Rattle.session_core.specs.Members.{ArePassesOf, passes_in}
+use Rattle.session_core.specs.Members.{passes_in}
 use Rattle.worker_pool.specs.declared.worker.Worker.{Worker}
 use Rattle.serve_engine.specs.declared.job.SessionJobOf.{SessionJobOf}
 use Rattle.serve_engine.specs.Jobs.{job_counters, job_passes, job_runs}

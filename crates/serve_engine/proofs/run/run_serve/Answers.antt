@@ -1,4 +1,29 @@
+use Rattle.std.proofs.Common.{◌++◌, ◌+◌, ap, ◌∙◌, arith}
+use Rattle.std.specs.List.{sum_by, flat_map}
+use Rattle.log_journal.specs.Opening.{header_bytes}
+use Rattle.desk_crew.specs.Shelved.{journals_on}
+use Rattle.serve_engine.proofs.Connections.{ends_of, new_given, at_end}
 use Rattle.serve_engine.proofs.run.run_serve.Goals as goal
 
 pub returns-clause-ends : goal.returns-clause-ends
-returns-clause-ends g c = ?
+returns-clause-ends g c shelf_told links_told =
+    let heard = c.in-Ok.ensures in
+    let back = c.take_back_all.ensures in
+    let door_told = g.met.L.Links.tells_doors links_told in
+    ends_of c.args.registry.now.schema.now c.args.registry.now.world.now (header_bytes c.args.registry.now.header.now) (journals_on g.F.D.Disk.reads g.F.D.Disk.image c.args.registry.now.directory.now (g.F.Shelf.disk c.args.shelf.now) (g.F.Shelf.disk c.serve_opened-end.new.shelf) (g.F.Shelf.disk_faults c.args.shelf.now) (g.F.Shelf.disk_faults c.serve_opened-end.new.shelf)) c.args.registry.now.users.now g.L.D.Door.told door_told g.L.D.Door.given g.L.D.Door.left g.L.D.Door.faults g.L.D.Door.back c.in-Ok.doors.items c.serve_opened-end.result.1.items (heard.fresh links_told)
+    (g.L.Links.given c.args.links.now) (g.L.Links.given c.take_back_all.new.links) (g.L.Links.back c.args.links.now) (g.L.Links.back c.take_back_all.new.links)
+    (back.given links_told ∙ ap (λ n. n + sum_by g.L.D.Door.given c.serve_opened-end.result.1.items) (heard.given links_told))
+    (back.back links_told ∙ ap (λ l. l ++ flat_map g.L.D.Door.back c.serve_opened-end.result.1.items) (heard.back links_told))
+    c.serve_opened-end.result.0 (c.serve_opened-end.ensures.ends shelf_told door_told)
+
+pub returns-clause-ended : goal.returns-clause-ended
+returns-clause-ended g c links_told done =
+    let heard = c.in-Ok.ensures in
+    let back = c.take_back_all.ensures in
+    let some = c.requires.some in
+    let many = heard.count in
+    let doors = c.serve_opened-end.ensures.doors in
+    let none = new_given g.L.D.Door.given g.L.D.Door.back c.in-Ok.doors.items (heard.fresh links_told) in
+    let gave = back.given links_told ∙ ap (λ n. n + sum_by g.L.D.Door.given c.serve_opened-end.result.1.items) (heard.given links_told) in
+    at_end g.L.D.Door.left c.serve_opened-end.result.1.items (g.L.Links.at_hand c.take_back_all.new.links) (heard.all links_told (omega (arith, some))) (back.at_hand links_told) _ _ (λ most. omega (arith, most, none, gave, many, doors))
+    (c.serve_opened-end.ensures.ended (g.met.L.Links.tells_doors links_told) done)

@@ -1,7 +1,7 @@
-use Rattle.std.proofs.Common.{◌≡◌, ◌≤◌, ◌∙◌, length, map, refl, sym, ap, subst, arith}
+use Rattle.std.proofs.Common.{◌∙◌, length, map, sym, ap, subst, arith}
 use Rattle.cqe_base.specs.Schema.{has_duplicate}
 use Rattle.log_journal.specs.Opening.{header_bytes}
-use Rattle.desk_crew.specs.Shelved.{journals, journals_on, AllOut, AreOut}
+use Rattle.desk_crew.specs.Shelved.{journals_on, AllOut, AreOut}
 use Rattle.desk_crew.proofs.Opening.{seats_distinct, seats_later, same_length, all_out, none_out, none_fell}
 use Rattle.serve_engine.specs.Serving.{HaveServed, EndsAt, IsDone}
 use Rattle.serve_engine.specs.Served.{Served}

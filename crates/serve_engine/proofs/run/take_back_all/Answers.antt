@@ -1,7 +1,5 @@
-use Rattle.std.proofs.Common.{◌≡◌, ◌≤◌, ◌<◌, ◌+◌, ◌++◌, ◌∷◌, [], length, refl, sym, ap, ◌∙◌, subst, rules, arith, length-append}
-use Rattle.std.specs.List.{sum_by, flat_map}
-use Rattle.worker_pool.proofs.Seating.{read_on, read_more, read_all}
-use Rattle.serve_engine.specs.Doors.{SomeFailed}
+use Rattle.std.proofs.Common.{◌∷◌, [], arith, length-append}
+use Rattle.worker_pool.proofs.Seating.{read_on, read_more}
 use Rattle.serve_engine.proofs.Backing.{sum_more, flat_more, failed_more}
 use Rattle.serve_engine.proofs.run.take_back_all.Goals as goal
 

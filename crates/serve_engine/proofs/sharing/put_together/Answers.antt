@@ -1,4 +1,4 @@
-use Rattle.std.proofs.Common.{◌≡◌, ◌<◌, ◌≤◌, ◌+◌, ◌++◌, ◌∷◌, [], length, map, refl, sym, ap, ◌∙◌, subst, rules, arith, length-append}
+use Rattle.std.proofs.Common.{◌≡◌, ◌++◌, ◌∷◌, [], length, map, refl, ap, ◌∙◌, subst, rules, arith, length-append}
 use Rattle.std.specs.List.{AllByRecursion}
 use Rattle.turnstile.specs.Passes.{shares}
 use Rattle.session_core.specs.Members.{ArePasses}

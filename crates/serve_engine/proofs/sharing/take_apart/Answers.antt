@@ -1,4 +1,4 @@
-use Rattle.std.proofs.Common.{◌≡◌, ◌≤◌, ◌++◌, ◌∷◌, [], length, refl, sym, ap, subst, ◌∙◌, rules, arith}
+use Rattle.std.proofs.Common.{◌≡◌, ◌++◌, ◌∷◌, [], refl, sym, ap, subst, ◌∙◌, rules, arith}
 use Rattle.serve_engine.specs.Sharing.{keeper_of, seat_counter, seat_pass}
 use Rattle.worker_pool.proofs.Seating.{read_on}
 use Rattle.std.specs.List.{AllByRecursion}
