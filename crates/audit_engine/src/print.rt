@@ -11,9 +11,9 @@ ghost use Rattle.audit_engine.specs.declared.end.AuditEnd.{AuditEnd};
 
 use crate::end::{AuditEnd, end_of};
 use audit_print::{AuditError, audit};
-use desk_crew::Registry;
 use cqe_base::schema::Schema;
 use cqe_base::user::User;
+use desk_crew::Registry;
 use outside::{Disk, Sink};
 use std::alloc::Global;
 use user_desk::laws::law_openings;

@@ -12,8 +12,8 @@ ghost use Rattle.audit_engine.specs.declared.end.AuditEnd.{AuditEnd};
 
 use crate::end::AuditEnd;
 use crate::print::audit_disk;
-use desk_crew::Registry;
 use cqe_base::user::User;
+use desk_crew::Registry;
 use log_journal::journal_name;
 use outside::{Shelf, ShelfError, Sink};
 use std::alloc::Global;

@@ -10,9 +10,9 @@ ghost use Rattle.cqe_top.specs.Audited.{AuditReaches, LooksAt};
 use crate::end::{CommandEnd, end_of_audit};
 use crate::files::read_files;
 use audit_engine::run_audit;
-use desk_crew::Registry;
 use command_words::Files;
 use cqe_base::user::User;
+use desk_crew::Registry;
 use outside::{Shelf, Sink};
 use std::alloc::Global;
 
