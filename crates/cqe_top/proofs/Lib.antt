@@ -9,3 +9,4 @@ mod Auditing
 mod Numbers
 mod Saying
 mod Selfrunning
+mod Serving

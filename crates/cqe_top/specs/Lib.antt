@@ -8,3 +8,4 @@ pub mod Ready
 pub mod Refusals
 pub mod Audited
 pub mod Selfruns
+pub mod Serves

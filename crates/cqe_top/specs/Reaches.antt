@@ -107,7 +107,7 @@ module _ (journals : Journals) (before after old new : List ℕ) where
   BatchReaches policy_name facts_name files LinksFault = ⊥
 
 -- a status is that of an end, which is one of the words' command, and of which the complaints are told
-pub record Ends (status : ℕ) (AsCase AsInit AsBatch AsAudit AsSelfrun IsTold : CommandEnd → Type 0) : Type 0 where
+pub record Ends (status : ℕ) (AsCase AsInit AsBatch AsAudit AsSelfrun AsServe IsTold : CommandEnd → Type 0) : Type 0 where
   pub end : CommandEnd
   pub of_status : status ≡ status_of end
   pub as_case : AsCase end
@@ -115,4 +115,5 @@ pub record Ends (status : ℕ) (AsCase AsInit AsBatch AsAudit AsSelfrun IsTold :
   pub as_batch : AsBatch end
   pub as_audit : AsAudit end
   pub as_selfrun : AsSelfrun end
+  pub as_serve : AsServe end
   pub is_told : IsTold end

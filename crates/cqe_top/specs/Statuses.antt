@@ -12,6 +12,8 @@ use Rattle.init_engine.specs.declared.end.InitEnd.{InitEnd}
 use Rattle.init_engine.specs.declared.end.InitEnd.TheVariants as init_end
 use Rattle.batch_engine.specs.declared.run.BatchEnd.{BatchEnd}
 use Rattle.batch_engine.specs.declared.run.BatchEnd.TheVariants as batch_end
+use Rattle.serve_engine.specs.declared.run.ServeEnd.{ServeEnd}
+use Rattle.serve_engine.specs.declared.run.ServeEnd.TheVariants as serve_end
 use Rattle.audit_engine.specs.declared.end.AuditEnd.{AuditEnd}
 use Rattle.audit_engine.specs.declared.end.AuditEnd.TheVariants as audit_end
 use Rattle.cqe_top.specs.declared.end.CommandEnd.{CommandEnd}
@@ -71,7 +73,7 @@ IsEndOfAudit users number audit_end.Memory end = end ≡ Memory
 abbrev pub has_refusal : List (Option DeskError) → Bool
 has_refusal refusals = list_any is_some refusals
 
--- the end of the command `batch` for a batch that was answered to its end: a refused journal comes before an append that failed
+-- the end of the command `batch` or `serve` for all asks answered to their end: a refused journal comes before an append that failed
 abbrev pub end_of_answers : Vec User Global → Vec (Option DeskError) Global → Bool → CommandEnd
 end_of_answers users refusals is_broken =
     if has_refusal refusals.items then Journals users refusals
@@ -86,3 +88,10 @@ end_of_batch users batch_end.ReadFault = ReadFault
 end_of_batch users batch_end.WriteFault = WriteFault
 end_of_batch users batch_end.ShelfFault = ShelfFault
 end_of_batch users batch_end.Memory = Memory
+
+-- the end of the command `serve` for the end of its serving over the journals of these users
+abbrev pub end_of_serve : Vec User Global → ServeEnd → CommandEnd
+end_of_serve users (serve_end.Done refusals is_broken) = end_of_answers users refusals is_broken
+end_of_serve users serve_end.LinksFault = LinksFault
+end_of_serve users serve_end.ShelfFault = ShelfFault
+end_of_serve users serve_end.Memory = Memory

@@ -1,5 +1,5 @@
 // The top call.
-ghost use Rattle.std.specs.Prelude.{◌≡◌, ◌≤◌, ◌⊎◌, List, ℕ, Bool, IsOk, IsErr};
+ghost use Rattle.std.specs.Prelude.{◌≡◌, ◌≤◌, ◌<◌, ◌+◌, ◌⊎◌, List, ℕ, Bool, IsOk, IsErr};
 ghost use Rattle.outside.specs.Faults.{Rose};
 ghost use Rattle.case_engine.specs.Script.{script_of};
 ghost use Rattle.batch_engine.specs.BatchLines.{batch_of};
@@ -10,9 +10,11 @@ ghost use Rattle.cqe_top.specs.Words.{IsUsage, IsCase, IsInit, IsBatch, IsAudit,
 ghost use Rattle.cqe_top.specs.Files.{files_say, Say};
 ghost use Rattle.cqe_top.specs.Ready.{CanBeMade, CanBeOpened};
 ghost use Rattle.cqe_top.specs.Refusals.{IsOfInit};
+ghost use Rattle.cqe_top.specs.Statuses.{status_of};
 ghost use Rattle.cqe_top.specs.Reaches.{CaseReaches, InitReaches, BatchReaches, change_of, Ends};
 ghost use Rattle.cqe_top.specs.Audited.{AuditReaches, AuditsNobody, CanBeAudited, LooksAt};
 ghost use Rattle.cqe_top.specs.Selfruns.{SelfrunReaches};
+ghost use Rattle.cqe_top.specs.Serves.{ServeReaches, IsComplete};
 ghost use Rattle.cqe_top.specs.Complaints.{complaint_of, Gives};
 
 use crate::audit::audit;
@@ -30,6 +32,7 @@ use outside::{Gate, Links, Shelf, Sink, Source};
 use std::alloc::{AllocError, Global};
 use std::sync::Wait;
 use std::thread::Threads;
+use user_desk::laws::law_openings;
 
 /// Does all that the program does, and answers the status with which it ends: 0 done, 2 usage, 3 policy, 4 facts,
 /// 5 script, 6 read, 7 write, 8 missing file, 9 shelf, 10 journal, 11 disk, 12 links, 13 memory.
@@ -61,6 +64,8 @@ pub fn top<
     links: &mut L,
     gate: &G,
 ) -> u8
+where
+    F::D: Send,
     requires inside { NoneOut (F.is_out shelf.old) }
 
     // The status is that of an end, which says what was read and written; and the complaint is of the same end.
@@ -76,6 +81,9 @@ pub fn top<
         → AuditReaches (journals_on F.D.reads F.D.image journals (F.disk shelf.old) (F.disk shelf.new) (F.disk_faults shelf.old) (F.disk_faults shelf.new))
         json (K.written sink.old) (K.written sink.new) policy facts user (files_say (F.file shelf.old policy) (F.file shelf.old facts)) end)
         (λ end. K.told → (seed users asks : ℕ) → IsSelfrun words.now seed users asks → SelfrunReaches seed users asks end (K.written sink.old) (K.written sink.new))
+        (λ end. F.told → L.told → (policy facts journals address : List ℕ) (workers sessions : ℕ) → IsServe words.now policy facts journals address workers sessions
+        → ServeReaches (journals_on F.D.reads F.D.image journals (F.disk shelf.old) (F.disk shelf.new) (F.disk_faults shelf.old) (F.disk_faults shelf.new))
+        (L.given links.old) (L.given links.new) (L.back links.old) (L.back links.new) policy facts (files_say (F.file shelf.old policy) (F.file shelf.old facts)) end)
         (λ end. E.told → Gives (complaint_of end) (E.written complaints.old) (E.written complaints.new) (Rose (E.faults complaints.old) (E.faults complaints.new))) }
 
     // Words without a reading, and the audit of a user whom the policy doesn't have, alone have the status of usage, and then
@@ -105,6 +113,12 @@ pub fn top<
     ensures serve_writes_nothing { (policy facts journals address : List ℕ) (workers sessions : ℕ) → IsServe words.now policy facts journals address workers sessions → sink.new ≡ sink.old }
     ensures only_serve_listens { IsNoServer words.now → links.new ≡ links.old }
 
+    // A server ends where no connection is at hand, or where those that were given in this call and the workers together are
+    // more than the greatest number of sessions. All its doors are back.
+    ensures serve_ends { L.told → (policy facts journals address : List ℕ) (workers sessions : ℕ) → IsServe words.now policy facts journals address workers sessions → IsComplete result
+        → (L.at_hand links.new ≡ 0) ⊎ (L.given links.old + sessions < L.given links.new + workers) }
+    ensures doors { L.out links.new ≡ L.out links.old }
+
     // A fault has its cause.
     ensures read_cause { result ≡ 6 → Rose (S.faults source.old) (S.faults source.new) }
     ensures write_cause { result ≡ 7 → Rose (K.faults sink.old) (K.faults sink.new) }
@@ -131,6 +145,11 @@ pub fn top<
 
     ensures good_selfrun { K.told → (seed users asks : ℕ) → IsSelfrun words.now seed users asks → (Rose (K.faults sink.old) (K.faults sink.new) → ⊥) → (result ≡ 0) ⊎ (result ≡ 13) }
 
+    ensures good_serve { F.told → L.told → (policy facts journals address : List ℕ) (workers sessions : ℕ) → IsServe words.now policy facts journals address workers sessions
+        → Say (files_say (F.file shelf.old policy) (F.file shelf.old facts))
+        (CanBeOpened (journals_on F.D.reads F.D.image journals (F.disk shelf.old) (F.disk shelf.new) (F.disk_faults shelf.old) (F.disk_faults shelf.new)))
+        → (Rose (F.faults shelf.old) (F.faults shelf.new) → ⊥) → (Rose (L.faults links.old) (L.faults links.new) → ⊥) → (result ≡ 0) ⊎ (result ≡ 13) }
+
     // All disks are back, and no count fell.
     ensures inside { NoneOut (F.is_out shelf.new) }
     ensures counts { NoneFell (F.disk_faults shelf.old) (F.disk_faults shelf.new) }
@@ -141,6 +160,7 @@ pub fn top<
     ensures complaints_later { E.faults complaints.old ≤ E.faults complaints.new }
     ensures links_later { L.faults links.old ≤ L.faults links.new }
 {
+    law_openings();
     let end = run(rt, alloc, words, shelf, source, sink, links, gate);
     complain(complaints, &end);
     status_of(&end)
@@ -157,6 +177,8 @@ fn run<'w, R: Threads + Wait + Sync, F: Shelf, S: Source, K: Sink, L: Links, G: 
     links: &mut L,
     gate: &G,
 ) -> CommandEnd<'w>
+where
+    F::D: Send,
     requires inside { NoneOut (F.is_out shelf.old) }
     ensures as_case { S.told → K.told → IsCase words.now → CaseReaches result (S.left source.old) (S.left source.new) (K.written sink.old) (K.written sink.new) }
     ensures as_init { F.told → (policy facts journals : List ℕ) → IsInit words.now policy facts journals
@@ -169,6 +191,9 @@ fn run<'w, R: Threads + Wait + Sync, F: Shelf, S: Source, K: Sink, L: Links, G: 
         → AuditReaches (journals_on F.D.reads F.D.image journals (F.disk shelf.old) (F.disk shelf.new) (F.disk_faults shelf.old) (F.disk_faults shelf.new))
         json (K.written sink.old) (K.written sink.new) policy facts user (files_say (F.file shelf.old policy) (F.file shelf.old facts)) result }
     ensures as_selfrun { K.told → (seed users asks : ℕ) → IsSelfrun words.now seed users asks → SelfrunReaches seed users asks result (K.written sink.old) (K.written sink.new) }
+    ensures as_serve { F.told → L.told → (policy facts journals address : List ℕ) (workers sessions : ℕ) → IsServe words.now policy facts journals address workers sessions
+        → ServeReaches (journals_on F.D.reads F.D.image journals (F.disk shelf.old) (F.disk shelf.new) (F.disk_faults shelf.old) (F.disk_faults shelf.new))
+        (L.given links.old) (L.given links.new) (L.back links.old) (L.back links.new) policy facts (files_say (F.file shelf.old policy) (F.file shelf.old facts)) result }
     ensures usage { result ≡ CommandEnd.Usage → IsUsage words.now ⊎ AuditsNobody (F.told × K.told) words.now (F.file shelf.old) }
     ensures is_usage { IsUsage words.now → (result ≡ CommandEnd.Usage) ⊎ (result ≡ CommandEnd.Memory) }
     ensures usage_takes_nothing { IsUsage words.now → shelf.new ≡ shelf.old }
@@ -185,6 +210,9 @@ fn run<'w, R: Threads + Wait + Sync, F: Shelf, S: Source, K: Sink, L: Links, G: 
     ensures serve_reads_nothing { (policy facts journals address : List ℕ) (workers sessions : ℕ) → IsServe words.now policy facts journals address workers sessions → source.new ≡ source.old }
     ensures serve_writes_nothing { (policy facts journals address : List ℕ) (workers sessions : ℕ) → IsServe words.now policy facts journals address workers sessions → sink.new ≡ sink.old }
     ensures only_serve_listens { IsNoServer words.now → links.new ≡ links.old }
+    ensures serve_ends { L.told → (policy facts journals address : List ℕ) (workers sessions : ℕ) → IsServe words.now policy facts journals address workers sessions → IsComplete (status_of result)
+        → (L.at_hand links.new ≡ 0) ⊎ (L.given links.old + sessions < L.given links.new + workers) }
+    ensures doors { L.out links.new ≡ L.out links.old }
     ensures read_cause { result ≡ CommandEnd.ReadFault → Rose (S.faults source.old) (S.faults source.new) }
     ensures write_cause { result ≡ CommandEnd.WriteFault → Rose (K.faults sink.old) (K.faults sink.new) }
     ensures shelf_cause { result ≡ CommandEnd.ShelfFault → Rose (F.faults shelf.old) (F.faults shelf.new) }

@@ -1,6 +1,6 @@
 // How a command ends.
 ghost use Rattle.std.specs.Prelude.{◌≡◌, ◌<◌, length, string_bytes};
-ghost use Rattle.cqe_top.specs.Statuses.{end_of_case, end_of_answers, end_of_batch, has_refusal, IsAt, IsEndOfInit, IsEndOfAudit, InRange, status_of};
+ghost use Rattle.cqe_top.specs.Statuses.{end_of_case, end_of_answers, end_of_batch, end_of_serve, has_refusal, IsAt, IsEndOfInit, IsEndOfAudit, InRange, status_of};
 ghost use Rattle.init_engine.specs.Disks.{names_of};
 
 use audit_engine::AuditEnd;
@@ -10,6 +10,7 @@ use cqe_base::text::ScriptError;
 use cqe_base::user::User;
 use init_engine::InitEnd;
 use policy_files::{FactsError, PolicyError};
+use serve_engine::ServeEnd;
 use user_desk::DeskError;
 
 /// How a command ends. What makes up the cause of a complaint is part of it.
@@ -36,10 +37,11 @@ pub enum CommandEnd<'w> {
     /// The journal of the user of this name is refused: `init` stopped at him, whose disk isn't empty and isn't opened as a
     /// journal, or `audit` wrote that he is sealed.
     Journal(String, DeskError),
-    /// `batch` answered all items, and journals of these users were refused; each has the first refusal of his, if one was.
+    /// `batch` answered all items, or `serve` its connections, and journals of these users were refused; each has the first
+    /// refusal of his, if one was.
     Journals(Vec<User>, Vec<Option<DeskError>>),
-    /// A call of a disk failed: `init` stopped there, or `batch` answered all items, some of them by it, and no journal
-    /// was refused.
+    /// A call of a disk failed: `init` stopped there, or `batch` answered all items, or `serve` its connections, some of
+    /// them by it, and no journal was refused.
     DiskFault,
     /// The links failed: nothing listens at the address of `serve`, or no further client could be taken in.
     LinksFault,
@@ -113,7 +115,19 @@ pub(crate) fn end_of_batch<'w>(users: Vec<User>, end: BatchEnd) -> CommandEnd<'w
     }
 }
 
-/// The same for a batch that was answered to its end.
+/// The end of the command `serve` for the end of its serving over the journals of these users.
+pub(crate) fn end_of_serve<'w>(users: Vec<User>, end: ServeEnd) -> CommandEnd<'w>
+    ensures { result ≡ end_of_serve users end }
+{
+    match end {
+        ServeEnd::Done(refusals, is_broken) => end_of_answers(users, refusals, is_broken),
+        ServeEnd::LinksFault => CommandEnd::LinksFault,
+        ServeEnd::ShelfFault => CommandEnd::ShelfFault,
+        ServeEnd::Memory => CommandEnd::Memory,
+    }
+}
+
+/// The same for a batch or a serving that was answered to its end.
 fn end_of_answers<'w>(
     users: Vec<User>,
     refusals: Vec<Option<DeskError>>,

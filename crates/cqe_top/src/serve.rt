@@ -1,31 +1,44 @@
 // The command `serve`.
-ghost use Rattle.std.specs.Prelude.{◌≡◌, ◌≤◌, ◌^◌, List, ℕ};
+ghost use Rattle.std.specs.Prelude.{◌≡◌, ◌≤◌, ◌<◌, ◌+◌, ◌⊎◌, ◌^◌, List, ℕ};
 ghost use Rattle.outside.specs.Faults.{Rose};
-ghost use Rattle.batch_engine.specs.Shelved.{NoneOut, NoneFell};
+ghost use Rattle.desk_crew.specs.Shelved.{journals_on, NoneOut, NoneFell};
 ghost use Rattle.cqe_top.specs.declared.end.CommandEnd.{CommandEnd};
+ghost use Rattle.cqe_top.specs.Files.{files_say};
+ghost use Rattle.cqe_top.specs.Serves.{ServeReaches, IsComplete};
+ghost use Rattle.cqe_top.specs.Statuses.{status_of};
 
-use crate::end::CommandEnd;
+use crate::end::{CommandEnd, end_of_serve};
 use crate::files::read_files;
 use command_words::ServeWords;
+use desk_crew::Registry;
 use outside::{Gate, Links, Shelf};
+use serve_engine::{Listening, run_serve};
 use std::alloc::Global;
 use std::sync::Wait;
 use std::thread::Threads;
 
 /// Serves connections at the address of the words, over the files of these names and the journals in the directory.
 pub(crate) fn serve<'w, R: Threads + Wait + Sync, F: Shelf, L: Links, G: Gate + Sync>(
-    _rt: &R,
+    rt: &R,
     alloc: Global,
     words: &ServeWords<'w>,
     shelf: &mut F,
     links: &mut L,
-    _gate: &G,
+    gate: &G,
 ) -> CommandEnd<'w>
+where
+    F::D: Send,
     requires inside { NoneOut (F.is_out shelf.old) }
     requires some_worker { 1 ≤ words.now.workers }
     requires few_workers { words.now.workers ≤ 64 }
     requires some_session { 1 ≤ words.now.sessions }
     requires few_sessions { words.now.sessions ≤ 2 ^ 30 }
+    ensures reaches { F.told → L.told
+        → ServeReaches (journals_on F.D.reads F.D.image words.now.files.journals.now (F.disk shelf.old) (F.disk shelf.new) (F.disk_faults shelf.old) (F.disk_faults shelf.new))
+        (L.given links.old) (L.given links.new) (L.back links.old) (L.back links.new) words.now.files.policy.now words.now.files.facts.now
+        (files_say (F.file shelf.old words.now.files.policy.now) (F.file shelf.old words.now.files.facts.now)) result }
+    ensures ends { L.told → IsComplete (status_of result) → (L.at_hand links.new ≡ 0) ⊎ (L.given links.old + words.now.sessions < L.given links.new + words.now.workers) }
+    ensures doors { L.out links.new ≡ L.out links.old }
     ensures used { result ≡ CommandEnd.Usage → ⊥ }
     ensures read { result ≡ CommandEnd.ReadFault → ⊥ }
     ensures write { result ≡ CommandEnd.WriteFault → ⊥ }
@@ -40,6 +53,18 @@ pub(crate) fn serve<'w, R: Threads + Wait + Sync, F: Shelf, L: Links, G: Gate + 
         Ok(inputs) => inputs,
         Err(end) => return end,
     };
-    let _inputs = inputs;
-    CommandEnd::Memory
+    let registry = Registry {
+        schema: &inputs.policy.schema,
+        world: &inputs.world,
+        users: inputs.policy.users.as_slice(),
+        header: &inputs.header,
+        directory: words.files.journals,
+    };
+    let listening = Listening {
+        address: words.listen,
+        workers: words.workers,
+        sessions: words.sessions,
+    };
+    let end = run_serve(rt, alloc, &registry, shelf, links, listening, gate);
+    end_of_serve(inputs.policy.users, end)
 }

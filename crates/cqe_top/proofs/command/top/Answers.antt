@@ -4,6 +4,7 @@ use Rattle.cqe_top.specs.Files.{files_say}
 use Rattle.cqe_top.proofs.Good.{good_init, good_batch}
 use Rattle.cqe_top.proofs.Auditing.{good_audit}
 use Rattle.cqe_top.proofs.Selfrunning.{good_selfrun}
+use Rattle.cqe_top.proofs.Serving.{good_serve}
 use Rattle.cqe_top.proofs.command.top.Goals as goal
 
 pub returns-clause-good_init : goal.returns-clause-good_init
@@ -37,3 +38,13 @@ returns-clause-good_selfrun g c = λ sink_told seed users asks is write.
     subst (λ (status : ℕ). (status ≡ 0) ⊎ (status ≡ 13)) (sym c.status_of.ensures)
     (good_selfrun seed users asks c.run-end.result (g.K.Sink.written c.args.sink.now) (g.K.Sink.written c.run-end.new.sink) (c.run-end.ensures.as_selfrun sink_told seed users asks is)
     (λ fault. write (c.run-end.ensures.write_cause fault)))
+
+pub returns-clause-good_serve : goal.returns-clause-good_serve
+returns-clause-good_serve g c = λ shelf_told links_told policy facts journals address workers sessions is says shelf links.
+    subst (λ (status : ℕ). (status ≡ 0) ⊎ (status ≡ 13)) (sym c.status_of.ensures)
+    (good_serve c.law_openings.ensures.unrefused
+    (journals_on g.F.D.Disk.reads g.F.D.Disk.image journals (g.F.Shelf.disk c.args.shelf.now) (g.F.Shelf.disk c.run-end.new.shelf) (g.F.Shelf.disk_faults c.args.shelf.now) (g.F.Shelf.disk_faults c.run-end.new.shelf))
+    (g.L.Links.given c.args.links.now) (g.L.Links.given c.run-end.new.links) (g.L.Links.back c.args.links.now) (g.L.Links.back c.run-end.new.links) policy facts
+    (g.F.Shelf.file c.args.shelf.now policy) (g.F.Shelf.file c.args.shelf.now facts) c.run-end.result
+    (c.run-end.ensures.as_serve shelf_told links_told policy facts journals address workers sessions is) says
+    (λ fault. shelf (c.run-end.ensures.shelf_cause fault)) (λ fault. links (c.run-end.ensures.links_cause fault)))
