@@ -37,7 +37,8 @@ use Rattle.cqe_top.specs.declared.end.CommandEnd.TheVariants as ends
 use Rattle.cqe_top.specs.Files.{FilesSay, no_policy, bad_policy, no_facts, bad_facts, both, header_for, with_world, with_facts, with_policy, files_say, Say}
 use Rattle.cqe_top.specs.Ready.{CanBeOpened}
 use Rattle.cqe_top.specs.Statuses.{status_of, has_refusal, end_of_serve}
-use Rattle.cqe_top.specs.Serves.{ServesNobody, ServesAll, ServesSome, ServeReaches}
+use Rattle.serve_engine.specs.Serving.{ServesNobody}
+use Rattle.cqe_top.specs.Serves.{ServesAll, ServesSome, ServeReaches}
 use Rattle.cqe_top.proofs.Users.{names_are}
 use Rattle.cqe_top.proofs.Good.{agree, IsBoth, not_missing}
 
@@ -45,13 +46,10 @@ use Rattle.cqe_top.proofs.Good.{agree, IsBoth, not_missing}
 
 module _ (journals : Journals) (given given' : ℕ) (back back' : List Visit) (policy_name facts_name : List ℕ) (files : FilesSay) (policy : Policy) (world : FactSet) (header : List ℕ)
     (say : files ≡ both (policy_value_of policy) world header) where
-  nobody : serving.ServesNobody policy.schema world header journals policy.users.items given given' back back' → ServesNobody journals given given' back back'
-  nobody none = record { given_same = none.given_same; back_same = none.back_same; bytes_same = none.bytes_same }
-
-  some : serving.ServesNobody policy.schema world header journals policy.users.items given given' back back'
+  some : ServesNobody journals given given' back back'
       ⊎ ((refusals : List (Option DeskError)) × (is_broken : Bool) × serving.Serves policy.schema world header journals policy.users.items given given' back back' refusals is_broken)
       → ServesSome journals given given' back back' (policy_value_of policy) world header
-  some (inl none) = inl (nobody none)
+  some (inl none) = inl none
   some (inr (refusals, is_broken, served)) = inr (refusals, is_broken, (policy.users.items, refl, served))
 
   answered : (refusals : Vec (Option DeskError) Global) (is_broken is_refused : Bool) → has_refusal refusals.items ≡ is_refused
@@ -67,7 +65,7 @@ module _ (journals : Journals) (given given' : ℕ) (back back' : List Visit) (p
       → ServeReaches journals given given' back back' policy_name facts_name files (end_of_serve policy.users end)
   serve_reaches (serve_end.Done refusals is_broken) served = answered refusals is_broken (has_refusal refusals.items) refl served
   serve_reaches serve_end.LinksFault served = (policy_value_of policy, world, header, say, some served)
-  serve_reaches serve_end.ShelfFault served = nobody served
+  serve_reaches serve_end.ShelfFault served = served
   serve_reaches serve_end.Memory served = inr (policy_value_of policy, world, header, say, some served)
 
 -- the same, where the shelf's disks were the same before the files were read

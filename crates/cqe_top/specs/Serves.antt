@@ -8,6 +8,7 @@ use Rattle.user_desk.specs.declared.standing.DeskError.{DeskError}
 use Rattle.init_engine.specs.Disks as init
 use Rattle.desk_crew.specs.Shelved.{Journals}
 use Rattle.serve_engine.specs.Serving as serving
+use Rattle.serve_engine.specs.Serving.{ServesNobody}
 use Rattle.policy_files.specs.Policies.{PolicyValue}
 use Rattle.policy_files.specs.Users.{names_of}
 use Rattle.policy_files.specs.Memory.{named_user_of}
@@ -19,12 +20,6 @@ use Rattle.cqe_top.specs.declared.end.CommandEnd.TheVariants as end
 use Rattle.cqe_top.specs.declared.end.CommandEnd.TheVariants.{Done, Usage, Missing, ShelfFault, Policy, Facts, Script, ReadFault, WriteFault, Journal, DiskFault, LinksFault, Memory}
 
 module _ (journals : Journals) (given given' : ℕ) (back back' : List Visit) where
-  -- No connection was given, and all journals read as they did.
-  pub record ServesNobody : Type 0 where
-    pub given_same : given' ≡ given
-    pub back_same : back' ≡ back
-    pub bytes_same : (name : Text) → journals.reads name ≡ journals.bytes name
-
   -- Connections were served to the users of the policy, over these journals: each that was given is back, and is served by the users' histories; of each
   -- user there is the refusal of his journal, if it was refused, and it is said whether an append failed.
   abbrev pub ServesAll : List (Option DeskError) → Bool → PolicyValue → FactSet → List ℕ → Type 0
@@ -33,7 +28,7 @@ module _ (journals : Journals) (given given' : ℕ) (back back' : List Visit) wh
 
   -- nobody was served, or those were who were given up to a fault
   abbrev pub ServesSome : PolicyValue → FactSet → List ℕ → Type 0
-  ServesSome policy world header = ServesNobody ⊎ ((refusals : List (Option DeskError)) × (is_broken : Bool) × ServesAll refusals is_broken policy world header)
+  ServesSome policy world header = ServesNobody journals given given' back back' ⊎ ((refusals : List (Option DeskError)) × (is_broken : Bool) × ServesAll refusals is_broken policy world header)
 
   -- an end of the command `serve` over the files of two names, by what they say; without a fault of the links it is by the journals: whether one was refused,
   -- and else whether an append failed
@@ -46,11 +41,11 @@ module _ (journals : Journals) (given given' : ℕ) (back back' : List Visit) wh
   ServeReaches policy_name facts_name files DiskFault =
       Say files (λ policy world header. (refusals : List (Option DeskError)) × (has_refusal refusals ≡ false) × ServesAll refusals true policy world header)
   ServeReaches policy_name facts_name files LinksFault = Say files ServesSome
-  ServeReaches policy_name facts_name files Memory = ServesNobody ⊎ Say files ServesSome
-  ServeReaches policy_name facts_name files (Policy why) = (files ≡ bad_policy why) × ServesNobody
-  ServeReaches policy_name facts_name files (Facts why) = (files ≡ bad_facts why) × ServesNobody
-  ServeReaches policy_name facts_name files (Missing name) = IsMissing files policy_name facts_name name.now × ServesNobody
-  ServeReaches policy_name facts_name files ShelfFault = ServesNobody
+  ServeReaches policy_name facts_name files Memory = ServesNobody journals given given' back back' ⊎ Say files ServesSome
+  ServeReaches policy_name facts_name files (Policy why) = (files ≡ bad_policy why) × ServesNobody journals given given' back back'
+  ServeReaches policy_name facts_name files (Facts why) = (files ≡ bad_facts why) × ServesNobody journals given given' back back'
+  ServeReaches policy_name facts_name files (Missing name) = IsMissing files policy_name facts_name name.now × ServesNobody journals given given' back back'
+  ServeReaches policy_name facts_name files ShelfFault = ServesNobody journals given given' back back'
   ServeReaches policy_name facts_name files Usage = ⊥
   ServeReaches policy_name facts_name files (Script refusal) = ⊥
   ServeReaches policy_name facts_name files ReadFault = ⊥

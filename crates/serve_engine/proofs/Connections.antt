@@ -99,7 +99,7 @@ module _ (schema : DatabaseSchema) (world : FactSet) (header : List ℕ) (journa
         visits = record { visits = flat_map back_of others; behind = came; many = has.many; stand = has.stand };
       }
 
-  serves_nobody : ServesNoDoor schema world header journals users told given_of left_of faults_of back_of doors others → ServesNobody schema world header journals users given given' back back'
+  serves_nobody : ServesNoDoor schema world header journals users told given_of left_of faults_of back_of doors others → ServesNobody journals given given' back back'
   serves_nobody none =
       let nothing = ap (sum_by given_of) none.doors_same ∙ new_given given_of back_of doors new in
       record {
@@ -110,7 +110,7 @@ module _ (schema : DatabaseSchema) (world : FactSet) (header : List ℕ) (journa
 
   either : ServesNoDoor schema world header journals users told given_of left_of faults_of back_of doors others
       ⊎ ((refusals : List (Option DeskError)) × (is_broken : Bool) × ServesDoors schema world header journals users told given_of left_of faults_of back_of doors others refusals is_broken)
-      → ServesNobody schema world header journals users given given' back back' ⊎ ((refusals : List (Option DeskError)) × (is_broken : Bool) × Serves schema world header journals users given given' back back' refusals is_broken)
+      → ServesNobody journals given given' back back' ⊎ ((refusals : List (Option DeskError)) × (is_broken : Bool) × Serves schema world header journals users given given' back back' refusals is_broken)
   either (inl none) = inl (serves_nobody none)
   either (inr some) = inr (some.0, some.1, serves_all some.0 some.1 some.2)
 

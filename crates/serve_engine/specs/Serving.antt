@@ -25,6 +25,12 @@ use Rattle.serve_engine.specs.declared.serving.Outcome.TheVariants as outcome
 use Rattle.serve_engine.specs.declared.run.ServeEnd.{ServeEnd}
 use Rattle.serve_engine.specs.declared.run.ServeEnd.TheVariants.{Done, LinksFault, ShelfFault, Memory}
 
+-- No connection was given, and all journals read as they did.
+pub record ServesNobody (journals : Journals) (given given' : ℕ) (back back' : List Visit) : Type 0 where
+  pub given_same : given' ≡ given
+  pub back_same : back' ≡ back
+  pub bytes_same : (name : Text) → journals.reads name ≡ journals.bytes name
+
 module _ (schema : DatabaseSchema) (world : FactSet) (header : List ℕ) (journals : Journals) where
   -- A user over all connections: how his journal was opened, what his one history is, and how his disk came back.
   pub record HasServed (user : User) (member : Member) (refusal : Option DeskError) : Type 0 where
@@ -64,18 +70,12 @@ module _ (schema : DatabaseSchema) (world : FactSet) (header : List ℕ) (journa
       pub given_is : given' ≡ given + count
       pub visits : HasVisits (Served schema world users members) count back back'
 
-    -- No connection was given, and all journals read as they did.
-    pub record ServesNobody : Type 0 where
-      pub given_same : given' ≡ given
-      pub back_same : back' ≡ back
-      pub bytes_same : (name : Text) → journals.reads name ≡ journals.bytes name
-
     -- what each end says
     abbrev pub Ends : ServeEnd → Type 0
     Ends (Done refusals is_broken) = Serves refusals.items is_broken
-    Ends LinksFault = ServesNobody ⊎ ((refusals : List (Option DeskError)) × (is_broken : Bool) × Serves refusals is_broken)
-    Ends ShelfFault = ServesNobody
-    Ends Memory = ServesNobody ⊎ ((refusals : List (Option DeskError)) × (is_broken : Bool) × Serves refusals is_broken)
+    Ends LinksFault = ServesNobody journals given given' back back' ⊎ ((refusals : List (Option DeskError)) × (is_broken : Bool) × Serves refusals is_broken)
+    Ends ShelfFault = ServesNobody journals given given' back back'
+    Ends Memory = ServesNobody journals given given' back back' ⊎ ((refusals : List (Option DeskError)) × (is_broken : Bool) × Serves refusals is_broken)
 
   -- The same of the doors through which they came.
   module _ (users : List User) {O : Type 0} (told : Type 0) (given_of left_of faults_of : O → ℕ) (back_of : O → List Visit) (doors doors' : List O) where
