@@ -2,16 +2,12 @@
 use Rattle.std.specs.Prelude.{◌≡◌, [], map}
 use Rattle.cqe_base.specs.Machine.{State as PlainState}
 use Rattle.clause_store.specs.PlainLines.{line_of}
-use Rattle.clause_solver.specs.Indexing.{IsIndexOf}
-use Rattle.clause_solver.specs.TallySets.{AreSets}
 use Rattle.clause_solver.specs.declared.indexed.Indexed.{Indexed}
 
 -- a state as plain data
 abbrev pub plain_of : Indexed → PlainState
 plain_of s = record { clauses = s.clauses; trail = s.assignment.trail; lines = map line_of s.lines.items }
 
--- the counts and sets are those of the trail, and no conflict is being analysed
+-- no conflict is being analysed
 pub record IsIndexed (s : Indexed) : Type 0 where
-  pub index : IsIndexOf s.assignment.variables s.assignment.trail s.clauses s.tallies.tallies.items (map (λ v. v.items) s.occurrences.items)
-  pub sets : AreSets s.tallies
   pub idle : s.resolvent ≡ record { variables = s.assignment.variables; clause = [] }

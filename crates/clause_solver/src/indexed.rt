@@ -12,11 +12,11 @@ ghost use Rattle.clause_solver.specs.IndexedStates.{plain_of, IsIndexed};
 use crate::assignment::Assignment;
 use crate::entry::Entry;
 use crate::marked_clause::MarkedClause;
-use crate::occurrences::{no_occurrences, note_clause, occurrences_of};
-use crate::tallies::{Count, Tallies, Tally};
+use crate::watches::{Pair, Watches};
 use clause_store::clauses::Clauses;
 use clause_store::literal::Lit;
 use clause_store::refutation::Line;
+use std::cmp::Reverse;
 use std::alloc::{AllocError, Global};
 
 /// The given and the learnt clauses, the trail, and the lines so far, with what is kept of them.
@@ -24,36 +24,10 @@ use std::alloc::{AllocError, Global};
 pub struct Indexed {
     pub assignment: Assignment,
     pub clauses: Clauses,
-    pub occurrences: Vec<Vec<u32>>,
-    pub tallies: Tallies,
+    pub watches: Watches,
     pub lines: Vec<Line>,
     /// Where a conflict is analysed; it has no literal in between.
     pub resolvent: MarkedClause,
-}
-
-/// How many literals of a clause are true.
-fn true_count(assignment: &Assignment, clause: &[Lit]) -> usize
-    ensures { result ≡ count_by (is_true assignment.now.trail) clause.now }
-{
-    clause.iter().filter(|l| assignment.is_true(**l)).count()
-}
-
-/// How many literals of a clause are false.
-fn false_count(assignment: &Assignment, clause: &[Lit]) -> usize
-    ensures { result ≡ count_by (is_false assignment.now.trail) clause.now }
-{
-    clause.iter().filter(|l| assignment.is_false(**l)).count()
-}
-
-/// The tally of a clause.
-fn tally(assignment: &Assignment, clause: &[Lit]) -> Tally
-    ensures { result ≡ tally_of assignment.now.trail clause.now }
-{
-    Tally {
-        length: clause.len(),
-        trues: true_count(assignment, clause),
-        falses: false_count(assignment, clause),
-    }
 }
 
 impl Indexed {
@@ -67,15 +41,14 @@ impl Indexed {
         Ok(Indexed {
             assignment: Assignment::new(alloc, variables)?,
             clauses: Clauses::new(alloc),
-            occurrences: no_occurrences(alloc, variables)?,
-            tallies: Tallies::new(alloc),
+            watches: Watches::new(alloc, variables)?,
             lines: Vec::new(alloc),
             resolvent: MarkedClause::new(alloc, variables)?,
         })
     }
 
     /// One more clause, whose number is below 2^32.
-    pub fn enter(&mut self, clause: &[Lit]) -> Result<(), AllocError>
+    pub fn enter(&mut self, alloc: Global, clause: &[Lit], pair: Pair) -> Result<(), AllocError>
         requires below { ClauseBelow self.old.assignment.variables clause.now }
         requires room { length self.old.clauses < 2 ^ 32 }
         requires indexed { IsIndexed self.old }
@@ -83,11 +56,8 @@ impl Indexed {
         ensures variables { self.new.assignment.variables ≡ self.old.assignment.variables }
         ensures indexed { IfOk result (λ _. IsIndexed self.new) }
     {
-        let number = self.clauses.len() as u32;
-        let tally = tally(&self.assignment, clause);
         self.clauses.push(clause)?;
-        self.tallies.push(tally)?;
-        note_clause(&mut self.occurrences, clause, number)?;
+        self.watches.enter(alloc, clause, pair)?;
         Ok(())
     }
 
@@ -102,32 +72,7 @@ impl Indexed {
     {
         let literal = entry.literal();
         self.assignment.push(entry)?;
-        self.tallies
-            .raise(occurrences_of(&self.occurrences, literal), Count::Trues);
-        self.tallies.raise(
-            occurrences_of(&self.occurrences, literal.opposite()),
-            Count::Falses,
-        );
-        Ok(())
-    }
-
-    /// The latest literal leaves the trail.
-    fn undo(&mut self)
-        requires some { 0 < length self.old.assignment.trail }
-        requires indexed { IsIndexed self.old }
-        ensures undone { (a : Assigned) × (plain_of self.old ≡ record (plain_of self.new) { trail = a ∷ self.new.assignment.trail }) }
-        ensures variables { self.new.assignment.variables ≡ self.old.assignment.variables }
-        ensures indexed { IsIndexed self.new }
-    {
-        if let Some(entry) = self.assignment.pop() {
-            let literal = entry.literal();
-            self.tallies
-                .lower(occurrences_of(&self.occurrences, literal), Count::Trues);
-            self.tallies.lower(
-                occurrences_of(&self.occurrences, literal.opposite()),
-                Count::Falses,
-            );
-        }
+        self.watches.visit_all(&self.assignment, literal.opposite())
     }
 
     /// Cuts the trail to a level.
@@ -138,8 +83,9 @@ impl Indexed {
         ensures indexed { IsIndexed self.new }
     {
         while self.assignment.level() > k {
-            self.undo();
+            let _entry = self.assignment.pop();
         }
+        self.watches.clear();
     }
 
     /// The first clause with only false literals.
@@ -149,7 +95,7 @@ impl Indexed {
         ensures number { IfSome result (λ i. i < length self.old.clauses) }
         ensures same { self.new ≡ self.old }
     {
-        self.tallies.first_falsified()
+        Some(self.watches.falsified? as usize)
     }
 
     /// The first clause with no true literal and one that isn't false, with that literal.
@@ -161,19 +107,23 @@ impl Indexed {
         ensures free { IfSome result (λ u. is_assigned self.old.assignment.trail (variable_of u.1) ≡ false) }
         ensures same { self.new ≡ self.old }
     {
-        match self.tallies.first_unit() {
-            None => None,
-            Some(number) => match open_literal(&self.assignment, self.clauses.clause(number)) {
-                None => None,
-                Some(literal) => Some((number, literal)),
-            },
+        while let Some(Reverse(number)) = self.watches.units.peek().copied() {
+            let number = number as usize;
+            if let Some(literal) = open_literal(&self.assignment, self.clauses.clause(number)) {
+                return Some((number, literal));
+            }
+            let _satisfied = self.watches.units.pop();
         }
+        None
     }
 }
 
-/// The first literal of a clause that isn't false.
-fn open_literal(assignment: &Assignment, clause: &[Lit]) -> Option<Lit>
-    ensures { result ≡ find (λ l. not (is_false assignment.now.trail l)) clause.now }
-{
-    clause.iter().copied().find(|l| !assignment.is_false(*l))
+/// The first literal of a clause that isn't false, unless it is true.
+fn open_literal(assignment: &Assignment, clause: &[Lit]) -> Option<Lit> {
+    let literal = clause.iter().copied().find(|l| !assignment.is_false(*l))?;
+    if assignment.is_true(literal) {
+        None
+    } else {
+        Some(literal)
+    }
 }

@@ -20,16 +20,14 @@ mod entry;
 mod indexed;
 pub mod laws;
 mod marked_clause;
-mod number_set;
-mod occurrences;
 mod plain;
 mod rules;
 mod run;
 #[cfg(test)]
 mod same_tests;
-mod tallies;
 #[cfg(test)]
 mod tests;
+mod watches;
 
 pub use conditions::is_searchable;
 pub use ends::{Found, Searched};

@@ -13,6 +13,7 @@ use crate::assignment::Assignment;
 use crate::ends::Advance;
 use crate::entry::Entry;
 use crate::indexed::Indexed;
+use crate::watches::Pair;
 use clause_store::literal::Lit;
 use clause_store::refutation::{Line, Signs};
 use std::alloc::{AllocError, Global};
@@ -32,8 +33,37 @@ fn assert_literal(state: &mut Indexed, number: u32, literal: Option<Lit>) -> Res
     }
 }
 
+/// The literals of a learnt clause that are watched: the one of the current level, and one of the highest level beside it.
+fn learnt_pair(assignment: &Assignment, clause: &[Lit], asserting: Option<Lit>) -> Pair {
+    let first = asserting.unwrap_or(Lit::positive(0));
+    Pair {
+        first,
+        second: highest_beside(assignment, clause, first),
+    }
+}
+
+/// A literal of the highest level beside one, or that one where there is no other.
+fn highest_beside(assignment: &Assignment, clause: &[Lit], literal: Lit) -> Lit {
+    let mut highest = literal;
+    for other in clause {
+        highest = higher_beside(assignment, literal, highest, *other);
+    }
+    highest
+}
+
+/// The higher one of two literals, where each is another one than the first.
+fn higher_beside(assignment: &Assignment, literal: Lit, highest: Lit, other: Lit) -> Lit {
+    if other.is(literal)
+        || !highest.is(literal) && assignment.level_of(other) <= assignment.level_of(highest)
+    {
+        highest
+    } else {
+        other
+    }
+}
+
 /// A line's clause is learnt.
-fn learn(state: &mut Indexed, line: Line) -> Result<(), AllocError>
+fn learn(alloc: Global, state: &mut Indexed, line: Line) -> Result<(), AllocError>
     requires room { length state.old.clauses < 2 ^ 32 }
     requires level { 0 < level state.old.assignment.trail }
     requires below { ClauseBelow state.old.assignment.variables line.clause.items }
@@ -45,9 +75,10 @@ fn learn(state: &mut Indexed, line: Line) -> Result<(), AllocError>
     let number = state.clauses.len() as u32;
     let asserting = first_current(&state.assignment, &line.clause);
     let back = back_level(&state.assignment, &line.clause);
+    let pair = learnt_pair(&state.assignment, &line.clause, asserting);
     state.cut(back);
     assert_literal(state, number, asserting)?;
-    state.enter(&line.clause)?;
+    state.enter(alloc, &line.clause, pair)?;
     state.lines.push(line)?;
     Ok(())
 }
@@ -74,7 +105,7 @@ fn conflict_step(alloc: Global, state: &mut Indexed, number: usize) -> Result<Ad
         state.lines.push(line)?;
         return Ok(Advance::Refuted(cost));
     }
-    learn(state, line)?;
+    learn(alloc, state, line)?;
     Ok(Advance::Went(cost))
 }
 

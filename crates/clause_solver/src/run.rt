@@ -9,7 +9,9 @@ ghost use Rattle.clause_solver.specs.IndexedStates.{plain_of, IsIndexed};
 use crate::ends::{Advance, Found, Searched};
 use crate::indexed::Indexed;
 use crate::rules::step;
+use crate::watches::Pair;
 use clause_store::clauses::Clauses;
+use clause_store::literal::Lit;
 use clause_store::refutation::Refutation;
 use std::alloc::{AllocError, Global};
 
@@ -24,9 +26,28 @@ fn begin(alloc: Global, clauses: &Clauses, variables: u32) -> Result<Indexed, Al
 {
     let mut state = Indexed::new(alloc, variables)?;
     for number in 0..clauses.len() {
-        state.enter(clauses.clause(number))?;
+        let clause = clauses.clause(number);
+        state.enter(alloc, clause, first_pair(clause))?;
     }
     Ok(state)
+}
+
+/// The literals of a given clause that are watched first.
+fn first_pair(clause: &[Lit]) -> Pair {
+    match clause {
+        [] => Pair {
+            first: Lit::positive(0),
+            second: Lit::positive(0),
+        },
+        [only] => Pair {
+            first: *only,
+            second: *only,
+        },
+        [first, second, ..] => Pair {
+            first: *first,
+            second: *second,
+        },
+    }
 }
 
 /// A search whose budget is spent.
