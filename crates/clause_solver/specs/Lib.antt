@@ -2,6 +2,8 @@ pub mod Entries
 pub mod PlainStates
 pub mod Assigning
 pub mod AssignmentFields
+pub mod Watching
+pub mod WatchesInside
 pub mod IndexedStates
 pub mod Costs
 pub mod Marking

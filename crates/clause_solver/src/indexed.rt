@@ -12,12 +12,12 @@ ghost use Rattle.clause_solver.specs.IndexedStates.{plain_of, IsIndexed};
 use crate::assignment::Assignment;
 use crate::entry::Entry;
 use crate::marked_clause::MarkedClause;
-use crate::watches::{Pair, Watches};
+use crate::watches::Watches;
 use clause_store::clauses::Clauses;
 use clause_store::literal::Lit;
 use clause_store::refutation::Line;
-use std::cmp::Reverse;
 use std::alloc::{AllocError, Global};
+use std::cmp::Reverse;
 
 /// The given and the learnt clauses, the trail, and the lines so far, with what is kept of them.
 #[derive(Drop)]
@@ -48,7 +48,13 @@ impl Indexed {
     }
 
     /// One more clause, whose number is below 2^32.
-    pub fn enter(&mut self, alloc: Global, clause: &[Lit], pair: Pair) -> Result<(), AllocError>
+    pub fn enter(
+        &mut self,
+        alloc: Global,
+        clause: &[Lit],
+        first: Lit,
+        second: Lit,
+    ) -> Result<(), AllocError>
         requires below { ClauseBelow self.old.assignment.variables clause.now }
         requires room { length self.old.clauses < 2 ^ 32 }
         requires indexed { IsIndexed self.old }
@@ -57,7 +63,7 @@ impl Indexed {
         ensures indexed { IfOk result (λ _. IsIndexed self.new) }
     {
         self.clauses.push(clause)?;
-        self.watches.enter(alloc, clause, pair)?;
+        self.watches.enter(alloc, clause, first, second)?;
         Ok(())
     }
 

@@ -13,34 +13,9 @@ use crate::assignment::Assignment;
 use crate::ends::Advance;
 use crate::entry::Entry;
 use crate::indexed::Indexed;
-use crate::watches::Pair;
 use clause_store::literal::Lit;
 use clause_store::refutation::{Line, Signs};
 use std::alloc::{AllocError, Global};
-
-/// A literal joins the trail because of a clause.
-fn assert_literal(state: &mut Indexed, number: u32, literal: Option<Lit>) -> Result<(), AllocError>
-    requires below { IfSome literal (λ l. variable_of l < state.old.assignment.variables) }
-    requires free { IfSome literal (λ l. is_assigned state.old.assignment.trail (variable_of l) ≡ false) }
-    requires indexed { IsIndexed state.old }
-    ensures plain { IfOk result (λ _. plain_of state.new ≡ record (plain_of state.old) { trail = with_asserted number literal state.old.assignment.trail }) }
-    ensures variables { IfOk result (λ _. state.new.assignment.variables ≡ state.old.assignment.variables) }
-    ensures indexed { IfOk result (λ _. IsIndexed state.new) }
-{
-    match literal {
-        Some(l) => state.assign(Entry::because(number, l)),
-        None => Ok(()),
-    }
-}
-
-/// The literals of a learnt clause that are watched: the one of the current level, and one of the highest level beside it.
-fn learnt_pair(assignment: &Assignment, clause: &[Lit], asserting: Option<Lit>) -> Pair {
-    let first = asserting.unwrap_or(Lit::positive(0));
-    Pair {
-        first,
-        second: highest_beside(assignment, clause, first),
-    }
-}
 
 /// A literal of the highest level beside one, or that one where there is no other.
 fn highest_beside(assignment: &Assignment, clause: &[Lit], literal: Lit) -> Lit {
@@ -73,12 +48,14 @@ fn learn(alloc: Global, state: &mut Indexed, line: Line) -> Result<(), AllocErro
     ensures indexed { IfOk result (λ _. IsIndexed state.new) }
 {
     let number = state.clauses.len() as u32;
-    let asserting = first_current(&state.assignment, &line.clause);
+    let Some(asserting) = first_current(&state.assignment, &line.clause) else {
+        return Ok(());
+    };
     let back = back_level(&state.assignment, &line.clause);
-    let pair = learnt_pair(&state.assignment, &line.clause, asserting);
+    let second = highest_beside(&state.assignment, &line.clause, asserting);
     state.cut(back);
-    assert_literal(state, number, asserting)?;
-    state.enter(alloc, &line.clause, pair)?;
+    state.assign(Entry::because(number, asserting))?;
+    state.enter(alloc, &line.clause, asserting, second)?;
     state.lines.push(line)?;
     Ok(())
 }

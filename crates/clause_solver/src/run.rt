@@ -9,7 +9,6 @@ ghost use Rattle.clause_solver.specs.IndexedStates.{plain_of, IsIndexed};
 use crate::ends::{Advance, Found, Searched};
 use crate::indexed::Indexed;
 use crate::rules::step;
-use crate::watches::Pair;
 use clause_store::clauses::Clauses;
 use clause_store::literal::Lit;
 use clause_store::refutation::Refutation;
@@ -27,26 +26,21 @@ fn begin(alloc: Global, clauses: &Clauses, variables: u32) -> Result<Indexed, Al
     let mut state = Indexed::new(alloc, variables)?;
     for number in 0..clauses.len() {
         let clause = clauses.clause(number);
-        state.enter(alloc, clause, first_pair(clause))?;
+        state.enter(
+            alloc,
+            clause,
+            literal_near(clause, 0),
+            literal_near(clause, 1),
+        )?;
     }
     Ok(state)
 }
 
-/// The literals of a given clause that are watched first.
-fn first_pair(clause: &[Lit]) -> Pair {
+/// The literal of a clause at a place, or else its last one, where it has one.
+fn literal_near(clause: &[Lit], place: usize) -> Lit {
     match clause {
-        [] => Pair {
-            first: Lit::positive(0),
-            second: Lit::positive(0),
-        },
-        [only] => Pair {
-            first: *only,
-            second: *only,
-        },
-        [first, second, ..] => Pair {
-            first: *first,
-            second: *second,
-        },
+        [] => Lit::positive(0),
+        [.., last] => clause.get(place).copied().unwrap_or(*last),
     }
 }
 

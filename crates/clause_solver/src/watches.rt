@@ -1,6 +1,13 @@
 // Two watched literals of each clause, and the clauses that became unit or falsified since the last decision.
 
-ghost use Rattle.std.specs.Prelude.{◌≡◌, ℕ, ◌<◌, ◌≤◌, ◌+◌, ◌*◌, ◌^◌, [], ◌∷◌, ◌++◌, length, IfOk, IfSome};
+ghost use Rattle.std.specs.List.{find};
+ghost use Rattle.std.specs.List.Sorted.{IsPermutation};
+ghost use Rattle.cqe_base.specs.Literal.{variable_of, same_literal, ClausesBelow};
+ghost use Rattle.cqe_base.specs.Machine.{is_false, level, level_of};
+ghost use Rattle.clause_solver.specs.Assigning.{code_of};
+ghost use Rattle.clause_solver.specs.Watching.{IsWatching, WatchesBeside, kept_with, no_pair, lowest, is_caught, has_number};
+ghost use Rattle.clause_solver.specs.WatchesInside.{AreWatches, lists_of, units_of};
+ghost use Rattle.std.specs.Prelude.{true, not, ◌&&◌, List, ◌↔◌, min, slice_set, slice_index_or, ◌≡◌, ℕ, ◌<◌, ◌≤◌, ◌+◌, ◌*◌, ◌^◌, [], ◌∷◌, ◌++◌, length, IfOk, IfSome, IfNone};
 
 use crate::assignment::Assignment;
 use crate::codes::code;
@@ -16,19 +23,6 @@ use std::mem;
 pub struct Pair {
     pub first: Lit,
     pub second: Lit,
-}
-
-impl Pair {
-    /// The watched literal beside this one, where that is watched.
-    fn other(self, literal: Lit) -> Option<Lit> {
-        if self.first.is(literal) {
-            Some(self.second)
-        } else if self.second.is(literal) {
-            Some(self.first)
-        } else {
-            None
-        }
-    }
 }
 
 /// A clause that watches a literal, and one of its literals that is looked at first.
@@ -54,7 +48,9 @@ pub struct Watches {
 }
 
 /// The first literal that isn't false and isn't this one.
-fn other_open(assignment: &Assignment, clause: &[Lit], literal: Lit) -> Option<Lit> {
+fn other_open(assignment: &Assignment, clause: &[Lit], literal: Lit) -> Option<Lit>
+    ensures { result ≡ find (λ l. not (is_false assignment.now.trail l) && not (same_literal l literal)) clause.now }
+{
     clause
         .iter()
         .copied()
@@ -65,6 +61,8 @@ impl Watches {
     /// No clause.
     pub fn new(alloc: Global, variables: u32) -> Result<Watches, AllocError>
         requires { variables < 2 ^ 31 }
+        ensures watches { IfOk result (λ w. AreWatches variables [] w) }
+        ensures none { IfOk result (λ w. w.sorted ≡ []) }
     {
         Ok(Watches {
             lists: empty_lists(alloc, variables)?,
@@ -76,90 +74,145 @@ impl Watches {
     }
 
     /// One more clause, with the literals that it watches.
-    pub fn enter(&mut self, alloc: Global, clause: &[Lit], pair: Pair) -> Result<(), AllocError> {
+    pub fn enter(
+        &mut self,
+        alloc: Global,
+        clause: &[Lit],
+        first: Lit,
+        second: Lit,
+    ) -> Result<(), AllocError> {
         let number = self.pairs.len() as u32;
-        let mut sorted = Vec::from_slice(alloc, clause)?;
-        sorted.sort_by_key(|l| code(*l))?;
+        let sorted = sorted_clause(alloc, clause)?;
         let _number = self.sorted.push(&sorted)?;
-        self.pairs.push(pair)?;
+        self.pairs.push(Pair { first, second })?;
         match clause.len() {
-            0 => self.falsified = Some(self.falsified.unwrap_or(number)),
+            0 => lower(&mut self.falsified, number),
             1 => {
                 self.units.push(Reverse(number))?;
-                self.watch(pair.first, number, pair.second)?;
+                self.watch(first, number, second)?;
             }
             _ => {
-                self.watch(pair.first, number, pair.second)?;
-                self.watch(pair.second, number, pair.first)?;
+                self.watch(first, number, second)?;
+                self.watch(second, number, first)?;
             }
         }
         Ok(())
     }
 
     /// A clause watches a literal.
-    fn watch(&mut self, literal: Lit, clause: u32, blocker: Lit) -> Result<(), AllocError> {
+    fn watch(&mut self, literal: Lit, clause: u32, blocker: Lit) -> Result<(), AllocError>
+        requires { code_of literal < length self.old.lists.items }
+        ensures lists { IfOk result (λ _. lists_of self.new ≡ slice_set (lists_of self.old) (code_of literal) (slice_index_or (lists_of self.old) (code_of literal) [] ++ record { clause = clause; blocker = blocker } ∷ [])) }
+        ensures pairs { self.new.pairs ≡ self.old.pairs }
+        ensures sorted { self.new.sorted ≡ self.old.sorted }
+        ensures units { self.new.units ≡ self.old.units }
+        ensures falsified { self.new.falsified ≡ self.old.falsified }
+    {
         self.lists[code(literal)].push(Watch { clause, blocker })?;
         Ok(())
     }
 
     /// Looks at the clauses that watch a literal, which has become false.
-    pub fn visit_all(&mut self, assignment: &Assignment, literal: Lit) -> Result<(), AllocError> {
+    pub fn visit_all(&mut self, assignment: &Assignment, literal: Lit) -> Result<(), AllocError>
+        requires below { variable_of literal < assignment.now.variables }
+        requires false_now { is_false assignment.now.trail literal ≡ true }
+        requires current { level_of assignment.now.trail literal ≡ level assignment.now.trail }
+        requires watching { IsWatching assignment.now.variables assignment.now.trail self.old.sorted (lists_of self.old) self.old.pairs.items (units_of self.old) self.old.falsified literal (slice_index_or (lists_of self.old) (code_of literal) []) }
+        ensures watches { IfOk result (λ _. AreWatches assignment.now.variables assignment.now.trail self.new) }
+        ensures sorted { self.new.sorted ≡ self.old.sorted }
+    {
         let mut list = mem::try_take(&mut self.lists[code(literal)])?;
         let mut kept = 0;
         for i in 0..list.len() {
-            if let Some(watch) = self.visit(assignment, literal, list[i])? {
-                list[kept] = watch;
-                kept += 1;
-            }
+            let clause = list[i].clause;
+            let blocker = self.visit(assignment, literal, clause, list[i].blocker)?;
+            kept = keep(&mut list, kept, clause, blocker);
         }
         list.truncate(kept);
         self.lists[code(literal)] = list;
         Ok(())
     }
 
-    /// Looks at a clause that watches a false literal. It goes on with that, or watches another one.
+    /// Looks at a clause in the list of a literal that is false. Where it goes on watching that, it answers a literal to be looked
+    /// at first.
     fn visit(
         &mut self,
         assignment: &Assignment,
         literal: Lit,
-        watch: Watch,
-    ) -> Result<Option<Watch>, AllocError> {
-        if assignment.is_true(watch.blocker) {
-            return Ok(Some(watch));
+        clause: u32,
+        blocker: Lit,
+    ) -> Result<Option<Lit>, AllocError>
+        requires false_now { is_false assignment.now.trail literal ≡ true }
+        requires current { level_of assignment.now.trail literal ≡ level assignment.now.trail }
+        requires within { clause < length self.old.sorted }
+        requires lists_room { length self.old.lists.items ≡ 2 * assignment.now.variables }
+        requires pairs_room { length self.old.pairs.items ≡ length self.old.sorted }
+        requires below { ClausesBelow assignment.now.variables self.old.sorted }
+        ensures watching { IfOk result (λ o. (kept rest : List Watch) → IsWatching assignment.now.variables assignment.now.trail self.old.sorted (slice_set (lists_of self.old) (code_of literal) (kept ++ record { clause = clause; blocker = blocker } ∷ rest)) self.old.pairs.items (units_of self.old) self.old.falsified literal (record { clause = clause; blocker = blocker } ∷ rest) → IsWatching assignment.now.variables assignment.now.trail self.new.sorted (slice_set (lists_of self.new) (code_of literal) (kept_with kept clause o ++ rest)) self.new.pairs.items (units_of self.new) self.new.falsified literal rest) }
+        ensures sorted { self.new.sorted ≡ self.old.sorted }
+        ensures lists_room { length self.new.lists.items ≡ length self.old.lists.items }
+        ensures pairs_room { length self.new.pairs.items ≡ length self.old.pairs.items }
+    {
+        if assignment.is_true(blocker) {
+            return Ok(Some(blocker));
         }
-        let number = watch.clause as usize;
-        let Some(other) = self.pairs[number].other(literal) else {
-            return Ok(None);
-        };
-        let watch = Watch {
-            clause: watch.clause,
-            blocker: other,
-        };
+        match other_watched(&self.pairs[clause as usize], literal) {
+            Some(other) => self.visit_beside(assignment, clause, literal, other, blocker),
+            None => Ok(None),
+        }
+    }
+
+    /// Looks at a clause with a watched literal that is false, and with this other one.
+    fn visit_beside(
+        &mut self,
+        assignment: &Assignment,
+        clause: u32,
+        literal: Lit,
+        other: Lit,
+        blocker: Lit,
+    ) -> Result<Option<Lit>, AllocError>
+        requires false_now { is_false assignment.now.trail literal ≡ true }
+        requires current { level_of assignment.now.trail literal ≡ level assignment.now.trail }
+        requires within { clause < length self.old.sorted }
+        requires lists_room { length self.old.lists.items ≡ 2 * assignment.now.variables }
+        requires pairs_room { length self.old.pairs.items ≡ length self.old.sorted }
+        requires below { ClausesBelow assignment.now.variables self.old.sorted }
+        requires beside { WatchesBeside (slice_index_or self.old.pairs.items clause no_pair) literal other }
+        ensures watching { IfOk result (λ o. (kept rest : List Watch) → IsWatching assignment.now.variables assignment.now.trail self.old.sorted (slice_set (lists_of self.old) (code_of literal) (kept ++ record { clause = clause; blocker = blocker } ∷ rest)) self.old.pairs.items (units_of self.old) self.old.falsified literal (record { clause = clause; blocker = blocker } ∷ rest) → IsWatching assignment.now.variables assignment.now.trail self.new.sorted (slice_set (lists_of self.new) (code_of literal) (kept_with kept clause o ++ rest)) self.new.pairs.items (units_of self.new) self.new.falsified literal rest) }
+        ensures sorted { self.new.sorted ≡ self.old.sorted }
+        ensures lists_room { length self.new.lists.items ≡ length self.old.lists.items }
+        ensures pairs_room { length self.new.pairs.items ≡ length self.old.pairs.items }
+    {
         if assignment.is_true(other) {
-            return Ok(Some(watch));
+            return Ok(Some(other));
         }
-        match other_open(assignment, self.sorted.clause(number), other) {
-            Some(open) => {
-                self.pairs[number] = Pair {
-                    first: open,
+        match other_open(assignment, self.sorted.clause(clause as usize), other) {
+            Some(next) => {
+                self.pairs[clause as usize] = Pair {
+                    first: next,
                     second: other,
                 };
-                self.watch(open, watch.clause, other)?;
+                self.watch(next, clause, other)?;
                 Ok(None)
             }
             None => {
-                self.note(assignment, watch)?;
-                Ok(Some(watch))
+                self.note(assignment, clause, other)?;
+                Ok(Some(other))
             }
         }
     }
 
-    /// A clause has no other literal that isn't false than the blocker: it is unit or falsified.
-    fn note(&mut self, assignment: &Assignment, watch: Watch) -> Result<(), AllocError> {
-        if assignment.is_false(watch.blocker) {
-            self.falsified = Some(least(self.falsified, watch.clause));
+    /// No literal of a clause is open but perhaps this one: it is unit or falsified.
+    fn note(
+        &mut self,
+        assignment: &Assignment,
+        clause: u32,
+        literal: Lit,
+    ) -> Result<(), AllocError> {
+        if assignment.is_false(literal) {
+            lower(&mut self.falsified, clause);
         } else {
-            self.units.push(Reverse(watch.clause))?;
+            self.units.push(Reverse(clause))?;
         }
         Ok(())
     }
@@ -171,12 +224,50 @@ impl Watches {
     }
 }
 
-/// The lower one of two numbers.
-fn least(first: Option<u32>, second: u32) -> u32 {
-    match first {
-        Some(number) => number.min(second),
-        None => second,
+/// The watched literal beside this one, where that is watched.
+fn other_watched(pair: &Pair, literal: Lit) -> Option<Lit>
+    ensures beside { IfSome result (λ other. WatchesBeside pair.now literal other) }
+    ensures none { IfNone result ((pair.now.first ≡ literal → ⊥) × (pair.now.second ≡ literal → ⊥)) }
+{
+    if pair.first.is(literal) {
+        Some(pair.second)
+    } else if pair.second.is(literal) {
+        Some(pair.first)
+    } else {
+        None
     }
+}
+
+/// A watch is kept with this blocker, if there is one, behind those that were kept before it.
+fn keep(list: &mut Vec<Watch>, kept: usize, clause: u32, blocker: Option<Lit>) -> usize
+    requires { kept < length list.old.items }
+{
+    match blocker {
+        Some(blocker) => {
+            list[kept] = Watch { clause, blocker };
+            kept + 1
+        }
+        None => kept,
+    }
+}
+
+/// The least of some numbers, with one more.
+fn lower(least: &mut Option<u32>, number: u32)
+    ensures { least.new ≡ lowest least.old number }
+{
+    match *least {
+        Some(before) => *least = Some(before.min(number)),
+        None => *least = Some(number),
+    }
+}
+
+/// A clause with its literals in the order of their codes.
+fn sorted_clause(alloc: Global, clause: &[Lit]) -> Result<Vec<Lit>, AllocError>
+    ensures { IfOk result (λ sorted. IsPermutation clause.now sorted.items) }
+{
+    let mut sorted = Vec::from_slice(alloc, clause)?;
+    sorted.sort_by_key(|l| code(*l))?;
+    Ok(sorted)
 }
 
 /// For each literal's code no clause.
