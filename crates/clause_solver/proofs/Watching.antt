@@ -10,6 +10,14 @@ use Rattle.clause_solver.proofs.Kept.{level_of-variable}
 use Rattle.clause_solver.specs.declared.watches.Pair.{Pair}
 use Rattle.clause_solver.specs.Watching.{HasTrue, IsAnswered, satisfied, is_unit, is_falsified, IsWatched, IsHalfAnswered, satisfied_before, unit_before, falsified_before, IsHalfWatched}
 
+-- each literal is this one or another one
+pub which : (f l : Literal) → (l ≡ f) ⊎ (l ≡ f → ⊥)
+which f l = step (same_literal l f) refl
+  where
+    step : (b : Bool) → same_literal l f ≡ b → (l ≡ f) ⊎ (l ≡ f → ⊥)
+    step true e = inl (same_literal-true l f e)
+    step false e = inr (λ same. both_ways _ e (subst (λ x. same_literal l x ≡ true) same (same_literal-same l)))
+
 -- ---- more that is known
 
 answered_more : (t : List Assigned) (c : List Literal) (u q u' q' : Bool) (k : ℕ) (l : Literal) → (u ≡ true → u' ≡ true) → (q ≡ true → q' ≡ true) → IsAnswered t c u q k l → IsAnswered t c u' q' k l
@@ -35,6 +43,7 @@ half_answered_more t c u q u' q' k fu fq (falsified_before e h) = falsified_befo
 
 pub half_more : (t : List Assigned) (c : List Literal) (p : Pair) (u q u' q' : Bool) (f : Literal) → (u ≡ true → u' ≡ true) → (q ≡ true → q' ≡ true) → IsHalfWatched t c p u q f → IsHalfWatched t c p u' q' f
 half_more t c p u q u' q' f fu fq w = record {
+  watches = w.watches;
   first_in = w.first_in;
   second_in = w.second_in;
   single = w.single;
@@ -50,8 +59,9 @@ half_of t c u q k l (satisfied h) = satisfied_before h
 half_of t c u q k l (is_unit e o h) = unit_before e h
 half_of t c u q k l (is_falsified e h) = falsified_before e h
 
-pub watched_half : (t : List Assigned) (c : List Literal) (p : Pair) (u q : Bool) (f : Literal) → IsWatched t c p u q → IsHalfWatched t c p u q f
-watched_half t c p u q f w = record {
+pub watched_half : (t : List Assigned) (c : List Literal) (p : Pair) (u q : Bool) (f : Literal) → (p.first ≡ f) ⊎ (p.second ≡ f) → IsWatched t c p u q → IsHalfWatched t c p u q f
+watched_half t c p u q f at w = record {
+  watches = at;
   first_in = w.first_in;
   second_in = w.second_in;
   single = w.single;
@@ -117,8 +127,9 @@ module _ (n : ℕ) (a : Assigned) (t : List Assigned) (d : IsDistinct n (a ∷ t
     }
 
     -- a clause that may watch it
-    pub half_push : (p : Pair) → IsWatched t c p u q → IsHalfWatched (a ∷ t) c p u q (opposite (assigned_literal a))
-    half_push p w = record {
+    pub half_push : (p : Pair) → (p.first ≡ opposite (assigned_literal a)) ⊎ (p.second ≡ opposite (assigned_literal a)) → IsWatched t c p u q → IsHalfWatched (a ∷ t) c p u q (opposite (assigned_literal a))
+    half_push p at w = record {
+      watches = at;
       first_in = w.first_in;
       second_in = w.second_in;
       single = w.single;
@@ -152,21 +163,13 @@ module _ (t : List Assigned) (c : List Literal) (f : Literal) (current : level_o
   by_true u q k l h (unit_before e g) = satisfied (subst (λ j. HasTrue t j c) (sym e) h)
   by_true u q k l h (falsified_before e g) = satisfied (subst (λ j. HasTrue t j c) (sym e) h)
 
-  -- each literal is this one or another one
-  which : (l : Literal) → (l ≡ f) ⊎ (l ≡ f → ⊥)
-  which l = step (same_literal l f) refl
-    where
-      step : (b : Bool) → same_literal l f ≡ b → (l ≡ f) ⊎ (l ≡ f → ⊥)
-      step true e = inl (same_literal-true l f e)
-      step false e = inr (λ same. both_ways _ e (subst (λ x. same_literal l x ≡ true) same (same_literal-same l)))
-
   pub looked_true : (p : Pair) (u q : Bool) → HasTrue t (level t) c → IsHalfWatched t c p u q f → IsWatched t c p u q
   looked_true p u q h w = record {
     first_in = w.first_in;
     second_in = w.second_in;
     single = w.single;
-    first_answered = λ e. ⊎_elim (λ same. satisfied (subst (λ j. HasTrue t j c) (sym (ap (level_of t) same ∙ current)) h)) (λ ne. by_true u q _ p.second h (w.first_half ne e)) (which p.first);
-    second_answered = λ e. ⊎_elim (λ same. satisfied (subst (λ j. HasTrue t j c) (sym (ap (level_of t) same ∙ current)) h)) (λ ne. by_true u q _ p.first h (w.second_half ne e)) (which p.second);
+    first_answered = λ e. ⊎_elim (λ same. satisfied (subst (λ j. HasTrue t j c) (sym (ap (level_of t) same ∙ current)) h)) (λ ne. by_true u q _ p.second h (w.first_half ne e)) (which f p.first);
+    second_answered = λ e. ⊎_elim (λ same. satisfied (subst (λ j. HasTrue t j c) (sym (ap (level_of t) same ∙ current)) h)) (λ ne. by_true u q _ p.first h (w.second_half ne e)) (which f p.second);
     alone = λ pos same. by_true u q 0 p.first h (w.alone_half pos same);
     empty = w.empty;
   }
@@ -177,7 +180,7 @@ module _ (t : List Assigned) (c : List Literal) (f : Literal) (current : level_o
     here = record { first = f; second = other }
 
     -- the other one isn't false, and the clause is known as a unit one
-    looked_unit : u ≡ true → is_false t other ≡ false → IsHalfWatched t c here u q f → IsWatched t c here u q
+    pub looked_unit : u ≡ true → is_false t other ≡ false → IsHalfWatched t c here u q f → IsWatched t c here u q
     looked_unit known fresh w = record {
       first_in = w.first_in;
       second_in = w.second_in;
@@ -199,19 +202,19 @@ module _ (t : List Assigned) (c : List Literal) (f : Literal) (current : level_o
     by_conflict known k l (falsified_before e h) = is_falsified e h
 
     -- the clause is known as a falsified one
-    looked_falsified : q ≡ true → IsHalfWatched t c here u q f → IsWatched t c here u q
+    pub looked_falsified : q ≡ true → IsHalfWatched t c here u q f → IsWatched t c here u q
     looked_falsified known w = record {
       first_in = w.first_in;
       second_in = w.second_in;
       single = w.single;
       first_answered = λ e. is_falsified current known;
-      second_answered = λ e. ⊎_elim (λ same. is_falsified (ap (level_of t) same ∙ current) known) (λ ne. by_conflict known _ f (w.second_half ne e)) (which other);
+      second_answered = λ e. ⊎_elim (λ same. is_falsified (ap (level_of t) same ∙ current) known) (λ ne. by_conflict known _ f (w.second_half ne e)) (which f other);
       alone = λ pos same. by_conflict known 0 f (w.alone_half pos same);
       empty = w.empty;
     }
 
     -- another literal that isn't false is watched from now on
-    looked_moved : (fresh : Literal) → has_literal c fresh ≡ true → is_false t fresh ≡ false → (fresh ≡ other → ⊥) → (f ≡ other → ⊥) → IsHalfWatched t c here u q f → IsWatched t c (record { first = fresh; second = other }) u q
+    pub looked_moved : (fresh : Literal) → has_literal c fresh ≡ true → is_false t fresh ≡ false → (fresh ≡ other → ⊥) → (f ≡ other → ⊥) → IsHalfWatched t c here u q f → IsWatched t c (record { first = fresh; second = other }) u q
     looked_moved fresh has free ne apart w = record {
       first_in = λ _. has;
       second_in = w.second_in;
@@ -230,6 +233,7 @@ module _ (t : List Assigned) (c : List Literal) (f : Literal) (current : level_o
 -- the two watched literals in the other order
 pub half_turned : (t : List Assigned) (c : List Literal) (a b : Literal) (u q : Bool) (f : Literal) → IsHalfWatched t c (record { first = a; second = b }) u q f → IsHalfWatched t c (record { first = b; second = a }) u q f
 half_turned t c a b u q f w = record {
+  watches = ⊎_elim (λ e. inr e) (λ e. inl e) w.watches;
   first_in = w.second_in;
   second_in = w.first_in;
   single = λ same. w.single (sym same);

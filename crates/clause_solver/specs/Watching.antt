@@ -39,6 +39,7 @@ pub data IsHalfAnswered (t : List Assigned) (c : List Literal) (unit falsified :
   falsified_before : k ≡ level t → falsified ≡ true → IsHalfAnswered t c unit falsified k
 
 pub record IsHalfWatched (t : List Assigned) (c : List Literal) (pair : Pair) (unit falsified : Bool) (f : Literal) : Type 0 where
+  pub watches : (pair.first ≡ f) ⊎ (pair.second ≡ f)
   pub first_in : 0 < length c → has_literal c pair.first ≡ true
   pub second_in : 0 < length c → has_literal c pair.second ≡ true
   pub first_half : (pair.first ≡ f → ⊥) → is_false t pair.first ≡ true → IsHalfAnswered t c unit falsified (level_of t pair.first)

@@ -2,12 +2,12 @@
 
 ghost use Rattle.std.specs.List.{find};
 ghost use Rattle.std.specs.List.Sorted.{IsPermutation};
-ghost use Rattle.cqe_base.specs.Literal.{variable_of, same_literal, ClausesBelow};
-ghost use Rattle.cqe_base.specs.Machine.{is_false, level, level_of};
+ghost use Rattle.cqe_base.specs.Literal.{Literal, variable_of, same_literal, ClauseBelow, ClausesBelow};
+ghost use Rattle.cqe_base.specs.Machine.{Assigned, is_false, level, level_of};
 ghost use Rattle.clause_solver.specs.Assigning.{code_of};
-ghost use Rattle.clause_solver.specs.Watching.{IsWatching, WatchesBeside, kept_with, no_pair, lowest, is_caught, has_number};
+ghost use Rattle.clause_solver.specs.Watching.{IsWatching, IsWatched, HaveSameLiterals, WatchesBeside, kept_with, no_pair, lowest, is_caught, has_number};
 ghost use Rattle.clause_solver.specs.WatchesInside.{AreWatches, lists_of, units_of};
-ghost use Rattle.std.specs.Prelude.{true, not, ◌&&◌, List, ◌↔◌, min, slice_set, slice_index_or, ◌≡◌, ℕ, ◌<◌, ◌≤◌, ◌+◌, ◌*◌, ◌^◌, [], ◌∷◌, ◌++◌, length, IfOk, IfSome, IfNone};
+ghost use Rattle.std.specs.Prelude.{true, false, not, ◌&&◌, ◌||◌, ◌==◌, List, None, map, replicate, take, drop, slice_set, slice_index_or, ◌≡◌, ℕ, ◌<◌, ◌≤◌, ◌+◌, ◌*◌, ◌^◌, [], ◌∷◌, ◌++◌, length, IfOk, IfSome, IfNone};
 
 use crate::assignment::Assignment;
 use crate::codes::code;
@@ -80,23 +80,27 @@ impl Watches {
         clause: &[Lit],
         first: Lit,
         second: Lit,
-    ) -> Result<(), AllocError> {
+    ) -> Result<(), AllocError>
+        requires first { 0 < length clause.now → code_of first < length self.old.lists.items }
+        requires second { 0 < length clause.now → code_of second < length self.old.lists.items }
+        requires room { length self.old.pairs.items < 2 ^ 32 }
+        ensures watches { IfOk result (λ _. (n : ℕ) (t : List Assigned) → AreWatches n t self.old → ClauseBelow n clause.now → IsWatched t clause.now (record { first = first; second = second }) (length clause.now == 1) (length clause.now == 0) → AreWatches n t self.new) }
+        ensures sorted { IfOk result (λ _. (cs : List (List Literal)) → HaveSameLiterals cs self.old.sorted → HaveSameLiterals (cs ++ clause.now ∷ []) self.new.sorted) }
+    {
         let number = self.pairs.len() as u32;
         let sorted = sorted_clause(alloc, clause)?;
         let _number = self.sorted.push(&sorted)?;
         self.pairs.push(Pair { first, second })?;
         match clause.len() {
-            0 => lower(&mut self.falsified, number),
-            1 => {
-                self.units.push(Reverse(number))?;
-                self.watch(first, number, second)?;
+            0 => {
+                lower(&mut self.falsified, number);
+                return Ok(());
             }
-            _ => {
-                self.watch(first, number, second)?;
-                self.watch(second, number, first)?;
-            }
+            1 => self.units.push(Reverse(number))?,
+            _ => {}
         }
-        Ok(())
+        self.watch(first, number, second)?;
+        self.watch(second, number, first)
     }
 
     /// A clause watches a literal.
@@ -203,12 +207,13 @@ impl Watches {
     }
 
     /// No literal of a clause is open but perhaps this one: it is unit or falsified.
-    fn note(
-        &mut self,
-        assignment: &Assignment,
-        clause: u32,
-        literal: Lit,
-    ) -> Result<(), AllocError> {
+    fn note(&mut self, assignment: &Assignment, clause: u32, literal: Lit) -> Result<(), AllocError>
+        ensures caught { is_false assignment.now.trail literal ≡ true → (self.new.falsified ≡ lowest self.old.falsified clause) × (units_of self.new ≡ units_of self.old) }
+        ensures unit { IfOk result (λ _. is_false assignment.now.trail literal ≡ false → (self.new.falsified ≡ self.old.falsified) × ((i : ℕ) → has_number (units_of self.new) i ≡ ((clause == i) || has_number (units_of self.old) i))) }
+        ensures lists { self.new.lists ≡ self.old.lists }
+        ensures pairs { self.new.pairs ≡ self.old.pairs }
+        ensures sorted { self.new.sorted ≡ self.old.sorted }
+    {
         if assignment.is_false(literal) {
             lower(&mut self.falsified, clause);
         } else {
@@ -218,7 +223,13 @@ impl Watches {
     }
 
     /// No clause is unit or falsified.
-    pub fn clear(&mut self) {
+    pub fn clear(&mut self)
+        ensures lists { self.new.lists ≡ self.old.lists }
+        ensures pairs { self.new.pairs ≡ self.old.pairs }
+        ensures sorted { self.new.sorted ≡ self.old.sorted }
+        ensures units { units_of self.new ≡ [] }
+        ensures falsified { self.new.falsified ≡ None }
+    {
         self.units.clear();
         self.falsified = None;
     }
@@ -241,6 +252,10 @@ fn other_watched(pair: &Pair, literal: Lit) -> Option<Lit>
 /// A watch is kept with this blocker, if there is one, behind those that were kept before it.
 fn keep(list: &mut Vec<Watch>, kept: usize, clause: u32, blocker: Option<Lit>) -> usize
     requires { kept < length list.old.items }
+    ensures kept { take result list.new.items ≡ kept_with (take kept list.old.items) clause blocker }
+    ensures rest { drop (kept + 1) list.new.items ≡ drop (kept + 1) list.old.items }
+    ensures most { result ≤ kept + 1 }
+    ensures length { length list.new.items ≡ length list.old.items }
 {
     match blocker {
         Some(blocker) => {
@@ -273,6 +288,7 @@ fn sorted_clause(alloc: Global, clause: &[Lit]) -> Result<Vec<Lit>, AllocError>
 /// For each literal's code no clause.
 fn empty_lists(alloc: Global, variables: u32) -> Result<Vec<Vec<Watch>>, AllocError>
     requires { variables < 2 ^ 31 }
+    ensures { IfOk result (λ r. map (λ v. v.items) r.items ≡ replicate (2 * variables) []) }
 {
     let size = 2 * variables as usize;
     let mut lists = Vec::with_capacity(alloc, size)?;
