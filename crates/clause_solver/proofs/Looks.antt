@@ -1,9 +1,9 @@
 -- What is kept of all clauses: a look at one watch after the other, one more entry of the trail, and a cut.
-use Rattle.std.proofs.Common.{◌≡◌, ℕ, zero, suc, ◌<◌, ◌≤◌, ◌*◌, Bool, true, false, cond, ◌||◌, eqb, List, [], ◌∷◌, ◌++◌, length, get_or, set, Option, Some, None, refl, sym, ap, ◌∙◌, subst, inl, inr, ⊎_elim, ◌⊎◌, arith}
+use Rattle.std.proofs.Common.{◌≡◌, ℕ, zero, suc, ◌<◌, ◌≤◌, ◌*◌, Bool, true, false, cond, ◌||◌, eqb, List, [], ◌∷◌, ◌++◌, length, get_or, set, map, Option, Some, None, refl, sym, ap, ◌∙◌, subst, inl, inr, ⊎_elim, ◌⊎◌, arith}
 use Rattle.std.specs.Prelude.{IfSome}
 use Rattle.std.specs.List.{list_any, list_all, AllByRecursion}
 use Rattle.std.proofs.lemmas.Bool.{both_ways, cases_eq, cases_lt, or_cases, or_left, or_right, eq-eqb, eqb-true, and_parts, and_from}
-use Rattle.std.proofs.lemmas.List.{get_or-set_same, get_or-set_other, length-set, set-get_or}
+use Rattle.std.proofs.lemmas.List.{get_or-set_same, get_or-set_other, length-set, set-get_or, map-set, get_or-map}
 use Rattle.std.proofs.lemmas.List.Folds.{list_any-append}
 use Rattle.cqe_base.specs.Literal.{Literal, Positive, variable_of, opposite, has_literal, ClausesBelow}
 use Rattle.cqe_base.specs.Machine.{Assigned, assigned_literal, is_true, is_false, level, level_of, cut}
@@ -286,3 +286,20 @@ module _ (n : ℕ) (t : List Assigned) (cs : List (List Literal)) (lists : List 
     units_are = λ i h. absurd (both_ways false refl h);
     falsified_is = tt;
   }
+
+-- ---- the same under equal parts
+
+pub same_watching : (n : ℕ) (t : List Assigned) (f : Literal) (left : List Watch) (cs cs' : List (List Literal)) (lists lists' : List (List Watch)) (pairs pairs' : List Pair) (units units' : List ℕ) (falsified falsified' : Option ℕ)
+    → cs' ≡ cs → lists' ≡ lists → pairs' ≡ pairs → units' ≡ units → falsified' ≡ falsified → IsWatching n t cs lists pairs units falsified f left → IsWatching n t cs' lists' pairs' units' falsified' f left
+same_watching n t f left cs cs' lists lists' pairs pairs' units units' falsified falsified' ec el ep eu eq h =
+    subst (λ x. IsWatching n t x lists' pairs' units' falsified' f left) (sym ec)
+    (subst (λ x. IsWatching n t cs x pairs' units' falsified' f left) (sym el)
+    (subst (λ x. IsWatching n t cs lists x units' falsified' f left) (sym ep)
+    (subst (λ x. IsWatching n t cs lists pairs x falsified' f left) (sym eu)
+    (subst (λ x. IsWatching n t cs lists pairs units x f left) (sym eq) h))))
+
+-- one more watch in a list
+pub note_map : {V W : Type 0} (g : V → List W) (zs : List V) (i j : ℕ) (old new : V) (w : W) → j < length zs → i ≡ j → g new ≡ g (get_or zs i old) ++ w ∷ [] → map g (set zs i new) ≡ set (map g zs) j (get_or (map g zs) j [] ++ w ∷ [])
+note_map g zs i j old new w low same more =
+    ap (λ k. map g (set zs k new)) same ∙ map-set g zs j new
+    ∙ ap (set (map g zs) j) (more ∙ ap (λ ys. ys ++ w ∷ []) (sym (get_or-map g zs j old [] low ∙ ap (λ k. g (get_or zs k old)) (sym same))))

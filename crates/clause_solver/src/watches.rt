@@ -107,6 +107,7 @@ impl Watches {
     fn watch(&mut self, literal: Lit, clause: u32, blocker: Lit) -> Result<(), AllocError>
         requires { code_of literal < length self.old.lists.items }
         ensures lists { IfOk result (λ _. lists_of self.new ≡ slice_set (lists_of self.old) (code_of literal) (slice_index_or (lists_of self.old) (code_of literal) [] ++ record { clause = clause; blocker = blocker } ∷ [])) }
+        ensures room { length self.new.lists.items ≡ length self.old.lists.items }
         ensures pairs { self.new.pairs ≡ self.old.pairs }
         ensures sorted { self.new.sorted ≡ self.old.sorted }
         ensures units { self.new.units ≡ self.old.units }
@@ -148,6 +149,7 @@ impl Watches {
     ) -> Result<Option<Lit>, AllocError>
         requires false_now { is_false assignment.now.trail literal ≡ true }
         requires current { level_of assignment.now.trail literal ≡ level assignment.now.trail }
+        requires listed { code_of literal < length self.old.lists.items }
         requires within { clause < length self.old.sorted }
         requires lists_room { length self.old.lists.items ≡ 2 * assignment.now.variables }
         requires pairs_room { length self.old.pairs.items ≡ length self.old.sorted }
@@ -177,6 +179,7 @@ impl Watches {
     ) -> Result<Option<Lit>, AllocError>
         requires false_now { is_false assignment.now.trail literal ≡ true }
         requires current { level_of assignment.now.trail literal ≡ level assignment.now.trail }
+        requires listed { code_of literal < length self.old.lists.items }
         requires within { clause < length self.old.sorted }
         requires lists_room { length self.old.lists.items ≡ 2 * assignment.now.variables }
         requires pairs_room { length self.old.pairs.items ≡ length self.old.sorted }
