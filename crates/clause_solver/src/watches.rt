@@ -256,7 +256,7 @@ fn other_watched(pair: &Pair, literal: Lit) -> Option<Lit>
 fn keep(list: &mut Vec<Watch>, kept: usize, clause: u32, blocker: Option<Lit>) -> usize
     requires { kept < length list.old.items }
     ensures kept { take result list.new.items ≡ kept_with (take kept list.old.items) clause blocker }
-    ensures rest { drop (kept + 1) list.new.items ≡ drop (kept + 1) list.old.items }
+    ensures rest { (k : ℕ) → kept < k → drop k list.new.items ≡ drop k list.old.items }
     ensures most { result ≤ kept + 1 }
     ensures length { length list.new.items ≡ length list.old.items }
 {
