@@ -36,7 +36,7 @@ module _ (P : List Watch → Type 0) (lists : List (List Watch)) (c : ℕ) (low 
     abbrev longer : List (List Watch)
     longer = set lists co (get_or lists co [] ++ v ∷ [])
 
-    more_at : (k : ℕ) → P (get_or lists k []) → P (get_or longer k [])
+    pub more_at : (k : ℕ) → P (get_or lists k []) → P (get_or longer k [])
     more_at k h = elim (cases_eq k co) [
       | inl same ↦ subst P (sym (ap (λ j. get_or longer j []) same ∙ get_or-set_same lists co (get_or lists co [] ++ v ∷ []) [] within)) (more (get_or lists co []) (subst (λ j. P (get_or lists j [])) same h))
       | inr other ↦ subst P (sym (get_or-set_other lists co k (get_or lists co [] ++ v ∷ []) [] other)) h
@@ -66,10 +66,10 @@ drop_has : (kept rest : List Watch) (i j : ℕ) (b : Literal) → (i ≡ j → �
 drop_has [] rest i j b ne h = rest_has rest i j b ne h
 drop_has (x ∷ kept) rest i j b ne h = ⊎_elim (λ e. or_left _ _ e) (λ e. or_right _ _ (drop_has kept rest i j b ne e)) (or_cases (eqb x.clause i) (has_clause (kept ++ watch_of j b ∷ rest) i) h)
 
-more_has : (zs : List Watch) (v : Watch) (i : ℕ) → has_clause zs i ≡ true → has_clause (zs ++ v ∷ []) i ≡ true
+pub more_has : (zs : List Watch) (v : Watch) (i : ℕ) → has_clause zs i ≡ true → has_clause (zs ++ v ∷ []) i ≡ true
 more_has zs v i h = list_any-append (λ w. eqb w.clause i) zs (v ∷ []) ∙ or_left _ _ h
 
-last_has : (zs : List Watch) (j : ℕ) (b : Literal) → has_clause (zs ++ watch_of j b ∷ []) j ≡ true
+pub last_has : (zs : List Watch) (j : ℕ) (b : Literal) → has_clause (zs ++ watch_of j b ∷ []) j ≡ true
 last_has zs j b = list_any-append (λ w. eqb w.clause j) zs (watch_of j b ∷ []) ∙ or_right _ _ (or_left _ _ (eq-eqb j j refl))
 
 module _ (P : Watch → Type 0) where
@@ -81,7 +81,7 @@ module _ (P : Watch → Type 0) where
   drop_all [] rest w h = h.1
   drop_all (x ∷ kept) rest w h = (h.0, drop_all kept rest w h.1)
 
-  more_all : (zs : List Watch) (v : Watch) → P v → AllByRecursion P zs → AllByRecursion P (zs ++ v ∷ [])
+  pub more_all : (zs : List Watch) (v : Watch) → P v → AllByRecursion P zs → AllByRecursion P (zs ++ v ∷ [])
   more_all [] v p h = (p, tt)
   more_all (x ∷ zs) v p h = (h.0, more_all zs v p h.1)
 

@@ -91,16 +91,29 @@ impl Watches {
         let sorted = sorted_clause(alloc, clause)?;
         let _number = self.sorted.push(&sorted)?;
         self.pairs.push(Pair { first, second })?;
-        match clause.len() {
-            0 => {
-                lower(&mut self.falsified, number);
-                return Ok(());
-            }
-            1 => self.units.push(Reverse(number))?,
-            _ => {}
+        if clause.is_empty() {
+            lower(&mut self.falsified, number);
+            return Ok(());
         }
+        self.add_unit(number, clause.len() == 1)?;
         self.watch(first, number, second)?;
-        self.watch(second, number, first)
+        self.watch(second, number, first)?;
+        Ok(())
+    }
+
+    /// A clause may be unit, where this is so.
+    fn add_unit(&mut self, clause: u32, unit: bool) -> Result<(), AllocError>
+        ensures units { IfOk result (λ _. (i : ℕ) → has_number (units_of self.new) i ≡ ((unit && (clause == i)) || has_number (units_of self.old) i)) }
+        ensures lists { self.new.lists ≡ self.old.lists }
+        ensures pairs { self.new.pairs ≡ self.old.pairs }
+        ensures sorted { self.new.sorted ≡ self.old.sorted }
+        ensures falsified { self.new.falsified ≡ self.old.falsified }
+    {
+        if !unit {
+            return Ok(());
+        }
+        self.units.push(Reverse(clause))?;
+        Ok(())
     }
 
     /// A clause watches a literal.
