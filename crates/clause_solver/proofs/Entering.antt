@@ -139,7 +139,7 @@ module _ (n : ℕ) (t : List Assigned) (cs : List (List Literal)) (lists : List 
 
   -- a clause with a literal is watched by two of them
   module _ (pos : 0 < length c) (first_room : code_of p.first < length lists) (second_room : code_of p.second < length lists)
-      (units' : List ℕ) (units_are : (i : ℕ) → has_number units' i ≡ ((eqb (length c) 1 && eqb m i) || has_number units i))
+      (units' : List ℕ) (units_are : (i : ℕ) → has_number units' i ≡ (has_number units i || (eqb (length c) 1 && eqb m i)))
       (w : IsWatched t c p (eqb (length c) 1) (eqb (length c) 0)) where
     abbrev v1 : Watch
     v1 = watch_of m p.second
@@ -174,12 +174,12 @@ module _ (n : ℕ) (t : List Assigned) (cs : List (List Literal)) (lists : List 
         (λ _. more_at (λ zs. has_clause zs m ≡ true) lists1 (code_of p.second) second1 (code_of p.second) v2 second1 (λ zs. more_has zs v2 m) (code_of p.first)
         (ap (λ zs. has_clause zs m) (get_or-set_same lists (code_of p.first) _ [] first_room) ∙ last_has (get_or lists (code_of p.first) []) m p.second))
         (λ _. ap (λ zs. has_clause zs m) (get_or-set_same lists1 (code_of p.second) _ [] second1) ∙ last_has (get_or lists1 (code_of p.second) []) m p.first)
-        (λ i h. units_are i ∙ or_right _ _ h)
+        (λ i h. units_are i ∙ or_left _ _ h)
         (λ i h. h)
-        (watched_more t c p _ _ _ _ (λ e. units_are m ∙ or_left _ _ (and_from _ _ e (eq-eqb m m refl))) (λ e. absurd (let x = eqb-true (length c) 0 e in omega arith)) w)
+        (watched_more t c p _ _ _ _ (λ e. units_are m ∙ or_right _ _ (and_from _ _ e (eq-eqb m m refl))) (λ e. absurd (let x = eqb-true (length c) 0 e in omega arith)) w)
         (λ i h. ⊎_elim
-        (λ e. let parts : (eqb (length c) 1 ≡ true) × (eqb m i ≡ true) = and_parts _ _ e in inr (sym (eqb-true m i parts.1), p.first, single_but t c p.first (eqb-true (length c) 1 parts.0) (w.first_in pos)))
         (λ e. inl e)
+        (λ e. let parts : (eqb (length c) 1 ≡ true) × (eqb m i ≡ true) = and_parts _ _ e in inr (sym (eqb-true m i parts.1), p.first, single_but t c p.first (eqb-true (length c) 1 parts.0) (w.first_in pos)))
         (or_cases _ _ (sym (units_are i) ∙ h)))
         (falsified_before falsified before.falsified_is)
 

@@ -1,9 +1,11 @@
--- The numbers of a heap.
-use Rattle.std.proofs.Common.{◌≡◌, ℕ, ◌||◌, eqb, List, [], ◌∷◌, map, refl, ap}
-use Rattle.std.specs.List.{list_any}
-use Rattle.std.specs.declared.cmp.Reverse.{Reverse}
+-- One more number in a list, and one less.
+use Rattle.std.proofs.Common.{◌≡◌, ℕ, ◌||◌, Bool, true, false, eqb, List, [], ◌∷◌, ◌++◌, refl, sym, ap, ◌∙◌}
+use Rattle.std.proofs.lemmas.List.Folds.{list_any-append}
 use Rattle.clause_solver.specs.Watching.{has_number}
 
-pub numbers_has : (rs : List (Reverse ℕ)) (i : ℕ) → has_number (map (λ r. r.0) rs) i ≡ list_any (λ r. eqb r.0 i) rs
-numbers_has [] i = refl
-numbers_has (r ∷ rs) i = ap (λ b. eqb r.0 i || b) (numbers_has rs i)
+or_false : (b : Bool) → (b || false) ≡ b
+or_false true = refl
+or_false false = refl
+
+pub number_more : (xs ys : List ℕ) (x i : ℕ) → ys ≡ xs ++ x ∷ [] → has_number ys i ≡ (has_number xs i || eqb x i)
+number_more xs ys x i e = ap (λ zs. has_number zs i) e ∙ list_any-append (λ m. eqb m i) xs (x ∷ []) ∙ ap (λ b. has_number xs i || b) (or_false (eqb x i))

@@ -155,16 +155,16 @@ module _ (n : ℕ) (t : List Assigned) (cs : List (List Literal)) (lists : List 
 
     -- no other literal is open but perhaps the other one
     module _ (only : AllFalseBut t other c) where
-      pub visited_unit : is_false t other ≡ false → (units' : List ℕ) → ((i : ℕ) → has_number units' i ≡ (eqb j i || has_number units i)) → IsWatching n t cs (set lists (code_of f) ((kept ++ watch_of j other ∷ []) ++ rest)) pairs units' falsified f rest
+      pub visited_unit : is_false t other ≡ false → (units' : List ℕ) → ((i : ℕ) → has_number units' i ≡ (has_number units i || eqb j i)) → IsWatching n t cs (set lists (code_of f) ((kept ++ watch_of j other ∷ []) ++ rest)) pairs units' falsified f rest
       visited_unit free units' are =
           looked_kept n t cs lists pairs units falsified f kept rest j b low before units' falsified other
-          (λ i h. are i ∙ or_right _ _ h) (λ i e. e)
-          (turn_watched t c f other p beside (has_number units' j) q (looked_unit t c f current other (has_number units' j) q known free (half_more t c _ u q (has_number units' j) q f (λ h. are j ∙ or_right _ _ h) (λ h. h) half)))
-          (λ i h. ⊎_elim (λ e. let same : j ≡ i = eqb-true j i e in (subst (λ m. m < length cs) same watch.within, other, subst (λ m. AllFalseBut t other (get_or cs m [])) same only)) (λ e. before.units_are i e) (or_cases (eqb j i) (has_number units i) (sym (are i) ∙ h)))
+          (λ i h. are i ∙ or_left _ _ h) (λ i e. e)
+          (turn_watched t c f other p beside (has_number units' j) q (looked_unit t c f current other (has_number units' j) q known free (half_more t c _ u q (has_number units' j) q f (λ h. are j ∙ or_left _ _ h) (λ h. h) half)))
+          (λ i h. ⊎_elim (λ e. before.units_are i e) (λ e. let same : j ≡ i = eqb-true j i e in (subst (λ m. m < length cs) same watch.within, other, subst (λ m. AllFalseBut t other (get_or cs m [])) same only)) (or_cases (has_number units i) (eqb j i) (sym (are i) ∙ h)))
           before.falsified_is other_in
         where
           known : has_number units' j ≡ true
-          known = are j ∙ or_left _ _ (eq-eqb j j refl)
+          known = are j ∙ or_right _ _ (eq-eqb j j refl)
 
       pub visited_falsified : is_false t other ≡ true → IsWatching n t cs (set lists (code_of f) ((kept ++ watch_of j other ∷ []) ++ rest)) pairs units (lowest falsified j) f rest
       visited_falsified false_now =

@@ -1,6 +1,5 @@
 -- What is kept of the clauses, as plain data.
 use Rattle.std.specs.Prelude.{ℕ, List, [], map}
-use Rattle.std.specs.BinaryHeap.{heap_items}
 use Rattle.cqe_base.specs.Literal.{Literal, Positive}
 use Rattle.cqe_base.specs.Machine.{Assigned}
 use Rattle.clause_solver.specs.declared.watches.Watch.{Watch}
@@ -13,7 +12,7 @@ lists_of w = map (λ v. v.items) w.lists.items
 
 -- the numbers of the clauses that may be unit
 abbrev pub units_of : Watches → List ℕ
-units_of w = map (λ r. r.0) (heap_items w.units)
+units_of w = w.units.items
 
 -- all watches of false literals were looked at
 abbrev pub AreWatches : ℕ → List Assigned → Watches → Type 0

@@ -17,7 +17,6 @@ use clause_store::clauses::Clauses;
 use clause_store::literal::Lit;
 use clause_store::refutation::Line;
 use std::alloc::{AllocError, Global};
-use std::cmp::Reverse;
 
 /// The given and the learnt clauses, the trail, and the lines so far, with what is kept of them.
 #[derive(Drop)]
@@ -113,12 +112,12 @@ impl Indexed {
         ensures free { IfSome result (λ u. is_assigned self.old.assignment.trail (variable_of u.1) ≡ false) }
         ensures same { self.new ≡ self.old }
     {
-        while let Some(Reverse(number)) = self.watches.units.peek().copied() {
-            let number = number as usize;
+        while let Some(place) = self.watches.least_unit() {
+            let number = self.watches.units[place] as usize;
             if let Some(literal) = open_literal(&self.assignment, self.clauses.clause(number)) {
                 return Some((number, literal));
             }
-            let _satisfied = self.watches.units.pop();
+            self.watches.drop_unit(place);
         }
         None
     }

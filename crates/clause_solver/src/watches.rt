@@ -14,8 +14,6 @@ use crate::codes::code;
 use clause_store::clauses::Clauses;
 use clause_store::literal::Lit;
 use std::alloc::{AllocError, Global};
-use std::cmp::Reverse;
-use std::collections::BinaryHeap;
 use std::mem;
 
 /// The two literals of a clause that are watched, twice the same where it has only one.
@@ -42,7 +40,7 @@ pub struct Watches {
     /// The clauses with the literals of the lowest variables first, which are the least likely to change.
     pub sorted: Clauses,
     /// Each unit clause is among them; others have a true literal since.
-    pub units: BinaryHeap<Reverse<u32>>,
+    pub units: Vec<u32>,
     /// The least falsified clause.
     pub falsified: Option<u32>,
 }
@@ -68,7 +66,7 @@ impl Watches {
             lists: empty_lists(alloc, variables)?,
             pairs: Vec::new(alloc),
             sorted: Clauses::new(alloc),
-            units: BinaryHeap::new(alloc),
+            units: Vec::new(alloc),
             falsified: None,
         })
     }
@@ -103,7 +101,7 @@ impl Watches {
 
     /// A clause may be unit, where this is so.
     fn add_unit(&mut self, clause: u32, unit: bool) -> Result<(), AllocError>
-        ensures units { IfOk result (λ _. (i : ℕ) → has_number (units_of self.new) i ≡ ((unit && (clause == i)) || has_number (units_of self.old) i)) }
+        ensures units { IfOk result (λ _. (i : ℕ) → has_number (units_of self.new) i ≡ (has_number (units_of self.old) i || (unit && (clause == i)))) }
         ensures lists { self.new.lists ≡ self.old.lists }
         ensures pairs { self.new.pairs ≡ self.old.pairs }
         ensures sorted { self.new.sorted ≡ self.old.sorted }
@@ -112,7 +110,7 @@ impl Watches {
         if !unit {
             return Ok(());
         }
-        self.units.push(Reverse(clause))?;
+        self.units.push(clause)?;
         Ok(())
     }
 
@@ -233,9 +231,31 @@ impl Watches {
         if assignment.is_false(literal) {
             lower(&mut self.falsified, clause);
         } else {
-            self.units.push(Reverse(clause))?;
+            self.units.push(clause)?;
         }
         Ok(())
+    }
+
+    /// The place of the least clause among those that may be unit.
+    pub fn least_unit(&self) -> Option<usize>
+        ensures least { IfSome result (λ k. (k < length (units_of self.now)) × ((j : ℕ) → j < length (units_of self.now) → slice_index_or (units_of self.now) k 0 ≤ slice_index_or (units_of self.now) j 0)) }
+        ensures none { IfNone result (units_of self.now ≡ []) }
+    {
+        least_place(&self.units)
+    }
+
+    /// The clause at a place isn't unit.
+    pub fn drop_unit(&mut self, place: usize)
+        requires { place < length (units_of self.old) }
+        ensures fewer { (i : ℕ) → has_number (units_of self.new) i ≡ true → has_number (units_of self.old) i ≡ true }
+        ensures others { (i : ℕ) → (i ≡ slice_index_or (units_of self.old) place 0 → ⊥) → has_number (units_of self.old) i ≡ true → has_number (units_of self.new) i ≡ true }
+        ensures lists { self.new.lists ≡ self.old.lists }
+        ensures pairs { self.new.pairs ≡ self.old.pairs }
+        ensures sorted { self.new.sorted ≡ self.old.sorted }
+        ensures falsified { self.new.falsified ≡ self.old.falsified }
+        ensures shorter { length (units_of self.new) < length (units_of self.old) }
+    {
+        let _number = self.units.remove(place);
     }
 
     /// No clause is unit or falsified.
@@ -249,6 +269,23 @@ impl Watches {
         self.units.clear();
         self.falsified = None;
     }
+}
+
+/// The place of the least number.
+fn least_place(numbers: &[u32]) -> Option<usize>
+    ensures least { IfSome result (λ k. (k < length numbers.now) × ((j : ℕ) → j < length numbers.now → slice_index_or numbers.now k 0 ≤ slice_index_or numbers.now j 0)) }
+    ensures none { IfNone result (numbers.now ≡ []) }
+{
+    if numbers.is_empty() {
+        return None;
+    }
+    let mut least = 0;
+    for i in 1..numbers.len() {
+        if numbers[i] < numbers[least] {
+            least = i;
+        }
+    }
+    Some(least)
 }
 
 /// The watched literal beside this one, where that is watched.
