@@ -1,13 +1,14 @@
 // The state of the machine with the counts and sets of its clauses.
 
-ghost use Rattle.std.specs.Prelude.{◌≡◌, ◌<◌, ◌≤◌, ◌^◌, ◌+◌, ℕ, false, [], ◌∷◌, ◌++◌, length, map, take, IfOk, IfSome, not, count_by};
+ghost use Rattle.std.specs.Prelude.{◌≡◌, ◌⊎◌, ◌<◌, ◌≤◌, ◌^◌, ◌+◌, ◌==◌, ℕ, true, false, [], ◌∷◌, ◌++◌, length, map, Some, None, IfOk, IfSome, IfNone, not, if◌then◌else◌};
 ghost use Rattle.std.specs.List.{position_from, list_all, find};
 ghost use Rattle.std.specs.Option.{option_map};
-ghost use Rattle.cqe_base.specs.Literal.{Literal, variable_of, opposite, ClauseBelow, ClausesBelow};
-ghost use Rattle.cqe_base.specs.Machine.{Assigned, assigned_literal, is_true, is_false, first_unit, first_unassigned, cut, start};
-ghost use Rattle.clause_solver.specs.Assigning.{is_assigned, code_of};
-ghost use Rattle.clause_solver.specs.Tallying.{tally_of};
-ghost use Rattle.clause_solver.specs.IndexedStates.{plain_of, IsIndexed};
+ghost use Rattle.cqe_base.specs.Literal.{Literal, variable_of, ClauseBelow};
+ghost use Rattle.cqe_base.specs.Machine.{Assigned, assigned_literal, is_true, is_false, level, first_unit, cut, start};
+ghost use Rattle.clause_solver.specs.Assigning.{is_assigned};
+ghost use Rattle.clause_solver.specs.Watching.{IsWatched};
+ghost use Rattle.clause_solver.specs.WatchesInside.{units_of};
+ghost use Rattle.clause_solver.specs.IndexedStates.{plain_of, IsLookedAt, IsIndexed};
 
 use crate::assignment::Assignment;
 use crate::entry::Entry;
@@ -46,7 +47,7 @@ impl Indexed {
         })
     }
 
-    /// One more clause, whose number is below 2^32.
+    /// One more clause, whose number is below 2^32, with the literals that it watches.
     pub fn enter(
         &mut self,
         alloc: Global,
@@ -56,36 +57,41 @@ impl Indexed {
     ) -> Result<(), AllocError>
         requires below { ClauseBelow self.old.assignment.variables clause.now }
         requires room { length self.old.clauses < 2 ^ 32 }
-        requires indexed { IsIndexed self.old }
+        requires watched { IsWatched self.old.assignment.trail clause.now (record { first = first; second = second }) (length clause.now == 1) (length clause.now == 0) }
+        requires looked { IsLookedAt self.old }
         ensures plain { IfOk result (λ _. plain_of self.new ≡ record (plain_of self.old) { clauses = self.old.clauses ++ clause.now ∷ [] }) }
         ensures variables { self.new.assignment.variables ≡ self.old.assignment.variables }
-        ensures indexed { IfOk result (λ _. IsIndexed self.new) }
+        ensures looked { IfOk result (λ _. IsLookedAt self.new) }
     {
         self.clauses.push(clause)?;
         self.watches.enter(alloc, clause, first, second)?;
         Ok(())
     }
 
-    /// A literal joins the trail.
+    /// A literal joins the trail. Where that raises the level, no clause may be unit or falsified.
     pub fn assign(&mut self, entry: Entry) -> Result<(), AllocError>
         requires below { variable_of (assigned_literal entry) < self.old.assignment.variables }
         requires free { is_assigned self.old.assignment.trail (variable_of (assigned_literal entry)) ≡ false }
-        requires indexed { IsIndexed self.old }
+        requires steady { (level (entry ∷ self.old.assignment.trail) ≡ level self.old.assignment.trail) ⊎ ((units_of self.old.watches ≡ []) × (self.old.watches.falsified ≡ None)) }
+        requires looked { IsLookedAt self.old }
         ensures plain { IfOk result (λ _. plain_of self.new ≡ record (plain_of self.old) { trail = entry ∷ self.old.assignment.trail }) }
         ensures variables { IfOk result (λ _. self.new.assignment.variables ≡ self.old.assignment.variables) }
-        ensures indexed { IfOk result (λ _. IsIndexed self.new) }
+        ensures looked { IfOk result (λ _. IsLookedAt self.new) }
     {
         let literal = entry.literal();
         self.assignment.push(entry)?;
-        self.watches.visit_all(&self.assignment, literal.opposite())
+        self.watches
+            .visit_all(&self.assignment, literal.opposite())?;
+        Ok(())
     }
 
-    /// Cuts the trail to a level.
+    /// Cuts the trail to a lower level.
     pub fn cut(&mut self, k: usize)
-        requires { IsIndexed self.old }
+        requires lower { k < level self.old.assignment.trail }
+        requires looked { IsLookedAt self.old }
         ensures plain { plain_of self.new ≡ record (plain_of self.old) { trail = cut k self.old.assignment.trail } }
         ensures variables { self.new.assignment.variables ≡ self.old.assignment.variables }
-        ensures indexed { IsIndexed self.new }
+        ensures looked { IsLookedAt self.new }
     {
         while self.assignment.level() > k {
             let _entry = self.assignment.pop();
@@ -94,23 +100,32 @@ impl Indexed {
     }
 
     /// The first clause with only false literals.
-    pub fn first_conflict(&mut self) -> Option<usize>
-        requires { IsIndexed self.old }
-        ensures first { result ≡ position_from (list_all (is_false self.old.assignment.trail)) 0 self.old.clauses }
-        ensures number { IfSome result (λ i. i < length self.old.clauses) }
-        ensures same { self.new ≡ self.old }
+    pub fn first_conflict(&self) -> Option<usize>
+        requires { IsIndexed self.now }
+        ensures first { result ≡ position_from (list_all (is_false self.now.assignment.trail)) 0 self.now.clauses }
+        ensures number { IfSome result (λ i. i < length self.now.clauses) }
+        ensures none { IfNone result (self.now.watches.falsified ≡ None) }
     {
-        Some(self.watches.falsified? as usize)
+        match self.watches.falsified {
+            Some(number) => Some(number as usize),
+            None => None,
+        }
     }
 
-    /// The first clause with no true literal and one that isn't false, with that literal.
+    /// The first clause with no true literal and one that isn't false, with that literal, where no clause is falsified.
     pub fn first_unit(&mut self) -> Option<(usize, Lit)>
-        requires { IsIndexed self.old }
+        requires none { self.old.watches.falsified ≡ None }
+        requires indexed { IsIndexed self.old }
         ensures first { option_map (λ u. (u.0, u.1)) result ≡ first_unit self.old.assignment.trail 0 self.old.clauses }
         ensures number { IfSome result (λ u. u.0 < length self.old.clauses) }
         ensures below { IfSome result (λ u. variable_of u.1 < self.old.assignment.variables) }
         ensures free { IfSome result (λ u. is_assigned self.old.assignment.trail (variable_of u.1) ≡ false) }
-        ensures same { self.new ≡ self.old }
+        ensures assignment { self.new.assignment ≡ self.old.assignment }
+        ensures clauses { self.new.clauses ≡ self.old.clauses }
+        ensures lines { self.new.lines ≡ self.old.lines }
+        ensures indexed { IsIndexed self.new }
+        ensures falsified { self.new.watches.falsified ≡ None }
+        ensures none { IfNone result (units_of self.new.watches ≡ []) }
     {
         while let Some(place) = self.watches.least_unit() {
             let number = self.watches.units[place] as usize;
@@ -124,7 +139,10 @@ impl Indexed {
 }
 
 /// The first literal of a clause that isn't false, unless it is true.
-fn open_literal(assignment: &Assignment, clause: &[Lit]) -> Option<Lit> {
+fn open_literal(assignment: &Assignment, clause: &[Lit]) -> Option<Lit>
+    ensures open_literal { IfSome result (λ l. (find (λ m. not (is_false assignment.now.trail m)) clause.now ≡ Some l) × (is_true assignment.now.trail l ≡ false)) }
+    ensures none { IfNone result ((l : Literal) → find (λ m. not (is_false assignment.now.trail m)) clause.now ≡ Some l → is_true assignment.now.trail l ≡ true) }
+{
     let literal = clause.iter().copied().find(|l| !assignment.is_false(*l))?;
     if assignment.is_true(literal) {
         None

@@ -1,12 +1,14 @@
 // The rules of the machine on the state with its counts.
 
-ghost use Rattle.std.specs.Prelude.{◌≡◌, ◌<◌, ◌≤◌, ◌^◌, ◌+◌, ℕ, false, [], ◌∷◌, ◌++◌, length, map, IfOk, IfSome};
-ghost use Rattle.cqe_base.specs.Literal.{Literal, Negative, variable_of, ClauseBelow};
-ghost use Rattle.cqe_base.specs.Machine.{State as PlainState, state_after_conflict, step, with_asserted, level, signs_of, conflict_step, decide_step, first_unassigned, unit_step, first_unit};
+ghost use Rattle.std.specs.Prelude.{◌≡◌, ◌⊎◌, ◌<◌, ◌≤◌, ◌^◌, ◌+◌, ℕ, [], ◌∷◌, ◌++◌, length, map, Some, None, IfOk, IfSome};
+ghost use Rattle.std.specs.List.{position_from, list_all};
+ghost use Rattle.cqe_base.specs.Literal.{Literal, Negative, variable_of};
+ghost use Rattle.cqe_base.specs.Machine.{State as PlainState, state_after_conflict, step, level, level_of, is_false, signs_of, conflict_step, decide_step, first_unassigned, unit_step, first_unit};
+ghost use Rattle.cqe_base.proofs.Analysis.{Walked};
 ghost use Rattle.clause_store.specs.PlainLines.{line_of};
-ghost use Rattle.clause_solver.specs.Assigning.{is_assigned};
 ghost use Rattle.clause_solver.specs.PlainStates.{StepIs};
-ghost use Rattle.clause_solver.specs.IndexedStates.{plain_of, IsIndexed};
+ghost use Rattle.clause_solver.specs.WatchesInside.{units_of};
+ghost use Rattle.clause_solver.specs.IndexedStates.{plain_of, IsIndexed, IsHighestBeside};
 
 use crate::analysis::{back_level, conflict_line, first_current};
 use crate::assignment::Assignment;
@@ -18,7 +20,9 @@ use clause_store::refutation::{Line, Signs};
 use std::alloc::{AllocError, Global};
 
 /// A literal of the highest level beside one, or that one where there is no other.
-fn highest_beside(assignment: &Assignment, clause: &[Lit], literal: Lit) -> Lit {
+fn highest_beside(assignment: &Assignment, clause: &[Lit], literal: Lit) -> Lit
+    ensures { IsHighestBeside assignment.now.trail clause.now literal result }
+{
     let mut highest = literal;
     for other in clause {
         highest = higher_beside(assignment, literal, highest, *other);
@@ -27,7 +31,11 @@ fn highest_beside(assignment: &Assignment, clause: &[Lit], literal: Lit) -> Lit 
 }
 
 /// The higher one of two literals, where each is another one than the first.
-fn higher_beside(assignment: &Assignment, literal: Lit, highest: Lit, other: Lit) -> Lit {
+fn higher_beside(assignment: &Assignment, literal: Lit, highest: Lit, other: Lit) -> Lit
+    ensures either { (result ≡ highest) ⊎ (result ≡ other) }
+    ensures higher { (other ≡ literal) ⊎ ((result ≡ literal → ⊥) × (level_of assignment.now.trail other ≤ level_of assignment.now.trail result)) }
+    ensures kept { (highest ≡ literal) ⊎ ((result ≡ literal → ⊥) × (level_of assignment.now.trail highest ≤ level_of assignment.now.trail result)) }
+{
     if other.is(literal)
         || !highest.is(literal) && assignment.level_of(other) <= assignment.level_of(highest)
     {
@@ -41,7 +49,7 @@ fn higher_beside(assignment: &Assignment, literal: Lit, highest: Lit, other: Lit
 fn learn(alloc: Global, state: &mut Indexed, line: Line) -> Result<(), AllocError>
     requires room { length state.old.clauses < 2 ^ 32 }
     requires level { 0 < level state.old.assignment.trail }
-    requires below { ClauseBelow state.old.assignment.variables line.clause.items }
+    requires walked { Walked state.old.assignment.variables state.old.assignment.trail 1 line.clause.items }
     requires indexed { IsIndexed state.old }
     ensures plain { IfOk result (λ _. plain_of state.new ≡ state_after_conflict (plain_of state.old) (line_of line)) }
     ensures variables { IfOk result (λ _. state.new.assignment.variables ≡ state.old.assignment.variables) }
@@ -63,6 +71,7 @@ fn learn(alloc: Global, state: &mut Indexed, line: Line) -> Result<(), AllocErro
 /// The first rule, at the clause of this number.
 fn conflict_step(alloc: Global, state: &mut Indexed, number: usize) -> Result<Advance, AllocError>
     requires number { number < length state.old.clauses }
+    requires conflict { position_from (list_all (is_false state.old.assignment.trail)) 0 state.old.clauses ≡ Some number }
     requires room { length state.old.clauses < 2 ^ 32 }
     requires indexed { IsIndexed state.old }
     ensures step { IfOk result (λ a. StepIs (conflict_step (plain_of state.old) number) a (plain_of state.new)) }
@@ -101,6 +110,10 @@ fn signs_of(alloc: Global, assignment: &Assignment, variables: u32) -> Result<Ve
 /// The third rule, or else the fourth.
 fn decide_step(alloc: Global, state: &mut Indexed, variables: u32) -> Result<Advance, AllocError>
     requires variables { variables < 2 ^ 31 }
+    requires no_conflict { position_from (list_all (is_false state.old.assignment.trail)) 0 state.old.clauses ≡ None }
+    requires no_unit { first_unit state.old.assignment.trail 0 state.old.clauses ≡ None }
+    requires no_units { units_of state.old.watches ≡ [] }
+    requires no_falsified { state.old.watches.falsified ≡ None }
     requires same { state.old.assignment.variables ≡ variables }
     requires indexed { IsIndexed state.old }
     ensures step { IfOk result (λ a. StepIs (decide_step variables (plain_of state.old) (first_unassigned state.old.assignment.trail variables)) a (plain_of state.new)) }
@@ -123,6 +136,8 @@ fn decide_step(alloc: Global, state: &mut Indexed, variables: u32) -> Result<Adv
 /// The second rule, or else the others.
 fn unit_step(alloc: Global, state: &mut Indexed, variables: u32) -> Result<Advance, AllocError>
     requires variables { variables < 2 ^ 31 }
+    requires no_conflict { position_from (list_all (is_false state.old.assignment.trail)) 0 state.old.clauses ≡ None }
+    requires no_falsified { state.old.watches.falsified ≡ None }
     requires same { state.old.assignment.variables ≡ variables }
     requires room { length state.old.clauses < 2 ^ 32 }
     requires indexed { IsIndexed state.old }
