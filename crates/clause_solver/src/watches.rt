@@ -223,7 +223,7 @@ impl Watches {
     /// No literal of a clause is open but perhaps this one: it is unit or falsified.
     fn note(&mut self, assignment: &Assignment, clause: u32, literal: Lit) -> Result<(), AllocError>
         ensures caught { is_false assignment.now.trail literal ≡ true → (self.new.falsified ≡ lowest self.old.falsified clause) × (units_of self.new ≡ units_of self.old) }
-        ensures unit { IfOk result (λ _. is_false assignment.now.trail literal ≡ false → (self.new.falsified ≡ self.old.falsified) × ((i : ℕ) → has_number (units_of self.new) i ≡ ((clause == i) || has_number (units_of self.old) i))) }
+        ensures unit { IfOk result (λ _. is_false assignment.now.trail literal ≡ false → (self.new.falsified ≡ self.old.falsified) × ((i : ℕ) → has_number (units_of self.new) i ≡ (has_number (units_of self.old) i || (clause == i)))) }
         ensures lists { self.new.lists ≡ self.old.lists }
         ensures pairs { self.new.pairs ≡ self.old.pairs }
         ensures sorted { self.new.sorted ≡ self.old.sorted }
