@@ -114,10 +114,10 @@ unit_nowhere t (c ∷ cs) s h =
 
 -- ---- an open literal of a clause whose other literals are false
 
-abbrev not_false : List Assigned → Literal → Bool
+abbrev pub not_false : List Assigned → Literal → Bool
 not_false t l = not (is_false t l)
 
-found_open : (t : List Assigned) (c : List Literal) (l : Literal) → find (not_false t) c ≡ Some l → (has_literal c l ≡ true) × (is_false t l ≡ false)
+pub found_open : (t : List Assigned) (c : List Literal) (l : Literal) → find (not_false t) c ≡ Some l → (has_literal c l ≡ true) × (is_false t l ≡ false)
 found_open t [] l h = absurd (let x : ⊥ = cc in x)
 found_open t (x ∷ c) l h = step (not_false t x) refl (λ e. found_open t c l e) h
   where
@@ -125,7 +125,7 @@ found_open t (x ∷ c) l h = step (not_false t x) refl (λ e. found_open t c l e
     step true e go h = let same : x ≡ l = cc in (or_left _ _ (subst (λ y. same_literal l y ≡ true) (sym same) (same_literal-same l)), subst (λ y. is_false t y ≡ false) same (not-true _ e))
     step false e go h = let r = go h in (or_right _ _ r.0, r.1)
 
-none_open : (t : List Assigned) (c : List Literal) → find (not_false t) c ≡ None → list_all (is_false t) c ≡ true
+pub none_open : (t : List Assigned) (c : List Literal) → find (not_false t) c ≡ None → list_all (is_false t) c ≡ true
 none_open t [] h = refl
 none_open t (x ∷ c) h = step (is_false t x) refl (λ e. none_open t c e) h
   where
@@ -222,7 +222,7 @@ module _ (n : ℕ) (t : List Assigned) (d : IsDistinct n t) (cs ds : List (List 
     no_unit_clause e = unit_nowhere t cs 0 (λ k lt. no_unit k lt (ap (λ us. has_number us k) e))
 
     module _ (repeat : HaveNoRepeat cs) (i : ℕ) (has : has_number units i ≡ true) (least : (k : ℕ) → has_number units k ≡ true → i ≤ k) where
-      unit_within : i < length cs
+      pub unit_within : i < length cs
       unit_within = let a = (w.units_are i has).0 in let r = same.room in omega arith
 
       only : (m : Literal) → has_literal (get_or cs i []) m ≡ true → (m ≡ (w.units_are i has).1) ⊎ (is_false t m ≡ true)

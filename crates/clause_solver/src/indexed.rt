@@ -143,10 +143,20 @@ fn open_literal(assignment: &Assignment, clause: &[Lit]) -> Option<Lit>
     ensures open_literal { IfSome result (λ l. (find (λ m. not (is_false assignment.now.trail m)) clause.now ≡ Some l) × (is_true assignment.now.trail l ≡ false)) }
     ensures none { IfNone result ((l : Literal) → find (λ m. not (is_false assignment.now.trail m)) clause.now ≡ Some l → is_true assignment.now.trail l ≡ true) }
 {
-    let literal = clause.iter().copied().find(|l| !assignment.is_false(*l))?;
-    if assignment.is_true(literal) {
-        None
-    } else {
-        Some(literal)
+    match first_open(assignment, clause) {
+        Some(literal) => {
+            if assignment.is_true(literal) {
+                return None;
+            }
+            Some(literal)
+        }
+        None => None,
     }
+}
+
+/// The first literal of a clause that isn't false.
+fn first_open(assignment: &Assignment, clause: &[Lit]) -> Option<Lit>
+    ensures { result ≡ find (λ l. not (is_false assignment.now.trail l)) clause.now }
+{
+    clause.iter().copied().find(|l| !assignment.is_false(*l))
 }
