@@ -1,6 +1,7 @@
 -- The literals that a learnt clause watches, and those of a given one.
-use Rattle.std.proofs.Common.{◌≡◌, ℕ, ◌<◌, ◌≤◌, Bool, true, false, cond, eqb, List, [], ◌∷◌, length, Some, refl, sym, ap, ◌∙◌, subst, inl, inr, ⊎_elim, ◌⊎◌, arith}
+use Rattle.std.proofs.Common.{◌≡◌, ℕ, ◌<◌, ◌≤◌, Bool, true, false, cond, ◌||◌, eqb, List, [], ◌∷◌, ◌++◌, length, Some, refl, sym, ap, ◌∙◌, subst, inl, inr, ⊎_elim, ◌⊎◌, arith}
 use Rattle.std.proofs.lemmas.Bool.{both_ways, cases_lt, or_cases, or_left, or_right, eq-eqb, ne_eqb}
+use Rattle.std.proofs.lemmas.List.Folds.{list_any-append}
 use Rattle.cqe_base.specs.Literal.{Literal, Positive, variable_of, opposite, same_literal, has_literal, HasNoRepeat}
 use Rattle.cqe_base.specs.Machine.{Assigned, Because, assigned_literal, is_true, is_false, level, level_of, cut}
 use Rattle.cqe_base.proofs.ClauseTruth.{same_literal-true, same_literal-same, variable_of-opposite}
@@ -68,6 +69,23 @@ module _ (n num k : ℕ) (t : List Assigned) (c : List Literal) (l m : Literal) 
     ]));
     empty = λ none. let pos = not_empty c l g.has in absurd (omega arith);
   }
+
+-- one more literal beside another one
+pub beside_more : (t : List Assigned) (c : List Literal) (l h o r : Literal) → IsHighestBeside t c l h → (r ≡ h) ⊎ (r ≡ o) → (o ≡ l) ⊎ ((r ≡ l → ⊥) × (level_of t o ≤ level_of t r)) → (h ≡ l) ⊎ ((r ≡ l → ⊥) × (level_of t h ≤ level_of t r)) → IsHighestBeside t (c ++ o ∷ []) l r
+beside_more t c l h o r v either higher kept = record {
+  inside = ⊎_elim
+      (λ e. ⊎_elim (λ s. inl (e ∙ s)) (λ s. inr (has_more r (or_left _ _ (ap (has_literal c) e ∙ s)))) v.inside)
+      (λ e. inr (has_more r (or_right _ _ (or_left _ _ (subst (λ x. same_literal r x ≡ true) e (same_literal-same r))))))
+      either;
+  highest = λ x has. ⊎_elim
+      (λ e. ⊎_elim (λ s. inl s) (λ s. ⊎_elim (λ z. absurd (s.0 z)) (λ z. let a = s.1 in let b = z.1 in inr (z.0, omega arith)) kept) (v.highest x e))
+      (λ e. let same = same_literal-true x o (⊎_elim (λ y. y) (λ y. absurd (both_ways false refl y)) (or_cases (same_literal x o) false e)) in
+      ⊎_elim (λ s. inl (same ∙ s)) (λ s. inr (s.0, subst (λ y. level_of t y ≤ level_of t r) (sym same) s.1)) higher)
+      (or_cases _ _ (sym (list_any-append (same_literal x) c (o ∷ [])) ∙ has));
+}
+  where
+    has_more : (x : Literal) → (has_literal c x || has_literal (o ∷ []) x) ≡ true → has_literal (c ++ o ∷ []) x ≡ true
+    has_more x h = list_any-append (same_literal x) c (o ∷ []) ∙ h
 
 -- a clause is watched by its first two literals where nothing is assigned
 pub given_watched : (c : List Literal) → HasNoRepeat c → IsWatched [] c (record { first = (first_two c).0; second = (first_two c).1 }) (eqb (length c) 1) (eqb (length c) 0)
