@@ -147,8 +147,8 @@ fn unit_step(alloc: Global, state: &mut Indexed, variables: u32) -> Result<Advan
     ensures indexed { IfOk result (λ _. IsIndexed state.new) }
 {
     match state.first_unit() {
-        Some((number, literal)) => {
-            state.assign(Entry::because(number as u32, literal))?;
+        Some(unit) => {
+            state.assign(Entry::because(unit.0 as u32, unit.1))?;
             Ok(Advance::Went(1))
         }
         None => decide_step(alloc, state, variables),

@@ -12,11 +12,10 @@ returns-in_ok-assign-in-Some-clause-indexed c =
     let n = s.assignment.variables in
     let u = c.in-Some.ensures in
     let e = c.in_ok-assign-in-Some.ensures in
-    let plain : plain_of c.assign.new.self ≡ record { clauses = s.clauses; trail = Because c.in-Some.number c.in-Some.literal ∷ s.assignment.trail; lines = map line_of s.lines.items } =
-    e.plain ∙ (λ i. record { clauses = u.clauses i; trail = (c.because.ensures ∙ ap (Because c.in-Some.number) (sym c.in-Some.literal-is)) i ∷ (u.assignment i).trail; lines = map line_of (u.lines i).items }) in
+    let plain = e.plain ∙ (λ i. record { clauses = u.clauses i; trail = c.because.ensures i ∷ (u.assignment i).trail; lines = map line_of (u.lines i).items }) in
     record {
       looked = e.looked;
       reached =
           subst (λ m. IsReached m (plain_of c.assign.new.self)) (sym (e.variables ∙ ap (λ a. a.variables) u.assignment))
-          (subst (IsReached n) (sym plain) (unit_reached n (plain_of s) (c.in-Some.number, c.in-Some.literal) c.requires.indexed.reached (sym u.first)));
+          (subst (IsReached n) (sym plain) (unit_reached n (plain_of s) c.in-Some.unit c.requires.indexed.reached (sym u.first)));
     }
