@@ -1,16 +1,16 @@
 -- One more clause among those that are watched.
-use Rattle.std.proofs.Common.{◌≡◌, ℕ, zero, suc, ◌+◌, ◌<◌, ◌≤◌, Bool, true, false, ◌&&◌, ◌||◌, eqb, List, [], ◌∷◌, ◌++◌, length, get_or, set, Option, Some, None, refl, sym, ap, ◌∙◌, subst, inl, inr, ⊎_elim, ◌⊎◌, arith}
+use Rattle.std.proofs.Common.{◌≡◌, ℕ, ◌+◌, ◌<◌, ◌≤◌, Bool, true, false, ◌&&◌, ◌||◌, eqb, List, [], ◌∷◌, ◌++◌, length, get_or, set, Option, Some, None, refl, sym, ap, ◌∙◌, subst, inl, inr, ⊎_elim, ◌⊎◌, arith}
 use Rattle.std.specs.Prelude.{IfSome}
-use Rattle.std.specs.List.{list_any, list_all, AllByRecursion}
+use Rattle.std.specs.List.{list_all, AllByRecursion}
 use Rattle.std.proofs.lemmas.Bool.{both_ways, cases_lt, or_cases, or_left, or_right, eq-eqb, eqb-true, and_parts, and_from}
 use Rattle.std.proofs.lemmas.List.{length_push, length-set, get_or_append_left, get_or_push, get_or_past, get_or-set_same}
 use Rattle.cqe_base.specs.Literal.{Literal, same_literal, has_literal, ClauseBelow, ClausesBelow}
-use Rattle.cqe_base.specs.Machine.{Assigned, is_true, is_false, level, level_of}
+use Rattle.cqe_base.specs.Machine.{Assigned, is_false, level}
 use Rattle.cqe_base.proofs.ClauseTruth.{same_literal-true}
 use Rattle.clause_solver.specs.declared.watches.Pair.{Pair}
 use Rattle.clause_solver.specs.declared.watches.Watch.{Watch}
 use Rattle.clause_solver.specs.Assigning.{code_of}
-use Rattle.clause_solver.specs.Watching.{HasTrue, IsAnswered, satisfied, is_unit, is_falsified, IsWatched, IsWatching, IsWatchOf, AllFalseBut, has_number, has_clause, is_caught, lowest, no_pair, HaveSameLiterals}
+use Rattle.clause_solver.specs.Watching.{IsAnswered, satisfied, is_unit, is_falsified, IsWatched, IsWatching, IsWatchOf, AllFalseBut, has_number, has_clause, is_caught, lowest, no_pair, HaveSameLiterals}
 use Rattle.clause_solver.proofs.Watching.{watched_more}
 use Rattle.clause_solver.proofs.Looks.{watch_of, more_at, more_has, more_all, last_has}
 use Rattle.clause_solver.proofs.Visits.{lowest_more, lowest_caught, lowest_is}

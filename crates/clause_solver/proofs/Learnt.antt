@@ -1,14 +1,13 @@
 -- The literals that a learnt clause watches, and those of a given one.
-use Rattle.std.proofs.Common.{◌≡◌, ℕ, zero, suc, get_or, ◌<◌, ◌≤◌, Bool, true, false, cond, ◌||◌, eqb, List, [], ◌∷◌, ◌++◌, length, Some, refl, sym, ap, ◌∙◌, subst, inl, inr, ⊎_elim, ◌⊎◌, arith}
-use Rattle.std.proofs.lemmas.Bool.{both_ways, cases_lt, or_cases, or_left, or_right, eq-eqb, ne_eqb}
+use Rattle.std.proofs.Common.{◌≡◌, ℕ, zero, suc, get_or, ◌<◌, ◌≤◌, true, false, cond, ◌||◌, eqb, List, [], ◌∷◌, ◌++◌, length, refl, sym, ap, ◌∙◌, subst, inl, inr, ⊎_elim, ◌⊎◌, arith}
+use Rattle.std.proofs.lemmas.Bool.{both_ways, cases_lt, or_cases, or_left, or_right, eq-eqb}
 use Rattle.std.proofs.lemmas.List.Folds.{list_any-append}
-use Rattle.cqe_base.specs.Literal.{Literal, Positive, variable_of, opposite, same_literal, has_literal, HasNoRepeat, HaveNoRepeat}
-use Rattle.cqe_base.specs.Machine.{Assigned, Because, assigned_literal, is_true, is_false, level, level_of, cut}
+use Rattle.cqe_base.specs.Literal.{Literal, variable_of, same_literal, has_literal, HasNoRepeat, HaveNoRepeat}
+use Rattle.cqe_base.specs.Machine.{Assigned, Because, is_true, is_false, level, level_of, cut}
 use Rattle.cqe_base.proofs.ClauseTruth.{same_literal-true, same_literal-same, variable_of-opposite}
 use Rattle.cqe_base.proofs.Trails.{IsDistinct, not_both, false_is_assigned, false_on_rest}
 use Rattle.cqe_base.proofs.Conflicts.{GoesBack, cut_distinct, cut_level, cut_suffix}
-use Rattle.clause_solver.specs.declared.watches.Pair.{Pair}
-use Rattle.clause_solver.specs.Watching.{HasTrue, IsAnswered, satisfied, is_unit, is_falsified, IsWatched}
+use Rattle.clause_solver.specs.Watching.{HasTrue, satisfied, is_unit, IsWatched}
 use Rattle.clause_solver.specs.IndexedStates.{IsHighestBeside, first_two}
 use Rattle.clause_solver.proofs.Visits.{not_empty}
 

@@ -1,16 +1,16 @@
 -- What the watched literals say of the falsified and of the unit clauses.
-use Rattle.std.proofs.Common.{◌≡◌, ℕ, zero, suc, ◌+◌, ◌<◌, ◌≤◌, Bool, true, false, cond, not, ◌||◌, eqb, leb, List, [], ◌∷◌, length, get_or, Option, Some, None, refl, sym, ap, ◌∙◌, subst, inl, inr, ⊎_elim, ◌⊎◌, arith}
-use Rattle.std.specs.Prelude.{IfSome, slice_index_or}
-use Rattle.std.specs.List.{list_any, list_all, find, filter, position_from, AllByRecursion}
-use Rattle.std.proofs.lemmas.Bool.{both_ways, or_parts, cases_eq, cases_lt, false_from_ne_true, true_from_ne_false, or_cases, or_left, or_right, and_parts, and_from, leb-true, not-true}
-use Rattle.cqe_base.specs.Literal.{Literal, variable_of, same_literal, has_literal, HasNoRepeat, HaveNoRepeat}
-use Rattle.cqe_base.specs.Machine.{Assigned, is_true, is_false, level, level_of, unit_literal, only_literal, first_unit, unit_or}
+use Rattle.std.proofs.Common.{◌≡◌, ℕ, zero, suc, ◌+◌, ◌<◌, ◌≤◌, Bool, true, false, cond, not, List, [], ◌∷◌, length, get_or, Option, Some, None, refl, sym, ap, ◌∙◌, subst, inl, inr, ⊎_elim, ◌⊎◌, arith}
+use Rattle.std.specs.Prelude.{IfSome}
+use Rattle.std.specs.List.{list_all, find, filter, position_from}
+use Rattle.std.proofs.lemmas.Bool.{both_ways, or_parts, cases_eq, cases_lt, false_from_ne_true, or_cases, or_left, or_right, and_parts, and_from, leb-true, not-true}
+use Rattle.cqe_base.specs.Literal.{Literal, same_literal, has_literal, HasNoRepeat, HaveNoRepeat}
+use Rattle.cqe_base.specs.Machine.{Assigned, is_true, is_false, level, unit_literal, only_literal, first_unit, unit_or}
 use Rattle.cqe_base.proofs.ClauseTruth.{same_literal-true, same_literal-same}
 use Rattle.cqe_base.proofs.Trails.{IsDistinct, not_both, true_is_assigned, level_of-le}
 use Rattle.cqe_base.proofs.MachineRules.{IsUnit, is_unit, each_has}
 use Rattle.clause_solver.specs.declared.watches.Pair.{Pair}
 use Rattle.clause_solver.specs.declared.watches.Watch.{Watch}
-use Rattle.clause_solver.specs.Watching.{HasTrue, IsAnswered, satisfied, is_unit as answered_unit, is_falsified, IsWatched, IsWatching, AllFalseBut, has_number, has_clause, is_caught, no_pair, HaveSameLiterals}
+use Rattle.clause_solver.specs.Watching.{HasTrue, IsAnswered, satisfied, is_unit as answered_unit, is_falsified, IsWatched, IsWatching, AllFalseBut, has_number, is_caught, no_pair, HaveSameLiterals}
 use Rattle.clause_solver.proofs.Watching.{watched_more}
 
 -- ---- literals of a clause

@@ -1,8 +1,8 @@
 -- What a look at one watch leaves, by what was found.
-use Rattle.std.proofs.Common.{◌≡◌, ℕ, zero, suc, ◌<◌, ◌≤◌, min, Bool, true, false, cond, not, ◌&&◌, ◌||◌, eqb, leb, List, [], ◌∷◌, ◌++◌, length, get_or, set, Option, Some, None, refl, sym, ap, ◌∙◌, subst, inl, inr, ⊎_elim, ◌⊎◌, arith}
+use Rattle.std.proofs.Common.{◌≡◌, ℕ, ◌<◌, ◌≤◌, min, Bool, true, false, cond, not, ◌&&◌, ◌||◌, eqb, List, [], ◌∷◌, ◌++◌, length, get_or, set, Option, Some, None, refl, sym, ap, ◌∙◌, subst, inl, inr, ⊎_elim, arith}
 use Rattle.std.specs.Prelude.{IfSome}
-use Rattle.std.specs.List.{find, filter, count_by, list_any, list_all, AllByRecursion}
-use Rattle.std.proofs.lemmas.Bool.{both_ways, cases_lt, or_cases, or_left, or_right, or_parts, eq-eqb, eqb-true, and_parts, and_from, not-true, le-leb, leb-true, true_from_ne_false}
+use Rattle.std.specs.List.{find, list_all}
+use Rattle.std.proofs.lemmas.Bool.{both_ways, cases_lt, or_cases, or_left, or_right, eq-eqb, eqb-true, and_parts, and_from, not-true, le-leb, leb-true}
 use Rattle.std.proofs.lemmas.List.Sums.{length-filter, count_by-le-length}
 use Rattle.cqe_base.specs.Literal.{Literal, same_literal, has_literal}
 use Rattle.cqe_base.specs.Machine.{Assigned, is_true, is_false, level, level_of}
@@ -12,8 +12,8 @@ use Rattle.cqe_base.proofs.Conflicts.{two_kept}
 use Rattle.clause_solver.specs.declared.watches.Pair.{Pair}
 use Rattle.clause_solver.specs.declared.watches.Watch.{Watch}
 use Rattle.clause_solver.specs.Assigning.{code_of}
-use Rattle.clause_solver.specs.Watching.{HasTrue, IsWatched, IsHalfWatched, IsWatching, IsWatchOf, WatchesBeside, AllFalseBut, has_number, has_clause, is_caught, lowest, no_pair}
-use Rattle.clause_solver.proofs.Watching.{which, watched_half, looked_true, looked_unit, looked_falsified, looked_moved, half_turned, watched_turned, half_more}
+use Rattle.clause_solver.specs.Watching.{IsWatched, IsHalfWatched, IsWatching, IsWatchOf, WatchesBeside, AllFalseBut, has_number, has_clause, is_caught, lowest, no_pair}
+use Rattle.clause_solver.proofs.Watching.{watched_half, looked_true, looked_unit, looked_falsified, looked_moved, half_turned, watched_turned, half_more}
 use Rattle.clause_solver.proofs.Looks.{watch_of, looked_watch, looked_kept, looked_gone, looked_stale}
 
 -- ---- the least falsified clause

@@ -1,11 +1,11 @@
 -- The watched literals of one clause: one more entry of the trail, a look at it, and a cut.
-use Rattle.std.proofs.Common.{◌≡◌, ℕ, suc, ◌<◌, ◌≤◌, Bool, true, false, cond, eqb, List, [], ◌∷◌, length, refl, sym, ap, ◌∙◌, subst, inl, inr, ⊎_elim, ◌⊎◌, arith}
-use Rattle.std.proofs.lemmas.Bool.{both_ways, false_from_ne_true, or_right, eq-eqb}
+use Rattle.std.proofs.Common.{◌≡◌, ℕ, ◌<◌, ◌≤◌, Bool, true, false, cond, List, ◌∷◌, length, refl, sym, ap, ◌∙◌, subst, inl, inr, ⊎_elim, ◌⊎◌, arith}
+use Rattle.std.proofs.lemmas.Bool.{both_ways, false_from_ne_true, or_right}
 use Rattle.cqe_base.specs.Literal.{Literal, Positive, variable_of, opposite, same_literal, has_literal}
 use Rattle.cqe_base.specs.Machine.{Assigned, assigned_literal, is_true, is_false, level, level_of, cut}
 use Rattle.cqe_base.proofs.ClauseTruth.{same_literal-true, same_literal-same, opposite-opposite, variable_of-opposite}
 use Rattle.cqe_base.proofs.Trails.{is_assigned, IsDistinct, true_is_assigned, false_is_assigned, other_variable, level_of-le, false_on_rest}
-use Rattle.cqe_base.proofs.Conflicts.{cut_true, cut_assigned, cut_level, cut_suffix, cut_false}
+use Rattle.cqe_base.proofs.Conflicts.{cut_true, cut_level, cut_suffix, cut_false}
 use Rattle.clause_solver.proofs.Kept.{level_of-variable}
 use Rattle.clause_solver.specs.declared.watches.Pair.{Pair}
 use Rattle.clause_solver.specs.Watching.{HasTrue, IsAnswered, satisfied, is_unit, is_falsified, IsWatched, IsHalfAnswered, satisfied_before, unit_before, falsified_before, IsHalfWatched}

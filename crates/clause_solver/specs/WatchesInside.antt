@@ -1,6 +1,6 @@
 -- What is kept of the clauses, as plain data.
 use Rattle.std.specs.Prelude.{ℕ, List, [], map}
-use Rattle.cqe_base.specs.Literal.{Literal, Positive}
+use Rattle.cqe_base.specs.Literal.{Positive}
 use Rattle.cqe_base.specs.Machine.{Assigned}
 use Rattle.clause_solver.specs.declared.watches.Watch.{Watch}
 use Rattle.clause_solver.specs.declared.watches.Watches.{Watches}

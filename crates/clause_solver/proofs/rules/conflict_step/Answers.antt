@@ -1,4 +1,4 @@
-use Rattle.std.proofs.Common.{[], cond, sym, ap, ◌∙◌, subst}
+use Rattle.std.proofs.Common.{cond, sym, ap, ◌∙◌, subst}
 use Rattle.std.proofs.lemmas.Bool.{ne_eqb}
 use Rattle.cqe_base.specs.Machine.{level, kept_count}
 use Rattle.cqe_base.proofs.Analysis.{Walked}

@@ -1,5 +1,4 @@
-use Rattle.std.proofs.Common.{◌≡◌, ◌∷◌, map, sym, ap, ◌∙◌, subst}
-use Rattle.cqe_base.specs.Machine.{State, Because}
+use Rattle.std.proofs.Common.{◌∷◌, map, sym, ap, ◌∙◌, subst}
 use Rattle.cqe_base.proofs.Reached.{IsReached}
 use Rattle.cqe_base.proofs.MachineRules.{unit_reached}
 use Rattle.clause_store.specs.PlainLines.{line_of}

@@ -1,6 +1,5 @@
-use Rattle.std.proofs.Common.{refl, sym, ◌∙◌, inl, inr}
+use Rattle.std.proofs.Common.{refl, sym, ◌∙◌, inl}
 use Rattle.cqe_base.proofs.ClauseTruth.{same_literal-true}
-use Rattle.clause_solver.proofs.Visits.{visited_next}
 use Rattle.clause_solver.proofs.watches.other_watched.Goals as goal
 
 pub returns-then-is-clause-beside : goal.returns-then-is-clause-beside

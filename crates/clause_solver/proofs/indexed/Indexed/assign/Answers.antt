@@ -1,5 +1,5 @@
 use Rattle.std.proofs.Common.{◌≡◌, ◌∷◌, [], get_or, sym, ap, ◌∙◌, subst}
-use Rattle.cqe_base.specs.Literal.{Literal, Positive, variable_of, opposite}
+use Rattle.cqe_base.specs.Literal.{Positive, variable_of, opposite}
 use Rattle.cqe_base.specs.Machine.{assigned_literal}
 use Rattle.cqe_base.proofs.Trails.{IsDistinct}
 use Rattle.clause_solver.specs.Assigning.{Assigning, code_of}

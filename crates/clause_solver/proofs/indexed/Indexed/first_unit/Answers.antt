@@ -1,8 +1,8 @@
-use Rattle.std.proofs.Common.{◌≡◌, ◌<◌, ◌≤◌, ℕ, Bool, true, false, not, List, [], Some, None, length, get_or, map, refl, sym, ap, ◌∙◌, subst, arith}
+use Rattle.std.proofs.Common.{◌≡◌, ◌<◌, ◌≤◌, ℕ, true, false, [], Some, length, get_or, map, refl, sym, ap, ◌∙◌, subst, arith}
 use Rattle.std.specs.List.{find}
 use Rattle.std.proofs.lemmas.List.{get_or_read}
-use Rattle.cqe_base.specs.Literal.{Literal, Positive, variable_of}
-use Rattle.cqe_base.specs.Machine.{is_false, is_true, first_unit}
+use Rattle.cqe_base.specs.Literal.{Positive, variable_of}
+use Rattle.cqe_base.specs.Machine.{is_true, first_unit}
 use Rattle.cqe_base.proofs.MachineRules.{each_has, is_unit}
 use Rattle.clause_solver.specs.Assigning.{Assigning, is_assigned}
 use Rattle.clause_solver.specs.Watching.{has_number, HaveSameLiterals}

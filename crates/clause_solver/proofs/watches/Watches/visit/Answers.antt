@@ -1,4 +1,4 @@
-use Rattle.std.proofs.Common.{◌≡◌, ◌<◌, ℕ, length, get_or, sym, ap, ◌∙◌, subst, arith}
+use Rattle.std.proofs.Common.{◌≡◌, ◌<◌, ℕ, length, sym, ◌∙◌, subst, arith}
 use Rattle.std.proofs.lemmas.List.{length-map, get_or_read}
 use Rattle.clause_solver.specs.declared.watches.Pair.{Pair}
 use Rattle.clause_solver.specs.declared.watches.Watches.{Watches}

@@ -1,9 +1,8 @@
-use Rattle.std.proofs.Common.{◌≡◌, ◌<◌, ◌≤◌, ◌+◌, ◌*◌, ℕ, List, [], ◌∷◌, ◌++◌, length, get_or, set, map, take, drop, refl, sym, ap, ◌∙◌, subst, arith}
+use Rattle.std.proofs.Common.{◌≡◌, ◌<◌, ◌+◌, ◌*◌, List, [], ◌∷◌, ◌++◌, length, get_or, set, map, take, drop, refl, sym, ap, ◌∙◌, subst, arith}
 use Rattle.std.specs.List.{AllByRecursion}
 use Rattle.std.proofs.lemmas.List.{length-map, length-set, get_or_read, get_or-map, get_or-set_same, map-set, set-get_or, set-set, drop_more, drop_all, append-nil}
-use Rattle.cqe_base.specs.Literal.{Literal, Positive}
+use Rattle.cqe_base.specs.Literal.{Positive}
 use Rattle.clause_solver.specs.declared.watches.Watch.{Watch}
-use Rattle.clause_solver.specs.declared.watches.Watches.{Watches}
 use Rattle.clause_solver.specs.Assigning.{code_of}
 use Rattle.clause_solver.specs.Watching.{IsWatching, IsWatchOf, kept_with}
 use Rattle.clause_solver.specs.WatchesInside.{lists_of, units_of}

@@ -1,7 +1,7 @@
-use Rattle.std.proofs.Common.{◌≡◌, ◌<◌, ◌*◌, ℕ, Bool, true, false, not, ◌&&◌, List, [], ◌∷◌, ◌++◌, Some, None, length, get_or, set, map, refl, sym, ap, ◌∙◌, subst, arith}
+use Rattle.std.proofs.Common.{◌≡◌, ◌<◌, ℕ, Bool, true, false, List, [], ◌∷◌, ◌++◌, length, get_or, set, map, refl, sym, ap, ◌∙◌, arith}
 use Rattle.std.specs.List.{find}
 use Rattle.std.proofs.lemmas.List.{length-map, get_or_read}
-use Rattle.cqe_base.specs.Literal.{Literal, variable_of, same_literal}
+use Rattle.cqe_base.specs.Literal.{variable_of}
 use Rattle.cqe_base.specs.Machine.{is_false}
 use Rattle.cqe_base.proofs.MachineRules.{each_has}
 use Rattle.clause_solver.specs.declared.watches.Watch.{Watch}
