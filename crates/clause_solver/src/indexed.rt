@@ -1,4 +1,4 @@
-// The state of the machine with the counts and sets of its clauses.
+// The state of the machine with what is kept of its clauses.
 
 ghost use Rattle.std.specs.Prelude.{◌≡◌, ◌⊎◌, ◌<◌, ◌≤◌, ◌^◌, ◌+◌, ◌==◌, ℕ, true, false, [], ◌∷◌, ◌++◌, length, map, Some, None, IfOk, IfSome, IfNone, not, if◌then◌else◌};
 ghost use Rattle.std.specs.List.{position_from, list_all, find};

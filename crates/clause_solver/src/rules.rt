@@ -1,4 +1,4 @@
-// The rules of the machine on the state with its counts.
+// The rules of the machine on the state with what is kept of its clauses.
 
 ghost use Rattle.std.specs.Prelude.{◌≡◌, ◌⊎◌, ◌<◌, ◌≤◌, ◌^◌, ◌+◌, ℕ, [], ◌∷◌, ◌++◌, length, map, Some, None, IfOk, IfSome};
 ghost use Rattle.std.specs.List.{position_from, list_all};
