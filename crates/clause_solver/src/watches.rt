@@ -280,8 +280,11 @@ fn least_place(numbers: &[u32]) -> Option<usize>
         return None;
     }
     let mut least = 0;
+    let mut lowest = numbers[0];
     for i in 1..numbers.len() {
-        if numbers[i] < numbers[least] {
+        let number = numbers[i];
+        if number < lowest {
+            lowest = number;
             least = i;
         }
     }
