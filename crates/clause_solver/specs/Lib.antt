@@ -1,13 +1,10 @@
 pub mod Entries
 pub mod PlainStates
-pub mod Flags
 pub mod Assigning
 pub mod AssignmentFields
-pub mod Tallying
-pub mod TallySets
-pub mod Indexing
+pub mod Watching
+pub mod WatchesInside
 pub mod IndexedStates
-pub mod NumberSets
 pub mod Costs
 pub mod Marking
 pub mod MarkedFields

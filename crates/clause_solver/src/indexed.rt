@@ -1,19 +1,19 @@
-// The state of the machine with the counts and sets of its clauses.
+// The state of the machine with what is kept of its clauses.
 
-ghost use Rattle.std.specs.Prelude.{◌≡◌, ◌<◌, ◌≤◌, ◌^◌, ◌+◌, ℕ, false, [], ◌∷◌, ◌++◌, length, map, take, IfOk, IfSome, not, count_by};
+ghost use Rattle.std.specs.Prelude.{◌≡◌, ◌⊎◌, ◌<◌, ◌≤◌, ◌^◌, ◌+◌, ◌==◌, ℕ, true, false, [], ◌∷◌, ◌++◌, length, map, Some, None, IfOk, IfSome, IfNone, not, if◌then◌else◌};
 ghost use Rattle.std.specs.List.{position_from, list_all, find};
 ghost use Rattle.std.specs.Option.{option_map};
-ghost use Rattle.cqe_base.specs.Literal.{Literal, variable_of, opposite, ClauseBelow, ClausesBelow};
-ghost use Rattle.cqe_base.specs.Machine.{Assigned, assigned_literal, is_true, is_false, first_unit, first_unassigned, cut, start};
-ghost use Rattle.clause_solver.specs.Assigning.{is_assigned, code_of};
-ghost use Rattle.clause_solver.specs.Tallying.{tally_of};
-ghost use Rattle.clause_solver.specs.IndexedStates.{plain_of, IsIndexed};
+ghost use Rattle.cqe_base.specs.Literal.{Literal, variable_of, ClauseBelow};
+ghost use Rattle.cqe_base.specs.Machine.{Assigned, assigned_literal, is_true, is_false, level, first_unit, cut, start};
+ghost use Rattle.clause_solver.specs.Assigning.{is_assigned};
+ghost use Rattle.clause_solver.specs.Watching.{IsWatched};
+ghost use Rattle.clause_solver.specs.WatchesInside.{units_of};
+ghost use Rattle.clause_solver.specs.IndexedStates.{plain_of, IsLookedAt, IsIndexed};
 
 use crate::assignment::Assignment;
 use crate::entry::Entry;
 use crate::marked_clause::MarkedClause;
-use crate::occurrences::{no_occurrences, note_clause, occurrences_of};
-use crate::tallies::{Count, Tallies, Tally};
+use crate::watches::Watches;
 use clause_store::clauses::Clauses;
 use clause_store::literal::Lit;
 use clause_store::refutation::Line;
@@ -24,36 +24,10 @@ use std::alloc::{AllocError, Global};
 pub struct Indexed {
     pub assignment: Assignment,
     pub clauses: Clauses,
-    pub occurrences: Vec<Vec<u32>>,
-    pub tallies: Tallies,
+    pub watches: Watches,
     pub lines: Vec<Line>,
     /// Where a conflict is analysed; it has no literal in between.
     pub resolvent: MarkedClause,
-}
-
-/// How many literals of a clause are true.
-fn true_count(assignment: &Assignment, clause: &[Lit]) -> usize
-    ensures { result ≡ count_by (is_true assignment.now.trail) clause.now }
-{
-    clause.iter().filter(|l| assignment.is_true(**l)).count()
-}
-
-/// How many literals of a clause are false.
-fn false_count(assignment: &Assignment, clause: &[Lit]) -> usize
-    ensures { result ≡ count_by (is_false assignment.now.trail) clause.now }
-{
-    clause.iter().filter(|l| assignment.is_false(**l)).count()
-}
-
-/// The tally of a clause.
-fn tally(assignment: &Assignment, clause: &[Lit]) -> Tally
-    ensures { result ≡ tally_of assignment.now.trail clause.now }
-{
-    Tally {
-        length: clause.len(),
-        trues: true_count(assignment, clause),
-        falses: false_count(assignment, clause),
-    }
 }
 
 impl Indexed {
@@ -67,112 +41,121 @@ impl Indexed {
         Ok(Indexed {
             assignment: Assignment::new(alloc, variables)?,
             clauses: Clauses::new(alloc),
-            occurrences: no_occurrences(alloc, variables)?,
-            tallies: Tallies::new(alloc),
+            watches: Watches::new(alloc, variables)?,
             lines: Vec::new(alloc),
             resolvent: MarkedClause::new(alloc, variables)?,
         })
     }
 
-    /// One more clause, whose number is below 2^32.
-    pub fn enter(&mut self, clause: &[Lit]) -> Result<(), AllocError>
+    /// One more clause, whose number is below 2^32, with the literals that it watches.
+    pub fn enter(
+        &mut self,
+        alloc: Global,
+        clause: &[Lit],
+        first: Lit,
+        second: Lit,
+    ) -> Result<(), AllocError>
         requires below { ClauseBelow self.old.assignment.variables clause.now }
         requires room { length self.old.clauses < 2 ^ 32 }
-        requires indexed { IsIndexed self.old }
+        requires watched { IsWatched self.old.assignment.trail clause.now (record { first = first; second = second }) (length clause.now == 1) (length clause.now == 0) }
+        requires looked { IsLookedAt self.old }
         ensures plain { IfOk result (λ _. plain_of self.new ≡ record (plain_of self.old) { clauses = self.old.clauses ++ clause.now ∷ [] }) }
         ensures variables { self.new.assignment.variables ≡ self.old.assignment.variables }
-        ensures indexed { IfOk result (λ _. IsIndexed self.new) }
+        ensures looked { IfOk result (λ _. IsLookedAt self.new) }
     {
-        let number = self.clauses.len() as u32;
-        let tally = tally(&self.assignment, clause);
         self.clauses.push(clause)?;
-        self.tallies.push(tally)?;
-        note_clause(&mut self.occurrences, clause, number)?;
+        self.watches.enter(alloc, clause, first, second)?;
         Ok(())
     }
 
-    /// A literal joins the trail.
+    /// A literal joins the trail. Where that raises the level, no clause may be unit or falsified.
     pub fn assign(&mut self, entry: Entry) -> Result<(), AllocError>
         requires below { variable_of (assigned_literal entry) < self.old.assignment.variables }
         requires free { is_assigned self.old.assignment.trail (variable_of (assigned_literal entry)) ≡ false }
-        requires indexed { IsIndexed self.old }
+        requires steady { (level (entry ∷ self.old.assignment.trail) ≡ level self.old.assignment.trail) ⊎ ((units_of self.old.watches ≡ []) × (self.old.watches.falsified ≡ None)) }
+        requires looked { IsLookedAt self.old }
         ensures plain { IfOk result (λ _. plain_of self.new ≡ record (plain_of self.old) { trail = entry ∷ self.old.assignment.trail }) }
         ensures variables { IfOk result (λ _. self.new.assignment.variables ≡ self.old.assignment.variables) }
-        ensures indexed { IfOk result (λ _. IsIndexed self.new) }
+        ensures looked { IfOk result (λ _. IsLookedAt self.new) }
     {
         let literal = entry.literal();
         self.assignment.push(entry)?;
-        self.tallies
-            .raise(occurrences_of(&self.occurrences, literal), Count::Trues);
-        self.tallies.raise(
-            occurrences_of(&self.occurrences, literal.opposite()),
-            Count::Falses,
-        );
+        self.watches
+            .visit_all(&self.assignment, literal.opposite())?;
         Ok(())
     }
 
-    /// The latest literal leaves the trail.
-    fn undo(&mut self)
-        requires some { 0 < length self.old.assignment.trail }
-        requires indexed { IsIndexed self.old }
-        ensures undone { (a : Assigned) × (plain_of self.old ≡ record (plain_of self.new) { trail = a ∷ self.new.assignment.trail }) }
-        ensures variables { self.new.assignment.variables ≡ self.old.assignment.variables }
-        ensures indexed { IsIndexed self.new }
-    {
-        if let Some(entry) = self.assignment.pop() {
-            let literal = entry.literal();
-            self.tallies
-                .lower(occurrences_of(&self.occurrences, literal), Count::Trues);
-            self.tallies.lower(
-                occurrences_of(&self.occurrences, literal.opposite()),
-                Count::Falses,
-            );
-        }
-    }
-
-    /// Cuts the trail to a level.
+    /// Cuts the trail to a lower level.
     pub fn cut(&mut self, k: usize)
-        requires { IsIndexed self.old }
+        requires lower { k < level self.old.assignment.trail }
+        requires looked { IsLookedAt self.old }
         ensures plain { plain_of self.new ≡ record (plain_of self.old) { trail = cut k self.old.assignment.trail } }
         ensures variables { self.new.assignment.variables ≡ self.old.assignment.variables }
-        ensures indexed { IsIndexed self.new }
+        ensures looked { IsLookedAt self.new }
     {
         while self.assignment.level() > k {
-            self.undo();
+            let _entry = self.assignment.pop();
         }
+        self.watches.clear();
     }
 
     /// The first clause with only false literals.
-    pub fn first_conflict(&mut self) -> Option<usize>
-        requires { IsIndexed self.old }
-        ensures first { result ≡ position_from (list_all (is_false self.old.assignment.trail)) 0 self.old.clauses }
-        ensures number { IfSome result (λ i. i < length self.old.clauses) }
-        ensures same { self.new ≡ self.old }
+    pub fn first_conflict(&self) -> Option<usize>
+        requires { IsIndexed self.now }
+        ensures first { result ≡ position_from (list_all (is_false self.now.assignment.trail)) 0 self.now.clauses }
+        ensures number { IfSome result (λ i. i < length self.now.clauses) }
+        ensures none { IfNone result (self.now.watches.falsified ≡ None) }
     {
-        self.tallies.first_falsified()
+        match self.watches.falsified {
+            Some(number) => Some(number as usize),
+            None => None,
+        }
     }
 
-    /// The first clause with no true literal and one that isn't false, with that literal.
+    /// The first clause with no true literal and one that isn't false, with that literal, where no clause is falsified.
     pub fn first_unit(&mut self) -> Option<(usize, Lit)>
-        requires { IsIndexed self.old }
+        requires none { self.old.watches.falsified ≡ None }
+        requires indexed { IsIndexed self.old }
         ensures first { option_map (λ u. (u.0, u.1)) result ≡ first_unit self.old.assignment.trail 0 self.old.clauses }
         ensures number { IfSome result (λ u. u.0 < length self.old.clauses) }
         ensures below { IfSome result (λ u. variable_of u.1 < self.old.assignment.variables) }
         ensures free { IfSome result (λ u. is_assigned self.old.assignment.trail (variable_of u.1) ≡ false) }
-        ensures same { self.new ≡ self.old }
+        ensures assignment { self.new.assignment ≡ self.old.assignment }
+        ensures clauses { self.new.clauses ≡ self.old.clauses }
+        ensures lines { self.new.lines ≡ self.old.lines }
+        ensures indexed { IsIndexed self.new }
+        ensures falsified { self.new.watches.falsified ≡ None }
+        ensures none { IfNone result (units_of self.new.watches ≡ []) }
     {
-        match self.tallies.first_unit() {
-            None => None,
-            Some(number) => match open_literal(&self.assignment, self.clauses.clause(number)) {
-                None => None,
-                Some(literal) => Some((number, literal)),
-            },
+        while let Some(place) = self.watches.least_unit() {
+            let number = self.watches.units[place] as usize;
+            if let Some(literal) = open_literal(&self.assignment, self.clauses.clause(number)) {
+                return Some((number, literal));
+            }
+            self.watches.drop_unit(place);
         }
+        None
+    }
+}
+
+/// The first literal of a clause that isn't false, unless it is true.
+fn open_literal(assignment: &Assignment, clause: &[Lit]) -> Option<Lit>
+    ensures open_literal { IfSome result (λ l. (find (λ m. not (is_false assignment.now.trail m)) clause.now ≡ Some l) × (is_true assignment.now.trail l ≡ false)) }
+    ensures none { IfNone result ((l : Literal) → find (λ m. not (is_false assignment.now.trail m)) clause.now ≡ Some l → is_true assignment.now.trail l ≡ true) }
+{
+    match first_open(assignment, clause) {
+        Some(literal) => {
+            if assignment.is_true(literal) {
+                return None;
+            }
+            Some(literal)
+        }
+        None => None,
     }
 }
 
 /// The first literal of a clause that isn't false.
-fn open_literal(assignment: &Assignment, clause: &[Lit]) -> Option<Lit>
+fn first_open(assignment: &Assignment, clause: &[Lit]) -> Option<Lit>
     ensures { result ≡ find (λ l. not (is_false assignment.now.trail l)) clause.now }
 {
     clause.iter().copied().find(|l| !assignment.is_false(*l))

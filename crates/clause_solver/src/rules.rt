@@ -1,12 +1,14 @@
-// The rules of the machine on the state with its counts.
+// The rules of the machine on the state with what is kept of its clauses.
 
-ghost use Rattle.std.specs.Prelude.{◌≡◌, ◌<◌, ◌≤◌, ◌^◌, ◌+◌, ℕ, false, [], ◌∷◌, ◌++◌, length, map, IfOk, IfSome};
-ghost use Rattle.cqe_base.specs.Literal.{Literal, Negative, variable_of, ClauseBelow};
-ghost use Rattle.cqe_base.specs.Machine.{State as PlainState, state_after_conflict, step, with_asserted, level, signs_of, conflict_step, decide_step, first_unassigned, unit_step, first_unit};
+ghost use Rattle.std.specs.Prelude.{◌≡◌, ◌⊎◌, ◌<◌, ◌≤◌, ◌^◌, ◌+◌, ℕ, [], ◌∷◌, ◌++◌, length, map, Some, None, IfOk, IfSome};
+ghost use Rattle.std.specs.List.{position_from, list_all};
+ghost use Rattle.cqe_base.specs.Literal.{Literal, Negative, variable_of};
+ghost use Rattle.cqe_base.specs.Machine.{State as PlainState, state_after_conflict, step, level, level_of, is_false, signs_of, conflict_step, decide_step, first_unassigned, unit_step, first_unit};
+ghost use Rattle.cqe_base.proofs.Analysis.{Walked};
 ghost use Rattle.clause_store.specs.PlainLines.{line_of};
-ghost use Rattle.clause_solver.specs.Assigning.{is_assigned};
 ghost use Rattle.clause_solver.specs.PlainStates.{StepIs};
-ghost use Rattle.clause_solver.specs.IndexedStates.{plain_of, IsIndexed};
+ghost use Rattle.clause_solver.specs.WatchesInside.{units_of};
+ghost use Rattle.clause_solver.specs.IndexedStates.{plain_of, IsIndexed, IsHighestBeside};
 
 use crate::analysis::{back_level, conflict_line, first_current};
 use crate::assignment::Assignment;
@@ -17,37 +19,51 @@ use clause_store::literal::Lit;
 use clause_store::refutation::{Line, Signs};
 use std::alloc::{AllocError, Global};
 
-/// A literal joins the trail because of a clause.
-fn assert_literal(state: &mut Indexed, number: u32, literal: Option<Lit>) -> Result<(), AllocError>
-    requires below { IfSome literal (λ l. variable_of l < state.old.assignment.variables) }
-    requires free { IfSome literal (λ l. is_assigned state.old.assignment.trail (variable_of l) ≡ false) }
-    requires indexed { IsIndexed state.old }
-    ensures plain { IfOk result (λ _. plain_of state.new ≡ record (plain_of state.old) { trail = with_asserted number literal state.old.assignment.trail }) }
-    ensures variables { IfOk result (λ _. state.new.assignment.variables ≡ state.old.assignment.variables) }
-    ensures indexed { IfOk result (λ _. IsIndexed state.new) }
+/// A literal of the highest level beside one, or that one where there is no other.
+fn highest_beside(assignment: &Assignment, clause: &[Lit], literal: Lit) -> Lit
+    ensures { IsHighestBeside assignment.now.trail clause.now literal result }
 {
-    match literal {
-        Some(l) => state.assign(Entry::because(number, l)),
-        None => Ok(()),
+    let mut highest = literal;
+    for other in clause {
+        highest = higher_beside(assignment, literal, highest, *other);
+    }
+    highest
+}
+
+/// The higher one of two literals, where each is another one than the first.
+fn higher_beside(assignment: &Assignment, literal: Lit, highest: Lit, other: Lit) -> Lit
+    ensures either { (result ≡ highest) ⊎ (result ≡ other) }
+    ensures higher { (other ≡ literal) ⊎ ((result ≡ literal → ⊥) × (level_of assignment.now.trail other ≤ level_of assignment.now.trail result)) }
+    ensures kept { (highest ≡ literal) ⊎ ((result ≡ literal → ⊥) × (level_of assignment.now.trail highest ≤ level_of assignment.now.trail result)) }
+{
+    if other.is(literal)
+        || !highest.is(literal) && assignment.level_of(other) <= assignment.level_of(highest)
+    {
+        highest
+    } else {
+        other
     }
 }
 
 /// A line's clause is learnt.
-fn learn(state: &mut Indexed, line: Line) -> Result<(), AllocError>
+fn learn(alloc: Global, state: &mut Indexed, line: Line) -> Result<(), AllocError>
     requires room { length state.old.clauses < 2 ^ 32 }
     requires level { 0 < level state.old.assignment.trail }
-    requires below { ClauseBelow state.old.assignment.variables line.clause.items }
+    requires walked { Walked state.old.assignment.variables state.old.assignment.trail 1 line.clause.items }
     requires indexed { IsIndexed state.old }
     ensures plain { IfOk result (λ _. plain_of state.new ≡ state_after_conflict (plain_of state.old) (line_of line)) }
     ensures variables { IfOk result (λ _. state.new.assignment.variables ≡ state.old.assignment.variables) }
     ensures indexed { IfOk result (λ _. IsIndexed state.new) }
 {
     let number = state.clauses.len() as u32;
-    let asserting = first_current(&state.assignment, &line.clause);
+    let Some(asserting) = first_current(&state.assignment, &line.clause) else {
+        return Ok(());
+    };
     let back = back_level(&state.assignment, &line.clause);
+    let second = highest_beside(&state.assignment, &line.clause, asserting);
     state.cut(back);
-    assert_literal(state, number, asserting)?;
-    state.enter(&line.clause)?;
+    state.assign(Entry::because(number, asserting))?;
+    state.enter(alloc, &line.clause, asserting, second)?;
     state.lines.push(line)?;
     Ok(())
 }
@@ -55,6 +71,7 @@ fn learn(state: &mut Indexed, line: Line) -> Result<(), AllocError>
 /// The first rule, at the clause of this number.
 fn conflict_step(alloc: Global, state: &mut Indexed, number: usize) -> Result<Advance, AllocError>
     requires number { number < length state.old.clauses }
+    requires conflict { position_from (list_all (is_false state.old.assignment.trail)) 0 state.old.clauses ≡ Some number }
     requires room { length state.old.clauses < 2 ^ 32 }
     requires indexed { IsIndexed state.old }
     ensures step { IfOk result (λ a. StepIs (conflict_step (plain_of state.old) number) a (plain_of state.new)) }
@@ -74,7 +91,7 @@ fn conflict_step(alloc: Global, state: &mut Indexed, number: usize) -> Result<Ad
         state.lines.push(line)?;
         return Ok(Advance::Refuted(cost));
     }
-    learn(state, line)?;
+    learn(alloc, state, line)?;
     Ok(Advance::Went(cost))
 }
 
@@ -93,6 +110,10 @@ fn signs_of(alloc: Global, assignment: &Assignment, variables: u32) -> Result<Ve
 /// The third rule, or else the fourth.
 fn decide_step(alloc: Global, state: &mut Indexed, variables: u32) -> Result<Advance, AllocError>
     requires variables { variables < 2 ^ 31 }
+    requires no_conflict { position_from (list_all (is_false state.old.assignment.trail)) 0 state.old.clauses ≡ None }
+    requires no_unit { first_unit state.old.assignment.trail 0 state.old.clauses ≡ None }
+    requires no_units { units_of state.old.watches ≡ [] }
+    requires no_falsified { state.old.watches.falsified ≡ None }
     requires same { state.old.assignment.variables ≡ variables }
     requires indexed { IsIndexed state.old }
     ensures step { IfOk result (λ a. StepIs (decide_step variables (plain_of state.old) (first_unassigned state.old.assignment.trail variables)) a (plain_of state.new)) }
@@ -115,6 +136,8 @@ fn decide_step(alloc: Global, state: &mut Indexed, variables: u32) -> Result<Adv
 /// The second rule, or else the others.
 fn unit_step(alloc: Global, state: &mut Indexed, variables: u32) -> Result<Advance, AllocError>
     requires variables { variables < 2 ^ 31 }
+    requires no_conflict { position_from (list_all (is_false state.old.assignment.trail)) 0 state.old.clauses ≡ None }
+    requires no_falsified { state.old.watches.falsified ≡ None }
     requires same { state.old.assignment.variables ≡ variables }
     requires room { length state.old.clauses < 2 ^ 32 }
     requires indexed { IsIndexed state.old }
@@ -124,8 +147,8 @@ fn unit_step(alloc: Global, state: &mut Indexed, variables: u32) -> Result<Advan
     ensures indexed { IfOk result (λ _. IsIndexed state.new) }
 {
     match state.first_unit() {
-        Some((number, literal)) => {
-            state.assign(Entry::because(number as u32, literal))?;
+        Some(unit) => {
+            state.assign(Entry::because(unit.0 as u32, unit.1))?;
             Ok(Advance::Went(1))
         }
         None => decide_step(alloc, state, variables),

@@ -4,12 +4,13 @@ ghost use Rattle.cqe_base.specs.Literal.{ClausesBelow, HaveNoRepeat};
 ghost use Rattle.cqe_base.specs.Machine.{end_within_budget, start};
 ghost use Rattle.clause_solver.specs.PlainStates.{found_of};
 ghost use Rattle.clause_solver.specs.Costs.{cost_within_budget};
-ghost use Rattle.clause_solver.specs.IndexedStates.{plain_of, IsIndexed};
+ghost use Rattle.clause_solver.specs.IndexedStates.{plain_of, IsIndexed, first_two};
 
 use crate::ends::{Advance, Found, Searched};
 use crate::indexed::Indexed;
 use crate::rules::step;
 use clause_store::clauses::Clauses;
+use clause_store::literal::Lit;
 use clause_store::refutation::Refutation;
 use std::alloc::{AllocError, Global};
 
@@ -17,6 +18,7 @@ use std::alloc::{AllocError, Global};
 fn begin(alloc: Global, clauses: &Clauses, variables: u32) -> Result<Indexed, AllocError>
     requires variables { variables < 2 ^ 31 }
     requires below { ClausesBelow variables clauses.now }
+    requires no_repeat { HaveNoRepeat clauses.now }
     requires room { length clauses.now < 2 ^ 32 }
     ensures plain { IfOk result (λ s. plain_of s ≡ start clauses.now) }
     ensures variables { IfOk result (λ s. s.assignment.variables ≡ variables) }
@@ -24,9 +26,22 @@ fn begin(alloc: Global, clauses: &Clauses, variables: u32) -> Result<Indexed, Al
 {
     let mut state = Indexed::new(alloc, variables)?;
     for number in 0..clauses.len() {
-        state.enter(clauses.clause(number))?;
+        let clause = clauses.clause(number);
+        let (first, second) = first_two(clause);
+        state.enter(alloc, clause, first, second)?;
     }
     Ok(state)
+}
+
+/// The first two literals of a clause, twice the same where it has only one.
+fn first_two(clause: &[Lit]) -> (Lit, Lit)
+    ensures { (result.0, result.1) ≡ first_two clause.now }
+{
+    match clause {
+        [] => (Lit::positive(0), Lit::positive(0)),
+        [only] => (*only, *only),
+        [first, second, ..] => (*first, *second),
+    }
 }
 
 /// A search whose budget is spent.

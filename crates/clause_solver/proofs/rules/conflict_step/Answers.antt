@@ -1,9 +1,16 @@
-use Rattle.std.proofs.Common.{[]}
-use Rattle.clause_store.specs.PlainLines.{line_of}
-use Rattle.clause_solver.proofs.Learning.{conflict_below}
+use Rattle.std.proofs.Common.{cond, sym, ap, ◌∙◌, subst}
+use Rattle.std.proofs.lemmas.Bool.{ne_eqb}
+use Rattle.cqe_base.specs.Machine.{level, kept_count}
+use Rattle.cqe_base.proofs.Analysis.{Walked}
+use Rattle.cqe_base.proofs.Conflicts.{conflict_walked}
+use Rattle.clause_solver.specs.IndexedStates.{plain_of}
 use Rattle.clause_solver.proofs.rules.conflict_step.Goals as goal
 
-pub learn-requires-clause-below : goal.learn-requires-clause-below
-learn-requires-clause-below c =
+pub learn-requires-clause-walked : goal.learn-requires-clause-walked
+learn-requires-clause-walked c =
     let s = c.args.state.now in
-    conflict_below s.assignment.variables (record { clauses = s.clauses; trail = s.assignment.trail; lines = [] }) c.args.number (line_of c.in_ok-line.line) c.in_ok-line.ensures.line c.requires.indexed.index.below
+    let n = s.assignment.variables in
+    let t = s.assignment.trail in
+    let walked = conflict_walked n (plain_of s) c.args.number c.requires.indexed.reached c.requires.conflict in
+    subst (λ k. Walked n t k c.in_ok-line.line.clause.items) (ap (λ b. cond b 0 1) (ne_eqb (level t) 0 (λ e. c.if-level-eq0.false (c.level.ensures ∙ e))))
+    (subst (λ x. Walked n t (kept_count t) x.clause) (sym c.in_ok-line.ensures.line) walked)

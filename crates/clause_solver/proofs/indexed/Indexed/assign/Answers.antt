@@ -1,46 +1,33 @@
-use Rattle.std.proofs.Common.{◌≡◌, [], ℕ, List, length, map, get_or, refl, ap, ◌∙◌, sym, subst}
-use Rattle.cqe_base.specs.Literal.{opposite}
+use Rattle.std.proofs.Common.{◌≡◌, ◌∷◌, [], get_or, sym, ap, ◌∙◌, subst}
+use Rattle.cqe_base.specs.Literal.{Positive, variable_of, opposite}
 use Rattle.cqe_base.specs.Machine.{assigned_literal}
-use Rattle.clause_solver.specs.Assigning.{code_of, Assigning}
-use Rattle.clause_solver.specs.Indexing.{IsIndexOf}
-use Rattle.clause_solver.proofs.Indexing.{true_room, false_room, falses_below, index_push}
+use Rattle.cqe_base.proofs.Trails.{IsDistinct}
+use Rattle.clause_solver.specs.Assigning.{Assigning, code_of}
+use Rattle.clause_solver.specs.Watching.{IsWatching, HaveSameLiterals}
+use Rattle.clause_solver.specs.WatchesInside.{lists_of, units_of}
+use Rattle.clause_solver.proofs.Looks.{looks_begin, same_assigned}
 use Rattle.clause_solver.proofs.indexed.Indexed.assign.Goals as goal
-use Rattle.clause_solver.proofs.indexed.Indexed.assign.Goals.{After-occurrences_of, After-occurrences_of-2}
+use Rattle.clause_solver.proofs.indexed.Indexed.assign.Goals.{After-push}
 
-abbrev lists : After-occurrences_of → List (List ℕ)
-lists c = map (λ v. v.items) c.args.self.now.occurrences.items
+distinct : (c : After-push) → IsDistinct c.args.self.now.assignment.variables (c.args.entry ∷ c.args.self.now.assignment.trail)
+distinct c = (c.requires.below, sym (same_assigned c.args.self.now.assignment.trail (variable_of (assigned_literal c.args.entry))) ∙ c.requires.free, c.requires.looked.distinct)
 
-trues : (c : After-occurrences_of) → c.occurrences_of.result.now ≡ get_or (lists c) (code_of (assigned_literal c.args.entry)) []
-trues c = c.occurrences_of.ensures ∙ (λ i. get_or (map (λ v. v.items) (c.deref.ensures.value i)) (code_of (c.literal-literal.ensures i)) [])
-
-falses : (c : After-occurrences_of-2) → c.occurrences_of-2.result.now ≡ get_or (map (λ v. v.items) c.args.self.now.occurrences.items) (code_of (opposite (assigned_literal c.args.entry))) []
-falses c = c.occurrences_of-2.ensures ∙ (λ i. get_or (map (λ v. v.items) (c.deref-2.ensures.value i)) (code_of ((c.opposite.ensures ∙ ap opposite c.literal-literal.ensures) i)) [])
-
-pub raise-requires-clause-room : goal.raise-requires-clause-room
-raise-requires-clause-room c =
+pub visit_all-requires-clause-watching : goal.visit_all-requires-clause-watching
+visit_all-requires-clause-watching c =
     let s = c.args.self.now in
-    let d = (goal.at.raise-requires-clause-room c).After-occurrences_of in
-    true_room s.assignment.variables s.assignment.trail c.args.entry s.clauses (lists d) c.occurrences_of.result.now (get_or (lists d) (code_of (opposite (assigned_literal c.args.entry))) []) c.requires.below c.requires.free (trues d) refl s.tallies.tallies.items c.requires.indexed.index
+    let d = (goal.at.visit_all-requires-clause-watching c).After-push in
+    let o : c.opposite.result ≡ opposite (assigned_literal c.args.entry) = c.opposite.ensures ∙ ap opposite c.literal-literal.ensures in
+    subst (λ (a : Assigning). IsWatching a.variables a.trail s.watches.sorted (lists_of s.watches) s.watches.pairs.items (units_of s.watches) s.watches.falsified c.opposite.result (get_or (lists_of s.watches) (code_of c.opposite.result) [])) (sym c.in_ok-push.ensures)
+    (subst (λ l. IsWatching s.assignment.variables (c.args.entry ∷ s.assignment.trail) s.watches.sorted (lists_of s.watches) s.watches.pairs.items (units_of s.watches) s.watches.falsified l (get_or (lists_of s.watches) (code_of l) [])) (sym o)
+    (looks_begin s.assignment.variables c.args.entry s.assignment.trail (distinct d) s.watches.sorted (lists_of s.watches) s.watches.pairs.items (units_of s.watches) s.watches.falsified (Positive 0) c.requires.looked.watches c.requires.steady))
 
-pub raise-requires-2-clause-below : goal.raise-requires-2-clause-below
-raise-requires-2-clause-below c =
+pub returns-clause-looked : goal.returns-clause-looked
+returns-clause-looked c =
     let s = c.args.self.now in
-    let d = (goal.at.raise-requires-2-clause-below c).After-occurrences_of in
-    falses_below s.assignment.variables s.assignment.trail c.args.entry s.clauses (lists d) c.occurrences_of.result.now c.occurrences_of-2.result.now c.requires.below c.requires.free (trues d) (falses (goal.at.raise-requires-2-clause-below c).After-occurrences_of-2) s.assignment.trail s.tallies.tallies.items c.requires.indexed.index (length c.raise.new.self.tallies.items) c.raise.ensures.length
-
-pub raise-requires-2-clause-room : goal.raise-requires-2-clause-room
-raise-requires-2-clause-room c =
-    let s = c.args.self.now in
-    let d = (goal.at.raise-requires-2-clause-room c).After-occurrences_of in
-    false_room s.assignment.variables s.assignment.trail c.args.entry s.clauses (lists d) c.occurrences_of.result.now c.occurrences_of-2.result.now c.requires.below c.requires.free (trues d) (falses (goal.at.raise-requires-2-clause-room c).After-occurrences_of-2) s.tallies.tallies.items c.requires.indexed.index c.raise.new.self.tallies.items c.raise.ensures.length c.raise.ensures.raised
-
-pub returns-clause-indexed : goal.returns-clause-indexed
-returns-clause-indexed c =
-    let s = c.args.self.now in
-    let d = (goal.at.returns-clause-indexed c).After-occurrences_of in
+    let d = (goal.at.returns-clause-looked c).After-push in
     record {
-      index = subst (λ (a : Assigning). IsIndexOf a.variables a.trail s.clauses c.raise-2.new.self.tallies.items (lists d)) (sym c.in_ok-push.ensures)
-          (index_push s.assignment.variables s.assignment.trail c.args.entry s.clauses (lists d) c.occurrences_of.result.now c.occurrences_of-2.result.now c.requires.below c.requires.free (trues d) (falses (goal.at.returns-clause-indexed c).After-occurrences_of-2) s.tallies.tallies.items c.requires.indexed.index c.raise.new.self.tallies.items c.raise.ensures.length c.raise.ensures.raised c.raise-2.new.self.tallies.items c.raise-2.ensures.length c.raise-2.ensures.raised);
-      sets = c.raise-2.ensures.sets;
-      idle = c.requires.indexed.idle ∙ ap (λ (a : Assigning). record { variables = a.variables; clause = [] }) (sym c.in_ok-push.ensures);
+      watches = c.in_ok-visit_all.ensures.watches;
+      same = subst (HaveSameLiterals s.clauses) (sym c.in_ok-visit_all.ensures.sorted) c.requires.looked.same;
+      distinct = subst (λ (a : Assigning). IsDistinct a.variables a.trail) (sym c.in_ok-push.ensures) (distinct d);
+      idle = c.requires.looked.idle ∙ ap (λ (a : Assigning). record { variables = a.variables; clause = [] }) (sym c.in_ok-push.ensures);
     }

@@ -1,9 +1,17 @@
-use Rattle.clause_solver.specs.Tallying.{is_falsified}
-use Rattle.clause_solver.proofs.Lookups.{first_falsified, number-within}
+use Rattle.std.proofs.Common.{Some, None, sym}
+use Rattle.cqe_base.specs.Literal.{Positive}
+use Rattle.clause_solver.specs.WatchesInside.{lists_of, units_of}
+use Rattle.clause_solver.proofs.States.{first_falsified}
 use Rattle.clause_solver.proofs.indexed.Indexed.first_conflict.Goals as goal
 
-pub returns-clause-first : goal.returns-clause-first
-returns-clause-first c = first_falsified c.args.self.now.assignment.trail c.args.self.now.clauses c.args.self.now.tallies.tallies.items c.requires.index.tallies_are c.first_falsified.result c.first_falsified.ensures.first
+pub returns-in-Some-clause-first : goal.returns-in-Some-clause-first
+returns-in-Some-clause-first c =
+    let s = c.args.self.now in
+    let k = c.requires.looked in
+    first_falsified s.assignment.variables s.assignment.trail k.distinct s.clauses s.watches.sorted k.same (lists_of s.watches) s.watches.pairs.items (units_of s.watches) s.watches.falsified (Positive 0) k.watches (Some c.in-Some.number) (sym c.in-Some.is)
 
-pub returns-clause-number : goal.returns-clause-number
-returns-clause-number c = number-within c.args.self.now.assignment.trail is_falsified c.args.self.now.clauses c.args.self.now.tallies.tallies.items c.requires.index.tallies_are c.first_falsified.result c.first_falsified.ensures.first
+pub returns-in-None-clause-first : goal.returns-in-None-clause-first
+returns-in-None-clause-first c =
+    let s = c.args.self.now in
+    let k = c.requires.looked in
+    first_falsified s.assignment.variables s.assignment.trail k.distinct s.clauses s.watches.sorted k.same (lists_of s.watches) s.watches.pairs.items (units_of s.watches) s.watches.falsified (Positive 0) k.watches None (sym c.in-None.is)

@@ -1,0 +1,355 @@
+// Two watched literals of each clause, and the clauses that became unit or falsified since the last decision.
+
+ghost use Rattle.std.specs.List.{find};
+ghost use Rattle.std.specs.List.Sorted.{IsPermutation};
+ghost use Rattle.cqe_base.specs.Literal.{Literal, variable_of, same_literal, ClauseBelow, ClausesBelow};
+ghost use Rattle.cqe_base.specs.Machine.{Assigned, is_false, level, level_of};
+ghost use Rattle.clause_solver.specs.Assigning.{code_of};
+ghost use Rattle.clause_solver.specs.Watching.{IsWatching, IsWatched, HaveSameLiterals, WatchesBeside, kept_with, no_pair, lowest, is_caught, has_number};
+ghost use Rattle.clause_solver.specs.WatchesInside.{AreWatches, lists_of, units_of};
+ghost use Rattle.std.specs.Prelude.{true, false, not, ◌&&◌, ◌||◌, ◌==◌, List, None, map, replicate, take, drop, slice_set, slice_index_or, ◌≡◌, ℕ, ◌<◌, ◌≤◌, ◌+◌, ◌*◌, ◌^◌, [], ◌∷◌, ◌++◌, length, IfOk, IfSome, IfNone};
+
+use crate::assignment::Assignment;
+use crate::codes::code;
+use clause_store::clauses::Clauses;
+use clause_store::literal::Lit;
+use std::alloc::{AllocError, Global};
+use std::mem;
+
+/// The two literals of a clause that are watched, twice the same where it has only one.
+#[derive(Clone, Copy)]
+pub struct Pair {
+    pub first: Lit,
+    pub second: Lit,
+}
+
+/// A clause that watches a literal, and one of its literals that is looked at first.
+#[derive(Clone, Copy)]
+pub struct Watch {
+    pub clause: u32,
+    pub blocker: Lit,
+}
+
+/// What is kept of the clauses.
+#[derive(Drop)]
+pub struct Watches {
+    /// For each literal's code the clauses that watch it.
+    pub lists: Vec<Vec<Watch>>,
+    /// The watched literals of each clause.
+    pub pairs: Vec<Pair>,
+    /// The clauses with the literals of the lowest variables first, which are the least likely to change.
+    pub sorted: Clauses,
+    /// Each unit clause is among them; others have a true literal since.
+    pub units: Vec<u32>,
+    /// The least falsified clause.
+    pub falsified: Option<u32>,
+}
+
+/// The first literal that isn't false and isn't this one.
+fn other_open(assignment: &Assignment, clause: &[Lit], literal: Lit) -> Option<Lit>
+    ensures { result ≡ find (λ l. not (is_false assignment.now.trail l) && not (same_literal l literal)) clause.now }
+{
+    clause
+        .iter()
+        .copied()
+        .find(|l| !assignment.is_false(*l) && !l.is(literal))
+}
+
+impl Watches {
+    /// No clause.
+    pub fn new(alloc: Global, variables: u32) -> Result<Watches, AllocError>
+        requires { variables < 2 ^ 31 }
+        ensures watches { IfOk result (λ w. AreWatches variables [] w) }
+        ensures none { IfOk result (λ w. w.sorted ≡ []) }
+    {
+        Ok(Watches {
+            lists: empty_lists(alloc, variables)?,
+            pairs: Vec::new(alloc),
+            sorted: Clauses::new(alloc),
+            units: Vec::new(alloc),
+            falsified: None,
+        })
+    }
+
+    /// One more clause, with the literals that it watches.
+    pub fn enter(
+        &mut self,
+        alloc: Global,
+        clause: &[Lit],
+        first: Lit,
+        second: Lit,
+    ) -> Result<(), AllocError>
+        requires first { 0 < length clause.now → code_of first < length self.old.lists.items }
+        requires second { 0 < length clause.now → code_of second < length self.old.lists.items }
+        requires room { length self.old.pairs.items < 2 ^ 32 }
+        ensures watches { IfOk result (λ _. (n : ℕ) (t : List Assigned) → AreWatches n t self.old → ClauseBelow n clause.now → IsWatched t clause.now (record { first = first; second = second }) (length clause.now == 1) (length clause.now == 0) → AreWatches n t self.new) }
+        ensures sorted { IfOk result (λ _. (cs : List (List Literal)) → HaveSameLiterals cs self.old.sorted → HaveSameLiterals (cs ++ clause.now ∷ []) self.new.sorted) }
+    {
+        let number = self.pairs.len() as u32;
+        let sorted = sorted_clause(alloc, clause)?;
+        let _number = self.sorted.push(&sorted)?;
+        self.pairs.push(Pair { first, second })?;
+        if clause.is_empty() {
+            lower(&mut self.falsified, number);
+            return Ok(());
+        }
+        self.add_unit(number, clause.len() == 1)?;
+        self.watch(first, number, second)?;
+        self.watch(second, number, first)?;
+        Ok(())
+    }
+
+    /// A clause may be unit, where this is so.
+    fn add_unit(&mut self, clause: u32, unit: bool) -> Result<(), AllocError>
+        ensures units { IfOk result (λ _. (i : ℕ) → has_number (units_of self.new) i ≡ (has_number (units_of self.old) i || (unit && (clause == i)))) }
+        ensures lists { self.new.lists ≡ self.old.lists }
+        ensures pairs { self.new.pairs ≡ self.old.pairs }
+        ensures sorted { self.new.sorted ≡ self.old.sorted }
+        ensures falsified { self.new.falsified ≡ self.old.falsified }
+    {
+        if !unit {
+            return Ok(());
+        }
+        self.units.push(clause)?;
+        Ok(())
+    }
+
+    /// A clause watches a literal.
+    fn watch(&mut self, literal: Lit, clause: u32, blocker: Lit) -> Result<(), AllocError>
+        requires { code_of literal < length self.old.lists.items }
+        ensures lists { IfOk result (λ _. lists_of self.new ≡ slice_set (lists_of self.old) (code_of literal) (slice_index_or (lists_of self.old) (code_of literal) [] ++ record { clause = clause; blocker = blocker } ∷ [])) }
+        ensures room { length self.new.lists.items ≡ length self.old.lists.items }
+        ensures pairs { self.new.pairs ≡ self.old.pairs }
+        ensures sorted { self.new.sorted ≡ self.old.sorted }
+        ensures units { self.new.units ≡ self.old.units }
+        ensures falsified { self.new.falsified ≡ self.old.falsified }
+    {
+        self.lists[code(literal)].push(Watch { clause, blocker })?;
+        Ok(())
+    }
+
+    /// Looks at the clauses that watch a literal, which has become false.
+    pub fn visit_all(&mut self, assignment: &Assignment, literal: Lit) -> Result<(), AllocError>
+        requires below { variable_of literal < assignment.now.variables }
+        requires false_now { is_false assignment.now.trail literal ≡ true }
+        requires current { level_of assignment.now.trail literal ≡ level assignment.now.trail }
+        requires watching { IsWatching assignment.now.variables assignment.now.trail self.old.sorted (lists_of self.old) self.old.pairs.items (units_of self.old) self.old.falsified literal (slice_index_or (lists_of self.old) (code_of literal) []) }
+        ensures watches { IfOk result (λ _. AreWatches assignment.now.variables assignment.now.trail self.new) }
+        ensures sorted { self.new.sorted ≡ self.old.sorted }
+    {
+        let mut list = mem::try_take(&mut self.lists[code(literal)])?;
+        let mut kept = 0;
+        for i in 0..list.len() {
+            let clause = list[i].clause;
+            let blocker = self.visit(assignment, literal, clause, list[i].blocker)?;
+            kept = keep(&mut list, kept, clause, blocker);
+        }
+        list.truncate(kept);
+        self.lists[code(literal)] = list;
+        Ok(())
+    }
+
+    /// Looks at a clause in the list of a literal that is false. Where it goes on watching that, it answers a literal to be looked
+    /// at first.
+    fn visit(
+        &mut self,
+        assignment: &Assignment,
+        literal: Lit,
+        clause: u32,
+        blocker: Lit,
+    ) -> Result<Option<Lit>, AllocError>
+        requires false_now { is_false assignment.now.trail literal ≡ true }
+        requires current { level_of assignment.now.trail literal ≡ level assignment.now.trail }
+        requires listed { code_of literal < length self.old.lists.items }
+        requires within { clause < length self.old.sorted }
+        requires lists_room { length self.old.lists.items ≡ 2 * assignment.now.variables }
+        requires pairs_room { length self.old.pairs.items ≡ length self.old.sorted }
+        requires below { ClausesBelow assignment.now.variables self.old.sorted }
+        ensures watching { IfOk result (λ o. (kept rest : List Watch) → IsWatching assignment.now.variables assignment.now.trail self.old.sorted (slice_set (lists_of self.old) (code_of literal) (kept ++ record { clause = clause; blocker = blocker } ∷ rest)) self.old.pairs.items (units_of self.old) self.old.falsified literal (record { clause = clause; blocker = blocker } ∷ rest) → IsWatching assignment.now.variables assignment.now.trail self.new.sorted (slice_set (lists_of self.new) (code_of literal) (kept_with kept clause o ++ rest)) self.new.pairs.items (units_of self.new) self.new.falsified literal rest) }
+        ensures sorted { self.new.sorted ≡ self.old.sorted }
+        ensures lists_room { length self.new.lists.items ≡ length self.old.lists.items }
+        ensures pairs_room { length self.new.pairs.items ≡ length self.old.pairs.items }
+    {
+        if assignment.is_true(blocker) {
+            return Ok(Some(blocker));
+        }
+        match other_watched(&self.pairs[clause as usize], literal) {
+            Some(other) => self.visit_beside(assignment, clause, literal, other, blocker),
+            None => Ok(None),
+        }
+    }
+
+    /// Looks at a clause with a watched literal that is false, and with this other one.
+    fn visit_beside(
+        &mut self,
+        assignment: &Assignment,
+        clause: u32,
+        literal: Lit,
+        other: Lit,
+        blocker: Lit,
+    ) -> Result<Option<Lit>, AllocError>
+        requires false_now { is_false assignment.now.trail literal ≡ true }
+        requires current { level_of assignment.now.trail literal ≡ level assignment.now.trail }
+        requires listed { code_of literal < length self.old.lists.items }
+        requires within { clause < length self.old.sorted }
+        requires lists_room { length self.old.lists.items ≡ 2 * assignment.now.variables }
+        requires pairs_room { length self.old.pairs.items ≡ length self.old.sorted }
+        requires below { ClausesBelow assignment.now.variables self.old.sorted }
+        requires beside { WatchesBeside (slice_index_or self.old.pairs.items clause no_pair) literal other }
+        ensures watching { IfOk result (λ o. (kept rest : List Watch) → IsWatching assignment.now.variables assignment.now.trail self.old.sorted (slice_set (lists_of self.old) (code_of literal) (kept ++ record { clause = clause; blocker = blocker } ∷ rest)) self.old.pairs.items (units_of self.old) self.old.falsified literal (record { clause = clause; blocker = blocker } ∷ rest) → IsWatching assignment.now.variables assignment.now.trail self.new.sorted (slice_set (lists_of self.new) (code_of literal) (kept_with kept clause o ++ rest)) self.new.pairs.items (units_of self.new) self.new.falsified literal rest) }
+        ensures sorted { self.new.sorted ≡ self.old.sorted }
+        ensures lists_room { length self.new.lists.items ≡ length self.old.lists.items }
+        ensures pairs_room { length self.new.pairs.items ≡ length self.old.pairs.items }
+    {
+        if assignment.is_true(other) {
+            return Ok(Some(other));
+        }
+        match other_open(assignment, self.sorted.clause(clause as usize), other) {
+            Some(next) => {
+                self.pairs[clause as usize] = Pair {
+                    first: next,
+                    second: other,
+                };
+                self.watch(next, clause, other)?;
+                Ok(None)
+            }
+            None => {
+                self.note(assignment, clause, other)?;
+                Ok(Some(other))
+            }
+        }
+    }
+
+    /// No literal of a clause is open but perhaps this one: it is unit or falsified.
+    fn note(&mut self, assignment: &Assignment, clause: u32, literal: Lit) -> Result<(), AllocError>
+        ensures caught { is_false assignment.now.trail literal ≡ true → (self.new.falsified ≡ lowest self.old.falsified clause) × (units_of self.new ≡ units_of self.old) }
+        ensures unit { IfOk result (λ _. is_false assignment.now.trail literal ≡ false → (self.new.falsified ≡ self.old.falsified) × ((i : ℕ) → has_number (units_of self.new) i ≡ (has_number (units_of self.old) i || (clause == i)))) }
+        ensures lists { self.new.lists ≡ self.old.lists }
+        ensures pairs { self.new.pairs ≡ self.old.pairs }
+        ensures sorted { self.new.sorted ≡ self.old.sorted }
+    {
+        if assignment.is_false(literal) {
+            lower(&mut self.falsified, clause);
+        } else {
+            self.units.push(clause)?;
+        }
+        Ok(())
+    }
+
+    /// The place of the least clause among those that may be unit.
+    pub fn least_unit(&self) -> Option<usize>
+        ensures least { IfSome result (λ k. (k < length (units_of self.now)) × ((j : ℕ) → j < length (units_of self.now) → slice_index_or (units_of self.now) k 0 ≤ slice_index_or (units_of self.now) j 0)) }
+        ensures none { IfNone result (units_of self.now ≡ []) }
+    {
+        least_place(&self.units)
+    }
+
+    /// The clause at a place isn't unit.
+    pub fn drop_unit(&mut self, place: usize)
+        requires { place < length (units_of self.old) }
+        ensures fewer { (i : ℕ) → has_number (units_of self.new) i ≡ true → has_number (units_of self.old) i ≡ true }
+        ensures others { (i : ℕ) → (i ≡ slice_index_or (units_of self.old) place 0 → ⊥) → has_number (units_of self.old) i ≡ true → has_number (units_of self.new) i ≡ true }
+        ensures lists { self.new.lists ≡ self.old.lists }
+        ensures pairs { self.new.pairs ≡ self.old.pairs }
+        ensures sorted { self.new.sorted ≡ self.old.sorted }
+        ensures falsified { self.new.falsified ≡ self.old.falsified }
+        ensures shorter { length (units_of self.new) < length (units_of self.old) }
+    {
+        let _number = self.units.remove(place);
+    }
+
+    /// No clause is unit or falsified.
+    pub fn clear(&mut self)
+        ensures lists { self.new.lists ≡ self.old.lists }
+        ensures pairs { self.new.pairs ≡ self.old.pairs }
+        ensures sorted { self.new.sorted ≡ self.old.sorted }
+        ensures units { units_of self.new ≡ [] }
+        ensures falsified { self.new.falsified ≡ None }
+    {
+        self.units.clear();
+        self.falsified = None;
+    }
+}
+
+/// The place of the least number.
+fn least_place(numbers: &[u32]) -> Option<usize>
+    ensures least { IfSome result (λ k. (k < length numbers.now) × ((j : ℕ) → j < length numbers.now → slice_index_or numbers.now k 0 ≤ slice_index_or numbers.now j 0)) }
+    ensures none { IfNone result (numbers.now ≡ []) }
+{
+    if numbers.is_empty() {
+        return None;
+    }
+    let mut least = 0;
+    let mut lowest = numbers[0];
+    for i in 1..numbers.len() {
+        let number = numbers[i];
+        if number < lowest {
+            lowest = number;
+            least = i;
+        }
+    }
+    Some(least)
+}
+
+/// The watched literal beside this one, where that is watched.
+fn other_watched(pair: &Pair, literal: Lit) -> Option<Lit>
+    ensures beside { IfSome result (λ other. WatchesBeside pair.now literal other) }
+    ensures none { IfNone result ((pair.now.first ≡ literal → ⊥) × (pair.now.second ≡ literal → ⊥)) }
+{
+    if pair.first.is(literal) {
+        Some(pair.second)
+    } else if pair.second.is(literal) {
+        Some(pair.first)
+    } else {
+        None
+    }
+}
+
+/// A watch is kept with this blocker, if there is one, behind those that were kept before it.
+fn keep(list: &mut Vec<Watch>, kept: usize, clause: u32, blocker: Option<Lit>) -> usize
+    requires { kept < length list.old.items }
+    ensures kept { take result list.new.items ≡ kept_with (take kept list.old.items) clause blocker }
+    ensures rest { (k : ℕ) → kept < k → drop k list.new.items ≡ drop k list.old.items }
+    ensures most { result ≤ kept + 1 }
+    ensures length { length list.new.items ≡ length list.old.items }
+{
+    match blocker {
+        Some(blocker) => {
+            list[kept] = Watch { clause, blocker };
+            kept + 1
+        }
+        None => kept,
+    }
+}
+
+/// The least of some numbers, with one more.
+fn lower(least: &mut Option<u32>, number: u32)
+    ensures { least.new ≡ lowest least.old number }
+{
+    match *least {
+        Some(before) => *least = Some(before.min(number)),
+        None => *least = Some(number),
+    }
+}
+
+/// A clause with its literals in the order of their codes.
+fn sorted_clause(alloc: Global, clause: &[Lit]) -> Result<Vec<Lit>, AllocError>
+    ensures { IfOk result (λ sorted. IsPermutation clause.now sorted.items) }
+{
+    let mut sorted = Vec::from_slice(alloc, clause)?;
+    sorted.sort_by_key(|l| code(*l))?;
+    Ok(sorted)
+}
+
+/// For each literal's code no clause.
+fn empty_lists(alloc: Global, variables: u32) -> Result<Vec<Vec<Watch>>, AllocError>
+    requires { variables < 2 ^ 31 }
+    ensures { IfOk result (λ r. map (λ v. v.items) r.items ≡ replicate (2 * variables) []) }
+{
+    let size = 2 * variables as usize;
+    let mut lists = Vec::with_capacity(alloc, size)?;
+    for literal in 0..size {
+        lists.push(Vec::new(alloc))?;
+    }
+    Ok(lists)
+}
