@@ -114,9 +114,10 @@ where
     ensures only_serve_listens { IsNoServer words.now → links.new ≡ links.old }
 
     // A server ends where no connection is at hand, or where those that were given in this call and the workers together are
-    // more than the greatest number of sessions. All its doors are back.
+    // more than the greatest number of sessions, which are never exceeded. All its doors are back.
     ensures serve_ends { L.told → (policy facts journals address : List ℕ) (workers sessions : ℕ) → IsServe words.now policy facts journals address workers sessions → IsComplete result
         → (L.at_hand links.new ≡ 0) ⊎ (L.given links.old + sessions < L.given links.new + workers) }
+    ensures serve_limited { L.told → (policy facts journals address : List ℕ) (workers sessions : ℕ) → IsServe words.now policy facts journals address workers sessions → L.given links.new ≤ L.given links.old + sessions }
     ensures doors { L.out links.new ≡ L.out links.old }
 
     // A fault has its cause.
@@ -212,6 +213,7 @@ where
     ensures only_serve_listens { IsNoServer words.now → links.new ≡ links.old }
     ensures serve_ends { L.told → (policy facts journals address : List ℕ) (workers sessions : ℕ) → IsServe words.now policy facts journals address workers sessions → IsComplete (status_of result)
         → (L.at_hand links.new ≡ 0) ⊎ (L.given links.old + sessions < L.given links.new + workers) }
+    ensures serve_limited { L.told → (policy facts journals address : List ℕ) (workers sessions : ℕ) → IsServe words.now policy facts journals address workers sessions → L.given links.new ≤ L.given links.old + sessions }
     ensures doors { L.out links.new ≡ L.out links.old }
     ensures read_cause { result ≡ CommandEnd.ReadFault → Rose (S.faults source.old) (S.faults source.new) }
     ensures write_cause { result ≡ CommandEnd.WriteFault → Rose (K.faults sink.old) (K.faults sink.new) }

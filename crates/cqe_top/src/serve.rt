@@ -38,6 +38,7 @@ where
         (L.given links.old) (L.given links.new) (L.back links.old) (L.back links.new) words.now.files.policy.now words.now.files.facts.now
         (files_say (F.file shelf.old words.now.files.policy.now) (F.file shelf.old words.now.files.facts.now)) result }
     ensures ends { L.told → IsComplete (status_of result) → (L.at_hand links.new ≡ 0) ⊎ (L.given links.old + words.now.sessions < L.given links.new + words.now.workers) }
+    ensures limited { L.told → L.given links.new ≤ L.given links.old + words.now.sessions }
     ensures doors { L.out links.new ≡ L.out links.old }
     ensures used { result ≡ CommandEnd.Usage → ⊥ }
     ensures read { result ≡ CommandEnd.ReadFault → ⊥ }

@@ -1,5 +1,5 @@
 -- What workers did at their doors, and how they served together.
-use Rattle.std.proofs.Common.{◌≡◌, ◌≢◌, ◌⊎◌, inl, inr, ℕ, ◌+◌, ◌<◌, ◌||◌, Bool, true, false, List, [], ◌∷◌, length, map, All, sum_by, refl, sym, ◌∙◌, subst, arith}
+use Rattle.std.proofs.Common.{◌≡◌, ◌≤◌, ◌≢◌, ◌⊎◌, inl, inr, ℕ, ◌+◌, ◌<◌, ◌||◌, Bool, true, false, List, [], ◌∷◌, length, map, All, sum_by, refl, sym, ◌∙◌, subst, arith}
 use Rattle.std.specs.Prelude.{Option, Some, None, IsSome, if◌then◌else◌}
 use Rattle.std.specs.List.{AllByRecursion, AllZip, list_any}
 use Rattle.std.proofs.lemmas.List.{length-map}
@@ -176,9 +176,9 @@ module _ {D G O : Type 0} {g h : _} (told : Type 0) (given_of left_of ends_of fa
   pub served_together : (counters : CountersOf (TicketedDesk D g) Item (Fixed D) h) (first final : Passes D) (limit : ℕ) (outcome : Outcome) (doors others : List O) (before after : List (Worker (SessionJobOf (TicketedDesk D g) D G h) O))
       → map (λ worker. worker.door) before ≡ doors → others ≡ map (λ worker. worker.door) after → outcome ≡ outcome_of after → All (λ door. faults_of door ≡ 0) doors
       → All (IsFresh counters first) before → All (λ worker. AreOn (job_passes worker.job) final) after
-      → All (λ worker. worker.ended ≡ Some LimitReached → limit < sum_by (λ other. job_runs other.job) after + length after) after → AllZip Was before after
-      → (total : ℕ) × AreServedDoors told given_of left_of faults_of back_of (IsServedBy counters final) total doors others × HasOutcome told left_of faults_of limit outcome total others
-  served_together counters first final limit outcome doors others before after doors_are others_are outcome_is whole fresh on reached was =
+      → All (λ worker. worker.ended ≡ Some LimitReached → limit < sum_by (λ other. job_runs other.job) after + length after) after → AllZip Was before after → sum_by (λ other. job_runs other.job) after ≤ limit
+      → (total : ℕ) × AreServedDoors told given_of left_of faults_of back_of (IsServedBy counters final) total doors others × HasOutcome told left_of faults_of limit outcome total others × (total ≤ limit)
+  served_together counters first final limit outcome doors others before after doors_are others_are outcome_is whole fresh on reached was below =
       let total = sum_by (λ (worker : Worker (SessionJobOf (TicketedDesk D g) D G h) O). job_runs worker.job) after in
       let served = all_served counters first final before after (recursion_from_All (IsFresh counters first) before fresh) (recursion_from_All (λ worker. AreOn (job_passes worker.job) final) after on) was in
       let ended = has_outcome limit before after (by_door before (recursion_from_All (λ door. faults_of door ≡ 0) (map (λ worker. worker.door) before) (subst (All (λ door. faults_of door ≡ 0)) (sym doors_are) whole)))
@@ -187,6 +187,7 @@ module _ {D G O : Type 0} {g h : _} (told : Type 0) (given_of left_of ends_of fa
         subst (λ ds. AreServedDoors told given_of left_of faults_of back_of (IsServedBy counters final) total ds others) doors_are
             (subst (λ ds. AreServedDoors told given_of left_of faults_of back_of (IsServedBy counters final) total (map (λ worker. worker.door) before) ds) (sym others_are) served),
         subst (λ o. HasOutcome told left_of faults_of limit o total others) (sym outcome_is) (subst (λ ds. HasOutcome told left_of faults_of limit (outcome_of after) total ds) (sym others_are) ended),
+        below,
       )
     where
       by_door : (crew : List (Worker (SessionJobOf (TicketedDesk D g) D G h) O)) → AllByRecursion (λ door. faults_of door ≡ 0) (map (λ worker. worker.door) crew) → AllByRecursion (λ worker. faults_of worker.door ≡ 0) crew

@@ -75,6 +75,9 @@ where
         (journals_on F.D.reads F.D.image registry.now.directory.now (F.disk shelf.old) (F.disk shelf.new) (F.disk_faults shelf.old) (F.disk_faults shelf.new))
         registry.now.users.now (L.given links.old) (L.given links.new) (L.back links.old) (L.back links.new) result }
 
+    // There are no more of them than the greatest number.
+    ensures limited { L.told → L.given links.new ≤ L.given links.old + listening.entry.sessions }
+
     // It comes to its end where no connection is left, or these and the workers together are more than the greatest number.
     ensures ended { L.told → IsDone result → (L.at_hand links.new ≡ 0) ⊎ (L.given links.old + listening.entry.sessions < L.given links.new + listening.entry.workers) }
     ensures inside { NoneOut (F.is_out shelf.new) }
@@ -119,6 +122,7 @@ where
         (journals_on F.D.reads F.D.image registry.now.directory.now (F.disk shelf.old) (F.disk shelf.new) (F.disk_faults shelf.old) (F.disk_faults shelf.new))
         registry.now.users.now O.told O.given O.left O.faults O.back doors.items result.1.items result.0 }
     ensures ended { O.told → IsDone result.0 → All (λ door. O.left door ≡ 0) result.1.items ⊎ (sum_by O.given doors.items + limit < sum_by O.given result.1.items + length result.1.items) }
+    ensures limited { O.told → sum_by O.given result.1.items ≤ sum_by O.given doors.items + limit }
     ensures failed { result.0 ≡ ServeEnd.LinksFault → SomeFailed O.faults result.1.items }
     ensures doors { length result.1.items ≡ length doors.items }
     ensures inside { NoneOut (F.is_out shelf.new) }

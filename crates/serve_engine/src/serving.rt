@@ -183,7 +183,7 @@ pub(crate) fn serve_doors<
     ensures on { AreOn passes.old passes.new }
     ensures shares { HaveShares 65 passes.new }
     ensures served { (total : ℕ) × AreServedDoors O.told O.given O.left O.faults O.back (IsServedBy counters.now passes.new) total doors.items result.1.items
-        × HasOutcome O.told O.left O.faults limit result.0 total result.1.items }
+        × HasOutcome O.told O.left O.faults limit result.0 total result.1.items × (total ≤ limit) }
 {
     let count = doors.len();
     let (Ok(crew_room), Ok(room)) = (room_for(alloc, count), room_for(alloc, count)) else {

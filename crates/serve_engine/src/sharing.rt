@@ -119,7 +119,7 @@ pub(crate) fn serve_seats<
     requires whole { All (λ door. O.faults door ≡ 0) doors.items }
     ensures on { AreSeatsOn seats.entry.items result.1.items }
     ensures served { (total : ℕ) × AreServedDoors O.told O.given O.left O.faults O.back (IsServedAt users.now result.1.items) total doors.items result.2.items
-        × HasOutcome O.told O.left O.faults limit result.0 total result.2.items }
+        × HasOutcome O.told O.left O.faults limit result.0 total result.2.items × (total ≤ limit) }
 {
     let count = seats.len();
     let (Ok(rooms), Ok(room)) = (rooms_for(alloc, count), room_for(alloc, count)) else {

@@ -27,3 +27,11 @@ returns-clause-ended g c links_told done =
     let gave = back.given links_told ∙ ap (λ n. n + sum_by g.L.D.Door.given c.serve_opened-end.result.1.items) (heard.given links_told) in
     at_end g.L.D.Door.left c.serve_opened-end.result.1.items (g.L.Links.at_hand c.take_back_all.new.links) (heard.all links_told (omega (arith, some))) (back.at_hand links_told) _ _ (λ most. omega (arith, most, none, gave, many, doors))
     (c.serve_opened-end.ensures.ended (g.met.L.Links.tells_doors links_told) done)
+
+pub returns-clause-limited : goal.returns-clause-limited
+returns-clause-limited g c links_told =
+    let heard = c.in-Ok.ensures in
+    let none = new_given g.L.D.Door.given g.L.D.Door.back c.in-Ok.doors.items (heard.fresh links_told) in
+    let gave = c.take_back_all.ensures.given links_told ∙ ap (λ n. n + sum_by g.L.D.Door.given c.serve_opened-end.result.1.items) (heard.given links_told) in
+    let most = c.serve_opened-end.ensures.limited (g.met.L.Links.tells_doors links_told) in
+    omega (arith, none, gave, most)

@@ -7,7 +7,7 @@ use Rattle.serve_engine.specs.Serving.{HaveServed, EndsAt, IsDone}
 use Rattle.serve_engine.specs.Served.{Served}
 use Rattle.serve_engine.specs.Sharing.{seat_member, IsServedAt}
 use Rattle.serve_engine.proofs.Apart.{served_still}
-use Rattle.serve_engine.proofs.Histories.{have_served, all_in_world, broke_at, journals_on_same, later_on_seats, doors_many, ended_at, failed_at, ends_at, seats_fresh, seats_turns}
+use Rattle.serve_engine.proofs.Histories.{have_served, all_in_world, broke_at, journals_on_same, later_on_seats, doors_many, doors_gave, ended_at, failed_at, ends_at, seats_fresh, seats_turns}
 use Rattle.serve_engine.proofs.run.serve_opened.Goals as goal
 
 pub refusals_of-refusals-requires-clause-room : goal.refusals_of-refusals-requires-clause-room
@@ -57,6 +57,13 @@ pub returns-clause-ended : goal.returns-clause-ended
 returns-clause-ended g c door_told done =
     let served = c.serve_seats-outcome.ensures.served in
     ended_at g.O.Door.told g.O.Door.given g.O.Door.left g.O.Door.faults g.O.Door.back (IsServedAt c.args.registry.now.users.now c.serve_seats-outcome.result.1.items) door_told c.args.limit served.0 c.args.doors.items c.serve_seats-outcome.result.2.items c.serve_seats-outcome.result.0 c.refusals_of-refusals.result c.give_back-is_broken.result served.1 served.2 (subst IsDone c.end_of.ensures done)
+
+pub returns-clause-limited : goal.returns-clause-limited
+returns-clause-limited g c door_told =
+    let served = c.serve_seats-outcome.ensures.served in
+    let gave = doors_gave g.O.Door.told g.O.Door.given g.O.Door.left g.O.Door.faults g.O.Door.back (IsServedAt c.args.registry.now.users.now c.serve_seats-outcome.result.1.items) door_told served.0 c.args.doors.items c.serve_seats-outcome.result.2.items served.1 in
+    let most = served.3 in
+    omega (arith, gave, most)
 
 pub returns-clause-failed : goal.returns-clause-failed
 returns-clause-failed g c is =

@@ -23,11 +23,11 @@ pub returns-in_default-clause-on : goal.returns-in_default-clause-on
 returns-in_default-clause-on g c = on_same (passes_in c.args.passes.now)
 
 pub returns-in_default-clause-served : goal.returns-in_default-clause-served
-returns-in_default-clause-served g c = (0, none_served g.O.Door.told g.O.Door.given g.O.Door.left g.O.Door.faults g.O.Door.back (IsServedBy c.args.counters.now c.args.passes.now) c.args.doors.items, tt)
+returns-in_default-clause-served g c = (0, none_served g.O.Door.told g.O.Door.given g.O.Door.left g.O.Door.faults g.O.Door.back (IsServedBy c.args.counters.now c.args.passes.now) c.args.doors.items, tt, omega arith)
 
 pub returns-in_default-split_all-clause-served : goal.returns-in_default-split_all-clause-served
 returns-in_default-split_all-clause-served g c =
-    (0, none_served g.O.Door.told g.O.Door.given g.O.Door.left g.O.Door.faults g.O.Door.back (IsServedBy c.args.counters.now c.split_all.new.passes) c.args.doors.items, tt)
+    (0, none_served g.O.Door.told g.O.Door.given g.O.Door.left g.O.Door.faults g.O.Door.back (IsServedBy c.args.counters.now c.split_all.new.passes) c.args.doors.items, tt, omega arith)
 
 pub crew_of-crew-requires-clause-opened : goal.crew_of-crew-requires-clause-opened
 crew_of-crew-requires-clause-opened g c κs within =
@@ -106,7 +106,7 @@ pub returns-in-Ok-clause-served : goal.returns-in-Ok-clause-served
 returns-in-Ok-clause-served g c =
     let first = c.args.passes.now in
     served_together g.O.Door.told g.O.Door.given g.O.Door.left g.O.Door.ends g.O.Door.faults g.O.Door.back c.args.counters.now first c.dismiss.new.passes c.args.limit c.outcome_of-outcome.result c.args.doors.items c.dismiss.result.items
-    c.crew_of-crew.result.items c.in-Ok.crew.items c.crew_of-crew.ensures.doors c.dismiss.ensures.doors (search rules) c.requires.whole (c.crew_of-crew.ensures.fresh first c.in-Some.ensures.parts) c.dismiss.ensures.all_on c.in-Ok.ensures.reached c.in-Ok.ensures.served
+    c.crew_of-crew.result.items c.in-Ok.crew.items c.crew_of-crew.ensures.doors c.dismiss.ensures.doors (search rules) c.requires.whole (c.crew_of-crew.ensures.fresh first c.in-Some.ensures.parts) c.dismiss.ensures.all_on c.in-Ok.ensures.reached c.in-Ok.ensures.served c.in-Ok.ensures.limit
 
 pub returns-in-Err-clause-on : goal.returns-in-Err-clause-on
 returns-in-Err-clause-on g c = on_then (passes_in c.args.passes.now) (passes_in c.split_all.new.passes) (passes_in c.dismiss-in-Err.new.passes) c.in-Some.ensures.on c.dismiss-in-Err.ensures.on
@@ -120,4 +120,5 @@ returns-in-Err-clause-served g c =
       subst (λ ds. AreServedDoors g.O.Door.told g.O.Door.given g.O.Door.left g.O.Door.faults g.O.Door.back stands 0 c.args.doors.items ds) (sym back)
           (none_served g.O.Door.told g.O.Door.given g.O.Door.left g.O.Door.faults g.O.Door.back stands c.args.doors.items),
       tt,
+      omega arith,
     )

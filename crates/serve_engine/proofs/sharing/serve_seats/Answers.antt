@@ -91,10 +91,11 @@ returns-clause-served g c =
           (λ schema world all. subst (λ us. Served schema world us (members_of (map kept_by c.new-counters.result.0.counters.items) c.serve_doors-outcome.new.passes.passes.items) visit) made.users (is schema world all)))
           served.0 c.args.doors.items c.serve_doors-outcome.result.1.items served.1,
       served.2,
+      served.3,
     )
 
 pub returns-in_default-clause-on : goal.returns-in_default-clause-on
 returns-in_default-clause-on g c = seats_same c.args.seats.items
 
 pub returns-in_default-clause-served : goal.returns-in_default-clause-served
-returns-in_default-clause-served g c = (0, none_served g.O.Door.told g.O.Door.given g.O.Door.left g.O.Door.faults g.O.Door.back (IsServedAt c.args.users.now c.args.seats.items) c.args.doors.items, tt)
+returns-in_default-clause-served g c = (0, none_served g.O.Door.told g.O.Door.given g.O.Door.left g.O.Door.faults g.O.Door.back (IsServedAt c.args.users.now c.args.seats.items) c.args.doors.items, tt, omega arith)
