@@ -38,6 +38,7 @@ pub data IsHalfAnswered (t : List Assigned) (c : List Literal) (unit falsified :
   unit_before : k ≡ level t → unit ≡ true → IsHalfAnswered t c unit falsified k
   falsified_before : k ≡ level t → falsified ≡ true → IsHalfAnswered t c unit falsified k
 
+-- A clause of which one watched literal, this one, has just become false: what the other one needs to be is known of the other alone.
 pub record IsHalfWatched (t : List Assigned) (c : List Literal) (pair : Pair) (unit falsified : Bool) (f : Literal) : Type 0 where
   pub watches : (pair.first ≡ f) ⊎ (pair.second ≡ f)
   pub first_in : 0 < length c → has_literal c pair.first ≡ true

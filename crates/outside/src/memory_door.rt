@@ -102,7 +102,7 @@ impl MemoryDoor {
         Ok(Self::over(connections, finished, plan))
     }
 
-    // A door for these connections, the first of them first, with the place for each of them.
+    /// A door for these connections, the first of them first, with the place for each of them.
     pub(crate) fn over(connections: Vec<Connection>, places: Vec<Finished>, plan: Plan) -> Self
         requires empty { places.items ≡ [] }
         requires room { length connections.items ≤ vec_capacity places }
@@ -133,7 +133,7 @@ impl MemoryDoor {
         &self.finished
     }
 
-    // What it had still to give, the last of them first, and what is left of it.
+    /// What it had still to give, the last of them first, and what is left of it.
     pub(crate) fn closed(self) -> (Vec<Connection>, DoorBack)
         ensures waiting { length result.0.items ≡ door_left self }
         ensures back { visits_of result.1 ≡ door_back self }
