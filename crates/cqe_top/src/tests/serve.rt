@@ -36,7 +36,7 @@ const SERVE: [&str; 9] = [
 fn serve_by(
     rt: &(impl Threads + Wait + Sync),
     alloc: Global,
-    numbers: &[&str],
+    numbers: &[&'static str],
     shelf: &mut MemoryShelf,
     links: &mut MemoryLinks,
     gate: &(impl Gate + Sync),
@@ -56,7 +56,7 @@ fn serve_by(
 fn serve(
     rt: &(impl Threads + Wait + Sync),
     alloc: Global,
-    numbers: &[&str],
+    numbers: &[&'static str],
     shelf: &mut MemoryShelf,
     links: &mut MemoryLinks,
 ) -> Result<Run, AllocError>
