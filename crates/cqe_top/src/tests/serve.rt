@@ -177,7 +177,11 @@ fn no_more_sessions_are_served_than_asked_for(rt: HostRuntime) -> Result<(), Fai
         let run = serve(&rt, alloc, &numbers, &mut shelf, &mut links)?;
         run.check(&rt, 0, "", "", sessions);
         assert_eq!(rt; links.left(), left, "{sessions}");
-        assert_eq!(rt; served(&rt, &links, &CLIENTS) + left, 5, "{sessions}");
+        assert_eq!(rt;
+            served(&rt, &links, &CLIENTS).wrapping_add(left),
+            5,
+            "{sessions}"
+        );
     }
     Ok(())
 }
