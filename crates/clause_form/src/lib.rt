@@ -3,7 +3,7 @@
 // A former has the clauses and the numbering of the list that was added to it, exactly as the definition of the clause form says. A refusal
 // changes nothing, and `cut` goes back exactly. The world of a model of its clauses is one in which the list is true.
 //
-// Read `former`, then `walk`, `node` and `numbers`.
+// Read `former`, then `former::walk`, `nodes` and `worlds`.
 #![tactic(auto)]
 
 pub mod former;

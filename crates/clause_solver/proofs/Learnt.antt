@@ -4,8 +4,9 @@ use Rattle.std.proofs.lemmas.Bool.{both_ways, cases_lt, or_cases, or_left, or_ri
 use Rattle.std.proofs.lemmas.List.Folds.{list_any-append}
 use Rattle.cqe_base.specs.Literal.{Literal, variable_of, same_literal, has_literal, HasNoRepeat, HaveNoRepeat}
 use Rattle.cqe_base.specs.Machine.{Assigned, Because, is_true, is_false, level, level_of, cut}
+use Rattle.cqe_base.specs.MachineStates.{IsDistinct}
 use Rattle.cqe_base.proofs.ClauseTruth.{same_literal-true, same_literal-same, variable_of-opposite}
-use Rattle.cqe_base.proofs.Trails.{IsDistinct, not_both, false_is_assigned, false_on_rest}
+use Rattle.cqe_base.proofs.Trails.{not_both, false_is_assigned, false_on_rest}
 use Rattle.cqe_base.proofs.Conflicts.{GoesBack, cut_distinct, cut_level, cut_suffix}
 use Rattle.clause_solver.specs.Watching.{HasTrue, satisfied, is_unit, IsWatched}
 use Rattle.clause_solver.specs.IndexedStates.{IsHighestBeside, first_two}

@@ -7,7 +7,7 @@ use Rattle.std.proofs.lemmas.List.{get_or-set_same, get_or-set_other, length-set
 use Rattle.std.proofs.lemmas.List.Folds.{list_any-append}
 use Rattle.cqe_base.specs.Literal.{Literal, variable_of, opposite, has_literal}
 use Rattle.cqe_base.specs.Machine.{Assigned, assigned_literal, is_false, level, cut}
-use Rattle.cqe_base.proofs.Trails.{IsDistinct, is_assigned as trail_assigned}
+use Rattle.cqe_base.specs.MachineStates.{IsDistinct, is_assigned as trail_assigned}
 use Rattle.clause_solver.specs.declared.watches.Pair.{Pair}
 use Rattle.clause_solver.specs.declared.watches.Watch.{Watch}
 use Rattle.clause_solver.specs.Assigning.{code_of, is_assigned, AssignsOnce}

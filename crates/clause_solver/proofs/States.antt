@@ -5,8 +5,9 @@ use Rattle.std.specs.List.{list_all, find, filter, position_from}
 use Rattle.std.proofs.lemmas.Bool.{both_ways, or_parts, cases_eq, cases_lt, false_from_ne_true, or_cases, or_left, or_right, and_parts, and_from, leb-true, not-true}
 use Rattle.cqe_base.specs.Literal.{Literal, same_literal, has_literal, HasNoRepeat, HaveNoRepeat}
 use Rattle.cqe_base.specs.Machine.{Assigned, is_true, is_false, level, unit_literal, only_literal, first_unit, unit_or}
+use Rattle.cqe_base.specs.MachineStates.{IsDistinct}
 use Rattle.cqe_base.proofs.ClauseTruth.{same_literal-true, same_literal-same}
-use Rattle.cqe_base.proofs.Trails.{IsDistinct, not_both, true_is_assigned, level_of-le}
+use Rattle.cqe_base.proofs.Trails.{not_both, true_is_assigned, level_of-le}
 use Rattle.cqe_base.proofs.MachineRules.{IsUnit, is_unit, each_has}
 use Rattle.clause_solver.specs.declared.watches.Pair.{Pair}
 use Rattle.clause_solver.specs.declared.watches.Watch.{Watch}

@@ -3,8 +3,9 @@ use Rattle.std.proofs.Common.{◌≡◌, ℕ, ◌<◌, ◌≤◌, Bool, true, fa
 use Rattle.std.proofs.lemmas.Bool.{both_ways, false_from_ne_true, or_right}
 use Rattle.cqe_base.specs.Literal.{Literal, Positive, variable_of, opposite, same_literal, has_literal}
 use Rattle.cqe_base.specs.Machine.{Assigned, assigned_literal, is_true, is_false, level, level_of, cut}
+use Rattle.cqe_base.specs.MachineStates.{is_assigned, IsDistinct}
 use Rattle.cqe_base.proofs.ClauseTruth.{same_literal-true, same_literal-same, opposite-opposite, variable_of-opposite}
-use Rattle.cqe_base.proofs.Trails.{is_assigned, IsDistinct, true_is_assigned, false_is_assigned, other_variable, level_of-le, false_on_rest}
+use Rattle.cqe_base.proofs.Trails.{true_is_assigned, false_is_assigned, other_variable, level_of-le, false_on_rest}
 use Rattle.cqe_base.proofs.Conflicts.{cut_true, cut_level, cut_suffix, cut_false}
 use Rattle.clause_solver.proofs.Kept.{level_of-variable}
 use Rattle.clause_solver.specs.declared.watches.Pair.{Pair}

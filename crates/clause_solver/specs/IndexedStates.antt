@@ -2,8 +2,7 @@
 use Rattle.std.specs.Prelude.{◌≡◌, ◌⊎◌, ◌≤◌, true, List, [], ◌∷◌, map}
 use Rattle.cqe_base.specs.Literal.{Literal, Positive, has_literal}
 use Rattle.cqe_base.specs.Machine.{Assigned, State as PlainState, level_of}
-use Rattle.cqe_base.proofs.Trails.{IsDistinct}
-use Rattle.cqe_base.proofs.Reached.{IsReached}
+use Rattle.cqe_base.specs.MachineStates.{IsDistinct, IsReached}
 use Rattle.clause_store.specs.PlainLines.{line_of}
 use Rattle.clause_solver.specs.Watching.{HaveSameLiterals}
 use Rattle.clause_solver.specs.WatchesInside.{AreWatches}

@@ -57,7 +57,7 @@ has_number numbers i = list_any (λ m. m == i) numbers
 abbrev pub has_clause : List Watch → ℕ → Bool
 has_clause watches i = list_any (λ w. w.clause == i) watches
 
--- whether no clause before this one is falsified, where one is
+-- whether a clause is known as falsified that is this one or stands before it
 abbrev pub is_caught : Option ℕ → ℕ → Bool
 is_caught None i = false
 is_caught (Some j) i = nat_le j i

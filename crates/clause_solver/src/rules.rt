@@ -4,7 +4,7 @@ ghost use Rattle.std.specs.Prelude.{◌≡◌, ◌⊎◌, ◌<◌, ◌≤◌, �
 ghost use Rattle.std.specs.List.{position_from, list_all};
 ghost use Rattle.cqe_base.specs.Literal.{Literal, Negative, variable_of};
 ghost use Rattle.cqe_base.specs.Machine.{State as PlainState, state_after_conflict, step, level, level_of, is_false, signs_of, conflict_step, decide_step, first_unassigned, unit_step, first_unit};
-ghost use Rattle.cqe_base.proofs.Analysis.{Walked};
+ghost use Rattle.cqe_base.specs.MachineStates.{Walked};
 ghost use Rattle.clause_store.specs.PlainLines.{line_of};
 ghost use Rattle.clause_solver.specs.PlainStates.{StepIs};
 ghost use Rattle.clause_solver.specs.WatchesInside.{units_of};

@@ -1,7 +1,6 @@
 -- Each world in which the log of a legal history is true and a guarded sentence false is alike, and there is one.
-use Rattle.std.proofs.Common.{◌≡◌, suc, Bool, true, false, ◌||◌, List, [], ◌∷◌, refl, sym, subst, ◌∙◌, arith}
+use Rattle.std.proofs.Common.{◌≡◌, true, false, [], refl, sym, subst, ◌∙◌}
 use Rattle.std.specs.Prelude.{Contains}
-use Rattle.std.specs.List.{list_any}
 use Rattle.cqe_base.specs.declared.user.Method.{Method}
 use Rattle.cqe_base.specs.declared.user.Method.TheVariants.{Lying, Refusal, Combined}
 use Rattle.cqe_base.specs.Schema.{DatabaseSchema}
@@ -11,7 +10,7 @@ use Rattle.cqe_base.specs.Entailment.{all_hold_in, entails, IsCountermodel}
 use Rattle.cqe_base.specs.History.{UserProfile, known, log}
 use Rattle.cqe_base.specs.Censor.{guarded, knows_truth_by, admitted, IsLegal}
 use Rattle.cqe_base.specs.OtherWorlds.{LogsKeepSecrets, CountermodelsAreAlike, LegalEntriesReplyAlike}
-use Rattle.cqe_base.proofs.Truths.{true_is_not_false, false_if_not_true, and_second, and_both, list_any-false}
+use Rattle.cqe_base.proofs.Truths.{true_is_not_false, false_if_not_true, and_second, and_both, list_any-false, none_passes}
 use Rattle.cqe_base.proofs.Logs.{log-nil, known_holds}
 use Rattle.cqe_base.proofs.Worlds.{entails-true, entails-false}
 use Rattle.cqe_base.proofs.Secrets.{legal_shields, legal_again}
@@ -42,14 +41,6 @@ countermodel_alike schema world user entries goal other admits legal guards is =
       legal = legal_there;
       same_replies = replies_alike schema user world other entries legal_there (admits_there ∙ sym admits);
     }
-
-none_passes : {X : Type 0} (p : X → Bool) (xs : List X) → ((x : X) → Contains xs x → p x ≡ false) → list_any p xs ≡ false
-none_passes p [] each = refl
-none_passes p (x ∷ xs) each = or_false (p x) _ (each x (0, omega arith, refl)) (none_passes p xs (λ y within. each y (suc within.0, omega arith, within.2)))
-  where
-    or_false : (a b : Bool) → a ≡ false → b ≡ false → (a || b) ≡ false
-    or_false true b p q = absurd (true_is_not_false p)
-    or_false false b p q = q
 
 pub logs_keep_secrets : LogsKeepSecrets
 logs_keep_secrets schema world user entries admissible legal = none_passes (λ goal. entails schema (log user entries) (goal, true)) (guarded user) kept

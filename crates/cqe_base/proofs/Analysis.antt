@@ -1,15 +1,16 @@
 -- The analysis of a conflict keeps a false clause and ends with the literals of the current level that remain.
 use Rattle.std.proofs.Common.{◌≡◌, ℕ, zero, suc, ◌+◌, ◌<◌, ◌≤◌, Bool, true, false, cond, not, ◌&&◌, eqb, List, [], ◌∷◌, ◌++◌, Some, append_assoc, refl, sym, ap, ◌∙◌, subst, inl, inr, ⊎_elim, ◌⊎◌, arith, length}
 use Rattle.std.specs.Prelude.{slice_index_or, nat_lt, if◌then◌else◌}
-use Rattle.std.specs.List.{list_any, filter, count_by, AllByRecursion}
+use Rattle.std.specs.List.{filter, count_by, AllByRecursion}
 use Rattle.std.proofs.lemmas.List.Sums.{sum_by-cons}
 use Rattle.std.proofs.lemmas.Bool.{false_from_ne_true, or_cases, or_left, or_right, or_from, or_parts, both_ways, eqb-true, eq-eqb, cond_both, not-true, ltb-true, ltb-false}
 use Rattle.cqe_base.specs.Literal.{Literal, Positive, Negative, variable_of, opposite, same_literal, has_literal, union, ClauseBelow, ClausesBelow, HasNoRepeat, HaveNoRepeat}
 use Rattle.cqe_base.specs.Refutation.{RefutationLine, without_variable, resolvent}
 use Rattle.cqe_base.specs.Machine.{Assigned, Decided, Because, assigned_literal, is_true, is_false, level, level_of, is_current, current_count, latest_against, resolved_with, analysis, resolved_line}
+use Rattle.cqe_base.specs.MachineStates.{is_assigned, IsDistinct, AllFalse, IsCause, IsFalseClause, Reasons, Walked}
 use Rattle.cqe_base.proofs.ClauseTruth.{same_literal-true, same_literal-same, opposite-opposite, variable_of-opposite}
 use Rattle.cqe_base.proofs.NoRepeats.{HasNoRepeat-union}
-use Rattle.cqe_base.proofs.Trails.{is_assigned, IsDistinct, Suffix, Suffix-tail, not_both, false_is_assigned, false_on_rest, level_of-le, other_variable}
+use Rattle.cqe_base.proofs.Trails.{Suffix, Suffix-tail, not_both, false_is_assigned, false_on_rest, level_of-le, other_variable}
 
 module _ (P : Literal → Type 0) where
   -- what holds of each literal holds of each that is kept
@@ -46,7 +47,7 @@ each_differs x (l ∷ c) h =
     let parts : (same_literal x l ≡ false) × (has_literal c x ≡ false) = or_parts _ _ h in
     (λ e. both_ways _ parts.0 (subst (λ y. same_literal x y ≡ true) (sym e) (same_literal-same x)), each_differs x c parts.1)
 
-filter_has : (p : Literal → Bool) (c : List Literal) (l : Literal) → has_literal c l ≡ false → has_literal (filter p c) l ≡ false
+pub filter_has : (p : Literal → Bool) (c : List Literal) (l : Literal) → has_literal c l ≡ false → has_literal (filter p c) l ≡ false
 filter_has p [] l h = h
 filter_has p (m ∷ c) l h =
     let parts : (same_literal l m ≡ false) × (has_literal c l ≡ false) = or_parts _ _ h in
@@ -56,10 +57,6 @@ pub HasNoRepeat-filter : (p : Literal → Bool) (c : List Literal) → HasNoRepe
 HasNoRepeat-filter p [] h = h
 HasNoRepeat-filter p (m ∷ c) h =
     cond_both (p m) (m ∷ filter p c) (filter p c) HasNoRepeat (λ _. (filter_has p c m h.0, HasNoRepeat-filter p c h.1)) (λ _. HasNoRepeat-filter p c h.1)
-
--- the literals are false
-abbrev pub AllFalse : List Assigned → List Literal → Type 0
-AllFalse t c = AllByRecursion (λ l. is_false t l ≡ true) c
 
 pub count-cons : (p : Literal → Bool) (l : Literal) (c : List Literal) → count_by p (l ∷ c) ≡ cond (p l) 1 0 + count_by p c
 count-cons p l c = sum_by-cons (λ x. cond (p x) 1 0) l c
@@ -135,20 +132,9 @@ same_or_opposite (Positive w) (Negative v) h = inr (ap Positive (eqb-true w v h)
 same_or_opposite (Negative w) (Positive v) h = inr (ap Negative (eqb-true w v h))
 same_or_opposite (Negative w) (Negative v) h = inl (ap Negative (eqb-true w v h))
 
--- the clause that is an entry's cause has its literal, and its other literals were false before it
-pub record IsCause (t : List Assigned) (l : Literal) (c : List Literal) : Type 0 where
-  pub has : has_literal c l ≡ true
-  pub others : AllByRecursion (λ m. (m ≡ l) ⊎ (is_false t m ≡ true)) c
-
 -- what is on the rest of a trail is on the trail
 abbrev pub Within : List Assigned → List Assigned → Type 0
 Within whole rest = (l : Literal) → is_true rest l ≡ true → is_true whole l ≡ true
-
--- a clause that the analysis may meet: false, without repeats, and with variables below n
-pub record IsFalseClause (n : ℕ) (whole : List Assigned) (c : List Literal) : Type 0 where
-  pub no_repeat : HasNoRepeat c
-  pub below : ClauseBelow n c
-  pub falsified : AllFalse whole c
 
 -- what holds of the literals of one variable in a false clause
 opposite_only : (n : ℕ) (whole : List Assigned) (l : Literal) (c : List Literal) → IsDistinct n whole → is_true whole l ≡ true → AllFalse whole c → AllByRecursion (λ m. eqb (variable_of m) (variable_of l) ≡ true → m ≡ opposite l) c
@@ -179,16 +165,6 @@ IsFalseClause-resolvent n whole t l c d within f cause r below =
           (each_weaker (λ m. is_false t m ≡ true) (λ m. is_false whole m ≡ true) (λ m h. within (opposite m) h) _ (cause_rest_false t l d cause));
     }
 
--- a clause that no rule applied to: it has a true literal or two that aren't false
-abbrev pub NotForced : List Assigned → List Literal → Type 0
-NotForced t c = (list_any (is_true t) c ≡ true) ⊎ (2 ≤ length (filter (λ l. not (is_false t l)) c))
-
--- each entry of the trail stands there by a rule
-abbrev pub Reasons : List (List Literal) → List Assigned → Type 0
-Reasons cs [] = Unit {0}
-Reasons cs (Decided l ∷ t) = AllByRecursion (NotForced t) cs × Reasons cs t
-Reasons cs (Because i l ∷ t) = (i < length cs) × IsCause t l (slice_index_or cs i []) × Reasons cs t
-
 pub each_at : (P : List Literal → Type 0) (cs : List (List Literal)) (i : ℕ) → AllByRecursion P cs → P [] → P (slice_index_or cs i [])
 each_at P [] i h e = e
 each_at P (c ∷ cs) zero h e = h.0
@@ -208,10 +184,6 @@ pub record Walk (n : ℕ) (whole : List Assigned) (keep : ℕ) (rest : List Assi
   pub clause : IsFalseClause n whole c
   pub enough : keep ≤ current_count whole c
   pub ahead : (current_count whole c ≤ keep) ⊎ (AllFalse rest c × (level whole ≡ level rest))
-
-pub record Walked (n : ℕ) (whole : List Assigned) (keep : ℕ) (c : List Literal) : Type 0 where
-  pub clause : IsFalseClause n whole c
-  pub count : current_count whole c ≡ keep
 
 keep_false : (i : ℕ) (l : Literal) (rest : List Assigned) (c : List Literal) → AllFalse (Because i l ∷ rest) c → AllFalse rest (without_variable (variable_of l) c)
 keep_false i l rest c f =

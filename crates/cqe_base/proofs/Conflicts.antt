@@ -6,10 +6,11 @@ use Rattle.std.proofs.lemmas.Bool.{false_from_ne_true, or_cases, or_left, or_rig
 use Rattle.cqe_base.specs.Literal.{Literal, variable_of, same_literal, has_literal, ClauseBelow, HasNoRepeat}
 use Rattle.cqe_base.specs.Refutation.{RefutationLine}
 use Rattle.cqe_base.specs.Machine.{Assigned, Decided, Because, assigned_literal, State, is_true, is_false, level, level_of, is_current, current_count, kept_count, conflict_line, highest_level, cut, with_asserted, state_after_conflict}
+use Rattle.cqe_base.specs.MachineStates.{is_assigned, IsDistinct, IsCause, Reasons, NotForced, Walked, AllFalse, IsReached}
 use Rattle.cqe_base.proofs.ClauseTruth.{same_literal-true, same_literal-same, variable_of-opposite}
-use Rattle.cqe_base.proofs.Trails.{is_assigned, IsDistinct, Suffix, Suffix-tail, base, false_is_assigned, false_on_rest, level_of-le, other_variable}
-use Rattle.cqe_base.proofs.Analysis.{count-cons, IsCause, Reasons, NotForced, Walk, Walked, Keeps, AllFalse, walk_back, walk_back_walked, analysis_is_walk, each_weaker, each_both, each_passes}
-use Rattle.cqe_base.proofs.Reached.{IsReached, base_open, two_current, all_false, position_passes}
+use Rattle.cqe_base.proofs.Trails.{Suffix, Suffix-tail, base, false_is_assigned, false_on_rest, level_of-le, other_variable}
+use Rattle.cqe_base.proofs.Analysis.{count-cons, Walk, Keeps, walk_back, walk_back_walked, analysis_is_walk, each_weaker, each_both, each_passes}
+use Rattle.cqe_base.proofs.Reached.{base_open, two_current, all_false, position_passes}
 use Rattle.cqe_base.proofs.MachineRules.{each_has, filter_member, each_kept}
 
 cut_true_step : (k : ℕ) (a : Assigned) (t : List Assigned) (l : Literal) (b : Bool) → (is_true (cut k t) l ≡ true → is_true t l ≡ true) → is_true (cond b (a ∷ t) (cut k t)) l ≡ true → is_true (a ∷ t) l ≡ true
@@ -265,13 +266,13 @@ keeps_step : (t : List Assigned) (b : Bool) → eqb (level t) 0 ≡ b → Keeps 
 keeps_step t true e = inr (refl, eqb-true _ _ e)
 keeps_step t false e = inl refl
 
+pub positive : (k : ℕ) → (k ≡ 0 → ⊥) → 0 < k
+positive zero ne = absurd (ne refl)
+positive (suc k) ne = omega arith
+
 enough_step : (t : List Assigned) (m : ℕ) (b : Bool) → eqb (level t) 0 ≡ b → (0 < level t → 2 ≤ m) → cond b 0 1 ≤ m
 enough_step t m true e go = omega arith
 enough_step t m false e go = let ne = eqb-false _ _ e in let two = go (positive (level t) ne) in omega arith
-  where
-    positive : (k : ℕ) → (k ≡ 0 → ⊥) → 0 < k
-    positive zero ne = absurd (ne refl)
-    positive (suc k) ne = omega arith
 
 -- where the analysis of a conflict begins
 pub record Begins (n : ℕ) (s : State) (i : ℕ) : Type 0 where

@@ -12,11 +12,11 @@ use Rattle.cqe_base.proofs.MachineRuns.{step_cost}
 use Rattle.cqe_base.proofs.ClauseTruth.{opposite-opposite}
 use Rattle.cqe_base.specs.Refutation.{RefutationLine}
 use Rattle.cqe_base.specs.Machine.{Assigned, Decided, Because, assigned_literal, State, start, level, level_of, is_current, highest_level, cut, with_asserted, state_after_conflict, is_true, is_false, current_count, kept_count, latest_against, resolved_with, analysis, conflict_line, conflict_cost, conflict_step, decide_step, unit_step, conflict_or_unit_step, step, Step, Continues, Ends, Refuted, Ended, end_after, with_cost, end_within, first_unit, first_unassigned}
-use Rattle.cqe_base.proofs.Trails.{is_assigned, IsDistinct, not_both}
-use Rattle.cqe_base.proofs.Analysis.{Walked, IsFalseClause, AllFalse, each_weaker, each_passes, each_differs, same_or_opposite}
-use Rattle.cqe_base.proofs.Reached.{IsReached}
+use Rattle.cqe_base.specs.MachineStates.{is_assigned, IsDistinct, Walked, IsFalseClause, AllFalse, IsReached}
+use Rattle.cqe_base.proofs.Trails.{not_both}
+use Rattle.cqe_base.proofs.Analysis.{each_weaker, each_passes, each_differs, same_or_opposite}
 use Rattle.cqe_base.proofs.MachineRules.{unit_reached, decide_reached}
-use Rattle.cqe_base.proofs.Conflicts.{cut_level, highest-below, not_current_below, find_counted, learnt_reached, conflict_walked}
+use Rattle.cqe_base.proofs.Conflicts.{cut_level, highest-below, not_current_below, find_counted, learnt_reached, conflict_walked, positive}
 
 -- the trail's number: its literals of each level are the digits, level 0 first, in base n + 1
 abbrev pub number : ℕ → List Assigned → ℕ
@@ -127,10 +127,6 @@ unit_progress n s new cost None e r hc h = decide_progress n s new cost (first_u
 unit_progress n s new cost (Some u) e r hc h =
     let same : record s { trail = Because u.0 u.1 ∷ s.trail } ≡ new = cc in
     subst (Progress n s) same (record { reached = unit_reached n s u r e; raised = pushed n s.trail (Because u.0 u.1) })
-
-positive : (k : ℕ) → (k ≡ 0 → ⊥) → 0 < k
-positive zero ne = absurd (ne refl)
-positive (suc k) ne = omega arith
 
 conflict_by : (n : ℕ) (s new : State) (cost i : ℕ) (b : Bool) → eqb (level s.trail) 0 ≡ b → IsReached n s → Walked n s.trail (cond b 0 1) (conflict_line s i).clause → cond b (Ends (conflict_cost (conflict_line s i)) (Refuted (s.lines ++ conflict_line s i ∷ []))) (Continues (conflict_cost (conflict_line s i)) (state_after_conflict s (conflict_line s i))) ≡ Continues cost new → Progress n s new
 conflict_by n s new cost i true e r w h = absurd (let x : ⊥ = cc in x)

@@ -7,12 +7,13 @@ use Rattle.std.proofs.lemmas.Bool.{false_from_ne_true, or_cases, or_left, or_rig
 use Rattle.cqe_base.specs.Literal.{Literal, Positive, Negative, variable_of, opposite, same_literal, has_literal, union, literal_true, clause_true, clauses_true, sign_at, ClauseBelow, ClausesBelow, HasNoRepeat, HaveNoRepeat}
 use Rattle.cqe_base.specs.Refutation.{RefutationLine, resolvent, resolvent_on, single_resolvent, resolvent_with_next, chain_from, chain_result, same_literals, is_result, lines_right, is_empty_clause, ends_empty, is_refutation, covers, is_model}
 use Rattle.cqe_base.specs.Machine.{Assigned, Decided, Because, State, is_true, is_false, level, level_of, is_current, current_count, kept_count, resolved_line, conflict_line, conflict_cost, state_after_conflict, first_unit, first_unassigned, signs_of, start, Step, Continues, Ends, Refuted, Ended, with_cost, end_after, end_within, step, conflict_step, decide_step, unit_step, conflict_or_unit_step}
+use Rattle.cqe_base.specs.MachineStates.{is_assigned, IsDistinct, IsCause, Reasons, NotForced, IsFalseClause, AllFalse, IsReached}
 use Rattle.cqe_base.specs.Outcome.{is_right_end}
 use Rattle.cqe_base.specs.MachineLaws.{MachineEndsAreRight}
 use Rattle.cqe_base.proofs.ClauseTruth.{same_literal-same, opposite-opposite, variable_of-opposite}
-use Rattle.cqe_base.proofs.Trails.{is_assigned, IsDistinct, Suffix, Suffix-tail, not_both, no_opposite, true_is_assigned, level_of-le}
-use Rattle.cqe_base.proofs.Analysis.{IsCause, Reasons, NotForced, Walk, Keeps, IsFalseClause, AllFalse, Within, walk_back, each_weaker, each_both, each_filter, each_passes, HasNoRepeat-filter, walk_because, walk_decided}
-use Rattle.cqe_base.proofs.Reached.{IsReached, position_none, unit_none}
+use Rattle.cqe_base.proofs.Trails.{Suffix, Suffix-tail, not_both, no_opposite, true_is_assigned, level_of-le}
+use Rattle.cqe_base.proofs.Analysis.{Walk, Keeps, Within, walk_back, each_weaker, each_both, each_filter, each_passes, HasNoRepeat-filter, walk_because, walk_decided}
+use Rattle.cqe_base.proofs.Reached.{position_none, unit_none}
 use Rattle.cqe_base.proofs.Conflicts.{first_line, conflict_begins, conflict_line-is, conflict_walked, count_zero}
 use Rattle.cqe_base.proofs.MachineRules.{each_has, each_kept, each_not_forced}
 use Rattle.cqe_base.proofs.MachineBound.{step_progress}

@@ -2,13 +2,14 @@
 use Rattle.std.proofs.Common.{◌≡◌, ℕ, zero, suc, ◌+◌, ◌<◌, Bool, true, false, cond, not, ◌&&◌, List, [], ◌∷◌, Some, None, refl, sym, ap, ◌∙◌, subst, inl, inr, ⊎_elim, ◌⊎◌, arith, length}
 use Rattle.std.specs.Prelude.{slice_index_or}
 use Rattle.std.specs.List.{range_with_len, list_any, list_all, filter, find, position_from, AllByRecursion}
-use Rattle.std.proofs.lemmas.Bool.{false_from_ne_true, or_cases, or_left, or_right, or_from, or_parts, and_parts, both_ways, cond_both, not-true}
-use Rattle.cqe_base.specs.Literal.{Literal, Positive, Negative, variable_of, same_literal, has_literal, ClauseBelow}
+use Rattle.std.proofs.lemmas.Bool.{false_from_ne_true, or_cases, or_left, or_right, and_parts, both_ways, cond_both, not-true}
+use Rattle.cqe_base.specs.Literal.{Literal, Positive, Negative, variable_of, has_literal, ClauseBelow}
 use Rattle.cqe_base.specs.Machine.{Assigned, Decided, Because, State, is_true, is_false, unit_literal, only_literal, first_unit, first_unassigned}
+use Rattle.cqe_base.specs.MachineStates.{is_assigned, IsCause, NotForced, IsReached}
 use Rattle.cqe_base.proofs.ClauseTruth.{same_literal-true, same_literal-same}
-use Rattle.cqe_base.proofs.Trails.{is_assigned}
-use Rattle.cqe_base.proofs.Analysis.{IsCause, NotForced, each_at, each_weaker, each_passes}
-use Rattle.cqe_base.proofs.Reached.{IsReached, assigned_cases, position_none, unit_at, unit_none}
+use Rattle.cqe_base.proofs.Truths.{true_if_not_false}
+use Rattle.cqe_base.proofs.Analysis.{each_at, each_weaker, each_passes, filter_has}
+use Rattle.cqe_base.proofs.Reached.{assigned_cases, position_none, unit_at, unit_none}
 
 -- what holds of each literal holds of one that the clause has
 pub each_has : (P : Literal → Type 0) (c : List Literal) (l : Literal) → AllByRecursion P c → has_literal c l ≡ true → P l
@@ -21,17 +22,7 @@ filter_member p [] l h = h
 filter_member p (x ∷ c) l h = step (p x) h
   where
     later : has_literal (filter p c) l ≡ true → has_literal c l ≡ true
-    later e = false_from_not (has_literal c l) (λ k. both_ways _ (filter_has_not p c l k) e)
-      where
-        false_from_not : (b : Bool) → (b ≡ false → ⊥) → b ≡ true
-        false_from_not true f = refl
-        false_from_not false f = absurd (f refl)
-
-        filter_has_not : (p : Literal → Bool) (c : List Literal) (l : Literal) → has_literal c l ≡ false → has_literal (filter p c) l ≡ false
-        filter_has_not p [] l h = h
-        filter_has_not p (m ∷ c) l h =
-            let parts : (same_literal l m ≡ false) × (has_literal c l ≡ false) = or_parts _ _ h in
-            cond_both (p m) (m ∷ filter p c) (filter p c) (λ d. has_literal d l ≡ false) (λ _. or_from _ _ parts.0 (filter_has_not p c l parts.1)) (λ _. filter_has_not p c l parts.1)
+    later e = true_if_not_false (has_literal c l) (λ k. both_ways _ (filter_has p c l k) e)
 
     step : (b : Bool) → has_literal (cond b (x ∷ filter p c) (filter p c)) l ≡ true → has_literal (x ∷ c) l ≡ true
     step true h = ⊎_elim (λ e. or_left _ _ e) (λ e. or_right _ _ (later e)) (or_cases _ _ h)

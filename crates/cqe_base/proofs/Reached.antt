@@ -4,17 +4,11 @@ use Rattle.std.specs.Prelude.{slice_index_or}
 use Rattle.std.specs.List.{list_any, list_all, filter, position_from, AllByRecursion}
 use Rattle.std.proofs.lemmas.List.Sums.{length-filter}
 use Rattle.std.proofs.lemmas.Bool.{false_from_ne_true, or_cases, or_left, or_right, and_parts, both_ways, eq-eqb, not-true}
-use Rattle.cqe_base.specs.Literal.{Literal, Positive, Negative, variable_of, opposite, same_literal, ClausesBelow, HaveNoRepeat}
-use Rattle.cqe_base.specs.Machine.{Assigned, Decided, Because, assigned_literal, State, is_true, is_false, level, is_current, current_count, unit_literal, first_unit, unit_or}
-use Rattle.cqe_base.proofs.Trails.{is_assigned, IsDistinct, base, not_both, false_is_assigned, level_of-current}
-use Rattle.cqe_base.proofs.Analysis.{Reasons, NotForced, AllFalse, each_weaker}
-
--- what holds of every state that is reached
-pub record IsReached (n : ℕ) (s : State) : Type 0 where
-  pub distinct : IsDistinct n s.trail
-  pub reasons : Reasons s.clauses s.trail
-  pub below : ClausesBelow n s.clauses
-  pub no_repeat : HaveNoRepeat s.clauses
+use Rattle.cqe_base.specs.Literal.{Literal, Positive, Negative, variable_of, opposite, same_literal}
+use Rattle.cqe_base.specs.Machine.{Assigned, Decided, Because, assigned_literal, is_true, is_false, level, is_current, current_count, unit_literal, first_unit, unit_or}
+use Rattle.cqe_base.specs.MachineStates.{is_assigned, IsDistinct, Reasons, NotForced, AllFalse}
+use Rattle.cqe_base.proofs.Trails.{base, not_both, false_is_assigned, level_of-current}
+use Rattle.cqe_base.proofs.Analysis.{each_weaker}
 
 -- what is before the last decision is on the trail
 base_true : (t : List Assigned) (l : Literal) → is_true (base t) l ≡ true → is_true t l ≡ true

@@ -1,19 +1,10 @@
 -- Facts about trails: what is assigned, and at which level.
-use Rattle.std.proofs.Common.{◌≡◌, ℕ, suc, ◌<◌, ◌≤◌, Bool, true, false, cond, eqb, List, [], ◌∷◌, refl, sym, ap, ◌∙◌, subst, ⊎_elim, arith}
-use Rattle.std.specs.List.{list_any}
+use Rattle.std.proofs.Common.{◌≡◌, ℕ, suc, ◌≤◌, Bool, true, false, cond, eqb, List, [], ◌∷◌, refl, sym, ap, ◌∙◌, subst, ⊎_elim, arith}
 use Rattle.std.proofs.lemmas.Bool.{or_cases, or_left, or_right, both_ways, eq-eqb, ne_eqb, cond_both}
 use Rattle.cqe_base.specs.Literal.{Literal, Positive, Negative, variable_of, opposite}
 use Rattle.cqe_base.specs.Machine.{Assigned, Decided, Because, assigned_literal, is_true, is_false, level, level_of}
+use Rattle.cqe_base.specs.MachineStates.{is_assigned, IsDistinct}
 use Rattle.cqe_base.proofs.ClauseTruth.{same_literal-true, opposite-opposite, variable_of-opposite}
-
--- whether a variable is on the trail
-abbrev pub is_assigned : List Assigned → ℕ → Bool
-is_assigned t v = list_any (λ a. eqb v (variable_of (assigned_literal a))) t
-
--- the trail's variables are below n, and each is there once
-abbrev pub IsDistinct : ℕ → List Assigned → Type 0
-IsDistinct n [] = Unit {0}
-IsDistinct n (a ∷ t) = (variable_of (assigned_literal a) < n) × (is_assigned t (variable_of (assigned_literal a)) ≡ false) × IsDistinct n t
 
 -- a true literal's variable is on the trail
 pub true_is_assigned : (t : List Assigned) (l : Literal) → is_true t l ≡ true → is_assigned t (variable_of l) ≡ true

@@ -1,7 +1,7 @@
 use Rattle.std.proofs.Common.{cond, sym, ap, ◌∙◌, subst}
 use Rattle.std.proofs.lemmas.Bool.{ne_eqb}
 use Rattle.cqe_base.specs.Machine.{level, kept_count}
-use Rattle.cqe_base.proofs.Analysis.{Walked}
+use Rattle.cqe_base.specs.MachineStates.{Walked}
 use Rattle.cqe_base.proofs.Conflicts.{conflict_walked}
 use Rattle.clause_solver.specs.IndexedStates.{plain_of}
 use Rattle.clause_solver.proofs.rules.conflict_step.Goals as goal

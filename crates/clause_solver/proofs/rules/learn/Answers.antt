@@ -4,7 +4,7 @@ use Rattle.std.specs.List.{find, filter}
 use Rattle.std.proofs.lemmas.List.{map_push}
 use Rattle.cqe_base.specs.Literal.{variable_of}
 use Rattle.cqe_base.specs.Machine.{State, Because, assigned_literal, is_current, highest_level, cut, with_asserted}
-use Rattle.cqe_base.proofs.Reached.{IsReached}
+use Rattle.cqe_base.specs.MachineStates.{IsReached}
 use Rattle.cqe_base.proofs.Conflicts.{GoesBack, goes_back, find_counted, learnt_reached}
 use Rattle.clause_store.specs.PlainLines.{line_of}
 use Rattle.clause_solver.specs.Assigning.{is_assigned}

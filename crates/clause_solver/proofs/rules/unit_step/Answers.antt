@@ -1,5 +1,5 @@
 use Rattle.std.proofs.Common.{◌∷◌, map, sym, ap, ◌∙◌, subst}
-use Rattle.cqe_base.proofs.Reached.{IsReached}
+use Rattle.cqe_base.specs.MachineStates.{IsReached}
 use Rattle.cqe_base.proofs.MachineRules.{unit_reached}
 use Rattle.clause_store.specs.PlainLines.{line_of}
 use Rattle.clause_solver.specs.IndexedStates.{plain_of}

@@ -2,7 +2,7 @@ use Rattle.std.proofs.Common.{◌<◌, ◌≤◌, eqb, List, [], length, sym, ap
 use Rattle.std.proofs.lemmas.List.{get_or_read, take_all}
 use Rattle.cqe_base.specs.Literal.{Literal, HasNoRepeat}
 use Rattle.cqe_base.specs.Machine.{State, start}
-use Rattle.cqe_base.proofs.Reached.{IsReached}
+use Rattle.cqe_base.specs.MachineStates.{IsReached}
 use Rattle.clause_solver.specs.Watching.{IsWatched}
 use Rattle.clause_solver.specs.IndexedStates.{plain_of}
 use Rattle.clause_solver.proofs.Learnt.{given_watched, no_repeat_at}

@@ -1,7 +1,7 @@
 use Rattle.std.proofs.Common.{◌≡◌, ◌∷◌, [], get_or, sym, ap, ◌∙◌, subst}
 use Rattle.cqe_base.specs.Literal.{Positive, variable_of, opposite}
 use Rattle.cqe_base.specs.Machine.{assigned_literal}
-use Rattle.cqe_base.proofs.Trails.{IsDistinct}
+use Rattle.cqe_base.specs.MachineStates.{IsDistinct}
 use Rattle.clause_solver.specs.Assigning.{Assigning, code_of}
 use Rattle.clause_solver.specs.Watching.{IsWatching, HaveSameLiterals}
 use Rattle.clause_solver.specs.WatchesInside.{lists_of, units_of}

@@ -1,7 +1,7 @@
 use Rattle.std.proofs.Common.{◌≡◌, ◌≤◌, List, [], None, map, sym, ap, ◌∙◌, subst, arith}
 use Rattle.cqe_base.specs.Literal.{Positive}
 use Rattle.cqe_base.specs.Machine.{Assigned, level, cut}
-use Rattle.cqe_base.proofs.Trails.{IsDistinct}
+use Rattle.cqe_base.specs.MachineStates.{IsDistinct}
 use Rattle.cqe_base.proofs.Conflicts.{cut_distinct}
 use Rattle.clause_store.specs.PlainLines.{line_of}
 use Rattle.clause_solver.specs.Watching.{IsWatching, HaveSameLiterals}
