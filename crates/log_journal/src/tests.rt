@@ -89,7 +89,8 @@ fn one_append_writes_its_bytes(rt: HostRuntime) -> Result<(), Fail> {
     Ok(())
 }
 
-// Behind the header stands what each case names: a gate, and then records with their next gates.
+// Behind the header stands what each case names: a gate, and then records with their next gates. The function is long by its
+// table.
 #[test]
 fn any_bytes_are_opened_or_refused(rt: HostRuntime) -> Result<(), Fail> {
     let alloc = rt.alloc();

@@ -1,9 +1,10 @@
 -- What links in memory show.
-use Rattle.std.specs.Prelude.{ℕ, ◌+◌, List, [], ◌∷◌, ◌++◌, length}
+use Rattle.std.specs.Prelude.{ℕ, ◌+◌, List, [], ◌∷◌, ◌++◌, length, map, string_bytes}
 use Rattle.std.specs.List.{sum_by}
-use Rattle.outside.specs.Visits.{Visit}
+use Rattle.outside.specs.Visits.{Visit, Place, place_of}
 use Rattle.outside.specs.MemoryDoors.{visits_of}
 use Rattle.outside.specs.declared.memory_door.DoorBack.{DoorBack}
+use Rattle.outside.specs.declared.memory_links.Listened.{Listened}
 use Rattle.outside.specs.declared.memory_links.MemoryLinks.{MemoryLinks}
 
 -- the visits of the doors that are back
@@ -30,6 +31,14 @@ links_back links = visits_among links.doors_back.items
 -- how many doors aren't back
 abbrev pub links_out : MemoryLinks → ℕ
 links_out links = links.out
+
+-- places in memory, by their addresses' bytes
+abbrev pub places_of : List Listened → List Place
+places_of places = map (λ place. place_of (string_bytes place.address) place.doors) places
+
+-- where they listened
+abbrev pub links_listened : MemoryLinks → List Place
+links_listened links = places_of links.places.items
 
 -- their count of faults
 abbrev pub links_faults : MemoryLinks → ℕ

@@ -8,6 +8,14 @@ pub record Visit : Type 0 where
   pub source_whole : Bool
   pub sink_whole : Bool
 
+-- An address at which links listened, and how many doors they opened there.
+pub record Place : Type 0 where
+  pub address : List ℕ
+  pub doors : ℕ
+
+abbrev pub place_of : List ℕ → ℕ → Place
+place_of address doors = record { address = address; doors = doors }
+
 -- the visit of two ends, by what the source held, what the sink has written, and the counts of both
 abbrev pub visit_of : List ℕ → List ℕ → ℕ → ℕ → Visit
 visit_of held written source_faults sink_faults =
@@ -25,8 +33,20 @@ IfCame (Ok (Some ends)) holds = holds ends.0 ends.1
 IfCame (Ok None) holds = Unit {0}
 IfCame (Err why) holds = Unit {0}
 
+-- unless a connection came, this holds
+abbrev pub UnlessCame : {T E : Type 0} → Result (Option T) E → Type 0 → Type 0
+UnlessCame (Ok (Some ends)) holds = Unit {0}
+UnlessCame (Ok None) holds = holds
+UnlessCame (Err why) holds = holds
+
 -- where no further connection comes, this holds
 abbrev pub OnEnd : {T E : Type 0} → Result (Option T) E → Type 0 → Type 0
 OnEnd (Ok (Some ends)) holds = Unit {0}
 OnEnd (Ok None) holds = holds
 OnEnd (Err why) holds = Unit {0}
+
+-- unless no further connection comes, this holds
+abbrev pub UnlessEnd : {T E : Type 0} → Result (Option T) E → Type 0 → Type 0
+UnlessEnd (Ok (Some ends)) holds = holds
+UnlessEnd (Ok None) holds = Unit {0}
+UnlessEnd (Err why) holds = holds

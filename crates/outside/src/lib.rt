@@ -4,7 +4,8 @@
 //! A call answers `Failed` only where the count of faults of its object rose, and code that is generic over a trait
 //! can't raise a count. What an object gives or holds is told over memory and isn't told over a real stream or file.
 //!
-//! Read `stream`, `disk`, `shelf` and `links` first, then the objects in memory, which keep to a `Plan` of the calls that are to fail.
+//! Read `stream`, `disk`, `shelf` and `links` first, and `write`, which has what is written whole; then the objects in
+//! memory, which keep to a `Plan` of the calls that are to fail.
 #![tactic(auto)]
 
 mod disk;
@@ -36,11 +37,11 @@ pub use gate::{Gate, OpenGate, Point};
 pub use links::{Door, Links, LinksError};
 pub use memory_disk::{Call, MemoryDisk, Operation};
 pub use memory_door::{Connection, DoorBack, Finished, MemoryDoor};
-pub use memory_links::MemoryLinks;
+pub use memory_links::{Listened, MemoryLinks};
 pub use memory_shelf::{MemoryFile, MemoryShelf};
 pub use memory_stream::{MemorySink, MemorySource};
 pub use places::Places;
 pub use plan::{Pieces, Plan};
 pub use shelf::{Shelf, ShelfError};
 pub use stream::{Sink, Source};
-pub use write::write_all;
+pub use write::{write_all, write_parts};

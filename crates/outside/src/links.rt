@@ -1,8 +1,8 @@
 // Connections of clients: the doors through which they come, and the links that open doors at an address.
-ghost use Rattle.std.specs.Prelude.{◌≡◌, ◌≢◌, ◌⊎◌, ◌<◌, ◌≤◌, ◌+◌, ◌-◌, ◌++◌, ◌∷◌, [], List, ℕ, Option, Some, All, length, IfOk, OnOk, OnErr, IsErrOf};
+ghost use Rattle.std.specs.Prelude.{◌≡◌, ◌≢◌, ◌⊎◌, ◌<◌, ◌≤◌, ◌+◌, ◌-◌, ◌++◌, ◌∷◌, [], List, ℕ, Option, Some, None, All, length, IfOk, OnOk, OnErr, IsErrOf};
 ghost use Rattle.std.specs.List.{sum_by};
 ghost use Rattle.outside.specs.Faults.{Rose, HasCause};
-ghost use Rattle.outside.specs.Visits.{Visit, visit_of, came, IfCame, OnEnd};
+ghost use Rattle.outside.specs.Visits.{Visit, Place, place_of, visit_of, came, IfCame, UnlessCame, OnEnd, UnlessEnd};
 
 use crate::{Failed, Sink, Source};
 use std::alloc::Global;
@@ -50,6 +50,7 @@ pub trait Door {
         ensures given { told → given self.new ≡ given self.old + came result }
         ensures left { told → left self.old ≡ came result + left self.new }
         ensures last { told → IfCame result (λ source sink. last self.new ≡ Some (Self.Src.held source)) }
+        ensures still_last { told → UnlessCame result (last self.new ≡ last self.old) }
         ensures back { told → back self.new ≡ back self.old }
 
         // Nothing is taken from the ends or written to them, and they haven't failed.
@@ -58,6 +59,7 @@ pub trait Door {
         ensures unwritten { IfCame result (λ source sink. Self.Snk.told → Self.Snk.written sink ≡ []) }
         ensures none_left { told → OnEnd result (left self.old ≡ 0) }
         ensures end { OnEnd result (Rose (ends self.old) (ends self.new)) }
+        ensures no_end { UnlessEnd result (ends self.new ≡ ends self.old) }
         ensures later { ends self.old ≤ ends self.new }
         ensures cause { HasCause (faults self.old) (faults self.new) result };
 
@@ -65,6 +67,7 @@ pub trait Door {
     fn done(&mut self, source: Self::Src, sink: Self::Snk)
         requires { told → last self.old ≡ Some (Self.Src.held source) }
         ensures back { told → back self.new ≡ back self.old ++ visit_of (Self.Src.held source) (Self.Snk.written sink) (Self.Src.faults source) (Self.Snk.faults sink) ∷ [] }
+        ensures none { told → last self.new ≡ None }
         ensures given { told → given self.new ≡ given self.old }
         ensures left { told → left self.new ≡ left self.old }
         ensures ends { ends self.new ≡ ends self.old }
@@ -97,6 +100,9 @@ pub trait Links {
     /// How many doors aren't back.
     ghost out: { Self → ℕ };
 
+    /// Where they listened, in order, where clauses are told.
+    ghost listened: { Self → List Place };
+
     /// The count of faults, which doesn't fall.
     ghost faults: { Self → ℕ };
 
@@ -117,6 +123,8 @@ pub trait Links {
         ensures kept { told → OnErr result (at_hand self.new ≡ at_hand self.old) }
         ensures out { OnOk result (out self.new ≡ out self.old + doors) }
         ensures none_out { OnErr result (out self.new ≡ out self.old) }
+        ensures listened { told → OnOk result (listened self.new ≡ listened self.old ++ place_of address.now doors ∷ []) }
+        ensures unheard { told → OnErr result (listened self.new ≡ listened self.old) }
         ensures given { told → given self.new ≡ given self.old }
         ensures left { told → left self.new ≡ left self.old }
         ensures back { told → back self.new ≡ back self.old }
@@ -131,6 +139,7 @@ pub trait Links {
         ensures left { told → left self.new ≡ left self.old - Self.D.given door }
         ensures at_hand { told → at_hand self.new ≡ at_hand self.old + Self.D.left door }
         ensures back { told → back self.new ≡ back self.old ++ Self.D.back door }
+        ensures listened { told → listened self.new ≡ listened self.old }
         ensures later { faults self.old ≤ faults self.new }
         ensures whole { Self.D.faults door ≡ 0 → faults self.new ≡ faults self.old }
         ensures failed { Self.D.faults door ≢ 0 → Rose (faults self.old) (faults self.new) };

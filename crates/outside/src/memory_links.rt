@@ -1,10 +1,18 @@
 // Links in memory.
-ghost use Rattle.std.specs.Prelude.{◌≡◌, ◌≤◌, ◌<◌, ◌+◌, ◌-◌, ◌++◌, [], All, length, vec_len, vec_capacity, IfOk, OnOk, OnErr};
+ghost use Rattle.std.specs.Prelude.{◌≡◌, ◌≤◌, ◌<◌, ◌+◌, ◌-◌, ◌++◌, ◌∷◌, [], All, length, vec_len, vec_capacity, IfOk, OnOk, OnErr};
 ghost use Rattle.std.specs.List.{sum_by};
+ghost use Rattle.outside.specs.Visits.{place_of};
 ghost use Rattle.outside.specs.MemoryDoors.{door_given, door_left, door_back, door_faults};
 
 use crate::{Connection, DoorBack, Finished, Links, LinksError, MemoryDoor, Plan};
 use std::alloc::{AllocError, Global};
+
+/// An address at which links listened, and how many doors they opened there.
+#[derive(Debug, Drop)]
+pub struct Listened {
+    pub address: String,
+    pub doors: u32,
+}
 
 /// Links that spread connections from memory over the doors of a `listen`, and whose calls fail by a plan.
 #[derive(Drop)]
@@ -19,6 +27,7 @@ pub struct MemoryLinks {
     plan: Plan,
     // The plans of the doors to come, the last of them first.
     door_plans: Vec<Plan>,
+    places: Vec<Listened>,
     calls: u64,
     faults: u64,
     ghost group_room: { length groups.items + out ≤ vec_capacity groups },
@@ -26,7 +35,7 @@ pub struct MemoryLinks {
 }
 
 impl MemoryLinks {
-    ghost use Rattle.outside.specs.MemoryLinks.{links_given, links_left, links_at_hand, links_back, links_out, links_faults};
+    ghost use Rattle.outside.specs.MemoryLinks.{visits_among, links_given, links_left, links_at_hand, links_back, links_out, links_listened, places_of, links_faults};
 
     /// Links with these connections, the first of them first, that never fail, nor do their doors.
     pub fn new(alloc: Global, connections: Vec<Connection>) -> Self
@@ -35,6 +44,7 @@ impl MemoryLinks {
         ensures given { links_given result ≡ 0 }
         ensures back { links_back result ≡ [] }
         ensures out { links_out result ≡ 0 }
+        ensures listened { links_listened result ≡ [] }
         ensures faultless { links_faults result ≡ 0 }
     {
         Self::with_plans(alloc, connections, Plan::Never, Vec::new(alloc))
@@ -53,6 +63,7 @@ impl MemoryLinks {
         ensures given { links_given result ≡ 0 }
         ensures back { links_back result ≡ [] }
         ensures out { links_out result ≡ 0 }
+        ensures listened { links_listened result ≡ [] }
         ensures faultless { links_faults result ≡ 0 }
     {
         let mut waiting = connections;
@@ -68,14 +79,25 @@ impl MemoryLinks {
             left,
             plan,
             door_plans,
+            places: Vec::new(alloc),
             calls: 0,
             faults: 0,
         }
     }
 
     /// The doors that are back, in the order in which they came back.
-    pub fn doors_back(&self) -> &[DoorBack] {
+    pub fn doors_back(&self) -> &[DoorBack]
+        ensures back { visits_among result.now ≡ links_back self.now }
+        ensures given { sum_by (λ door. door.given) result.now ≡ links_given self.now }
+    {
         &self.doors_back
+    }
+
+    /// Where they listened, in order.
+    pub fn listened(&self) -> &[Listened]
+        ensures { places_of result.now ≡ links_listened self.now }
+    {
+        &self.places
     }
 
     /// How many connections are still to be given.
@@ -92,21 +114,32 @@ impl MemoryLinks {
         self.faults
     }
 
-    // Opens so many doors, over which the connections are spread.
-    fn open(&mut self, alloc: Global, count: usize) -> Result<Vec<MemoryDoor>, AllocError>
-        ensures count { IfOk result (λ opened. length opened.items ≡ count) }
+    // Opens so many doors at an address, over which the connections are spread.
+    fn open(
+        &mut self,
+        alloc: Global,
+        address: &str,
+        doors: u32,
+    ) -> Result<Vec<MemoryDoor>, AllocError>
+        ensures count { IfOk result (λ opened. length opened.items ≡ doors) }
         ensures whole { IfOk result (λ opened. All (λ door. door_faults door ≡ 0) opened.items) }
         ensures fresh { IfOk result (λ opened. All (λ door. (door_given door ≡ 0) × (door_back door ≡ [])) opened.items) }
         ensures spread { IfOk result (λ opened. sum_by door_left opened.items + links_at_hand self.new ≡ links_at_hand self.old) }
-        ensures all { 0 < count → OnOk result (links_at_hand self.new ≡ 0) }
+        ensures all { 0 < doors → OnOk result (links_at_hand self.new ≡ 0) }
         ensures kept { OnErr result (links_at_hand self.new ≡ links_at_hand self.old) }
-        ensures out { OnOk result (links_out self.new ≡ links_out self.old + count) }
+        ensures out { OnOk result (links_out self.new ≡ links_out self.old + doors) }
         ensures none_out { OnErr result (links_out self.new ≡ links_out self.old) }
         ensures given { links_given self.new ≡ links_given self.old }
         ensures left { links_left self.new ≡ links_left self.old }
         ensures back { links_back self.new ≡ links_back self.old }
+        ensures listened { OnOk result (links_listened self.new ≡ links_listened self.old ++ place_of address.now doors ∷ []) }
+        ensures unheard { OnErr result (links_listened self.new ≡ links_listened self.old) }
         ensures faults { links_faults self.new ≡ links_faults self.old }
     {
+        let count = doors as usize;
+        let mut place = String::new(alloc);
+        place.push_str(address)?;
+        self.places.reserve(1)?;
         gather(&mut self.waiting, &mut self.groups)?;
         let rooms = make_rooms(alloc, count, self.waiting.len())?;
         let mut opened = Vec::with_capacity(alloc, count)?;
@@ -117,12 +150,16 @@ impl MemoryLinks {
         self.doors_back.reserve(out)?;
         self.out = out;
         spread(&mut self.waiting, rooms, &mut self.door_plans, &mut opened);
+        self.places.push_reserved(Listened {
+            address: place,
+            doors,
+        });
         Ok(opened)
     }
 }
 
 impl Links for MemoryLinks {
-    ghost use Rattle.outside.specs.MemoryLinks.{links_given, links_left, links_at_hand, links_back, links_out, links_faults};
+    ghost use Rattle.outside.specs.MemoryLinks.{links_given, links_left, links_at_hand, links_back, links_out, links_listened, links_faults};
 
     type D = MemoryDoor;
 
@@ -138,6 +175,8 @@ impl Links for MemoryLinks {
 
     ghost out = { links_out };
 
+    ghost listened = { links_listened };
+
     ghost faults = { links_faults };
 
     ghost tells_doors = { λ told. told };
@@ -145,7 +184,7 @@ impl Links for MemoryLinks {
     fn listen(
         &mut self,
         alloc: Global,
-        _address: &str,
+        address: &str,
         doors: u32,
     ) -> Result<Vec<MemoryDoor>, LinksError> {
         let call = self.calls;
@@ -154,7 +193,7 @@ impl Links for MemoryLinks {
             self.faults = self.faults.saturating_add(1);
             return Err(LinksError::Failed);
         }
-        match self.open(alloc, doors as usize) {
+        match self.open(alloc, address, doors) {
             Ok(opened) => Ok(opened),
             Err(AllocError) => Err(LinksError::Memory),
         }

@@ -70,6 +70,7 @@ impl MemoryShelf {
     /// Puts a file behind those that are there. Of two files of one name the first is read.
     pub fn put(&mut self, alloc: Global, name: &str, bytes: &[u8]) -> Result<(), AllocError>
         ensures added { OnOk result (files_of self.new ≡ files_of self.old ++ (name.now, bytes.now) ∷ []) }
+        ensures refused { OnErr result (files_of self.new ≡ files_of self.old) }
         ensures disks { SameNames (disk_named self.old) (disk_named self.new) }
         ensures out { SameNames (is_disk_out self.old) (is_disk_out self.new) }
         ensures counts { SameNames (disk_faults_of self.old) (disk_faults_of self.new) }
@@ -94,6 +95,8 @@ impl MemoryShelf {
         ensures out { SameNames (is_disk_out self.old) (is_disk_out self.new) }
         ensures count { OnOk result (disk_faults_of self.new name.now ≡ memory_faults disk) }
         ensures other_counts { SameOthers name.now (disk_faults_of self.old) (disk_faults_of self.new) }
+        ensures refused { OnErr result (SameNames (disk_named self.old) (disk_named self.new)) }
+        ensures refused_counts { OnErr result (SameNames (disk_faults_of self.old) (disk_faults_of self.new)) }
         ensures files { files_of self.new ≡ files_of self.old }
         ensures faults { shelf_faults self.new ≡ shelf_faults self.old }
     {

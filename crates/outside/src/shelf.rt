@@ -59,6 +59,7 @@ pub trait Shelf {
         requires { is_out self.old name.now ≡ false }
         ensures taken { told → IfOk result (IsTaken Self.D.reads Self.D.image (disk self.old name.now)) }
         ensures count { IfOk result (λ taken. Self.D.faults taken ≡ disk_faults self.old name.now) }
+        ensures gone { told → OnOk result (disk self.new name.now ≡ None) }
         ensures disks { SameOthers name.now (disk self.old) (disk self.new) }
         ensures out { OnOk result (is_out self.new name.now ≡ true) }
         ensures others_out { SameOthers name.now (is_out self.old) (is_out self.new) }

@@ -1,6 +1,6 @@
 ghost use Rattle.std.specs.Prelude.{[]};
 
-use crate::{Failed, MemorySink, MemorySource, Pieces, Plan, Sink, Source, write_all};
+use crate::{Failed, MemorySink, MemorySource, Pieces, Plan, Sink, Source, write_all, write_parts};
 use std::alloc::Global;
 use std::process::Abort;
 use std::test::Fail;
@@ -102,6 +102,33 @@ fn a_sink_takes_all_or_a_part(rt: HostRuntime) -> Result<(), Fail> {
     write_all(&mut sink, b"yes\n")?;
     write_all(&mut sink, b"no\n")?;
     assert_eq!(rt; sink.bytes(), b"yes\nno\n".as_slice());
+    Ok(())
+}
+
+#[test]
+fn parts_are_written_one_after_the_other(rt: HostRuntime) -> Result<(), Fail> {
+    let alloc = rt.alloc();
+    let mut sink = MemorySink::new(alloc);
+    write_parts(
+        &mut sink,
+        vec![in alloc;
+            format!(in alloc; "yes\n")?,
+            String::new(alloc),
+            format!(in alloc; "no\n")?,
+        ]?
+        .as_slice(),
+    )?;
+    let none: [&[u8]; 0] = [];
+    write_parts(&mut sink, &none)?;
+    write_parts::<_, &[u8]>(&mut sink, &[b"cqe: ", "missing".as_bytes(), b"\n"])?;
+    assert_eq!(rt; sink.bytes(), b"yes\nno\ncqe: missing\n".as_slice());
+    let mut sink = MemorySink::with_plan(alloc, Pieces::UpTo(2), Plan::From(2));
+    assert_eq!(rt;
+        write_parts::<_, &[u8]>(&mut sink, &[b"abc", b"def"]),
+        Err(Failed)
+    );
+    assert_eq!(rt; sink.bytes(), b"abc".as_slice());
+    assert_eq!(rt; sink.faults(), 1);
     Ok(())
 }
 

@@ -145,6 +145,8 @@ where
 
     ghost out = { links_out };
 
+    ghost listened = { λ links. [] };
+
     ghost faults = { links_faults };
 
     ghost tells_doors = { λ told. told };
