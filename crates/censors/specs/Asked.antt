@@ -29,7 +29,7 @@ pub record IsAnswerOfAll (schema : DatabaseSchema) (budget : ℕ) (premises : Li
   pub spent : answer.spent ≡ some_spent schema budget premises goals
   pub entailed : answer.spent ≡ false → answer.entailed ≡ entails_some schema premises goals
 
--- the answer of the probes of both answers
+-- what two answers say together: some probe is spent, some goal is entailed
 abbrev pub together : Answer → Answer → Answer
 together first second = record { spent = first.spent || second.spent; entailed = first.entailed || second.entailed }
 

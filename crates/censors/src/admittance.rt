@@ -1,3 +1,5 @@
+//! Who is admitted, and which test fails first.
+
 ghost use Rattle.std.specs.Prelude.{◌≡◌, ◌≤◌, true, ◌↔◌, map, length, None, IfOk};
 ghost use Rattle.std.specs.List.{list_all};
 ghost use Rattle.cqe_base.specs.Formula.{formula_of, nodes, is_sentence_of};

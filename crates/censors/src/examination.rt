@@ -1,3 +1,5 @@
+//! What the probes of a query find.
+
 ghost use Rattle.std.specs.Prelude.{◌≡◌, ◌≤◌, ◌+◌, [], ◌∷◌, ◌++◌, true, false, Some, None, nat_le, map, IfOk, if◌then◌else◌};
 ghost use Rattle.std.specs.List.{list_all};
 ghost use Rattle.cqe_base.specs.Formula.{formula_of, nodes, is_sentence_of};
@@ -219,7 +221,7 @@ fn ask_each(
     Ok(all)
 }
 
-/// The answer of the probes of both answers.
+/// What two answers say together: some probe is spent, some goal is entailed.
 fn together(first: Answer, second: Answer) -> Answer
     ensures { result ≡ together first second }
 {

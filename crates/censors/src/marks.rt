@@ -1,3 +1,5 @@
+//! Which mark answers a query, by what its probes found.
+
 ghost use Rattle.std.specs.Prelude.{◌≡◌, false};
 ghost use Rattle.cqe_base.specs.declared.user.Method.TheVariants.{Lying, Refusal, Combined};
 ghost use Rattle.cqe_base.specs.Censor.{mark_by, plain_mark};

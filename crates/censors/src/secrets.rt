@@ -1,3 +1,5 @@
+//! The disjunction of secrets, which lying guards.
+
 ghost use Rattle.std.specs.Prelude.{◌≡◌, ◌∷◌, map, fold, IfOk};
 ghost use Rattle.cqe_base.specs.Formula.{formula_of, disjunction};
 ghost use Rattle.cqe_base.specs.History.{disjunction_of};

@@ -17,12 +17,14 @@ mark_stored No = 1
 mark_stored Refused = 2
 mark_stored Undecided = 3
 
+-- the mark of a number
 abbrev mark_found : ℕ → Mark
 mark_found zero = Yes
 mark_found (suc zero) = No
 mark_found (suc (suc zero)) = Refused
 mark_found _ = Undecided
 
+-- a mark comes back from its number
 pub mark_found-stored : (mark : Mark) → mark_found (mark_stored mark) ≡ mark
 mark_found-stored Yes = refl
 mark_found-stored No = refl
@@ -35,16 +37,19 @@ method_stored Lying = 0
 method_stored Refusal = 1
 method_stored Combined = 2
 
+-- the method of a number
 abbrev method_found : ℕ → Method
 method_found zero = Lying
 method_found (suc zero) = Refusal
 method_found _ = Combined
 
+-- a method comes back from its number
 pub method_found-stored : (method : Method) → method_found (method_stored method) ≡ method
 method_found-stored Lying = refl
 method_found-stored Refusal = refl
 method_found-stored Combined = refl
 
+-- an answered query of its parts
 abbrev answered : Formula → ℕ → Mark → AnsweredQuery
 answered query length mark = record { query = query; mark = mark; length = length }
 
@@ -54,6 +59,7 @@ answered_code =
     code_by (Formula × (ℕ × ℕ)) (coded× formula_code (coded× coded_ℕ coded_ℕ)) (λ a. (a.query, (mark_stored a.mark, a.length))) (λ p. answered p.0 p.1.1 (mark_found p.1.0))
     (λ a. ap (answered a.query a.length) (mark_found-stored a.mark))
 
+-- a user of his parts
 abbrev profile : List Formula → List Formula → ℕ → Method → UserProfile
 profile know secrets budget method = record { method = method; know = know; secrets = secrets; budget = budget }
 

@@ -1,3 +1,5 @@
+//! Lines, requests and replies, by their tables.
+
 use crate::{
     LineBuffer, LineOutcome, Reply, Request, login_ok, read_line, read_request, write_reply,
 };
@@ -16,7 +18,8 @@ fn cuts() -> [Pieces; 4] {
     ]
 }
 
-// What each line is read as: blanks, tabs, bytes outside of the range and words that are nearly right among them.
+// What each line is read as: blanks, tabs, bytes outside of the range and words that are nearly right among them. The function
+// is a table.
 fn requests() -> [(&'static str, Request<'static>); 42] {
     let login = |user, phrase| Request::Login { user, phrase };
     [

@@ -110,7 +110,7 @@ impl Printer<'_> {
         self.push(" . ")
     }
 
-    /// A sentence within so many quantifiers.
+    /// A sentence within so many quantifiers. The function is long by its arms, one for each form.
     #[tactic(auto, using(crate::proofs::Appended::appended))]
     fn sentence(&mut self, sentence: &Sentence, depth: u8) -> Result<(), AllocError>
         requires { depth + nesting (formula_of sentence.now) ≤ 8 }

@@ -64,6 +64,7 @@ fn canonical(alloc: Global, schema: &Schema, text: &str) -> Option<String> {
     print_sentence(alloc, schema, &sentence).ok()
 }
 
+// A row for each kind and place: the function is long by its table.
 #[test]
 fn texts_are_refused_with_kind_and_place(rt: HostRuntime) {
     let alloc = rt.alloc();
@@ -153,6 +154,7 @@ fn texts_are_refused_with_kind_and_place(rt: HostRuntime) {
     }
 }
 
+// Texts at each limit and just beyond it: the function is long by its rows.
 #[test]
 fn limits_are_kept(rt: HostRuntime) -> Result<(), AllocError> {
     let alloc = rt.alloc();
@@ -198,6 +200,7 @@ fn limits_are_kept(rt: HostRuntime) -> Result<(), AllocError> {
     Ok(())
 }
 
+// A row for each form: the function is long by its table.
 #[test]
 fn canonical_forms_are_printed_and_read_back(rt: HostRuntime) {
     let alloc = rt.alloc();

@@ -1,3 +1,5 @@
+//! Other worlds that hide a secret.
+
 ghost use Rattle.std.specs.Prelude.{◌≡◌, ◌<◌, ◌≤◌, ◌↔◌, ◌+◌, ◌++◌, true, false, map, IfOk, OnOk, IfSome, IsNone, vec_len};
 ghost use Rattle.cqe_base.specs.Formula.{formula_of, nodes, is_sentence_of};
 ghost use Rattle.cqe_base.specs.Entailment.{entails, IsCountermodel};

@@ -1,24 +1,18 @@
 // One user's desk on disks in memory, with bytes and replies that were worked out by hand.
-ghost use Rattle.std.specs.Prelude.{◌≡◌, ◌≤◌, true, length, IfOk};
-ghost use Rattle.cqe_base.specs.Formula.{formula_of, nodes, is_sentence_of};
+ghost use Rattle.std.specs.Prelude.{◌≤◌, length, IfOk};
 ghost use Rattle.cqe_base.specs.History.{profile_of};
 ghost use Rattle.cqe_base.specs.Limits.{KeepsLimits};
 
 use crate::{Desk, DeskError, Standing, open_desk};
 use censors::Admission;
-use cqe_base::laws::law_reading;
-use cqe_base::schema::Schema;
-use cqe_base::sentence::{Sentence, nodes};
 use cqe_base::user::{Mark, Method, User};
-use cqe_base::world::{Fact, World};
 use log_journal::{Header, OpenError, format};
 use outside::{MemoryDisk, Plan};
-use sentence_text::read_sentence;
 use std::alloc::Global;
 use std::process::Abort;
 use std::test::Fail;
+use trial_clinic::{Clinic, make_clinic, make_user};
 use user_log::Reply;
-use user_log::laws::law_views_without_entries;
 
 const HEADER: Header = Header {
     policy: [7; 32],
@@ -36,86 +30,27 @@ const OPENING: u64 = 3;
 /// Who takes the drug is infected.
 const RULE: &str = "forall x: person . drug(x) -> hiv(x)";
 
-/// Two persons; Ann takes the drug and is infected. A liar keeps that secret.
+/// The clinic, with a user from whom Ann's infection is kept by lies.
 #[derive(Drop)]
-struct Clinic {
-    schema: Schema,
-    world: World,
+struct Ward {
+    clinic: Clinic,
     user: User,
 }
 
-fn names(alloc: Global, texts: &[&str]) -> Result<Vec<String>, Fail> {
-    let mut names = Vec::new(alloc);
-    for text in texts {
-        names.push(String::from_str(alloc, text)?)?;
-    }
-    Ok(names)
-}
-
-fn schema(alloc: Global) -> Result<Schema, Fail> {
-    let mut domains = Vec::new(alloc);
-    domains.push((
-        String::from_str(alloc, "person")?,
-        names(alloc, &["ann", "bob"])?,
-    ))?;
-    let mut relations = Vec::new(alloc);
-    for name in ["hiv", "drug"] {
-        relations.push((String::from_str(alloc, name)?, names(alloc, &["person"])?))?;
-    }
-    Ok(Schema::new(alloc, domains, relations)?)
-}
-
-/// A small sentence of the schema.
-fn sentence(rt: &impl Abort, alloc: Global, schema: &Schema, text: &str) -> Result<Sentence, Fail>
-    requires { length text.now ≤ 4096 }
-    ensures sentence { IfOk result (λ s. is_sentence_of schema.now (formula_of s) ≡ true) }
-    ensures small { IfOk result (λ s. nodes schema.now (formula_of s) ≤ 1000) }
-{
-    law_reading();
-    let Ok(sentence) = read_sentence(alloc, schema, text) else {
-        panic!(rt; "no sentence: {text}");
-    };
-    assert!(rt; nodes(&sentence, schema) <= 1_000);
-    Ok(sentence)
-}
-
-/// A liar who knows this sentence and keeps `hiv(ann)` secret.
-fn liar(rt: &impl Abort, alloc: Global, schema: &Schema, known: &str) -> Result<User, Fail>
+fn ward_knowing(alloc: Global, known: &str) -> Result<Ward, Fail>
     requires { length known.now ≤ 4096 }
-    ensures { IfOk result (λ user. KeepsLimits schema.now (profile_of user)) }
+    ensures { IfOk result (λ w. KeepsLimits w.clinic.schema (profile_of w.user)) }
 {
-    law_views_without_entries();
-    let known = sentence(rt, alloc, schema, known)?;
-    let secret = sentence(rt, alloc, schema, "hiv(ann)")?;
-    Ok(User {
-        name: String::from_str(alloc, "eve")?,
-        method: Method::Lying,
-        know: Vec::from_array(alloc, [known])?,
-        secrets: Vec::from_array(alloc, [secret])?,
-        budget: 1_000_000,
-        token: None,
-    })
-}
-
-fn clinic_knowing(rt: &impl Abort, alloc: Global, known: &str) -> Result<Clinic, Fail>
-    requires { length known.now ≤ 4096 }
-    ensures { IfOk result (λ c. KeepsLimits c.schema (profile_of c.user)) }
-{
-    let schema = schema(alloc)?;
-    let mut world = World::new(alloc);
-    for relation in [0, 1] {
-        let fact = Fact {
-            relation,
-            columns: [0; 6],
-        };
-        assert!(rt; world.insert(&schema, fact).is_ok());
-    }
-    let user = liar(rt, alloc, &schema, known)?;
-    Ok(Clinic {
-        schema,
-        world,
-        user,
-    })
+    let clinic = make_clinic(alloc)?;
+    let user = make_user(
+        alloc,
+        &clinic.schema,
+        "eve",
+        Method::Lying,
+        known,
+        "hiv(ann)",
+    )?;
+    Ok(Ward { clinic, user })
 }
 
 /// The bytes of a journal with this behind its header.
@@ -128,20 +63,20 @@ fn with_header(alloc: Global, behind: &[u8]) -> Result<Vec<u8>, Fail> {
     Ok(bytes)
 }
 
-/// The desk of the clinic's user.
+/// The desk of the ward's user.
 fn desk_on<'w>(
     rt: &impl Abort,
     alloc: Global,
-    clinic: &'w Clinic,
+    ward: &'w Ward,
     disk: MemoryDisk,
 ) -> Result<Desk<'w, MemoryDisk>, Fail>
-    requires { KeepsLimits clinic.now.schema (profile_of clinic.now.user) }
+    requires { KeepsLimits ward.now.clinic.schema (profile_of ward.now.user) }
 {
     let opened = open_desk(
         alloc,
-        &clinic.schema,
-        &clinic.world,
-        &clinic.user,
+        &ward.clinic.schema,
+        &ward.clinic.world,
+        &ward.user,
         &HEADER,
         disk,
     );
@@ -155,13 +90,13 @@ fn desk_on<'w>(
 fn opened(
     rt: &impl Abort,
     alloc: Global,
-    clinic: &Clinic,
+    ward: &Ward,
     bytes: Vec<u8>,
 ) -> Result<(Standing, usize), Fail>
-    requires { KeepsLimits clinic.now.schema (profile_of clinic.now.user) }
+    requires { KeepsLimits ward.now.clinic.schema (profile_of ward.now.user) }
 {
     let disk = MemoryDisk::new(alloc, bytes)?;
-    let desk = desk_on(rt, alloc, clinic, disk)?;
+    let desk = desk_on(rt, alloc, ward, disk)?;
     let standing = *desk.standing();
     let count = desk.entries().len();
     let _disk = desk.close();
@@ -171,10 +106,10 @@ fn opened(
 #[test]
 fn one_ask_writes_its_bytes(rt: HostRuntime) -> Result<(), Fail> {
     let alloc = rt.alloc();
-    let clinic = clinic_knowing(&rt, alloc, RULE)?;
+    let ward = ward_knowing(alloc, RULE)?;
     let mut disk = MemoryDisk::new(alloc, Vec::new(alloc))?;
     format(&mut disk, &HEADER)?;
-    let mut desk = desk_on(&rt, alloc, &clinic, disk)?;
+    let mut desk = desk_on(&rt, alloc, &ward, disk)?;
     assert_eq!(rt; *desk.standing(), Standing::Open);
     assert_eq!(rt; desk.settle(alloc, "drug(ann)"), Reply::Mark(Mark::No));
     assert_eq!(rt; desk.entries().len(), 1);
@@ -194,11 +129,11 @@ fn one_ask_writes_its_bytes(rt: HostRuntime) -> Result<(), Fail> {
     Ok(())
 }
 
-// One byte of the journal with one entry is changed.
+// One byte of the journal with one entry is changed. The function is long by its table.
 #[test]
 fn a_changed_byte_is_refused_by_name(rt: HostRuntime) -> Result<(), Fail> {
     let alloc = rt.alloc();
-    let clinic = clinic_knowing(&rt, alloc, RULE)?;
+    let ward = ward_knowing(alloc, RULE)?;
     let unlawful = DeskError::Unlawful {
         number: 0,
         stored: Mark::Yes,
@@ -241,7 +176,7 @@ fn a_changed_byte_is_refused_by_name(rt: HostRuntime) -> Result<(), Fail> {
         if let Some(changed) = bytes.get_mut(place) {
             *changed = byte;
         }
-        let found = opened(&rt, alloc, &clinic, bytes)?;
+        let found = opened(&rt, alloc, &ward, bytes)?;
         assert_eq!(rt; found, (standing, count), "byte {place} set to {byte}");
     }
     Ok(())
@@ -265,7 +200,7 @@ fn with_record(alloc: Global, kind: u8, text: &[u8]) -> Result<Vec<u8>, Fail>
 #[test]
 fn a_record_beyond_the_limits_is_refused(rt: HostRuntime) -> Result<(), Fail> {
     let alloc = rt.alloc();
-    let clinic = clinic_knowing(&rt, alloc, RULE)?;
+    let ward = ward_knowing(alloc, RULE)?;
     let mut text = String::new(alloc);
     for variable in ["a", "b", "c", "d", "e", "f", "g", "h"] {
         text.push_str("forall ")?;
@@ -278,7 +213,7 @@ fn a_record_beyond_the_limits_is_refused(rt: HostRuntime) -> Result<(), Fail> {
     }
     assert!(rt; text.len() <= 4_096);
     let bytes = with_record(alloc, 1, text.as_bytes())?;
-    let found = opened(&rt, alloc, &clinic, bytes)?;
+    let found = opened(&rt, alloc, &ward, bytes)?;
     assert_eq!(rt; found, (Standing::Sealed(DeskError::Size(0)), 0));
     Ok(())
 }
@@ -287,14 +222,14 @@ fn a_record_beyond_the_limits_is_refused(rt: HostRuntime) -> Result<(), Fail> {
 #[test]
 fn a_user_who_is_not_admitted_has_no_entry(rt: HostRuntime) -> Result<(), Fail> {
     let alloc = rt.alloc();
-    let clinic = clinic_knowing(&rt, alloc, "hiv(ann)")?;
+    let ward = ward_knowing(alloc, "hiv(ann)")?;
     let implied = Admission::Implied(None);
     let bytes = with_header(alloc, &FROM_THE_GATE)?;
-    let found = opened(&rt, alloc, &clinic, bytes)?;
+    let found = opened(&rt, alloc, &ward, bytes)?;
     let refused = DeskError::NotAdmitted(implied);
     assert_eq!(rt; found, (Standing::Sealed(refused), 0));
     let disk = MemoryDisk::new(alloc, with_header(alloc, &[0])?)?;
-    let mut desk = desk_on(&rt, alloc, &clinic, disk)?;
+    let mut desk = desk_on(&rt, alloc, &ward, disk)?;
     assert_eq!(rt; *desk.standing(), Standing::Closed(implied));
     assert_eq!(rt; desk.settle(alloc, "drug(ann)"), Reply::Closed);
     let disk = desk.close();
@@ -305,17 +240,17 @@ fn a_user_who_is_not_admitted_has_no_entry(rt: HostRuntime) -> Result<(), Fail> 
 #[test]
 fn a_fault_at_the_opening_seals_the_desk(rt: HostRuntime) -> Result<(), Fail> {
     let alloc = rt.alloc();
-    let clinic = clinic_knowing(&rt, alloc, RULE)?;
+    let ward = ward_knowing(alloc, RULE)?;
     for call in 0..OPENING {
         let bytes = with_header(alloc, &FROM_THE_GATE)?;
         let plan = Plan::At(vec![in alloc; call]?);
         let disk = MemoryDisk::with_plan(alloc, bytes, plan)?;
-        let mut desk = desk_on(&rt, alloc, &clinic, disk)?;
+        let mut desk = desk_on(&rt, alloc, &ward, disk)?;
         let fault = DeskError::Journal(OpenError::DiskFault);
         assert_eq!(rt; *desk.standing(), Standing::Sealed(fault));
         assert_eq!(rt; desk.settle(alloc, "drug(ann)"), Reply::Sealed);
         assert!(rt; !desk.broken());
-        let desk = desk_on(&rt, alloc, &clinic, desk.close())?;
+        let desk = desk_on(&rt, alloc, &ward, desk.close())?;
         assert_eq!(rt; *desk.standing(), Standing::Open);
         assert_eq!(rt; desk.entries().len(), 1);
         let _disk = desk.close();
@@ -327,19 +262,19 @@ fn a_fault_at_the_opening_seals_the_desk(rt: HostRuntime) -> Result<(), Fail> {
 fn two_lives(
     rt: &impl Abort,
     alloc: Global,
-    clinic: &Clinic,
+    ward: &Ward,
     stop: u64,
     picture: u64,
 ) -> Result<(Reply, Reply, usize), Fail>
-    requires { KeepsLimits clinic.now.schema (profile_of clinic.now.user) }
+    requires { KeepsLimits ward.now.clinic.schema (profile_of ward.now.user) }
 {
     let bytes = with_header(alloc, &[0])?;
     let disk = MemoryDisk::with_plan(alloc, bytes, Plan::From(stop))?;
-    let mut desk = desk_on(rt, alloc, clinic, disk)?;
+    let mut desk = desk_on(rt, alloc, ward, disk)?;
     let first = desk.settle(alloc, "drug(ann)");
     let second = desk.settle(alloc, "hiv(bob)");
     let image = desk.close().crash_image(alloc, picture)?;
-    let (standing, count) = opened(rt, alloc, clinic, image)?;
+    let (standing, count) = opened(rt, alloc, ward, image)?;
     assert_eq!(rt; standing, Standing::Open);
     Ok((first, second, count))
 }
@@ -349,7 +284,7 @@ fn two_lives(
 #[test]
 fn a_new_life_finds_what_was_answered(rt: HostRuntime) -> Result<(), Fail> {
     let alloc = rt.alloc();
-    let clinic = clinic_knowing(&rt, alloc, RULE)?;
+    let ward = ward_knowing(alloc, RULE)?;
     let no = Reply::Mark(Mark::No);
     for (picture, torn) in [(0, 0), (1, 1), (2, 0), (3, 0), (4, 1), (7, 1)] {
         for (stop, first, second, count) in [
@@ -363,7 +298,7 @@ fn a_new_life_finds_what_was_answered(rt: HostRuntime) -> Result<(), Fail> {
             (10, no, Reply::Broken, 1 + torn),
             (11, no, no, 2),
         ] {
-            let found = two_lives(&rt, alloc, &clinic, stop, picture)?;
+            let found = two_lives(&rt, alloc, &ward, stop, picture)?;
             assert_eq!(rt;
                 found,
                 (first, second, count),
@@ -379,9 +314,9 @@ fn crosses_threads<T: Send + Sync>(_value: &T) {}
 #[test]
 fn a_desk_crosses_threads(rt: HostRuntime) -> Result<(), Fail> {
     let alloc = rt.alloc();
-    let clinic = clinic_knowing(&rt, alloc, RULE)?;
+    let ward = ward_knowing(alloc, RULE)?;
     let disk = MemoryDisk::new(alloc, with_header(alloc, &[0])?)?;
-    let desk = desk_on(&rt, alloc, &clinic, disk)?;
+    let desk = desk_on(&rt, alloc, &ward, disk)?;
     crosses_threads(&desk);
     let _disk = desk.close();
     Ok(())

@@ -5,7 +5,7 @@ use Rattle.cqe_base.specs.Facts.{FactSet}
 use Rattle.cqe_base.specs.History.{UserProfile, History, profile_of, answered_query_of}
 use Rattle.user_log.specs.declared.log.UserLog.{UserLog}
 
--- its schema, its world and its user
+-- its schema
 abbrev pub kept_schema : UserLog → DatabaseSchema
 kept_schema log = log.schema.now
 

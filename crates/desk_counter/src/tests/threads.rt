@@ -3,7 +3,7 @@ ghost use Rattle.std.specs.Prelude.{◌≡◌, ◌+◌, ◌*◌, ◌^◌, ◌≤
 ghost use Rattle.turnstile.specs.Passes.{IsOf, IsReady, first_value, fixed, shares as shares_of, turns};
 ghost use Rattle.desk_counter.specs.Counters.{IsPassOf};
 
-use super::{HEADER, counter_of, make_clinic};
+use super::{HEADER, counter_of, make_ward};
 use crate::{Counter, CounterOf, DeskPass, Owned, TicketedDesk};
 use cqe_base::sentence::Sentence;
 use cqe_base::user::Mark;
@@ -180,8 +180,8 @@ fn ask_by_two<'w, R: Threads + Wait + Sync>(
 #[test]
 fn two_threads_ask_one_desk(rt: HostRuntime) -> Result<(), Fail> {
     let alloc = rt.alloc();
-    let clinic = make_clinic(&rt, alloc)?;
-    let (counter, pass) = counter_of(&rt, alloc, &clinic, &clinic.eve)?;
+    let ward = make_ward(alloc)?;
+    let (counter, pass) = counter_of(&rt, alloc, &ward.clinic, &ward.eve)?;
     let questions = (("drug(ann)", Mark::No), ("not hiv(bob)", Mark::Yes));
     let (desk, told) = ask_by_two(&rt, alloc, counter, pass, questions).ok_or("not split")?;
     assert_eq!(rt;
@@ -203,9 +203,9 @@ fn two_threads_ask_one_desk(rt: HostRuntime) -> Result<(), Fail> {
     let disk = desk.close();
     let opened = open_desk(
         alloc,
-        &clinic.schema,
-        &clinic.world,
-        &clinic.eve,
+        &ward.clinic.schema,
+        &ward.clinic.world,
+        &ward.eve,
         &HEADER,
         disk,
     );
@@ -325,9 +325,9 @@ fn ask_two_desks<'w, R: Threads + Wait + Sync>(
 #[test]
 fn users_do_not_wait_for_each_other(rt: HostRuntime) -> Result<(), Fail> {
     let alloc = rt.alloc();
-    let clinic = make_clinic(&rt, alloc)?;
-    let eves = counter_of(&rt, alloc, &clinic, &clinic.eve)?;
-    let dans = counter_of(&rt, alloc, &clinic, &clinic.dan)?;
+    let ward = make_ward(alloc)?;
+    let eves = counter_of(&rt, alloc, &ward.clinic, &ward.eve)?;
+    let dans = counter_of(&rt, alloc, &ward.clinic, &ward.dan)?;
     let beside = Beside {
         first_told: 1,
         second_told: 1,

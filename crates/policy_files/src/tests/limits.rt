@@ -117,6 +117,7 @@ fn document(alloc: Global, sizes: &Sizes) -> Result<String, AllocError> {
     Ok(text)
 }
 
+// A row for each limit: the function is long by its table.
 #[test]
 fn a_policy_at_every_limit_is_read(rt: HostRuntime) -> Result<(), Fail> {
     let alloc = rt.alloc();
