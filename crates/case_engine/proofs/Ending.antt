@@ -1,11 +1,11 @@
 -- How a case ends, from its script and what was appended.
-use Rattle.std.proofs.Common.{◌≡◌, ℕ, List, [], ◌++◌, map, inl, refl, sym, subst, ◌∙◌}
+use Rattle.std.proofs.Common.{◌≡◌, ℕ, List, [], ◌∷◌, ◌++◌, map, refl, sym, subst, ◌∙◌}
 use Rattle.std.specs.Prelude.{Ok, string_bytes}
 use Rattle.cqe_base.specs.Schema.{Text, DatabaseSchema}
 use Rattle.cqe_base.specs.Facts.{FactSet}
 use Rattle.cqe_base.specs.History.{UserProfile, profile_of}
 use Rattle.case_engine.specs.Script.{Script, script_of}
-use Rattle.case_engine.specs.Case.{Answers, Completes, Breaks, Ends}
+use Rattle.case_engine.specs.Case.{Answers, Completes, Breaks, Ends, reply_lines, lines_cut}
 use Rattle.case_engine.specs.declared.case.CaseEnd.{CaseEnd}
 use Rattle.case_engine.specs.declared.case.CaseEnd.TheVariants.{Done, Script as Refused, ReadFault, WriteFault, Memory}
 use Rattle.case_engine.specs.Written.{AppendsAll, AppendsSome, IsAnswered}
@@ -31,20 +31,25 @@ module _ (script : Script) (parts : Parts) (are : ArePartsOf script parts) (byte
   breaks old new some = record {
     script = script;
     read = is;
-    written = some.written;
+    written = lines_cut some.whole some.told some.part;
     appended = some.appended;
     begins = record {
-      front = some.front;
+      first = some.first;
+      next = some.next;
       back = some.back;
-      rest = some.rest;
       asks = sym are.asks ∙ some.split;
-      answered = answers_moved _ _ _ _ _ _ some.front some.front (some.written ++ some.rest) are.schema are.facts are.user refl some.answers;
+      whole = some.whole;
+      one_each = some.one_each;
+      told = some.told;
+      part = some.part;
+      cut = refl;
+      answered = answers_moved _ _ _ _ _ _ _ (some.first ++ some.next ∷ []) (reply_lines (some.whole ++ some.told ∷ [])) are.schema are.facts are.user refl some.answers;
     };
   }
 
   pub case_ends : (after : List ℕ) → after ≡ [] → (old new : List ℕ) (end : CaseEnd) → IsAnswered parts.schema parts.facts (profile_of parts.user) (map string_bytes parts.asks.items) old new end → Ends end bytes after old new
   case_ends after over old new Done all = (over, completes old new all)
   case_ends after over old new WriteFault some = breaks old new some
-  case_ends after over old new Memory same = inl same
+  case_ends after over old new Memory same = same
   case_ends after over old new (Refused refusal) never = absurd never
   case_ends after over old new ReadFault never = absurd never

@@ -1,5 +1,5 @@
 -- Replies ask by ask.
-use Rattle.std.proofs.Common.{◌≡◌, inl, inr, ℕ, Bool, true, false, List, [], ◌∷◌, ◌++◌, length, refl, sym, ap, ◌∙◌, append_assoc, append-nil, arith}
+use Rattle.std.proofs.Common.{◌≡◌, inl, inr, ℕ, suc, Bool, true, false, List, [], ◌∷◌, ◌++◌, length, refl, sym, ap, ◌∙◌, append_assoc, append-nil, arith}
 use Rattle.std.specs.Prelude.{Option, None, Result, Ok, Err, option_to_list, if◌then◌else◌}
 use Rattle.std.specs.List.{AllByRecursion}
 use Rattle.std.proofs.lemmas.Grind.{common_steps}
@@ -32,7 +32,16 @@ all_push (e ∷ endings) ending all here = (all.0, all_push endings ending all.1
 lines-append : (first second : List Reply) → reply_lines (first ++ second) ≡ reply_lines first ++ reply_lines second
 lines-append first second = grind (arith, common_steps)
 
+pub one_line : (earlier : List Reply) (told : Reply) → reply_lines earlier ++ (reply_text told ++ 10 ∷ []) ≡ reply_lines (earlier ++ told ∷ [])
+one_line earlier told = sym (lines-append earlier (told ∷ []) ∙ ap (λ l. reply_lines earlier ++ l) (append-nil (reply_text told ++ 10 ∷ [])))
+
 module _ (schema : DatabaseSchema) (world : FactSet) (user : UserProfile) where
+  -- one reply for each ask
+  pub replies_count : (state : UserState) (asks : List Text) (endings : List Ending) → length endings ≡ length asks → length (replies_from schema world user state (ask_events asks endings)) ≡ length asks
+  replies_count state [] endings same = refl
+  replies_count state (text ∷ asks) [] same = absurd (omega arith)
+  replies_count state (text ∷ asks) (ending ∷ endings) same = ap suc (replies_count (after_event schema world user state (ask text ending)) asks endings (omega (arith, same)))
+
   after_events-push : (state : UserState) (events : List Event) (event : Event) → after_events schema world user state (events ++ event ∷ []) ≡ after_event schema world user (after_events schema world user state events) event
   after_events-push state [] event = refl
   after_events-push state (e ∷ events) event = after_events-push (after_event schema world user state e) events event
@@ -92,9 +101,6 @@ module _ (schema : DatabaseSchema) (world : FactSet) (user : UserProfile) where
             ap (after_events schema world user start) events ∙ after_events-push start before (ask text ending)
             ∙ ap (λ s. after_event schema world user s (ask text ending)) so_far.state ∙ next;
       }
-    where
-      one_line : (earlier : List Reply) (told : Reply) → reply_lines earlier ++ (reply_text told ++ 10 ∷ []) ≡ reply_lines (earlier ++ told ∷ [])
-      one_line earlier told = sym (lines-append earlier (told ∷ []) ∙ ap (λ l. reply_lines earlier ++ l) (append-nil (reply_text told ++ 10 ∷ [])))
 
   same_entries : (history : History) (added : Option AnsweredQuery) → added ≡ None → history ++ option_to_list added ≡ history
   same_entries history added none = ap (λ a. history ++ option_to_list a) none ∙ append-nil history

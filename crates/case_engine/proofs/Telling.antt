@@ -4,24 +4,20 @@ use Rattle.std.specs.Prelude.{String, string_bytes, nat_le}
 use Rattle.std.specs.List.{list_all}
 use Rattle.std.proofs.lemmas.List.Folds.{list_all-map, list_all_at}
 use Rattle.std.specs.declared.alloc.Global.{Global}
-use Rattle.std.proofs.lemmas.List.{take-append-drop, take_more}
+use Rattle.std.proofs.lemmas.List.{take-append-drop, take_more, map-append}
 use Rattle.cqe_base.specs.Schema.{Text, DatabaseSchema, is_valid_schema}
 use Rattle.cqe_base.specs.Facts.{FactSet}
 use Rattle.cqe_base.specs.History.{UserProfile, History, is_user_of}
 use Rattle.cqe_base.specs.Censor.{admitted, EmptyHistoryIsLegal}
 use Rattle.cqe_base.specs.Headline.{RunsStayLegal}
 use Rattle.cqe_base.specs.Hiding.{LegalHistoriesHide}
-use Rattle.cqe_base.specs.Run.{Reply}
+use Rattle.cqe_base.specs.Run.{Reply, opening, replies_from}
 use Rattle.cqe_base.specs.Transcript.{reply_text}
 use Rattle.case_engine.specs.Answering.{IsTold}
 use Rattle.case_engine.specs.Sound.{is_short}
-use Rattle.case_engine.specs.Case.{Answers}
+use Rattle.case_engine.specs.Case.{Answers, ask_events, reply_lines}
 use Rattle.case_engine.specs.Written.{AppendsAll, AppendsSome}
-use Rattle.case_engine.proofs.Replying.{SoFar, so_far_empty, told_next, answers_asks}
-
-map-append : {X Y : Type 0} (f : X → Y) (xs ys : List X) → map f (xs ++ ys) ≡ map f xs ++ map f ys
-map-append f [] ys = refl
-map-append f (x ∷ xs) ys = ap (λ l. f x ∷ l) (map-append f xs ys)
+use Rattle.case_engine.proofs.Replying.{SoFar, so_far_empty, one_line, replies_count, told_next, answers_asks}
 
 module _ (schema : DatabaseSchema) (world : FactSet) (user : UserProfile) (is_open : Bool) where
   -- these asks were answered with what was appended to the old output, and the user then has this history
@@ -53,17 +49,28 @@ module _ (schema : DatabaseSchema) (world : FactSet) (user : UserProfile) (is_op
 
     -- where the sink failed in the middle of a line
     pub told_some : (asks : List (String Global)) (i n : ℕ) (text : String Global) (old before after line : List ℕ) (history new : History) (told : Reply) → Told (map string_bytes (take i asks)) old before history → take (i + 1) asks ≡ take i asks ++ text ∷ [] → after ≡ before ++ take n line → line ≡ reply_text told ++ 10 ∷ [] → IsTold is_open schema world user history new (string_bytes text) told → AppendsSome schema world user (map string_bytes asks) old after
-    told_some asks i n text old before after line history new told (output, written, so_far) next appended is here = record {
-      front = map string_bytes (take (i + 1) asks);
-      back = map string_bytes (drop (i + 1) asks);
-      split = sym (ap (map string_bytes) (take-append-drop (i + 1) asks)) ∙ map-append string_bytes (take (i + 1) asks) (drop (i + 1) asks);
-      written = output ++ take n line;
-      rest = drop n line;
-      appended = appended ∙ ap (λ w. w ++ take n line) written ∙ append_assoc old output (take n line);
-      answers = subst (λ o. Answers schema world user (map string_bytes (take (i + 1) asks)) o)
-          (sym (append_assoc output (take n line) (drop n line) ∙ ap (λ l. output ++ l) (take-append-drop n line)))
-          (answers_asks schema world user is_open (map string_bytes (take (i + 1) asks)) (output ++ line) new (more asks i text output line history new told so_far next is here) empty runs hide valid is_user);
-    }
+    told_some asks i n text old before after line history new told (output, written, so_far) next appended is here =
+        let front : map string_bytes (take (i + 1) asks) ≡ map string_bytes (take i asks) ++ string_bytes text ∷ [] = ap (map string_bytes) next ∙ map-append string_bytes (take i asks) (text ∷ []) in
+        let start = opening schema world user [] in
+        let whole = replies_from schema world user start (ask_events (map string_bytes (take i asks)) so_far.endings) in
+        record {
+          first = map string_bytes (take i asks);
+          next = string_bytes text;
+          back = map string_bytes (drop (i + 1) asks);
+          split =
+              sym (ap (map string_bytes) (take-append-drop (i + 1) asks)) ∙ map-append string_bytes (take (i + 1) asks) (drop (i + 1) asks)
+              ∙ ap (λ f. f ++ map string_bytes (drop (i + 1) asks)) front;
+          whole = whole;
+          one_each = replies_count schema world user start (map string_bytes (take i asks)) so_far.endings so_far.one_each;
+          told = told;
+          part = n;
+          appended =
+              appended ∙ ap (λ w. w ++ take n line) written ∙ append_assoc old output (take n line)
+              ∙ ap (λ o. old ++ (o ++ take n line)) so_far.lines ∙ ap (λ l. old ++ (reply_lines whole ++ take n l)) is;
+          answers = subst (λ a. Answers schema world user a (reply_lines (whole ++ told ∷ []))) front
+              (subst (Answers schema world user (map string_bytes (take (i + 1) asks))) (ap (λ o. o ++ line) so_far.lines ∙ ap (λ l. reply_lines whole ++ l) is ∙ one_line whole told)
+              (answers_asks schema world user is_open (map string_bytes (take (i + 1) asks)) (output ++ line) new (more asks i text output line history new told so_far next is here) empty runs hide valid is_user));
+        }
 
 -- an ask of a script is short
 pub short_item : (asks items : List (String Global)) (i : ℕ) (text : String Global) → items ≡ asks → i < length items → text ≡ get_or items i text → list_all is_short (map string_bytes asks) ≡ true → length (string_bytes text) ≤ 4096
@@ -85,10 +92,3 @@ pub told_there : (is_open : Bool) (schema schema' : DatabaseSchema) (world world
 told_there is_open schema schema' world world' user user' history new text text' told a b c d here =
     subst (λ s. IsTold is_open s world' user' history new text' told) a (subst (λ w. IsTold is_open schema w user' history new text' told) b
     (subst (λ u. IsTold is_open schema world u history new text' told) c (subst (λ t. IsTold is_open schema world user history new t told) d here)))
-
--- all asks
-pub all_items : (asks : List (String Global)) (n : ℕ) → length asks ≤ n → take n asks ≡ asks
-all_items [] zero all = refl
-all_items [] (suc n) all = refl
-all_items (x ∷ asks) zero all = absurd (omega arith)
-all_items (x ∷ asks) (suc n) all = ap (λ l. x ∷ l) (all_items asks n (omega arith))

@@ -1,5 +1,5 @@
 -- What a case writes, and what its lines mean for its user.
-use Rattle.std.specs.Prelude.{◌≡◌, ◌⊎◌, ℕ, true, List, [], ◌∷◌, ◌++◌, length, Ok, Err}
+use Rattle.std.specs.Prelude.{◌≡◌, ◌⊎◌, ℕ, true, List, [], ◌∷◌, ◌++◌, length, take, Ok, Err}
 use Rattle.std.specs.List.{flat_map, AllByRecursion}
 use Rattle.cqe_base.specs.Schema.{Text, DatabaseSchema}
 use Rattle.cqe_base.specs.Facts.{FactSet}
@@ -40,13 +40,23 @@ pub record Answers (schema : DatabaseSchema) (world : FactSet) (user : UserProfi
 abbrev pub AnswersOf : Script → List Text → List ℕ → Type 0
 AnswersOf script asks written = Answers (script_schema script) script.facts (script_user script) asks written
 
--- what was written is the beginning of lines that answer the first asks of a script
+-- the lines of replies, and a part of one more
+abbrev pub lines_cut : List Reply → Reply → ℕ → List ℕ
+lines_cut whole told part = reply_lines whole ++ take part (reply_text told ++ 10 ∷ [])
+
+-- What was written are the lines that answer the first asks of a script, and a part of the line of the next; so nothing was
+-- asked behind a line that wasn't written whole.
 pub record Begins (script : Script) (written : List ℕ) : Type 0 where
-  pub front : List Text
+  pub first : List Text
+  pub next : Text
   pub back : List Text
-  pub rest : List ℕ
-  pub asks : script.asks ≡ front ++ back
-  pub answered : AnswersOf script front (written ++ rest)
+  pub asks : script.asks ≡ (first ++ next ∷ []) ++ back
+  pub whole : List Reply
+  pub one_each : length whole ≡ length first
+  pub told : Reply
+  pub part : ℕ
+  pub cut : written ≡ lines_cut whole told part
+  pub answered : AnswersOf script (first ++ next ∷ []) (reply_lines (whole ++ told ∷ []))
 
 -- the bytes are a script, and what was appended to the old output answers all its asks
 pub record Completes (bytes old new : List ℕ) : Type 0 where
@@ -56,7 +66,7 @@ pub record Completes (bytes old new : List ℕ) : Type 0 where
   pub appended : new ≡ old ++ written
   pub answers : AnswersOf script script.asks written
 
--- the bytes are a script, and what was appended begins such lines
+-- the bytes are a script, and what was appended answers its first asks so
 pub record Breaks (bytes old new : List ℕ) : Type 0 where
   pub script : Script
   pub read : script_of bytes ≡ Ok script
@@ -70,4 +80,4 @@ Ends Done before after old new = (after ≡ []) × Completes before old new
 Ends (Refused refusal) before after old new = (script_of before ≡ Err refusal) × (new ≡ old)
 Ends ReadFault before after old new = new ≡ old
 Ends WriteFault before after old new = Breaks before old new
-Ends Memory before after old new = (new ≡ old) ⊎ Breaks before old new
+Ends Memory before after old new = new ≡ old

@@ -1,9 +1,10 @@
 -- What answering asks writes.
-use Rattle.std.specs.Prelude.{◌≡◌, ℕ, List, ◌++◌}
+use Rattle.std.specs.Prelude.{◌≡◌, ℕ, List, [], ◌∷◌, ◌++◌, length}
 use Rattle.cqe_base.specs.Schema.{Text, DatabaseSchema}
 use Rattle.cqe_base.specs.Facts.{FactSet}
 use Rattle.cqe_base.specs.History.{UserProfile}
-use Rattle.case_engine.specs.Case.{Answers}
+use Rattle.cqe_base.specs.Run.{Reply}
+use Rattle.case_engine.specs.Case.{Answers, reply_lines, lines_cut}
 use Rattle.case_engine.specs.declared.case.CaseEnd.{CaseEnd}
 use Rattle.case_engine.specs.declared.case.CaseEnd.TheVariants.{Done, Script as Refused, ReadFault, WriteFault, Memory}
 
@@ -14,15 +15,18 @@ module _ (schema : DatabaseSchema) (world : FactSet) (user : UserProfile) (asks 
     pub appended : new ≡ old ++ written
     pub answers : Answers schema world user asks written
 
-  -- what was appended begins the lines that answer the first asks
+  -- what was appended are the lines that answer the first asks, and a part of the line of the next
   pub record AppendsSome : Type 0 where
-    pub front : List Text
+    pub first : List Text
+    pub next : Text
     pub back : List Text
-    pub split : asks ≡ front ++ back
-    pub written : List ℕ
-    pub rest : List ℕ
-    pub appended : new ≡ old ++ written
-    pub answers : Answers schema world user front (written ++ rest)
+    pub split : asks ≡ (first ++ next ∷ []) ++ back
+    pub whole : List Reply
+    pub one_each : length whole ≡ length first
+    pub told : Reply
+    pub part : ℕ
+    pub appended : new ≡ old ++ lines_cut whole told part
+    pub answers : Answers schema world user (first ++ next ∷ []) (reply_lines (whole ++ told ∷ []))
 
   -- how answering asks ends
   abbrev pub IsAnswered : CaseEnd → Type 0

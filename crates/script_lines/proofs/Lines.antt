@@ -8,7 +8,7 @@ no_lines : text_lines [] ≡ []
 unfolding text_lines
 no_lines = refl
 
-nothing_left : (ahead left : List ℕ) → ahead ++ left ≡ [] → left ≡ []
+pub nothing_left : (ahead left : List ℕ) → ahead ++ left ≡ [] → left ≡ []
 nothing_left [] left e = e
 nothing_left (b ∷ ahead) left e = absurd cc
 

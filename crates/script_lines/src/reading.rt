@@ -66,7 +66,7 @@ fn pass_rest<S: Source, T: Drop>(
     error: ScriptError,
 ) -> Reading<T>
     requires { number ≤ 100001 }
-    ensures refused { ReadsRest error result }
+    ensures rest { S.told → ReadsRest number error result (unread buffer.old (S.left source.old)) (S.left source.new) }
     ensures held { S.held source.new ≡ S.held source.old }
     ensures later { S.faults source.old ≤ S.faults source.new }
     ensures cause { IsTrue (is_read_fault result) → Rose (S.faults source.old) (S.faults source.new) }

@@ -1,6 +1,6 @@
 -- A session, from one line to the next and to its end.
-use Rattle.std.proofs.Common.{◌≡◌, ◌⊎◌, inl, inr, ℕ, zero, suc, ◌≤◌, ◌<◌, ◌+◌, ◌*◌, true, false, List, [], ◌∷◌, ◌++◌, length, take, refl, sym, ap, ◌∙◌, subst, append_assoc, arith}
-use Rattle.std.specs.Prelude.{Option, Some, None, IfSome, codes}
+use Rattle.std.proofs.Common.{◌≡◌, ◌⊎◌, inl, inr, ℕ, ◌≤◌, ◌<◌, ◌+◌, true, false, List, [], ◌∷◌, ◌++◌, length, take, refl, sym, ap, ◌∙◌, subst, append_assoc, arith}
+use Rattle.std.specs.Prelude.{Option, None, IfSome, codes}
 use Rattle.std.specs.List.{AllByRecursion}
 use Rattle.std.proofs.lemmas.List.{append-nil, length-append}
 use Rattle.outside.specs.Faults.{Rose}
@@ -14,7 +14,7 @@ use Rattle.desk_counter.specs.declared.item.Item.{Item}
 use Rattle.desk_counter.specs.declared.item.Fixed.{Fixed}
 use Rattle.line_protocol.specs.Reads.{TakesLine, BeginsTooLong}
 use Rattle.line_protocol.specs.Replies.{text_of}
-use Rattle.line_protocol.specs.Requests.{LineRequest, request_of}
+use Rattle.line_protocol.specs.Requests.{request_of}
 use Rattle.line_protocol.specs.declared.reply.Reply.TheVariants.{Code}
 use Rattle.session_core.specs.Heard.{HeardLine, heard, overlong, is_quit}
 use Rattle.session_core.specs.Talks.{Talks, silent, unknown, written_lines}
@@ -25,24 +25,15 @@ use Rattle.session_core.specs.declared.session.Ended.{Ended}
 use Rattle.session_core.specs.declared.session.Ended.TheVariants.{Quit, InputEnd, TooLong, TooMany, ReadFault, WriteFault}
 use Rattle.session_core.proofs.Talking.{talks_more, talks_few, written_more}
 use Rattle.session_core.proofs.Hearing.{HeardSoFar, heard_none, heard_more, hears_quit, hears_cut, hears_fault, hears_many, hears_end, hears_long, hears_long_cut}
-use Rattle.session_core.proofs.Passing.{of_then, of_nothing, of_turns, of_length}
+use Rattle.session_core.proofs.Passing.{of_then, of_turns, of_length}
 
--- what was appended before, and then a part of a line
-part_behind : (before middle after : List ℕ) (texts : List Text) (text : Text) → middle ≡ before ++ written_lines texts → AppendsPart middle after (text ++ codes "\n") → AppendsPart before after (written_lines (texts ++ text ∷ []))
-part_behind before middle after texts text is part =
-    let more = written_more texts text in
-    let first = written_lines texts in
-    let longer = ap length more ∙ length-append first (text ++ codes "\n") in (
-      length first + part.0,
-      omega (arith, longer, part.1),
-      part.2 ∙ ap (λ m. m ++ take part.0 (text ++ codes "\n")) is ∙ append_assoc before first (take part.0 (text ++ codes "\n"))
-          ∙ ap (λ l. before ++ l) (sym (ap (take (length first + part.0)) more ∙ take_past first (text ++ codes "\n") part.0 (length first + part.0) refl)),
-    )
-  where
-    take_past : (xs ys : List ℕ) (n m : ℕ) → m ≡ length xs + n → take m (xs ++ ys) ≡ xs ++ take n ys
-    take_past [] ys n m is = let same : m ≡ n = omega (arith, is) in ap (λ k. take k ys) same
-    take_past (x ∷ xs) ys n zero is = absurd (omega (arith, is))
-    take_past (x ∷ xs) ys n (suc m) is = ap (λ l. x ∷ l) (take_past xs ys n m (omega (arith, is)))
+-- lines were appended, and then a part of one more
+cut_behind : (before middle after : List ℕ) (texts : List Text) (text : Text) → middle ≡ before ++ written_lines texts → AppendsPart middle after (text ++ codes "\n") → Writes WriteFault before after (texts ++ text ∷ [])
+cut_behind before middle after texts text is part = (
+  written_lines texts ++ take part.0 (text ++ codes "\n"),
+  record { front = texts; last = text; split = refl; part = (part.0, part.1, refl) },
+  part.2 ∙ ap (λ m. m ++ take part.0 (text ++ codes "\n")) is ∙ append_assoc before (written_lines texts) (take part.0 (text ++ codes "\n")),
+)
 
 -- a count that rose behind another moment rose from there
 pub rose_from : {before between after : ℕ} → before ≤ between → Rose between after → Rose before after
@@ -114,15 +105,15 @@ module _ {D : Type 0} (S K : Type 0) (users : List User) (fixeds : List (Fixed D
             writes = writes;
           }
 
-      pub ends_long : (ended : Ended) → (ended ≡ TooLong) ⊎ (ended ≡ WriteFault) → (K → Writes ended after afterwards (text_of (Code 26) ∷ [])) → Session S K users fixeds ended bytes old now before afterwards
-      ends_long ended (inl is) writes = subst (λ e. Session S K users fixeds e bytes old now before afterwards) (sym is)
+      pub ends_long : (ended : Ended) → (ended ≡ TooLong) ⊎ (ended ≡ WriteFault) → (ended ≡ TooLong → K → afterwards ≡ after ++ (text_of (Code 26) ++ codes "\n"))
+          → (ended ≡ WriteFault → K → AppendsPart after afterwards (text_of (Code 26) ++ codes "\n")) → Session S K users fixeds ended bytes old now before afterwards
+      ends_long ended (inl is) whole part = subst (λ e. Session S K users fixeds e bytes old now before afterwards) (sym is)
           (long_here TooLong (λ s. hears_long bytes left so_far.lines (so_far.hears s) (omega (arith, few, so_far.many)) (begins s))
-          (λ k. subst (λ e. Writes e after afterwards (text_of (Code 26) ∷ [])) is (writes k) ∙ ap (λ m. m ++ written_lines (text_of (Code 26) ∷ [])) (so_far.writes k) ∙ append_assoc before (written_lines so_far.texts) (written_lines (text_of (Code 26) ∷ []))
-          ∙ ap (λ l. before ++ l) (ap (λ l. written_lines so_far.texts ++ l) (append-nil (text_of (Code 26) ++ codes "\n")) ∙ sym (written_more so_far.texts (text_of (Code 26))))))
-      ends_long ended (inr is) writes = subst (λ e. Session S K users fixeds e bytes old now before afterwards) (sym is)
+          (λ k. whole is k ∙ ap (λ m. m ++ (text_of (Code 26) ++ codes "\n")) (so_far.writes k) ∙ append_assoc before (written_lines so_far.texts) (text_of (Code 26) ++ codes "\n")
+          ∙ ap (λ l. before ++ l) (sym (written_more so_far.texts (text_of (Code 26))))))
+      ends_long ended (inr is) whole part = subst (λ e. Session S K users fixeds e bytes old now before afterwards) (sym is)
           (long_here WriteFault (λ s. hears_long_cut bytes left so_far.lines (so_far.hears s) (omega (arith, few, so_far.many)) (begins s))
-          (λ k. part_behind before after afterwards so_far.texts (text_of (Code 26)) (so_far.writes k)
-          (subst (AppendsPart after afterwards) (append-nil (text_of (Code 26) ++ codes "\n")) (subst (λ e. Writes e after afterwards (text_of (Code 26) ∷ [])) is (writes k)))))
+          (λ k. cut_behind before after afterwards so_far.texts (text_of (Code 26)) (so_far.writes k) (part is k)))
 
     -- a line was taken and replied to
     module _ (rest line : List ℕ) (next : Option ℕ) (text : Text) (then_now : List (Pass Item (Fixed D))) (afterwards : List ℕ)
@@ -170,4 +161,4 @@ module _ {D : Type 0} (S K : Type 0) (users : List User) (fixeds : List (Fixed D
 
       -- or the sink failed
       pub ends_cut : (K → AppendsPart after afterwards (text ++ codes "\n")) → Session S K users fixeds WriteFault bytes old then_now before afterwards
-      ends_cut wrote = more_here WriteFault (λ s. hears_cut bytes left rest line so_far.lines (so_far.hears s) (takes s) (omega (arith, few, so_far.many))) (λ k. part_behind before after afterwards so_far.texts text (so_far.writes k) (wrote k))
+      ends_cut wrote = more_here WriteFault (λ s. hears_cut bytes left rest line so_far.lines (so_far.hears s) (takes s) (omega (arith, few, so_far.many))) (λ k. cut_behind before after afterwards so_far.texts text (so_far.writes k) (wrote k))

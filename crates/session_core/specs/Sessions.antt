@@ -1,7 +1,6 @@
 -- A session: the lines that were read, the lines that were written, and the passes before and after.
 use Rattle.std.specs.Prelude.{◌≡◌, ℕ, ◌≤◌, true, List, [], ◌∷◌, ◌++◌, length, Option, Some, None}
 use Rattle.std.specs.List.{list_all}
-use Rattle.outside.specs.Streams.{AppendsPart}
 use Rattle.cqe_base.specs.Schema.{Text}
 use Rattle.cqe_base.specs.Lines.{text_lines}
 use Rattle.cqe_base.specs.Run.{Reply}
@@ -11,7 +10,7 @@ use Rattle.line_protocol.specs.Requests.{quit_session, request_of}
 use Rattle.desk_counter.specs.declared.item.Item.{Item}
 use Rattle.desk_counter.specs.declared.item.Fixed.{Fixed}
 use Rattle.session_core.specs.Heard.{HeardLine, heard, overlong, goes_on, session_lines}
-use Rattle.session_core.specs.Talks.{Talks, written_lines}
+use Rattle.session_core.specs.Talks.{Talks, written_lines, IsCut}
 use Rattle.session_core.specs.Desks.{AsksOf}
 use Rattle.session_core.specs.declared.session.Ended.{Ended}
 use Rattle.session_core.specs.declared.session.Ended.TheVariants.{Quit, InputEnd, TooLong, TooMany, ReadFault, WriteFault}
@@ -26,9 +25,9 @@ Hears TooMany bytes lines = (lines ≡ session_lines bytes) × (list_all goes_on
 Hears ReadFault bytes lines = (rest : List HeardLine) × (session_lines bytes ≡ lines ++ rest)
 Hears WriteFault bytes lines = (rest : List HeardLine) × (session_lines bytes ≡ lines ++ rest)
 
--- What was written: a line for each text; where the sink failed, the beginning of these lines.
+-- What was written: a line for each text; where the sink failed, of the last one only a part.
 abbrev pub Writes : Ended → List ℕ → List ℕ → List Text → Type 0
-Writes WriteFault old new texts = AppendsPart old new (written_lines texts)
+Writes WriteFault old new texts = (written : List ℕ) × IsCut texts written × (new ≡ old ++ written)
 Writes Quit old new texts = new ≡ old ++ written_lines texts
 Writes InputEnd old new texts = new ≡ old ++ written_lines texts
 Writes TooLong old new texts = new ≡ old ++ written_lines texts

@@ -1,6 +1,7 @@
 -- What is said to the lines of a session.
 use Rattle.std.specs.Prelude.{◌≡◌, ℕ, suc, Bool, true, false, List, [], ◌∷◌, ◌++◌, codes, bytes_eq, string_bytes, Option, Some, None}
 use Rattle.std.specs.List.{flat_map}
+use Rattle.outside.specs.Streams.{AppendsPart}
 use Rattle.cqe_base.specs.Schema.{Text}
 use Rattle.cqe_base.specs.Run.{Reply}
 use Rattle.cqe_base.specs.Transcript.{reply_text}
@@ -45,3 +46,11 @@ module _ (users : List User) where
 -- the lines that were written: each text with a line feed
 abbrev pub written_lines : List Text → List ℕ
 written_lines texts = flat_map (λ text. text ++ codes "\n") texts
+
+-- What was written where the sink failed: the lines of all texts but the last, and of that one a part. So nothing was
+-- answered behind a line that wasn't written.
+pub record IsCut (texts : List Text) (written : List ℕ) : Type 0 where
+  pub front : List Text
+  pub last : Text
+  pub split : texts ≡ front ++ last ∷ []
+  pub part : AppendsPart (written_lines front) written (last ++ codes "\n")

@@ -1,7 +1,8 @@
 //! One session over lines.
-ghost use Rattle.std.specs.Prelude.{◌≡◌, ◌⊎◌, ◌≤◌, ◌<◌, ◌^◌, ◌∷◌, [], length, IfSome, IfNone};
+ghost use Rattle.std.specs.Prelude.{◌≡◌, ◌⊎◌, ◌≤◌, ◌<◌, ◌^◌, ◌∷◌, ◌++◌, [], codes, length, IfSome, IfNone};
 ghost use Rattle.std.specs.List.{AllByRecursion};
 ghost use Rattle.outside.specs.Faults.{Rose};
+ghost use Rattle.outside.specs.Streams.{AppendsPart};
 ghost use Rattle.turnstile.specs.Passes.{turns};
 ghost use Rattle.user_log.specs.Replies.{reply_of};
 ghost use Rattle.line_protocol.specs.Replies.{text_of};
@@ -11,7 +12,7 @@ ghost use Rattle.session_core.specs.Talks.{LogsIn, NobodyLogsIn, Says};
 ghost use Rattle.session_core.specs.Desks.{AsksAt, AsksOf};
 ghost use Rattle.session_core.specs.Members.{ArePassesOf, users_of, fixeds_of, passes_in};
 ghost use Rattle.session_core.specs.Asked.{Replies, IsShort};
-ghost use Rattle.session_core.specs.Sessions.{Session, Writes};
+ghost use Rattle.session_core.specs.Sessions.{Session};
 
 use crate::counters::{Counters, Passes};
 use case_engine::line_reply;
@@ -183,7 +184,8 @@ pub fn serve_session<R: Wait, D: Disk, S: Source, K: Sink, G: Gate>(
 /// Replies to a line that is too long.
 fn end_too_long<K: Sink>(sink: &mut K) -> Ended
     ensures ends { (result ≡ Ended.TooLong) ⊎ (result ≡ Ended.WriteFault) }
-    ensures written { K.told → Writes result (K.written sink.old) (K.written sink.new) (text_of (Reply.Code 26) ∷ []) }
+    ensures whole { result ≡ Ended.TooLong → K.told → K.written sink.new ≡ K.written sink.old ++ (text_of (Reply.Code 26) ++ codes "\n") }
+    ensures part { result ≡ Ended.WriteFault → K.told → AppendsPart (K.written sink.old) (K.written sink.new) (text_of (Reply.Code 26) ++ codes "\n") }
     ensures later { K.faults sink.old ≤ K.faults sink.new }
     ensures cause { result ≡ Ended.WriteFault → Rose (K.faults sink.old) (K.faults sink.new) }
 {

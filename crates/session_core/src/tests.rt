@@ -1,127 +1,51 @@
 //! Sessions over streams in memory. Replies were worked out by hand.
-ghost use Rattle.std.specs.Prelude.{◌≡◌, ◌*◌, ◌^◌, ◌≤◌, true, length, IfOk};
-ghost use Rattle.cqe_base.specs.Formula.{formula_of, nodes, is_sentence_of};
+ghost use Rattle.std.specs.Prelude.{◌≡◌, ◌*◌, ◌^◌, IfOk};
 ghost use Rattle.cqe_base.specs.History.{profile_of};
 ghost use Rattle.cqe_base.specs.Limits.{KeepsLimits};
 ghost use Rattle.turnstile.specs.Passes.{turns};
 ghost use Rattle.desk_counter.specs.Counters.{IsPassOf};
 
 use crate::{Counters, Ended, serve_session};
-use cqe_base::laws::law_reading;
-use cqe_base::schema::Schema;
-use cqe_base::sentence::{Sentence, nodes};
 use cqe_base::user::{Method, User};
-use cqe_base::world::{Fact, World};
 use desk_counter::{Counter, DeskPass};
 use log_journal::{Header, format};
 use outside::{MemoryDisk, MemorySink, MemorySource, OpenGate, Pieces, Plan};
-use sentence_text::read_sentence;
 use std::alloc::Global;
 use std::process::Abort;
 use std::sync::Wait;
 use std::test::Fail;
+use trial_clinic::{Clinic, TOKEN, make_clinic, make_user};
 use user_desk::open_desk;
-use user_log::laws::law_views_without_entries;
 
 const HEADER: Header = Header {
     policy: [7; 32],
     facts: [9; 32],
 };
 
-// The SHA-256 of `abc`, as the standard gives it.
-const TOKEN: [u8; 32] = [
-    0xba, 0x78, 0x16, 0xbf, 0x8f, 0x01, 0xcf, 0xea, 0x41, 0x41, 0x40, 0xde, 0x5d, 0xae, 0x22, 0x23,
-    0xb0, 0x03, 0x61, 0xa3, 0x96, 0x17, 0x7a, 0x9c, 0xb4, 0x10, 0xff, 0x61, 0xf2, 0x00, 0x15, 0xad,
-];
-
-fn names(alloc: Global, texts: &[&str]) -> Result<Vec<String>, Fail> {
-    let mut names = Vec::new(alloc);
-    for text in texts {
-        names.push(String::from_str(alloc, text)?)?;
-    }
-    Ok(names)
-}
-
-fn schema(alloc: Global) -> Result<Schema, Fail> {
-    let mut domains = Vec::new(alloc);
-    domains.push((
-        String::from_str(alloc, "person")?,
-        names(alloc, &["ann", "bob"])?,
-    ))?;
-    let mut relations = Vec::new(alloc);
-    for name in ["hiv", "drug"] {
-        relations.push((String::from_str(alloc, name)?, names(alloc, &["person"])?))?;
-    }
-    Ok(Schema::new(alloc, domains, relations)?)
-}
-
-/// A small sentence of the schema.
-fn sentence(rt: &impl Abort, alloc: Global, schema: &Schema, text: &str) -> Result<Sentence, Fail>
-    requires { length text.now ≤ 4096 }
-    ensures sentence { IfOk result (λ s. is_sentence_of schema.now (formula_of s) ≡ true) }
-    ensures small { IfOk result (λ s. nodes schema.now (formula_of s) ≤ 1000) }
-{
-    law_reading();
-    let Ok(sentence) = read_sentence(alloc, schema, text) else {
-        panic!(rt; "no sentence: {text}");
-    };
-    assert!(rt; nodes(&sentence, schema) <= 1_000);
-    Ok(sentence)
-}
-
 /// A user who knows that who takes the drug is infected, and from whom Ann's infection is kept.
-fn user(
-    rt: &impl Abort,
-    alloc: Global,
-    schema: &Schema,
-    name: &str,
-    method: Method,
-    token: Option<[u8; 32]>,
-) -> Result<User, Fail>
-    ensures { IfOk result (λ user. KeepsLimits schema.now (profile_of user)) }
+fn user_by(alloc: Global, clinic: &Clinic, name: &str, method: Method) -> Result<User, Fail>
+    ensures { IfOk result (λ user. KeepsLimits clinic.now.schema (profile_of user)) }
 {
-    law_views_without_entries();
-    let known = sentence(rt, alloc, schema, "forall x: person . drug(x) -> hiv(x)")?;
-    let secret = sentence(rt, alloc, schema, "hiv(ann)")?;
-    Ok(User {
-        name: String::from_str(alloc, name)?,
-        method,
-        know: Vec::from_array(alloc, [known])?,
-        secrets: Vec::from_array(alloc, [secret])?,
-        budget: 1_000_000,
-        token,
-    })
-}
-
-/// Two persons; Ann takes the drug and is infected.
-fn clinic(rt: &impl Abort, alloc: Global) -> Result<(Schema, World), Fail> {
-    let schema = schema(alloc)?;
-    let mut world = World::new(alloc);
-    for relation in [0, 1] {
-        let fact = Fact {
-            relation,
-            columns: [0; 6],
-        };
-        assert!(rt; world.insert(&schema, fact).is_ok());
-    }
-    Ok((schema, world))
+    let known = "forall x: person . drug(x) -> hiv(x)";
+    let user = make_user(alloc, &clinic.schema, name, method, known, "hiv(ann)")?;
+    Ok(user)
 }
 
 /// A user's desk on an empty journal, under a counter.
 fn counter_of<'w>(
     rt: &impl Abort,
     alloc: Global,
-    schema: &'w Schema,
-    world: &'w World,
+    clinic: &'w Clinic,
     user: &'w User,
 ) -> Result<(Counter<'w, MemoryDisk>, DeskPass<MemoryDisk>), Fail>
-    requires { KeepsLimits schema.now (profile_of user.now) }
+    requires { KeepsLimits clinic.now.schema (profile_of user.now) }
     ensures pass { IfOk result (λ c. IsPassOf c.1 c.0) }
     ensures all { IfOk result (λ c. turns c.1 ≡ 65 * 2 ^ 57) }
 {
     let mut disk = MemoryDisk::new(alloc, Vec::new(alloc))?;
     format(&mut disk, &HEADER)?;
-    let Ok(desk) = open_desk(alloc, schema, world, user, &HEADER, disk) else {
+    let opened = open_desk(alloc, &clinic.schema, &clinic.world, user, &HEADER, disk);
+    let Ok(desk) = opened else {
         panic!(rt; "no memory for a desk");
     };
     match Counter::new(alloc, desk) {
@@ -137,12 +61,13 @@ fn talk<R: Abort + Wait>(
     source: MemorySource,
     sink: MemorySink,
 ) -> Result<(Ended, MemorySink), Fail> {
-    let (schema, world) = clinic(rt, alloc)?;
-    let eve = user(rt, alloc, &schema, "eve", Method::Lying, Some(TOKEN))?;
-    let ron = user(rt, alloc, &schema, "ron", Method::Refusal, None)?;
+    let clinic = make_clinic(alloc)?;
+    let mut eve = user_by(alloc, &clinic, "eve", Method::Lying)?;
+    eve.token = Some(TOKEN);
+    let ron = user_by(alloc, &clinic, "ron", Method::Refusal)?;
     let users = [eve, ron];
-    let (eve_counter, eve_pass) = counter_of(rt, alloc, &schema, &world, &users[0])?;
-    let (ron_counter, ron_pass) = counter_of(rt, alloc, &schema, &world, &users[1])?;
+    let (eve_counter, eve_pass) = counter_of(rt, alloc, &clinic, &users[0])?;
+    let (ron_counter, ron_pass) = counter_of(rt, alloc, &clinic, &users[1])?;
     let counters = Vec::from_array(alloc, [eve_counter, ron_counter])?;
     let passes = Vec::from_array(alloc, [eve_pass, ron_pass])?;
     let (counters, mut passes) = Counters::new(&users, counters, passes);

@@ -2,10 +2,11 @@ use Rattle.std.proofs.Common.{◌≡◌, ◌≤◌, ◌++◌, ◌∙◌, [], map
 use Rattle.std.specs.Prelude.{string_bytes, codes}
 use Rattle.user_log.specs.UserLogs.{kept_history}
 use Rattle.std.proofs.lemmas.Grind.{common_steps}
+use Rattle.std.proofs.lemmas.List.{take_all}
 use Rattle.cqe_base.specs.History.{profile_of}
 use Rattle.cqe_base.specs.Censor.{admitted}
 use Rattle.case_engine.specs.Written.{AppendsAll}
-use Rattle.case_engine.proofs.Telling.{Told, told_nothing, told_all, told_some, told_more, told_there, short_item, next_item, all_items}
+use Rattle.case_engine.proofs.Telling.{Told, told_nothing, told_all, told_some, told_more, told_there, short_item, next_item}
 use Rattle.case_engine.proofs.answering.answer_all.Goals as goal
 
 pub returns-then-is_empty-clause-answered : goal.returns-then-is_empty-clause-answered
@@ -61,4 +62,4 @@ returns-clause-answered g c = λ told.
     told_all parts.schema parts.facts user c.in-Ok.is_open c.law_legal_grows.ensures.empty c.law_runs_legal.ensures c.law_hides.ensures c.known.ensures c.requires.sentences
     (map string_bytes parts.asks.items) _ _ _
     (subst (λ a. Told parts.schema parts.facts user c.in-Ok.is_open (map string_bytes a) (g.K.Sink.written c.args.sink.now) (g.K.Sink.written c.loop-text.sink) (kept_history c.loop-text.log))
-    (all_items parts.asks.items c.loop-text.text-index far) (c.loop-text.invariant.so_far told))
+    (take_all c.loop-text.text-index parts.asks.items far) (c.loop-text.invariant.so_far told))

@@ -5,7 +5,7 @@ use Rattle.case_engine.proofs.case.run_case.Goals as goal
 
 pub returns-in-Refused-clause-ends : goal.returns-in-Refused-clause-ends
 returns-in-Refused-clause-ends g c = λ source_told. λ sink_told.
-    (sym (script_begins _ _ c.in-Ok.ensures) ∙ c.in-Refused.ensures.reads source_told, refl)
+    (sym (script_begins _ _ c.in-Ok.ensures) ∙ (c.in-Refused.ensures.reads source_told).0, refl)
 
 pub returns-clause-ends : goal.returns-clause-ends
 returns-clause-ends g c = λ source_told. λ sink_told.

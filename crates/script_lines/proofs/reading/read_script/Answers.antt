@@ -1,10 +1,12 @@
 use Rattle.std.proofs.Common.{refl, arith}
 use Rattle.script_lines.proofs.Lines.{script_starts, script_ends}
+use Rattle.script_lines.proofs.Passing.{cut_starts}
 use Rattle.script_lines.proofs.reading.read_script.Goals as goal
 
 pub loop-number-init : goal.loop-number-init
 loop-number-init g c = record {
   so_far = λ told. script_starts g.T.Script.step (g.T.Script.said c.args.start) _ _ c.new-buffer.ensures.ahead;
+  cut = λ told. cut_starts _ _ c.new-buffer.ensures.ahead;
   low = omega arith;
   held = refl;
   later = omega arith;

@@ -30,7 +30,7 @@ pub returns-in-TooLong-clause-session : goal.returns-in-TooLong-clause-session
 returns-in-TooLong-clause-session g c =
     let long = c.end_too_long.ensures in
     ends_long _ _ _ _ _ _ _ _ _ _ _ _ c.loop.invariant.so_far (g.K.Sink.written c.end_too_long.new.sink) c.loop.invariant.place (passes_kept (passes_in c.args.passes.now) c.args.counters.now.counters.items c.requires.passes) (omega (arith, c.loop-test.true))
-    (λ s. (c.in-TooLong.ensures.reads s).0) c.end_too_long.result long.ends long.written
+    (λ s. (c.in-TooLong.ensures.reads s).0) c.end_too_long.result long.ends long.whole long.part
 
 pub returns-in-TooLong-clause-write_cause : goal.returns-in-TooLong-clause-write_cause
 returns-in-TooLong-clause-write_cause g c = λ is. rose_from c.loop.invariant.sink_later (c.end_too_long.ensures.cause is)
