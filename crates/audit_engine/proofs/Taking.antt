@@ -5,8 +5,7 @@ use Rattle.std.proofs.lemmas.Slice.Eq.{bytes_eq-Decides}
 use Rattle.outside.specs.Disk.{Only}
 use Rattle.outside.specs.Shelf.{IsTaken, SameOthers}
 use Rattle.cqe_base.specs.Schema.{Text}
-use Rattle.desk_crew.specs.Shelved.{bytes_on, image_on, SameBytes}
-use Rattle.audit_engine.specs.Ends.{NoNewImages}
+use Rattle.desk_crew.specs.Shelved.{bytes_on, image_on, SameBytes, NoNewImages}
 
 module _ {D : Type 0} (reads : D → List ℕ) (image : D → List ℕ → Type 0) where
   -- it had the bytes

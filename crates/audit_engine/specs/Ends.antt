@@ -13,16 +13,11 @@ use Rattle.user_desk.specs.declared.standing.DeskError.{DeskError}
 use Rattle.user_desk.specs.declared.standing.Standing.{Standing}
 use Rattle.user_desk.specs.declared.standing.Standing.TheVariants.{Open, Closed, Sealed}
 use Rattle.desk_crew.specs.Openings.{IsOpening}
-use Rattle.desk_crew.specs.Shelved.{image_on}
 use Rattle.audit_text.specs.Said.{AuditSaid}
 use Rattle.audit_text.specs.Json.{audit_text}
 use Rattle.audit_print.specs.Audits.{Audits}
 use Rattle.audit_engine.specs.declared.end.AuditEnd.{AuditEnd}
 use Rattle.audit_engine.specs.declared.end.AuditEnd.TheVariants.{Done, Refused, WriteFault, ShelfFault, Memory}
-
--- no disk has an image that it hadn't before
-abbrev pub NoNewImages : {D : Type 0} → (D → List ℕ → Type 0) → (Text → Option D) → (Text → Option D) → Type 0
-NoNewImages image old new = (name : Text) (c : List ℕ) → image_on image (new name) c → image_on image (old name) c
 
 module _ (schema : DatabaseSchema) (world : FactSet) (header : List ℕ) (name : Text) (user : UserProfile) (bytes : List ℕ) (before now : ℕ) where
   -- Why a user whose journal stands for these entries has this standing. He is served where he is admitted and the bytes of his journal open a desk; he is closed

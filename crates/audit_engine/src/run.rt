@@ -6,8 +6,8 @@ ghost use Rattle.cqe_base.specs.History.{profile_of};
 ghost use Rattle.cqe_base.specs.Limits.{KeepsLimits};
 ghost use Rattle.log_journal.specs.Names.{journal_name};
 ghost use Rattle.log_journal.specs.Opening.{header_bytes};
-ghost use Rattle.desk_crew.specs.Shelved.{bytes_on, image_on, NoneOut, NoneFell, SameBytes};
-ghost use Rattle.audit_engine.specs.Ends.{IsEnd, NoNewImages};
+ghost use Rattle.desk_crew.specs.Shelved.{bytes_on, image_on, NoneOut, NoneFell, SameBytes, NoNewImages};
+ghost use Rattle.audit_engine.specs.Ends.{IsEnd};
 ghost use Rattle.audit_engine.specs.declared.end.AuditEnd.{AuditEnd};
 
 use crate::end::AuditEnd;

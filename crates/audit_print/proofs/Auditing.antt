@@ -1,7 +1,7 @@
 -- What a desk holds, as what an audit says.
-use Rattle.std.proofs.Common.{◌≡◌, ℕ, true, List, [], ◌∷◌, ◌++◌, map, refl, sym, ap, subst, ◌∙◌, arith}
+use Rattle.std.proofs.Common.{◌≡◌, ℕ, true, List, map, sym, ap, subst, ◌∙◌, arith}
 use Rattle.std.specs.Prelude.{◌<◌, Option, None, Some, IfSome, length, codes}
-use Rattle.std.specs.List.{flat_map, range_with_len}
+use Rattle.std.specs.List.{range_with_len}
 use Rattle.cqe_base.specs.declared.user.Method.{Method}
 use Rattle.cqe_base.specs.declared.user.Method.TheVariants.{Lying, Refusal, Combined}
 use Rattle.cqe_base.specs.Schema.{DatabaseSchema, Text}
@@ -39,11 +39,6 @@ of_sealed schema name user standing entries said why is whole =
 pub of_served : (schema : DatabaseSchema) (name : Text) (user : UserProfile) (standing : Standing) (entries : History) (said : AuditSaid) → standing ≡ Open → Serves schema name user entries said → Audits schema name user standing entries said
 of_served schema name user standing entries said is serves =
     subst (λ s. Audits schema name user s entries said) (sym is) (record { worlds = serves.worlds; listings = serves.listings; listed = λ _. serves.listed; others = λ _. serves.others; whole = serves.whole })
-
--- lines one after the other
-pub flat_texts : {X : Type 0} (f : X → List ℕ) (xs : List X) → flat_map f xs ≡ flat_map (λ line. line) (map f xs)
-flat_texts f [] = refl
-flat_texts f (x ∷ xs) = ap (λ l. f x ++ l) (flat_texts f xs)
 
 -- a user who is served
 pub serves : (schema : DatabaseSchema) (name : Text) (user : UserProfile) (entries entries' : History) (worlds : ℕ → Option FactSet) (n : ℕ) (said : AuditSaid) → entries' ≡ entries → n ≡ length user.secrets

@@ -3,4 +3,3 @@ pub mod Each
 pub mod Atoms
 pub mod Listing
 pub mod Auditing
-pub mod Writing

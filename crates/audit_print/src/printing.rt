@@ -1,7 +1,6 @@
 // The audit of a desk.
-ghost use Rattle.std.specs.Prelude.{◌≡◌, ◌≤◌, ◌++◌, map, string_bytes, Err, IfOk, OnOk, OnErr};
-ghost use Rattle.std.specs.List.{flat_map};
-ghost use Rattle.outside.specs.Faults.{HasCause, Rose};
+ghost use Rattle.std.specs.Prelude.{◌≡◌, ◌≤◌, ◌++◌, map, string_bytes, Err, IfOk, OnOk};
+ghost use Rattle.outside.specs.Faults.{Rose};
 ghost use Rattle.outside.specs.Streams.{AppendsPart};
 ghost use Rattle.cqe_base.specs.History.{profile_of};
 ghost use Rattle.user_desk.specs.Desks.{desk_schema, desk_user, desk_standing, desk_history};
@@ -14,7 +13,7 @@ use crate::report::report_on;
 use audit_text::lines_of;
 use cqe_base::schema::Schema;
 use cqe_base::user::User;
-use outside::{Disk, Failed, Sink, write_all};
+use outside::{Disk, Failed, Sink, write_parts};
 use std::alloc::{AllocError, Global};
 use user_desk::Desk;
 
@@ -49,7 +48,7 @@ pub fn audit<D: Disk, K: Sink>(
     let Ok(lines) = audit_lines(alloc, schema, user, desk, json) else {
         return Err(AuditError::Memory);
     };
-    match write_lines(sink, &lines) {
+    match write_parts(sink, &lines) {
         Ok(()) => Ok(()),
         Err(Failed) => Err(AuditError::WriteFault),
     }
@@ -69,18 +68,4 @@ fn audit_lines<D: Disk>(
 {
     let report = report_on(alloc, schema, user, desk)?;
     lines_of(alloc, &report, json)
-}
-
-fn write_lines<K: Sink>(sink: &mut K, lines: &[String]) -> Result<(), Failed>
-    ensures all { K.told → OnOk result (K.written sink.new ≡ K.written sink.old ++ flat_map string_bytes lines.now) }
-    ensures part { K.told → OnErr result (AppendsPart (K.written sink.old) (K.written sink.new) (flat_map string_bytes lines.now)) }
-    ensures cause { HasCause (K.faults sink.old) (K.faults sink.new) result }
-{
-    for line in lines {
-        match write_all(sink, line.as_bytes()) {
-            Ok(()) => (),
-            Err(Failed) => return Err(Failed),
-        }
-    }
-    Ok(())
 }

@@ -1,9 +1,8 @@
 -- What the lines of a batch mean for its users, once their disks are back.
-use Rattle.std.proofs.Common.{◌≡◌, ◌≢◌, inl, inr, ℕ, ◌≤◌, Bool, true, false, List, [], ◌∷◌, ◌++◌, take, drop, map, refl, sym, ap, subst, ◌∙◌, append_assoc}
+use Rattle.std.proofs.Common.{◌≡◌, ◌≢◌, inl, inr, ℕ, ◌≤◌, Bool, true, false, List, [], ◌∷◌, ◌++◌, take, map, refl, sym, ap, subst, ◌∙◌, append_assoc}
 use Rattle.std.specs.Prelude.{Option, Some, find, bytes_eq, All, if◌then◌else◌}
 use Rattle.std.specs.List.{list_any, AllByRecursion}
 use Rattle.std.proofs.lemmas.List.Elements.{All-head, All-tail}
-use Rattle.std.proofs.lemmas.List.{take-append-drop}
 use Rattle.cqe_base.specs.Schema.{Text, DatabaseSchema, is_valid_schema, has_duplicate}
 use Rattle.cqe_base.specs.Facts.{FactSet}
 use Rattle.cqe_base.specs.History.{profile_of}
@@ -22,14 +21,14 @@ use Rattle.log_journal.specs.Names.{journal_name}
 use Rattle.batch_engine.specs.BatchLines.{BatchItem}
 use Rattle.desk_crew.specs.Openings.{OpensNone, IsOpening}
 use Rattle.batch_engine.specs.Lives.{RoseBy, is_opened, failures}
-use Rattle.batch_engine.specs.Batch.{Serves, Answers, AreRefusals, AppendsAll, AppendsSome, unopened, with_opening}
+use Rattle.batch_engine.specs.Batch.{Serves, Answers, AreRefusals, AppendsAll, AppendsSome, line_bytes, unopened, with_opening}
 use Rattle.desk_crew.specs.Crew.{named_user, seat_standing, seat_state, IsLeft, IsClosed}
 use Rattle.desk_crew.specs.Shelved.{bytes_on, image_on, journals_on, IsBack, AreBack}
 use Rattle.desk_crew.specs.Seats.{DeskSeat}
 use Rattle.batch_engine.proofs.Courses.{Course, course_on, Fits, IsRunning}
 use Rattle.desk_crew.proofs.Taken.{left_false, right_false, text_is}
 use Rattle.batch_engine.proofs.Seating.{names, IsSeated, AreSeated, close_at}
-use Rattle.batch_engine.proofs.Telling.{SoFar}
+use Rattle.batch_engine.proofs.Telling.{SoFar, LastLine}
 
 -- ---- users by their names
 
@@ -190,18 +189,19 @@ module _ (schema : DatabaseSchema) (world : FactSet) (users : List NamedUser) (h
       }
 
       -- the first items were answered, and of the last line a part was written
-      pub answered_some : (front back all : List BatchItem) (n : ℕ) (old before_line new line : List ℕ) (seats : List (DeskSeat D g h)) (is_broken : Bool)
-          → (output : List ℕ) → before_line ≡ old ++ output → SoFar schema world users header directory T reads image faults t read_is_image (bytes_of reads directory disk) (count_of directory count) found opened front (output ++ line) seats is_broken
-          → AreBack S reads image faults disk' count' seats → new ≡ before_line ++ take n line → all ≡ front ++ back
+      pub answered_some : (front back all : List BatchItem) (n : ℕ) (old output line new : List ℕ) (seats : List (DeskSeat D g h))
+          → LastLine schema world users header directory T reads image faults t read_is_image (bytes_of reads directory disk) (count_of directory count) found opened front output line seats
+          → AreBack S reads image faults disk' count' seats → new ≡ (old ++ output) ++ take n line → all ≡ front ++ back
           → AppendsSome schema world header (journals_on reads image directory disk disk' count count') policy all old new
-      answered_some front back all n old before_line new line seats is_broken output written so_far is appended split = record {
+      answered_some front back all n old output line new seats told is appended split = record {
         front = front;
         back = back;
         split = split;
-        written = output ++ take n line;
-        rest = drop n line;
-        appended = appended ∙ ap (λ w. w ++ take n line) written ∙ append_assoc old output (take n line);
-        answers = subst (λ o. Answers schema world header (journals_on reads image directory disk disk' count count') policy front o)
-            (sym (append_assoc output (take n line) (drop n line) ∙ ap (λ l. output ++ l) (take-append-drop n line)))
-            (answers front (output ++ line) seats is_broken so_far is);
+        whole = told.whole;
+        last = told.last;
+        one = told.one;
+        part = n;
+        appended = appended ∙ append_assoc old output (take n line) ∙ ap (λ o. old ++ (o ++ take n line)) told.output_is ∙ ap (λ l. old ++ (line_bytes told.whole ++ take n l)) told.line_is;
+        answers = answers front (line_bytes (told.whole ++ told.last)) seats told.is_broken told.so_far is;
+        lines = told.lines;
       }

@@ -1,5 +1,5 @@
 -- A batch from its opening to the disks that are back.
-use Rattle.std.proofs.Common.{◌≡◌, ◌⊎◌, ℕ, Bool, false, true, List, [], ◌∷◌, ◌++◌, map, refl, sym, ap, ◌∙◌}
+use Rattle.std.proofs.Common.{◌≡◌, ◌⊎◌, inl, inr, ℕ, Bool, false, true, List, [], ◌∷◌, ◌++◌, map, refl, sym, ap, subst, ◌∙◌}
 use Rattle.std.specs.Prelude.{Option, All}
 use Rattle.std.specs.List.{AllByRecursion}
 use Rattle.std.proofs.lemmas.List.Elements.{All-head, All-tail}
@@ -18,11 +18,11 @@ use Rattle.desk_crew.specs.Openings.{OpensNone, IsOpening}
 use Rattle.batch_engine.specs.Batch.{AppendsAll, AppendsSome, unopened}
 use Rattle.desk_crew.specs.Crew.{named_user}
 use Rattle.desk_crew.specs.Shelved.{journals_on, AreBack, AreSeatsOf}
-use Rattle.batch_engine.specs.Steps.{Runs, nothing, more, RunsAll, RunsSome}
+use Rattle.batch_engine.specs.Steps.{Runs, nothing, more, RunsAll, RunsSome, IsLastLine}
 use Rattle.desk_crew.specs.Seats.{DeskSeat}
 use Rattle.batch_engine.proofs.Courses.{IsExclusive}
 use Rattle.batch_engine.proofs.Seating.{names, AreSeated, AreBegun, begin_all, Chosen, choose}
-use Rattle.batch_engine.proofs.Telling.{SoFar, so_far_first, so_far_more}
+use Rattle.batch_engine.proofs.Telling.{SoFar, so_far_first, so_far_more, LastLine, no_last, last_carried}
 use Rattle.batch_engine.proofs.Closing.{bytes_of, count_of, names_unopened, limits_named, answered_all, answered_some}
 
 -- what is read from a batch without items is the batch of the bytes
@@ -85,6 +85,17 @@ module _ (schema : DatabaseSchema) (world : FactSet) (header directory : List �
       answered_all schema world st.named header directory T S s reads image faults t read_is_image disk disk' count count' empty runs_legal hide alone valid (map named_user users) st.of_policy st.differ
       (limits_named schema users st.named st.of_policy limits) st.openings st.found st.opened items before after new is_broken (all.output, all.appended w, so_far_run st items new all.output is_broken all.runs) back
 
+  last_run : (st : Start) (front : List BatchItem) (new : List (DeskSeat D g h)) (output line : List ℕ) (is_broken : Bool) → Runs schema world header T reads image faults front seats (output ++ line) new is_broken
+      → (line ≡ []) ⊎ IsLastLine schema world header T reads image faults front seats new output line
+      → LastLine schema world st.named header directory T reads image faults t read_is_image (bytes_of reads directory disk) (count_of directory count) st.found st.opened front output line new
+  last_run st front new output line is_broken runs (inl none) =
+      no_last schema world st.named header directory T reads image faults t read_is_image (bytes_of reads directory disk) (count_of directory count) st.found st.opened front output line new is_broken none
+      (so_far_run st front new (output ++ line) is_broken runs)
+  last_run st front new output line is_broken runs (inr last) =
+      subst (λ items. LastLine schema world st.named header directory T reads image faults t read_is_image (bytes_of reads directory disk) (count_of directory count) st.found st.opened items output line new) (sym last.split)
+      (last_carried schema world st.named header directory T reads image faults t read_is_image (bytes_of reads directory disk) (count_of directory count) st.found st.opened exclusive st.differ last.first output last.mid new last.was_broken last.says_broken last.item line
+      (so_far_run st last.first last.mid output last.was_broken last.runs) last.carried)
+
   -- the first items were
   pub finish_some : (wrote : Type 0) → wrote → (items : List BatchItem) (new : List (DeskSeat D g h)) (before after : List ℕ) → RunsSome schema world header T reads image faults wrote items seats new before after
       → AreBack S reads image faults disk' count' new → AppendsSome schema world header (journals_on reads image directory disk disk' count count') (map named_user users) items before after
@@ -92,5 +103,5 @@ module _ (schema : DatabaseSchema) (world : FactSet) (header directory : List �
       let st = start in
       let part = some.appended w in
       answered_some schema world st.named header directory T S s reads image faults t read_is_image disk disk' count count' empty runs_legal hide alone valid (map named_user users) st.of_policy st.differ
-      (limits_named schema users st.named st.of_policy limits) st.openings st.found st.opened some.front some.back items part.0 before (before ++ some.output) after some.line new some.is_broken some.output refl
-      (so_far_run st some.front new (some.output ++ some.line) some.is_broken some.runs) back part.1 some.split
+      (limits_named schema users st.named st.of_policy limits) st.openings st.found st.opened some.front some.back items part.0 before some.output some.line after new
+      (last_run st some.front new some.output some.line some.is_broken some.runs some.last) back part.1 some.split

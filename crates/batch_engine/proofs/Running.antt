@@ -1,8 +1,8 @@
 -- The items of a batch, carried out one after the other: what stays of the seats.
-use Rattle.std.proofs.Common.{◌≡◌, ℕ, zero, suc, ◌≤◌, ◌<◌, ◌+◌, Bool, true, false, List, [], ◌∷◌, ◌++◌, length, take, drop, get_or, map, refl, sym, ap, subst, ◌∙◌, append-nil, append_assoc, arith}
+use Rattle.std.proofs.Common.{◌≡◌, inl, inr, ℕ, zero, suc, ◌≤◌, ◌<◌, ◌+◌, Bool, true, false, List, [], ◌∷◌, ◌++◌, length, take, drop, get_or, map, refl, sym, ap, subst, ◌∙◌, append-nil, append_assoc, arith}
 use Rattle.std.specs.Prelude.{Option, ◌&&◌, ◌||◌}
 use Rattle.std.specs.List.{list_all, AllByRecursion}
-use Rattle.std.proofs.lemmas.List.{take-append-drop}
+use Rattle.std.proofs.lemmas.List.{take-append-drop, map-append}
 use Rattle.cqe_base.specs.Schema.{Text, DatabaseSchema}
 use Rattle.cqe_base.specs.Facts.{FactSet}
 use Rattle.cqe_base.specs.History.{profile_of}
@@ -19,7 +19,6 @@ use Rattle.outside.specs.Streams.{AppendsPart}
 use Rattle.batch_engine.specs.Steps.{Carries, Runs, nothing, more, RunsAll, RunsSome}
 use Rattle.desk_crew.specs.Seats.{DeskSeat}
 use Rattle.batch_engine.specs.declared.batch.BatchItem as memory
-use Rattle.desk_crew.proofs.Shelving.{map-append}
 
 both : (a b : Bool) → (a && b) ≡ true → (a ≡ true) × (b ≡ true)
 both true b e = (refl, e)
@@ -40,12 +39,6 @@ items_more items i item low is = map_more item_in items i item low is
 
 pub items_split : (items : List memory.BatchItem) (n : ℕ) → map item_in items ≡ map item_in (take n items) ++ map item_in (drop n items)
 items_split items n = ap (map item_in) (sym (take-append-drop n items)) ∙ map-append item_in (take n items) (drop n items)
-
-pub take_all : {X : Type 0} (xs : List X) (n : ℕ) → length xs ≤ n → take n xs ≡ xs
-take_all [] zero all = refl
-take_all [] (suc n) all = refl
-take_all (x ∷ xs) zero all = absurd (omega (arith, all))
-take_all (x ∷ xs) (suc n) all = ap (λ l. x ∷ l) (take_all xs n (omega (arith, all)))
 
 module _ (schema : DatabaseSchema) (world : FactSet) (header : List ℕ) {D : Type 0} {g h : _} (told : Type 0) (reads : D → List ℕ) (image : D → List ℕ → Type 0) (faults : D → ℕ) where
   abbrev pub Limits : List (DeskSeat D g h) → Type 0
@@ -152,6 +145,7 @@ module _ (schema : DatabaseSchema) (world : FactSet) (header : List ℕ) {D : Ty
     line = [];
     is_broken = is_broken;
     runs = subst (λ o. Runs schema world header told reads image faults front old o new is_broken) (sym (append-nil so_far.output)) so_far.runs;
+    last = inl refl;
     appended = λ w. (0, so_far.appended w ∙ sym (append-nil (before ++ so_far.output)));
   }
 
@@ -167,5 +161,6 @@ module _ (schema : DatabaseSchema) (world : FactSet) (header : List ℕ) {D : Ty
     line = line;
     is_broken = is_broken || says;
     runs = more front old mid new so_far.output line is_broken says item so_far.runs carried;
+    last = inr (record { first = front; item = item; split = refl; mid = mid; was_broken = is_broken; says_broken = says; runs = so_far.runs; carried = carried });
     appended = λ w. ((part w).0, (part w).2 ∙ ap (λ l. l ++ take (part w).0 line) (so_far.appended w));
   }

@@ -1,5 +1,5 @@
 -- The items of a batch, one after the other: what was written, and where its users sit.
-use Rattle.std.proofs.Common.{◌≡◌, ℕ, Bool, false, List, [], ◌∷◌, ◌++◌, refl, sym, ap, ◌∙◌, append_assoc, append-nil}
+use Rattle.std.proofs.Common.{◌≡◌, ◌≤◌, ℕ, Bool, false, List, [], ◌∷◌, ◌++◌, length, refl, sym, ap, ◌∙◌, append_assoc, append-nil, arith}
 use Rattle.std.specs.Prelude.{Option, Some, None, ◌||◌}
 use Rattle.std.specs.List.{list_any}
 use Rattle.cqe_base.specs.Schema.{Text, DatabaseSchema, has_duplicate}
@@ -72,37 +72,111 @@ module _ (schema : DatabaseSchema) (world : FactSet) (users : List NamedUser) wh
       pub seated : AreSeated schema world header directory T reads image faults t read_is_image bytes before (with_opening found opened events) users seats
       pub broken : is_broken ≡ list_any is_broken_line (transcript schema world users (with_opening found opened events))
 
+    as_lines : (items : List BatchItem) (output : List ℕ) (seats : List (DeskSeat D g h)) (is_broken : Bool) (so_far : SoFar items output seats is_broken) (lines : List Line)
+        → transcript schema world users (with_opening found opened so_far.events) ≡ lines → SoFar items (line_bytes lines) seats is_broken
+    as_lines items output seats is_broken so_far lines is = record { events = so_far.events; of_items = so_far.of_items; lines = ap line_bytes (sym is); seated = so_far.seated; broken = so_far.broken }
+
+    -- the output are the lines of these items but the last, or all of them, and this is the last line, or nothing
+    pub record LastLine (items : List BatchItem) (output line : List ℕ) (seats : List (DeskSeat D g h)) : Type 0 where
+      pub whole : List Line
+      pub last : List Line
+      pub one : length last ≤ 1
+      pub output_is : output ≡ line_bytes whole
+      pub line_is : line ≡ line_bytes last
+      pub is_broken : Bool
+      pub so_far : SoFar items (line_bytes (whole ++ last)) seats is_broken
+      pub lines : transcript schema world users (with_opening found opened so_far.events) ≡ whole ++ last
+
+    -- all lines are whole
+    pub no_last : (items : List BatchItem) (output line : List ℕ) (seats : List (DeskSeat D g h)) (is_broken : Bool) → line ≡ [] → SoFar items (output ++ line) seats is_broken → LastLine items output line seats
+    unfolding as_lines
+    no_last items output line seats is_broken none so_far =
+        let all = transcript schema world users (with_opening found opened so_far.events) in
+        record {
+          whole = all;
+          last = [];
+          one = omega arith;
+          output_is = sym (append-nil output) ∙ ap (λ l. output ++ l) (sym none) ∙ so_far.lines;
+          line_is = none;
+          is_broken = is_broken;
+          so_far = as_lines items (output ++ line) seats is_broken so_far (all ++ []) (sym (append-nil all));
+          lines = sym (append-nil all);
+        }
+
     pub so_far_first : (seats : List (DeskSeat D g h)) → AreSeated schema world header directory T reads image faults t read_is_image bytes before (with_opening found opened []) users seats → SoFar [] [] seats false
     unfolding transcript
     so_far_first seats seated = record { events = []; of_items = tt; lines = refl; seated = seated; broken = refl }
 
-    pub so_far_more : ((user : UserProfile) → IsExclusive schema world user header) → has_duplicate (names users) ≡ false
-        → (items : List BatchItem) (output : List ℕ) (old new : List (DeskSeat D g h)) (is_broken says_broken : Bool) (item : BatchItem) (line : List ℕ)
-        → SoFar items output old is_broken → Carries schema world header T reads image faults item old new line says_broken → SoFar (items ++ item ∷ []) (output ++ line) new (is_broken || says_broken)
-    so_far_more exclusive distinct items output old new is_broken says_broken (asked ask) line so_far (told, tells, is, says) =
-        let script = with_opening found opened so_far.events in
-        let next : Next schema world header directory T reads image faults t read_is_image bytes before script ask.name ask.session ask.text users new told =
-        told_next schema world header directory T reads image faults t read_is_image bytes before script ask.name ask.session ask.text users old new told distinct so_far.seated tells in
-        let event = script_ask ask.name ask.session ask.text next.ending in
-        let one : written_after schema world users script event ≡ reply_line ask.name ask.session told ∷ [] = ap (λ r. reply_line ask.name ask.session r ∷ []) next.replied in
-        record {
-          events = so_far.events ++ event ∷ [];
-          of_items = events-push items so_far.events (asked ask) event so_far.of_items (refl, refl, refl);
-          lines = ap (λ l. output ++ l) is ∙ written-push script event (reply_line ask.name ask.session told) output one so_far.lines;
-          seated = next.seated;
-          broken = ap (λ b. is_broken || b) (says ∙ sym (broken_told ask.name ask.session told)) ∙ broken-push script event (reply_line ask.name ask.session told) is_broken one so_far.broken;
+    -- what one more item is in the transcript: its event and its line
+    record OneMore (earlier : List ScriptEvent) (item : BatchItem) (line : List ℕ) (seats : List (DeskSeat D g h)) (says_broken : Bool) : Type 0 where
+      event : ScriptEvent
+      is_event : IsEventOf item event
+      said : Line
+      one : written_after schema world users (with_opening found opened earlier) event ≡ said ∷ []
+      line_is : line ≡ line_text said ++ 10 ∷ []
+      says_is : says_broken ≡ is_broken_line said
+      seated : AreSeated schema world header directory T reads image faults t read_is_image bytes before (with_opening found opened (earlier ++ event ∷ [])) users seats
+
+    module _ (exclusive : (user : UserProfile) → IsExclusive schema world user header) (distinct : has_duplicate (names users) ≡ false) where
+      one_more : (events : List ScriptEvent) (old new : List (DeskSeat D g h)) (says_broken : Bool) (item : BatchItem) (line : List ℕ)
+          → AreSeated schema world header directory T reads image faults t read_is_image bytes before (with_opening found opened events) users old → Carries schema world header T reads image faults item old new line says_broken
+          → OneMore events item line new says_broken
+      one_more events old new says_broken (asked ask) line seated (told, tells, is, says) =
+          let script = with_opening found opened events in
+          let next : Next schema world header directory T reads image faults t read_is_image bytes before script ask.name ask.session ask.text users new told =
+          told_next schema world header directory T reads image faults t read_is_image bytes before script ask.name ask.session ask.text users old new told distinct seated tells in
+          record {
+            event = script_ask ask.name ask.session ask.text next.ending;
+            is_event = (refl, refl, refl);
+            said = reply_line ask.name ask.session told;
+            one = ap (λ r. reply_line ask.name ask.session r ∷ []) next.replied;
+            line_is = is;
+            says_is = says ∙ sym (broken_told ask.name ask.session told);
+            seated = next.seated;
+          }
+      one_more events old new says_broken restarted line seated (again, is, says) =
+          let script = with_opening found opened events in
+          let choices : Choices schema world header directory T reads image faults t read_is_image bytes before script users new =
+          restart_all schema world header directory T reads image faults t read_is_image bytes before exclusive script users old new seated again in
+          let chosen : Chosen schema world header directory T reads image faults t read_is_image bytes before script_restart (λ name f o. refl) script users new =
+          choose schema world header directory T reads image faults t read_is_image bytes before script_restart (λ name f o. refl) script users new distinct choices in
+          record {
+            event = script_restart chosen.found chosen.opens;
+            is_event = tt;
+            said = restart_line;
+            one = refl;
+            line_is = is;
+            says_is = says;
+            seated = chosen.seated;
+          }
+
+      module _ (items : List BatchItem) (output : List ℕ) (old new : List (DeskSeat D g h)) (is_broken says_broken : Bool) (item : BatchItem) (line : List ℕ)
+          (so_far : SoFar items output old is_broken) (carried : Carries schema world header T reads image faults item old new line says_broken) where
+        step : OneMore so_far.events item line new says_broken
+        step = one_more so_far.events old new says_broken item line so_far.seated carried
+
+        pub so_far_more : SoFar (items ++ item ∷ []) (output ++ line) new (is_broken || says_broken)
+        so_far_more = record {
+          events = so_far.events ++ step.event ∷ [];
+          of_items = events-push items so_far.events item step.event so_far.of_items step.is_event;
+          lines = ap (λ l. output ++ l) step.line_is ∙ written-push (with_opening found opened so_far.events) step.event step.said output step.one so_far.lines;
+          seated = step.seated;
+          broken = ap (λ b. is_broken || b) step.says_is ∙ broken-push (with_opening found opened so_far.events) step.event step.said is_broken step.one so_far.broken;
         }
-    so_far_more exclusive distinct items output old new is_broken says_broken restarted line so_far (again, is, says) =
-        let script = with_opening found opened so_far.events in
-        let choices : Choices schema world header directory T reads image faults t read_is_image bytes before script users new =
-        restart_all schema world header directory T reads image faults t read_is_image bytes before exclusive script users old new so_far.seated again in
-        let chosen : Chosen schema world header directory T reads image faults t read_is_image bytes before script_restart (λ name f o. refl) script users new =
-        choose schema world header directory T reads image faults t read_is_image bytes before script_restart (λ name f o. refl) script users new distinct choices in
-        let event = script_restart chosen.found chosen.opens in
-        record {
-          events = so_far.events ++ event ∷ [];
-          of_items = events-push items so_far.events restarted event so_far.of_items tt;
-          lines = ap (λ l. output ++ l) is ∙ written-push script event restart_line output refl so_far.lines;
-          seated = chosen.seated;
-          broken = ap (λ b. is_broken || b) says ∙ broken-push script event restart_line is_broken refl so_far.broken;
-        }
+
+        -- the line of the item is the last one
+        pub last_carried : LastLine (items ++ item ∷ []) output line new
+        unfolding so_far_more as_lines
+        last_carried =
+            let script = with_opening found opened so_far.events in
+            let lines = transcript-push script step.event ∙ ap (λ l. transcript schema world users script ++ l) step.one in
+            record {
+              whole = transcript schema world users script;
+              last = step.said ∷ [];
+              one = omega arith;
+              output_is = so_far.lines;
+              line_is = step.line_is ∙ sym (append-nil (line_text step.said ++ 10 ∷ []));
+              is_broken = is_broken || says_broken;
+              so_far = as_lines (items ++ item ∷ []) (output ++ line) new (is_broken || says_broken) so_far_more (transcript schema world users script ++ step.said ∷ []) lines;
+              lines = lines;
+            }

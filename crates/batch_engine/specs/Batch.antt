@@ -1,5 +1,5 @@
 -- What a batch writes, and what its lines mean for each of its users.
-use Rattle.std.specs.Prelude.{◌≡◌, ◌≢◌, ◌⊎◌, ℕ, Bool, true, false, List, [], ◌∷◌, ◌++◌, map, Option, Some, Ok, Err}
+use Rattle.std.specs.Prelude.{◌≡◌, ◌≢◌, ◌⊎◌, ◌≤◌, ℕ, Bool, true, false, List, [], ◌∷◌, ◌++◌, length, take, map, Option, Some, Ok, Err}
 use Rattle.std.specs.List.{flat_map, list_any, AllByRecursion}
 use Rattle.cqe_base.specs.Schema.{Text, DatabaseSchema}
 use Rattle.cqe_base.specs.Facts.{FactSet}
@@ -10,7 +10,7 @@ use Rattle.cqe_base.specs.Transcript.{NamedUser, ScriptEvent, script_ask, script
 use Rattle.user_desk.specs.Causes.{Opens}
 use Rattle.user_desk.specs.Lives.{Holds}
 use Rattle.user_desk.specs.declared.standing.DeskError.{DeskError}
-use Rattle.desk_crew.specs.Shelved.{Journals}
+use Rattle.desk_crew.specs.Shelved.{Journals, AreKept}
 use Rattle.batch_engine.specs.BatchLines.{BatchItem, asked, restarted, batch_of}
 use Rattle.desk_crew.specs.Openings.{OpensNone, IsOpening}
 use Rattle.batch_engine.specs.Lives.{RoseBy, is_opened, failures, AreCaused, IsRefusal}
@@ -93,28 +93,35 @@ module _ (schema : DatabaseSchema) (world : FactSet) (header : List ℕ) (journa
       pub refused : AreRefusals (with_opening answers.found answers.opened answers.events) answers.users refusals
       pub broken : is_broken ≡ list_any is_broken_line (transcript schema world answers.users (with_opening answers.found answers.opened answers.events))
 
-    -- what was appended begins the lines that answer the first of these items
+    -- what was appended are the lines that answer the first of these items, of the last line maybe only a part; so no item was answered behind a line that wasn't written
     pub record AppendsSome (items : List BatchItem) (old new : List ℕ) : Type 0 where
       pub front : List BatchItem
       pub back : List BatchItem
       pub split : items ≡ front ++ back
-      pub written : List ℕ
-      pub rest : List ℕ
-      pub appended : new ≡ old ++ written
-      pub answers : Answers policy front (written ++ rest)
+      pub whole : List Line
+      pub last : List Line
+      pub one : length last ≤ 1
+      pub part : ℕ
+      pub appended : new ≡ old ++ (line_bytes whole ++ take part (line_bytes last))
+      pub answers : Answers policy front (line_bytes (whole ++ last))
+      pub lines : transcript schema world answers.users (with_opening answers.found answers.opened answers.events) ≡ whole ++ last
 
-    -- the bytes are a batch, and what was appended begins such lines
+    -- the bytes are a batch, and its first items were answered so
     abbrev pub Breaks : List ℕ → List ℕ → List ℕ → Type 0
     Breaks bytes old new = (items : List BatchItem) × (batch_of bytes ≡ Ok items) × AppendsSome items old new
+
+    -- nothing was written, and all journals are as they were
+    abbrev pub LeavesAll : List ℕ → List ℕ → Type 0
+    LeavesAll old new = (new ≡ old) × AreKept journals
 
     -- what each end of a batch says of the bytes that were left before and after, and of the output before and after
     abbrev pub Ends : BatchEnd → List ℕ → List ℕ → List ℕ → List ℕ → Type 0
     Ends (Done refusals is_broken) before after old new = (after ≡ []) × (items : List BatchItem) × (batch_of before ≡ Ok items) × AppendsAll items old new refusals.items is_broken
-    Ends (Refused refusal) before after old new = (batch_of before ≡ Err refusal) × (new ≡ old)
-    Ends ReadFault before after old new = new ≡ old
+    Ends (Refused refusal) before after old new = (batch_of before ≡ Err refusal) × LeavesAll old new
+    Ends ReadFault before after old new = LeavesAll old new
     Ends WriteFault before after old new = Breaks before old new
-    Ends ShelfFault before after old new = new ≡ old
-    Ends Memory before after old new = (new ≡ old) ⊎ Breaks before old new
+    Ends ShelfFault before after old new = LeavesAll old new
+    Ends Memory before after old new = LeavesAll old new ⊎ Breaks before old new
 
 -- the end of a batch whose journals weren't opened
 abbrev pub IsUnopened : BatchEnd → Type 0

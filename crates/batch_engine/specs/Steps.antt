@@ -1,5 +1,5 @@
 -- What an item does to the seats, and its line.
-use Rattle.std.specs.Prelude.{◌≡◌, ℕ, Bool, true, false, ◌||◌, List, [], ◌∷◌, ◌++◌, take, Option, Some}
+use Rattle.std.specs.Prelude.{◌≡◌, ◌⊎◌, ℕ, Bool, true, false, ◌||◌, List, [], ◌∷◌, ◌++◌, take, Option, Some}
 use Rattle.cqe_base.specs.Schema.{DatabaseSchema}
 use Rattle.cqe_base.specs.Facts.{FactSet}
 use Rattle.cqe_base.specs.Run.{Reply, desk_broken}
@@ -37,7 +37,18 @@ module _ (schema : DatabaseSchema) (world : FactSet) (header : List ℕ) {D : Ty
     pub appended : wrote → after ≡ before ++ output
     pub runs : Runs items old output new is_broken
 
-  -- the first items were, and of the last line a part was appended
+  -- this is the line of the last of these items
+  pub record IsLastLine {g h : _} (items : List BatchItem) (old new : List (DeskSeat D g h)) (output line : List ℕ) : Type 0 where
+    pub first : List BatchItem
+    pub item : BatchItem
+    pub split : items ≡ first ++ item ∷ []
+    pub mid : List (DeskSeat D g h)
+    pub was_broken : Bool
+    pub says_broken : Bool
+    pub runs : Runs first old output mid was_broken
+    pub carried : Carries item mid new line says_broken
+
+  -- the first items were, and of the last line maybe only a part was appended
   pub record RunsSome {g h : _} (wrote : Type 0) (items : List BatchItem) (old new : List (DeskSeat D g h)) (before after : List ℕ) : Type 0 where
     pub front : List BatchItem
     pub back : List BatchItem
@@ -46,6 +57,7 @@ module _ (schema : DatabaseSchema) (world : FactSet) (header : List ℕ) {D : Ty
     pub line : List ℕ
     pub is_broken : Bool
     pub runs : Runs front old (output ++ line) new is_broken
+    pub last : (line ≡ []) ⊎ IsLastLine front old new output line
     pub appended : wrote → (n : ℕ) × (after ≡ (before ++ output) ++ take n line)
 
   -- How items were answered; where memory was wanting, the disks are back as the seats left them.

@@ -8,6 +8,7 @@ ghost use Rattle.cqe_base.specs.History.{profile_of};
 ghost use Rattle.cqe_base.specs.Limits.{KeepsLimits};
 ghost use Rattle.cqe_base.specs.Transcript.{reply_line, line_text};
 ghost use Rattle.log_journal.specs.Opening.{header_bytes};
+ghost use Rattle.log_journal.specs.Names.{journal_name};
 ghost use Rattle.user_log.specs.Replies.{reply_of};
 ghost use Rattle.batch_engine.specs.Said.{is_short_ask, is_short_item};
 ghost use Rattle.batch_engine.specs.Batches.{named_ask, item_in};
@@ -127,6 +128,7 @@ fn carry_out<'w, R: Wait, G: Gate, F: Shelf>(
     ensures inside { IfNone result (AllIn (journals seats.entry.items) (F.is_out shelf.new)) }
     ensures others_out { SameBeside (journals seats.entry.items) (F.is_out shelf.old) (F.is_out shelf.new) }
     ensures counts { SameBeside (journals seats.entry.items) (F.disk_faults shelf.old) (F.disk_faults shelf.new) }
+    ensures disks { SameBeside (journals seats.entry.items) (F.disk shelf.old) (F.disk shelf.new) }
     ensures faults { F.faults shelf.new ≡ F.faults shelf.old }
 {
     match item {
@@ -165,6 +167,7 @@ fn answer_all<'w, R: Wait, G: Gate, F: Shelf, K: Sink>(
     ensures inside { (HasSeats result → ⊥) → AllIn (journals seats.entry.items) (F.is_out shelf.new) }
     ensures others_out { SameBeside (journals seats.entry.items) (F.is_out shelf.old) (F.is_out shelf.new) }
     ensures counts { SameBeside (journals seats.entry.items) (F.disk_faults shelf.old) (F.disk_faults shelf.new) }
+    ensures disks { SameBeside (journals seats.entry.items) (F.disk shelf.old) (F.disk shelf.new) }
     ensures faults { F.faults shelf.new ≡ F.faults shelf.old }
     ensures sink_later { K.faults sink.old ≤ K.faults sink.new }
     ensures cause { IsCut result → Rose (K.faults sink.old) (K.faults sink.new) }
@@ -206,6 +209,9 @@ pub fn run_batch<R: Wait, F: Shelf, S: Source, K: Sink, G: Gate>(
     ensures ends { F.told → S.told → K.told → Ends registry.now.schema.now registry.now.world.now (header_bytes registry.now.header.now)
         (journals_on F.D.reads F.D.image registry.now.directory.now (F.disk shelf.old) (F.disk shelf.new) (F.disk_faults shelf.old) (F.disk_faults shelf.new))
         (map named_user registry.now.users.now) result (S.left source.old) (S.left source.new) (K.written sink.old) (K.written sink.new) }
+
+    // No disk but the users' journals is touched, and all are back.
+    ensures disks { SameBeside (map (journal_name registry.now.directory.now) (map (λ user. user.name) (map named_user registry.now.users.now))) (F.disk shelf.old) (F.disk shelf.new) }
     ensures inside { NoneOut (F.is_out shelf.new) }
     ensures counts { NoneFell (F.disk_faults shelf.old) (F.disk_faults shelf.new) }
     ensures unopened { IsUnopened result → shelf.new ≡ shelf.old }

@@ -3,7 +3,7 @@ use Rattle.std.proofs.Common.{◌≡◌, ℕ, suc, ◌≤◌, ◌<◌, ◌+◌, 
 use Rattle.std.specs.Prelude.{Option, ◌||◌, bytes_eq, string_bytes}
 use Rattle.std.specs.List.{AllByRecursion}
 use Rattle.std.specs.Cmp.Lexicographic.{same_text}
-use Rattle.std.proofs.lemmas.List.{take_more, take-append-drop}
+use Rattle.std.proofs.lemmas.List.{take_more, take-append-drop, map-append}
 use Rattle.outside.specs.Shelf.{IsTaken, SameNames, SameOthers}
 use Rattle.cqe_base.specs.Schema.{Text, DatabaseSchema, has_duplicate}
 use Rattle.cqe_base.specs.Facts.{FactSet}
@@ -12,42 +12,46 @@ use Rattle.cqe_base.specs.Limits.{KeepsLimits}
 use Rattle.cqe_base.specs.declared.user.User.{User}
 use Rattle.log_journal.specs.Names.{journal_name, JournalsDiffer}
 use Rattle.desk_crew.specs.Crew.{named_user, seat_user, seat_journal, seat_disk, IsServed}
-use Rattle.desk_crew.specs.Shelved.{bytes_on, is_among, journals, SameBeside, SameBytes, AllOut, AllIn, NoneOut, NoneFell, AreOut, IsBack, AreBack, AreLater, IsSeatOf, AreSeatsOf}
+use Rattle.desk_crew.specs.Shelved.{bytes_on, image_on, is_among, journals, SameBeside, AllOut, AllIn, NoneOut, NoneFell, AreOut, IsBack, AreBack, AreLater, IsSeatOf, AreSeatsOf}
 use Rattle.desk_crew.specs.Seats.{DeskSeat}
-use Rattle.desk_crew.proofs.Taken.{left_false, right_false, text_is, taken_reads}
-use Rattle.desk_crew.proofs.Shelving.{Parts, parts, among-append, journals-append}
+use Rattle.desk_crew.proofs.Taken.{left_false, right_false, text_is, taken_reads, taken_images}
+use Rattle.desk_crew.proofs.Shelving.{Parts, parts, among-append, among_none_first, among_none_second, journals-append}
 
 abbrev pub names : List User → List Text
 names users = map (λ user. user.name) (map named_user users)
 
+names-append : (xs ys : List User) → names (xs ++ ys) ≡ names xs ++ names ys
+names-append [] ys = refl
+names-append (x ∷ xs) ys = ap (λ l. string_bytes x.name ∷ l) (names-append xs ys)
+
+-- the names of users are those of the first, of the next and of the rest
+names_split : (users : List User) (i : ℕ) (user : User) → i < length users → user ≡ get_or users i user → names users ≡ (names (take i users) ++ string_bytes user.name ∷ []) ++ names (drop (i + 1) users)
+names_split users i user low is =
+    let whole : users ≡ take (i + 1) users ++ drop (i + 1) users = sym (take-append-drop (i + 1) users) in
+    let more : take (i + 1) users ≡ take i users ++ user ∷ [] = take_more users i user low ∙ ap (λ u. take i users ++ u ∷ []) (sym is) in
+    ap names (whole ∙ ap (λ l. l ++ drop (i + 1) users) more) ∙ names-append (take i users ++ user ∷ []) (drop (i + 1) users) ∙ ap (λ l. l ++ names (drop (i + 1) users)) (names-append (take i users) (user ∷ []))
+
 -- a name of the first users isn't that of the next
 next_apart : (users : List User) (i : ℕ) (user : User) → i < length users → user ≡ get_or users i user → has_duplicate (names users) ≡ false → is_among (names (take i users)) (string_bytes user.name) ≡ false
 next_apart users i user low is distinct =
-    let whole : users ≡ take (i + 1) users ++ drop (i + 1) users = sym (take-append-drop (i + 1) users) in
-    let more : take (i + 1) users ≡ take i users ++ user ∷ [] = take_more users i user low ∙ ap (λ u. take i users ++ u ∷ []) (sym is) in
-    let all : names users ≡ (names (take i users) ++ string_bytes user.name ∷ []) ++ names (drop (i + 1) users) =
-    ap names (whole ∙ ap (λ l. l ++ drop (i + 1) users) more) ∙ names-append (take i users ++ user ∷ []) (drop (i + 1) users) ∙ ap (λ l. l ++ names (drop (i + 1) users)) (names-append (take i users) (user ∷ [])) in
+    let all = names_split users i user low is in
     let first : Parts (names (take i users) ++ string_bytes user.name ∷ []) (names (drop (i + 1) users)) = parts _ _ (ap has_duplicate (sym all) ∙ distinct) in
     let two : Parts (names (take i users)) (string_bytes user.name ∷ []) = parts _ _ first.first in
     two.apart_back (string_bytes user.name) (ap (λ b. b || false) (text_is (string_bytes user.name)))
-  where
-    names-append : (xs ys : List User) → names (xs ++ ys) ≡ names xs ++ names ys
-    names-append [] ys = refl
-    names-append (x ∷ xs) ys = ap (λ l. string_bytes x.name ∷ l) (names-append xs ys)
 
 pub first_distinct : (users : List User) (i : ℕ) → has_duplicate (names users) ≡ false → has_duplicate (names (take i users)) ≡ false
 first_distinct users i distinct =
     let all : names users ≡ names (take i users) ++ names (drop i users) = ap names (sym (take-append-drop i users)) ∙ names-append (take i users) (drop i users) in
     (parts (names (take i users)) (names (drop i users)) (ap has_duplicate (sym all) ∙ distinct)).first
-  where
-    names-append : (xs ys : List User) → names (xs ++ ys) ≡ names xs ++ names ys
-    names-append [] ys = refl
-    names-append (x ∷ xs) ys = ap (λ l. string_bytes x.name ∷ l) (names-append xs ys)
 
 -- as many names as seats
 pub length-journals : {D : Type 0} {g h : _} (seats : List (DeskSeat D g h)) → length (journals seats) ≡ length seats
 length-journals [] = refl
 length-journals (s ∷ seats) = ap (λ n. suc n) (length-journals seats)
+
+-- what stands under a name reads as before, and no crash leaves anything new of it
+abbrev pub Same : {D : Type 0} → (D → List ℕ) → (D → List ℕ → Type 0) → (Text → Option D) → (Text → Option D) → Text → Type 0
+Same reads image old new name = (bytes_on reads (new name) ≡ bytes_on reads (old name)) × ((c : List ℕ) → image_on image (new name) c → image_on image (old name) c)
 
 module _ (directory : Text) where
   journal_among : JournalsDiffer → (ns : List Text) (name : Text) → is_among (map (journal_name directory) ns) (journal_name directory name) ≡ is_among ns name
@@ -136,6 +140,16 @@ module _ (directory : Text) where
       pub next_none : is_among (journals seats) one ≡ false
       next_none = ap (λ ns. is_among ns one) (seat_journals (take i users) seats so_far.are) ∙ journal_among differ (names (take i users)) (string_bytes user.name) ∙ next_apart users i user low is distinct
 
+      -- a name that is no user's journal is none of those that are open, and not the next
+      pub no_journal : (name : Text) → is_among (map (journal_name directory) (names users)) name ≡ false → (is_among (journals seats) name ≡ false) × (bytes_eq name one ≡ false)
+      no_journal name none =
+          let split = ap (map (journal_name directory)) (names_split users i user low is) ∙ map-append (journal_name directory) (names (take i users) ++ string_bytes user.name ∷ []) (names (drop (i + 1) users))
+          ∙ ap (λ l. l ++ map (journal_name directory) (names (drop (i + 1) users))) (map-append (journal_name directory) (names (take i users)) (string_bytes user.name ∷ [])) in
+          let both = among_none_first (map (journal_name directory) (names (take i users)) ++ one ∷ []) (map (journal_name directory) (names (drop (i + 1) users))) name (sym (ap (λ ns. is_among ns name) split) ∙ none) in (
+            ap (λ ns. is_among ns name) (seat_journals (take i users) seats so_far.are) ∙ among_none_first (map (journal_name directory) (names (take i users))) (one ∷ []) name both,
+            left_false (bytes_eq name one) false (among_none_second (map (journal_name directory) (names (take i users))) (one ∷ []) name both),
+          )
+
       pub next_in : is_out one ≡ false
       next_in = so_far.out one ∙ next_none
 
@@ -215,15 +229,24 @@ module _ (directory : Text) where
         by false none = subst (λ n. count name ≤ n) (sym (others name none)) (omega arith)
 
     by_same : told → (disk' : Text → Option D) (count' : Text → ℕ) (name : Text) (u : User) (s : DeskSeat D g h) → IsSeatOf told reads image faults disk_told schema world header directory disk0 count0 u s → IsBack told reads image faults disk' count' s
-        → (b : Bool) → bytes_eq name (seat_journal s) ≡ b → (bytes_eq name (seat_journal s) ≡ false → bytes_on reads (disk' name) ≡ bytes_on reads (disk0 name)) → bytes_on reads (disk' name) ≡ bytes_on reads (disk0 name)
+        → (b : Bool) → bytes_eq name (seat_journal s) ≡ b → (bytes_eq name (seat_journal s) ≡ false → Same reads image disk0 disk' name) → Same reads image disk0 disk' name
     by_same t disk' count' name u s are back true same more =
         let at : name ≡ seat_journal s = same_text name (seat_journal s) (sym same) in
-        ap (λ n. bytes_on reads (disk' n)) at ∙ ap (bytes_on reads) (back.held t) ∙ back.left.left.reads_same ∙ ap reads (back.left.is_closed.still are.opened.fresh) ∙ are.left.reads_same ∙ taken_reads reads image (disk0 (seat_journal s)) are.taken (are.from t)
-        ∙ ap (λ n. bytes_on reads (disk0 n)) (sym at)
+        subst (Same reads image disk0 disk') (sym at) (reads_same, images)
+      where
+        still : back.left.closed ≡ seat_disk s
+        still = back.left.is_closed.still are.opened.fresh
+
+        reads_same : bytes_on reads (disk' (seat_journal s)) ≡ bytes_on reads (disk0 (seat_journal s))
+        reads_same = ap (bytes_on reads) (back.held t) ∙ back.left.left.reads_same ∙ ap reads still ∙ are.left.reads_same ∙ taken_reads reads image (disk0 (seat_journal s)) are.taken (are.from t)
+
+        images : (c : List ℕ) → image_on image (disk' (seat_journal s)) c → image_on image (disk0 (seat_journal s)) c
+        images c left =
+            let closed = back.left.left.images c (subst (λ o. image_on image o c) (back.held t) left) in
+            taken_images reads image (disk0 (seat_journal s)) are.taken c (are.from t) (are.left.images c (subst (λ d. image d c) still closed))
     by_same t disk' count' name u s are back false differs more = more differs
 
-    among_same : told → (disk' : Text → Option D) (count' : Text → ℕ) (name : Text) (us : List User) (ss : List (DeskSeat D g h)) → Seats us ss → AreBack told reads image faults disk' count' ss → is_among (journals ss) name ≡ true
-        → bytes_on reads (disk' name) ≡ bytes_on reads (disk0 name)
+    among_same : told → (disk' : Text → Option D) (count' : Text → ℕ) (name : Text) (us : List User) (ss : List (DeskSeat D g h)) → Seats us ss → AreBack told reads image faults disk' count' ss → is_among (journals ss) name ≡ true → Same reads image disk0 disk' name
     among_same t disk' count' name [] [] are back among = absurd cc
     among_same t disk' count' name [] (s ∷ ss) are back among = absurd are
     among_same t disk' count' name (u ∷ us) [] are back among = absurd cc
@@ -231,11 +254,11 @@ module _ (directory : Text) where
         by_same t disk' count' name u s are.0 back.0 (bytes_eq name (seat_journal s)) refl
         (λ differs. among_same t disk' count' name us ss are.1 back.1 (sym (ap (λ b. b || is_among (journals ss) name) differs) ∙ among))
 
-    -- the disks read the same as at the beginning
-    pub same_bytes : told → (users : List User) (seats : List (DeskSeat D g h)) → Seats users seats → (disk' : Text → Option D) (count' : Text → ℕ) → AreBack told reads image faults disk' count' seats
-        → ((name : Text) → is_among (journals seats) name ≡ false → bytes_on reads (disk' name) ≡ bytes_on reads (disk0 name)) → SameBytes reads disk0 disk'
-    same_bytes t users seats are disk' count' back others name = by (is_among (journals seats) name) refl
+    -- all disks are as at the beginning, where those under other names are
+    pub all_same : told → (users : List User) (seats : List (DeskSeat D g h)) → Seats users seats → (disk' : Text → Option D) (count' : Text → ℕ) → AreBack told reads image faults disk' count' seats
+        → ((name : Text) → is_among (journals seats) name ≡ false → Same reads image disk0 disk' name) → (name : Text) → Same reads image disk0 disk' name
+    all_same t users seats are disk' count' back others name = by (is_among (journals seats) name) refl
       where
-        by : (b : Bool) → is_among (journals seats) name ≡ b → bytes_on reads (disk' name) ≡ bytes_on reads (disk0 name)
+        by : (b : Bool) → is_among (journals seats) name ≡ b → Same reads image disk0 disk' name
         by true among = among_same t disk' count' name users seats are back among
         by false none = others name none

@@ -4,6 +4,7 @@ use Rattle.std.specs.Prelude.{Option, Some, ◌||◌, ◌==◌, bytes_eq, slice_
 use Rattle.std.specs.List.{list_any}
 use Rattle.std.specs.Cmp.Lexicographic.{same_text}
 use Rattle.std.proofs.lemmas.Bool.{eqb-true}
+use Rattle.std.proofs.lemmas.List.{map-append}
 use Rattle.outside.specs.Shelf.{SameOthers}
 use Rattle.cqe_base.specs.Schema.{Text, has_duplicate}
 use Rattle.std.proofs.lemmas.List.Folds.{list_any-append}
@@ -13,10 +14,6 @@ use Rattle.desk_crew.specs.Seats.{DeskSeat}
 use Rattle.desk_crew.proofs.Taken.{left_false, right_false, text_is}
 
 -- ---- names
-
-pub map-append : {X Y : Type 0} (f : X → Y) (xs ys : List X) → map f (xs ++ ys) ≡ map f xs ++ map f ys
-map-append f [] ys = refl
-map-append f (x ∷ xs) ys = ap (λ l. f x ∷ l) (map-append f xs ys)
 
 or_false : (a b : Bool) → a ≡ false → b ≡ false → (a || b) ≡ false
 or_false a b e f = ap (λ x. x || b) e ∙ f

@@ -9,10 +9,11 @@ use Rattle.log_journal.specs.Names.{journal_name}
 use Rattle.desk_crew.specs.Crew.{seat_user, seat_journal, seat_disk, IsLeft, IsLeftBy, IsOpenedFrom}
 use Rattle.desk_crew.specs.Seats.{DeskSeat}
 
--- The journals of users by their names, in a call: the bytes that were read of each as the call began, none where there was no disk; the count of its
--- disk's faults then, and as the call ended; the bytes that are read then, and what a crash may leave.
+-- The journals of users by their names, in a call: the bytes that were read of each as the call began, none where there was no disk, and what a crash
+-- could leave then; the count of its disk's faults then, and as the call ended; the bytes that are read then, and what a crash may leave.
 pub record Journals : Type 1 where
   pub bytes : Text → List ℕ
+  pub image_before : Text → List ℕ → Type 0
   pub before : Text → ℕ
   pub now : Text → ℕ
   pub reads : Text → List ℕ
@@ -32,6 +33,7 @@ image_on image (Some disk) bytes = image disk bytes
 abbrev pub journals_on : {D : Type 0} → (D → List ℕ) → (D → List ℕ → Type 0) → Text → (Text → Option D) → (Text → Option D) → (Text → ℕ) → (Text → ℕ) → Journals
 journals_on reads image directory disk disk' count count' = record {
   bytes = λ name. bytes_on reads (disk (journal_name directory name));
+  image_before = λ name. image_on image (disk (journal_name directory name));
   before = λ name. count (journal_name directory name);
   now = λ name. count' (journal_name directory name);
   reads = λ name. bytes_on reads (disk' (journal_name directory name));
@@ -41,6 +43,18 @@ journals_on reads image directory disk disk' count count' = record {
 -- whether a name is among these
 abbrev pub is_among : List Text → Text → Bool
 is_among names name = list_any (bytes_eq name) names
+
+-- the journal of this name reads as it did, and no crash leaves anything new of it
+abbrev pub IsKept : Journals → Text → Type 0
+IsKept journals name = (journals.reads name ≡ journals.bytes name) × ((c : List ℕ) → journals.image name c → journals.image_before name c)
+
+-- all do
+abbrev pub AreKept : Journals → Type 0
+AreKept journals = (name : Text) → IsKept journals name
+
+-- all but those of these names do
+abbrev pub AreKeptBut : List Text → Journals → Type 0
+AreKeptBut names journals = (name : Text) → is_among names name ≡ false → IsKept journals name
 
 -- the names of the seats' journals
 abbrev pub journals : {D : Type 0} {g h : _} → List (DeskSeat D g h) → List Text
@@ -65,6 +79,10 @@ AllIn names is_out = (name : Text) → is_among names name ≡ true → is_out n
 -- the disks of all names read the same as before
 abbrev pub SameBytes : {D : Type 0} → (D → List ℕ) → (Text → Option D) → (Text → Option D) → Type 0
 SameBytes reads old new = (name : Text) → bytes_on reads (new name) ≡ bytes_on reads (old name)
+
+-- no disk has an image that it hadn't before
+abbrev pub NoNewImages : {D : Type 0} → (D → List ℕ → Type 0) → (Text → Option D) → (Text → Option D) → Type 0
+NoNewImages image old new = (name : Text) (c : List ℕ) → image_on image (new name) c → image_on image (old name) c
 
 -- no count fell
 abbrev pub NoneFell : (Text → ℕ) → (Text → ℕ) → Type 0

@@ -13,7 +13,7 @@ ghost use Rattle.log_journal.specs.Opening.{header_bytes};
 ghost use Rattle.log_journal.specs.Names.{journal_name};
 ghost use Rattle.user_log.specs.Replies.{reply_of};
 ghost use Rattle.desk_crew.specs.Crew.{named_user, seat_user, seat_kept, seat_broke, is_named, IsServed, Tells, AreReopened};
-ghost use Rattle.desk_crew.specs.Shelved.{journals, SameBeside, AllOut, AllIn, NoneOut, NoneFell, AreOut, AreLater, AreBack, IsSeatOf, AreSeatsOf, SameBytes};
+ghost use Rattle.desk_crew.specs.Shelved.{journals, SameBeside, AllOut, AllIn, NoneOut, NoneFell, AreOut, AreLater, AreBack, IsSeatOf, AreSeatsOf, SameBytes, NoNewImages};
 ghost use Rattle.desk_crew.specs.declared.crew.NotOpened.{NotOpened};
 
 use crate::registry::Registry;
@@ -110,7 +110,8 @@ pub fn reopen_all<'w, F: Shelf>(
     Some(reopened)
 }
 
-/// Takes the journal of a user from the shelf and opens it. A refusal leaves the disk on the shelf, with the same bytes.
+/// Takes the journal of a user from the shelf and opens it. A refusal leaves the disk on the shelf, with the same
+/// bytes, and a crash leaves nothing new of it.
 fn open_seat<'w, F: Shelf>(
     alloc: Global,
     registry: &Registry<'w>,
@@ -126,6 +127,7 @@ fn open_seat<'w, F: Shelf>(
     ensures counts { OnOk result (SameNames (F.disk_faults shelf.old) (F.disk_faults shelf.new)) }
     ensures refused_out { OnErr result (SameNames (F.is_out shelf.old) (F.is_out shelf.new)) }
     ensures refused_bytes { F.told → OnErr result (SameBytes F.D.reads (F.disk shelf.old) (F.disk shelf.new)) }
+    ensures refused_images { F.told → OnErr result (NoNewImages F.D.image (F.disk shelf.old) (F.disk shelf.new)) }
     ensures fell { NoneFell (F.disk_faults shelf.old) (F.disk_faults shelf.new) }
     ensures other_counts { SameOthers (journal_name registry.now.directory.now (string_bytes user.now.name)) (F.disk_faults shelf.old) (F.disk_faults shelf.new) }
     ensures later { F.faults shelf.old ≤ F.faults shelf.new }
@@ -150,7 +152,8 @@ fn open_seat<'w, F: Shelf>(
     }
 }
 
-/// Takes the journals of all users and opens them. A refusal leaves all disks on the shelf, with the same bytes.
+/// Takes the journals of all users and opens them. A refusal leaves all disks on the shelf, with the same bytes, and a
+/// crash leaves nothing new of them.
 pub fn open_all<'w, F: Shelf>(
     alloc: Global,
     registry: &Registry<'w>,
@@ -161,9 +164,11 @@ pub fn open_all<'w, F: Shelf>(
     requires inside { NoneOut (F.is_out shelf.old) }
     ensures opened { IfOk result (λ seats. AreSeatsOf F.told F.D.reads F.D.image F.D.faults F.D.told registry.now.schema.now registry.now.world.now (header_bytes registry.now.header.now) registry.now.directory.now (F.disk shelf.old) (F.disk_faults shelf.old) registry.now.users.now seats.items) }
     ensures out { IfOk result (λ seats. AreOut (journals seats.items) (F.is_out shelf.new)) }
+    ensures disks { SameBeside (map (journal_name registry.now.directory.now) (map (λ user. user.name) (map named_user registry.now.users.now))) (F.disk shelf.old) (F.disk shelf.new) }
     ensures counts { OnOk result (SameNames (F.disk_faults shelf.old) (F.disk_faults shelf.new)) }
     ensures refused_out { OnErr result (NoneOut (F.is_out shelf.new)) }
     ensures refused_bytes { F.told → OnErr result (SameBytes F.D.reads (F.disk shelf.old) (F.disk shelf.new)) }
+    ensures refused_images { F.told → OnErr result (NoNewImages F.D.image (F.disk shelf.old) (F.disk shelf.new)) }
     ensures fell { NoneFell (F.disk_faults shelf.old) (F.disk_faults shelf.new) }
     ensures later { F.faults shelf.old ≤ F.faults shelf.new }
     ensures cause { IsErrOf result NotOpened.Shelf → Rose (F.faults shelf.old) (F.faults shelf.new) }

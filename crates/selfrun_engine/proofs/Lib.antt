@@ -1,4 +1,3 @@
 pub mod Counting
 pub mod Undisturbed
 pub mod Workloads
-pub mod Writing

@@ -5,6 +5,7 @@ use Rattle.std.specs.declared.alloc.Global.{Global}
 use Rattle.std.specs.List.{flat_map, list_all, range_with_len, AllByRecursion}
 use Rattle.std.proofs.Math.Nat.{mod-lt}
 use Rattle.std.proofs.lemmas.Slice.Eq.{bytes_eq-Decides}
+use Rattle.std.proofs.lemmas.List.Folds.{flat_map-map}
 use Rattle.cqe_base.specs.Schema.{Text, DatabaseSchema, has_duplicate}
 use Rattle.cqe_base.specs.Facts.{FactSet}
 use Rattle.cqe_base.specs.Transcript.{NamedUser, ScriptEvent, script_ask, script_stop, script_restart, script_opening, Line, lines_after, transcript}
@@ -170,8 +171,4 @@ module _ (seed users asks : ℕ) (some : 0 < users) where
 
 -- lines, and their texts
 pub texts_are : (lines : List (String Global)) (texts : List Text) → map string_bytes lines ≡ texts → flat_map string_bytes lines ≡ flat_map (λ line. line) texts
-texts_are lines texts are = flat lines ∙ ap (flat_map (λ line. line)) are
-  where
-    flat : (lines : List (String Global)) → flat_map string_bytes lines ≡ flat_map (λ line. line) (map string_bytes lines)
-    flat [] = refl
-    flat (line ∷ lines) = ap (λ l. string_bytes line ++ l) (flat lines)
+texts_are lines texts are = sym (flat_map-map (λ line. line) string_bytes lines) ∙ ap (flat_map (λ line. line)) are

@@ -20,14 +20,14 @@ ghost use Rattle.selfrun_engine.specs.Runs.{IsTally, IsEnd};
 ghost use Rattle.selfrun_engine.specs.declared.end.SelfrunEnd.{SelfrunEnd};
 
 use crate::end::SelfrunEnd;
-use crate::summary::{summary_lines, write_lines};
+use crate::summary::summary_lines;
 use crate::tally::{Tally, tally_in};
 use batch_engine::{BatchEnd, run_batch};
 use cqe_base::world::World;
 use desk_crew::Registry;
 use init_engine::{InitEnd, run_init};
 use log_journal::Header;
-use outside::{Failed, MemoryShelf, MemorySink, MemorySource, OpenGate, Sink};
+use outside::{Failed, MemoryShelf, MemorySink, MemorySource, OpenGate, Sink, write_parts};
 use policy_files::{Policy, read_facts, read_policy};
 use sha2::{Digest, Sha256};
 use std::alloc::{AllocError, Global};
@@ -60,7 +60,7 @@ pub fn run_selfrun<R: Wait, K: Sink>(
     let Ok(lines) = summary_lines(alloc, seed, users, asks, &tally) else {
         return SelfrunEnd::Memory;
     };
-    match write_lines(sink, &lines) {
+    match write_parts(sink, &lines) {
         Ok(()) => SelfrunEnd::Done,
         Err(Failed) => SelfrunEnd::WriteFault,
     }

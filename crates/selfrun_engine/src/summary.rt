@@ -1,12 +1,8 @@
 // The summary of a run.
-ghost use Rattle.std.specs.Prelude.{◌≡◌, ◌++◌, map, string_bytes, IfOk, OnOk, OnErr};
-ghost use Rattle.std.specs.List.{flat_map};
-ghost use Rattle.outside.specs.Faults.{HasCause};
-ghost use Rattle.outside.specs.Streams.{AppendsPart};
+ghost use Rattle.std.specs.Prelude.{◌≡◌, map, string_bytes, IfOk};
 ghost use Rattle.selfrun_engine.specs.Tallies.{summary_line, summary_lines};
 
 use crate::tally::Tally;
-use outside::{Failed, Sink, write_all};
 use std::alloc::{AllocError, Global};
 
 /// The lines of the summary of a run, each with its end.
@@ -36,19 +32,4 @@ fn line(alloc: Global, word: &str, number: u64) -> Result<String, AllocError>
     ensures { IfOk result (λ line. string_bytes line ≡ summary_line word.now number) }
 {
     format!(in alloc; "{word} {number}\n")
-}
-
-/// Writes lines, each in a piece of its own.
-pub(crate) fn write_lines<K: Sink>(sink: &mut K, lines: &[String]) -> Result<(), Failed>
-    ensures all { K.told → OnOk result (K.written sink.new ≡ K.written sink.old ++ flat_map string_bytes lines.now) }
-    ensures part { K.told → OnErr result (AppendsPart (K.written sink.old) (K.written sink.new) (flat_map string_bytes lines.now)) }
-    ensures cause { HasCause (K.faults sink.old) (K.faults sink.new) result }
-{
-    for line in lines {
-        match write_all(sink, line.as_bytes()) {
-            Ok(()) => (),
-            Err(Failed) => return Err(Failed),
-        }
-    }
-    Ok(())
 }

@@ -12,7 +12,7 @@ use Rattle.user_desk.specs.declared.standing.DeskError.{DeskError}
 use Rattle.desk_crew.specs.Shelved.{Journals}
 use Rattle.serve_engine.specs.Doors.{AreServedDoors}
 use Rattle.serve_engine.specs.Served.{Served}
-use Rattle.serve_engine.specs.Serving.{Serves, ServesNobody, ServesDoors, ServesNoDoor, Ends, EndsAt}
+use Rattle.serve_engine.specs.Serving.{Serves, ServesNobody, ServesNone, ServesDoors, ServesNoDoor, Ends, EndsAt}
 use Rattle.serve_engine.specs.declared.run.ServeEnd.{ServeEnd}
 use Rattle.serve_engine.specs.declared.run.ServeEnd.TheVariants.{Done, LinksFault, ShelfFault, Memory}
 
@@ -105,7 +105,7 @@ module _ (schema : DatabaseSchema) (world : FactSet) (header : List ℕ) (journa
       record {
         given_same = omega (arith, gave, nothing);
         back_same = came ∙ ap (λ ds. back ++ flat_map back_of ds) none.doors_same ∙ ap (λ l. back ++ l) (new_back given_of back_of doors new) ∙ append-nil back;
-        bytes_same = none.bytes_same;
+        kept = none.kept;
       }
 
   either : ServesNoDoor schema world header journals users told given_of left_of faults_of back_of doors others
@@ -114,9 +114,16 @@ module _ (schema : DatabaseSchema) (world : FactSet) (header : List ℕ) (journa
   either (inl none) = inl (serves_nobody none)
   either (inr some) = inr (some.0, some.1, serves_all some.0 some.1 some.2)
 
+  none : ServesNoDoor schema world header journals users told given_of left_of faults_of back_of doors others
+      ⊎ ((refusals : List (Option DeskError)) × (is_broken : Bool) × (served : ServesDoors schema world header journals users told given_of left_of faults_of back_of doors others refusals is_broken) × (served.total ≡ 0))
+      → ServesNone schema world header journals users given given' back back'
+  unfolding serves_all
+  none (inl nobody) = inl (serves_nobody nobody)
+  none (inr (refusals, is_broken, served, zero)) = inr (refusals, is_broken, serves_all refusals is_broken served, zero)
+
   -- each end, of the doors and so of the links
   pub ends_of : (end : ServeEnd) → EndsAt schema world header journals users told given_of left_of faults_of back_of doors others end → Ends schema world header journals users given given' back back' end
   ends_of (Done refusals is_broken) is = serves_all refusals.items is_broken is
   ends_of LinksFault is = either is
   ends_of ShelfFault is = serves_nobody is
-  ends_of Memory is = either is
+  ends_of Memory is = none is

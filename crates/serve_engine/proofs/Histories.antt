@@ -218,11 +218,11 @@ module _ {O : Type 0} (told : Type 0) (given_of left_of faults_of : O → ℕ) (
 
 module _ (schema : DatabaseSchema) (world : FactSet) (header : List ℕ) (journals : Journals) (users : List User) {O : Type 0} (told : Type 0) (given_of left_of faults_of : O → ℕ) (back_of : O → List Visit) (doors doors' : List O) where
   -- each end of desks that were opened
-  pub ends_at : (went : Outcome) (refusals : Vec (Option DeskError) Global) (is_broken : Bool) → ServesDoors schema world header journals users told given_of left_of faults_of back_of doors doors' refusals.items is_broken
-      → EndsAt schema world header journals users told given_of left_of faults_of back_of doors doors' (end_of went refusals is_broken)
-  ends_at outcome.Served refusals is_broken serves = serves
-  ends_at outcome.LinksFailed refusals is_broken serves = inr (refusals.items, is_broken, serves)
-  ends_at outcome.Memory refusals is_broken serves = inr (refusals.items, is_broken, serves)
+  pub ends_at : (went : Outcome) (refusals : Vec (Option DeskError) Global) (is_broken : Bool) (serves : ServesDoors schema world header journals users told given_of left_of faults_of back_of doors doors' refusals.items is_broken) (limit : ℕ)
+      → HasOutcome told left_of faults_of limit went serves.total doors' → EndsAt schema world header journals users told given_of left_of faults_of back_of doors doors' (end_of went refusals is_broken)
+  ends_at outcome.Served refusals is_broken serves limit has = serves
+  ends_at outcome.LinksFailed refusals is_broken serves limit has = inr (refusals.items, is_broken, serves)
+  ends_at outcome.Memory refusals is_broken serves limit has = inr (refusals.items, is_broken, serves, has)
 
 module _ {D : Type 0} {g h : _} (told disk_told : Type 0) (reads : D → List ℕ) (image : D → List ℕ → Type 0) (faults : D → ℕ) (schema : DatabaseSchema) (world : FactSet) (header directory : List ℕ) (disk : Text → Option D) (count : Text → ℕ) where
   -- seats that were just opened

@@ -1,8 +1,8 @@
 -- A session over ends that were untouched is a connection that was served.
-use Rattle.std.proofs.Common.{◌≡◌, inl, inr, ℕ, true, List, [], ◌++◌, drop, refl, sym, ap, ◌∙◌, subst, arith}
+use Rattle.std.proofs.Common.{◌≡◌, ◌⊎◌, inl, inr, ℕ, true, List, [], ◌++◌, refl, sym, ◌∙◌, subst, arith}
 use Rattle.std.specs.Prelude.{◌==◌}
 use Rattle.std.proofs.lemmas.Bool.{eqb-true}
-use Rattle.std.proofs.lemmas.List.{append-nil, take-append-drop}
+use Rattle.std.proofs.lemmas.List.{append-nil}
 use Rattle.outside.specs.Faults.{Rose}
 use Rattle.outside.specs.Visits.{visit_of}
 use Rattle.cqe_base.specs.Schema.{DatabaseSchema, Text}
@@ -12,7 +12,7 @@ use Rattle.turnstile.specs.declared.pass.Pass.{Pass}
 use Rattle.desk_counter.specs.declared.item.Item.{Item}
 use Rattle.desk_counter.specs.declared.item.Fixed.{Fixed}
 use Rattle.session_core.specs.Heard.{HeardLine, session_lines}
-use Rattle.session_core.specs.Talks.{written_lines}
+use Rattle.session_core.specs.Talks.{written_lines, IsCut}
 use Rattle.session_core.specs.Sessions.{Session, Hears, Writes}
 use Rattle.session_core.specs.declared.session.Ended.{Ended}
 use Rattle.session_core.specs.declared.session.Ended.TheVariants.{Quit, InputEnd, TooLong, TooMany, ReadFault, WriteFault}
@@ -44,15 +44,14 @@ all_lines TooMany bytes lines no_read no_write hears = hears.0
 all_lines ReadFault bytes lines no_read no_write hears = absurd (no_read refl)
 all_lines WriteFault bytes lines no_read no_write hears = absurd (no_write refl)
 
--- what was written is the beginning of the lines of the texts
-first_written : (ended : Ended) (after : List ℕ) (texts : List Text) → Writes ended [] after texts → (rest : List ℕ) × (written_lines texts ≡ after ++ rest)
-first_written Quit after texts writes = ([], sym writes ∙ sym (append-nil after))
-first_written InputEnd after texts writes = ([], sym writes ∙ sym (append-nil after))
-first_written TooLong after texts writes = ([], sym writes ∙ sym (append-nil after))
-first_written TooMany after texts writes = ([], sym writes ∙ sym (append-nil after))
-first_written ReadFault after texts writes = ([], sym writes ∙ sym (append-nil after))
-first_written WriteFault after texts writes =
-    (drop writes.0 (written_lines texts), sym (take-append-drop writes.0 (written_lines texts)) ∙ ap (λ w. w ++ drop writes.0 (written_lines texts)) (sym writes.2))
+-- what was written are the lines of the texts, of the last one maybe only a part
+first_written : (ended : Ended) (after : List ℕ) (texts : List Text) → Writes ended [] after texts → (after ≡ written_lines texts) ⊎ IsCut texts after
+first_written Quit after texts writes = inl writes
+first_written InputEnd after texts writes = inl writes
+first_written TooLong after texts writes = inl writes
+first_written TooMany after texts writes = inl writes
+first_written ReadFault after texts writes = inl writes
+first_written WriteFault after texts writes = inr (subst (IsCut texts) (sym writes.2) writes.1)
 
 -- and all of it where the sink didn't fail
 all_written : (ended : Ended) (after : List ℕ) (texts : List Text) → (ended ≡ WriteFault → ⊥) → Writes ended [] after texts → after ≡ written_lines texts

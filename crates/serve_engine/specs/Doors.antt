@@ -30,11 +30,12 @@ SomeFailed faults_of (door ∷ doors) = (faults_of door ≢ 0) ⊎ SomeFailed fa
 
 module _ {O : Type 0} (told : Type 0) (left_of faults_of : O → ℕ) (limit : ℕ) where
   -- What each outcome says, by how many connections the doors gave together: of the end, that no door has a connection
-  -- left, or that these and the doors together are more than the limit; of failed links, that a door has failed.
+  -- left, or that these and the doors together are more than the limit; of failed links, that a door has failed; of want of
+  -- memory, that there were none.
   abbrev pub HasOutcome : Outcome → ℕ → List O → Type 0
   HasOutcome Served total doors = told → All (λ door. left_of door ≡ 0) doors ⊎ (limit < total + length doors)
   HasOutcome LinksFailed total doors = SomeFailed faults_of doors
-  HasOutcome Memory total doors = Unit {0}
+  HasOutcome Memory total doors = total ≡ 0
 
 -- whether a worker's links failed
 abbrev pub has_failed : Option WorkerEnd → Bool

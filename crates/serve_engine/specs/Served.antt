@@ -1,5 +1,5 @@
 -- What a finished connection is to the users who are served.
-use Rattle.std.specs.Prelude.{◌≡◌, ℕ, zero, suc, Bool, true, false, List, [], ◌∷◌, ◌++◌, length, Option, Some, None}
+use Rattle.std.specs.Prelude.{◌≡◌, ◌⊎◌, ℕ, zero, suc, Bool, true, false, List, [], ◌∷◌, ◌++◌, length, Option, Some, None}
 use Rattle.std.specs.List.{AllZip}
 use Rattle.outside.specs.Visits.{Visit}
 use Rattle.cqe_base.specs.Schema.{DatabaseSchema, Text}
@@ -8,7 +8,7 @@ use Rattle.cqe_base.specs.History.{UserProfile, History}
 use Rattle.cqe_base.specs.Run.{Standing, Reply}
 use Rattle.cqe_base.specs.declared.user.User.{User}
 use Rattle.session_core.specs.Heard.{HeardLine, session_lines}
-use Rattle.session_core.specs.Talks.{Talks, written_lines}
+use Rattle.session_core.specs.Talks.{Talks, written_lines, IsCut}
 use Rattle.session_core.specs.Replied.{Replied}
 
 -- A user while connections are served: who he is, how his desk stands, the entries at its opening, all its entries, and
@@ -43,7 +43,8 @@ module _ (schema : DatabaseSchema) (world : FactSet) where
 
   -- A finished connection is served: its lines were answered one after the other, and what was asked was replied to by the
   -- one history of the user who logged in. The lines are those that a session hears of all bytes that came in; where an end
-  -- failed, the first of these. What was written is a line for each answer; where the sink failed, the beginning of that.
+  -- failed, the first of these. What was written is a line for each answer; where the sink failed, maybe of the last one only
+  -- a part.
   pub record Served (users : List User) (members : List Member) (visit : Visit) : Type 0 where
     pub lines : List HeardLine
     pub who : Option ℕ
@@ -53,7 +54,7 @@ module _ (schema : DatabaseSchema) (world : FactSet) where
     pub replied : RepliedTo who members asks
     pub heard : (rest : List HeardLine) × (session_lines visit.held ≡ lines ++ rest)
     pub all_heard : visit.source_whole ≡ true → visit.sink_whole ≡ true → lines ≡ session_lines visit.held
-    pub wrote : (rest : List ℕ) × (written_lines texts ≡ visit.written ++ rest)
+    pub wrote : (visit.written ≡ written_lines texts) ⊎ IsCut texts visit.written
     pub all_written : visit.sink_whole ≡ true → visit.written ≡ written_lines texts
 
 -- A connection that was served stays so where each user is the same later.

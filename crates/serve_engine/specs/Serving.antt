@@ -16,7 +16,7 @@ use Rattle.user_desk.specs.Standings.{standing_of, is_sealed}
 use Rattle.user_desk.specs.declared.standing.DeskError.{DeskError}
 use Rattle.user_desk.specs.declared.standing.Standing.{Standing}
 use Rattle.desk_crew.specs.Crew.{refusal_of}
-use Rattle.desk_crew.specs.Shelved.{Journals}
+use Rattle.desk_crew.specs.Shelved.{Journals, AreKept}
 use Rattle.worker_pool.specs.Workers.{HasVisits}
 use Rattle.serve_engine.specs.Doors.{AreServedDoors}
 use Rattle.serve_engine.specs.Served.{Member, Served}
@@ -25,11 +25,11 @@ use Rattle.serve_engine.specs.declared.serving.Outcome.TheVariants as outcome
 use Rattle.serve_engine.specs.declared.run.ServeEnd.{ServeEnd}
 use Rattle.serve_engine.specs.declared.run.ServeEnd.TheVariants.{Done, LinksFault, ShelfFault, Memory}
 
--- No connection was given, and all journals read as they did.
+-- No connection was given, and all journals are as they were.
 pub record ServesNobody (journals : Journals) (given given' : ℕ) (back back' : List Visit) : Type 0 where
   pub given_same : given' ≡ given
   pub back_same : back' ≡ back
-  pub bytes_same : (name : Text) → journals.reads name ≡ journals.bytes name
+  pub kept : AreKept journals
 
 module _ (schema : DatabaseSchema) (world : FactSet) (header : List ℕ) (journals : Journals) where
   -- A user over all connections: how his journal was opened, what his one history is, and how his disk came back.
@@ -70,12 +70,16 @@ module _ (schema : DatabaseSchema) (world : FactSet) (header : List ℕ) (journa
       pub given_is : given' ≡ given + count
       pub visits : HasVisits (Served schema world users members) count back back'
 
+    -- no connection was served: no journal was opened, or all were and are closed again
+    abbrev pub ServesNone : Type 0
+    ServesNone = ServesNobody journals given given' back back' ⊎ ((refusals : List (Option DeskError)) × (is_broken : Bool) × (served : Serves refusals is_broken) × (served.count ≡ 0))
+
     -- what each end says
     abbrev pub Ends : ServeEnd → Type 0
     Ends (Done refusals is_broken) = Serves refusals.items is_broken
     Ends LinksFault = ServesNobody journals given given' back back' ⊎ ((refusals : List (Option DeskError)) × (is_broken : Bool) × Serves refusals is_broken)
     Ends ShelfFault = ServesNobody journals given given' back back'
-    Ends Memory = ServesNobody journals given given' back back' ⊎ ((refusals : List (Option DeskError)) × (is_broken : Bool) × Serves refusals is_broken)
+    Ends Memory = ServesNone
 
   -- The same of the doors through which they came.
   module _ (users : List User) {O : Type 0} (told : Type 0) (given_of left_of faults_of : O → ℕ) (back_of : O → List Visit) (doors doors' : List O) where
@@ -87,17 +91,17 @@ module _ (schema : DatabaseSchema) (world : FactSet) (header : List ℕ) (journa
       pub total : ℕ
       pub served : AreServedDoors told given_of left_of faults_of back_of (Served schema world users members) total doors doors'
 
-    -- the doors are as they were, and all journals read as they did
+    -- the doors are as they were, and so are all journals
     pub record ServesNoDoor : Type 0 where
       pub doors_same : doors' ≡ doors
-      pub bytes_same : (name : Text) → journals.reads name ≡ journals.bytes name
+      pub kept : AreKept journals
 
     -- what each end says
     abbrev pub EndsAt : ServeEnd → Type 0
     EndsAt (Done refusals is_broken) = ServesDoors refusals.items is_broken
     EndsAt LinksFault = ServesNoDoor ⊎ ((refusals : List (Option DeskError)) × (is_broken : Bool) × ServesDoors refusals is_broken)
     EndsAt ShelfFault = ServesNoDoor
-    EndsAt Memory = ServesNoDoor ⊎ ((refusals : List (Option DeskError)) × (is_broken : Bool) × ServesDoors refusals is_broken)
+    EndsAt Memory = ServesNoDoor ⊎ ((refusals : List (Option DeskError)) × (is_broken : Bool) × (served : ServesDoors refusals is_broken) × (served.total ≡ 0))
 
 -- the end of a serving that came to its end
 abbrev pub IsDone : ServeEnd → Type 0

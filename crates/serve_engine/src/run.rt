@@ -1,13 +1,15 @@
 //! Serving from the first listening to the last journal that is back.
-ghost use Rattle.std.specs.Prelude.{◌≡◌, ◌⊎◌, ◌≤◌, ◌<◌, ◌+◌, ◌++◌, ◌^◌, false, All, length, map, sum_by};
+ghost use Rattle.std.specs.Prelude.{◌≡◌, ◌⊎◌, ◌≤◌, ◌<◌, ◌+◌, ◌++◌, ◌∷◌, ◌^◌, [], false, All, length, map, sum_by};
 ghost use Rattle.std.specs.List.{flat_map};
 ghost use Rattle.outside.specs.Faults.{Rose};
+ghost use Rattle.outside.specs.Visits.{place_of};
 ghost use Rattle.cqe_base.specs.Schema.{has_duplicate};
 ghost use Rattle.cqe_base.specs.History.{profile_of};
 ghost use Rattle.cqe_base.specs.Limits.{KeepsLimits};
 ghost use Rattle.log_journal.specs.Opening.{header_bytes};
+ghost use Rattle.log_journal.specs.Names.{journal_name};
 ghost use Rattle.desk_crew.specs.Crew.{named_user};
-ghost use Rattle.desk_crew.specs.Shelved.{journals_on, NoneOut, NoneFell};
+ghost use Rattle.desk_crew.specs.Shelved.{journals_on, SameBeside, NoneOut, NoneFell};
 ghost use Rattle.serve_engine.specs.Doors.{SomeFailed};
 ghost use Rattle.serve_engine.specs.Serving.{Ends, EndsAt, IsDone, end_of};
 ghost use Rattle.serve_engine.specs.declared.run.ServeEnd.{ServeEnd};
@@ -75,11 +77,18 @@ where
         (journals_on F.D.reads F.D.image registry.now.directory.now (F.disk shelf.old) (F.disk shelf.new) (F.disk_faults shelf.old) (F.disk_faults shelf.new))
         registry.now.users.now (L.given links.old) (L.given links.new) (L.back links.old) (L.back links.new) result }
 
+    // It listens at that address alone, with a door for each worker.
+    ensures listens { L.told → (L.listened links.new ≡ L.listened links.old) ⊎ (L.listened links.new ≡ L.listened links.old ++ place_of listening.entry.address.now listening.entry.workers ∷ []) }
+    ensures heard { L.told → IsDone result → L.listened links.new ≡ L.listened links.old ++ place_of listening.entry.address.now listening.entry.workers ∷ [] }
+
     // There are no more of them than the greatest number.
     ensures limited { L.told → L.given links.new ≤ L.given links.old + listening.entry.sessions }
 
     // It comes to its end where no connection is left, or these and the workers together are more than the greatest number.
     ensures ended { L.told → IsDone result → (L.at_hand links.new ≡ 0) ⊎ (L.given links.old + listening.entry.sessions < L.given links.new + listening.entry.workers) }
+
+    // No disk but the users' journals is touched, and all are back.
+    ensures disks { SameBeside (map (journal_name registry.now.directory.now) (map (λ user. user.name) (map named_user registry.now.users.now))) (F.disk shelf.old) (F.disk shelf.new) }
     ensures inside { NoneOut (F.is_out shelf.new) }
     ensures counts { NoneFell (F.disk_faults shelf.old) (F.disk_faults shelf.new) }
     ensures out { L.out links.new ≡ L.out links.old }
@@ -125,6 +134,7 @@ where
     ensures limited { O.told → sum_by O.given result.1.items ≤ sum_by O.given doors.items + limit }
     ensures failed { result.0 ≡ ServeEnd.LinksFault → SomeFailed O.faults result.1.items }
     ensures doors { length result.1.items ≡ length doors.items }
+    ensures disks { SameBeside (map (journal_name registry.now.directory.now) (map (λ user. user.name) (map named_user registry.now.users.now))) (F.disk shelf.old) (F.disk shelf.new) }
     ensures inside { NoneOut (F.is_out shelf.new) }
     ensures counts { NoneFell (F.disk_faults shelf.old) (F.disk_faults shelf.new) }
     ensures shelf_later { F.faults shelf.old ≤ F.faults shelf.new }
@@ -167,6 +177,7 @@ fn take_back_all<L: Links>(links: &mut L, doors: Vec<L::D>)
     ensures given { L.told → L.given links.new ≡ L.given links.old + sum_by L.D.given doors.items }
     ensures at_hand { L.told → L.at_hand links.new ≡ L.at_hand links.old + sum_by L.D.left doors.items }
     ensures back { L.told → L.back links.new ≡ L.back links.old ++ flat_map L.D.back doors.items }
+    ensures listened { L.told → L.listened links.new ≡ L.listened links.old }
     ensures later { L.faults links.old ≤ L.faults links.new }
     ensures failed { SomeFailed L.D.faults doors.items → Rose (L.faults links.old) (L.faults links.new) }
 {

@@ -1,4 +1,5 @@
 use Rattle.std.proofs.Common.{◌≡◌, ◌++◌, ◌+◌, ◌||◌, take, drop, map, refl, sym, ap, subst, ◌∙◌, arith}
+use Rattle.std.proofs.lemmas.List.{take_all}
 use Rattle.cqe_base.specs.Schema.{has_duplicate}
 use Rattle.outside.specs.Streams.{AppendsPart}
 use Rattle.log_journal.specs.Opening.{header_bytes}
@@ -7,7 +8,7 @@ use Rattle.batch_engine.specs.BatchOf.{items_of}
 use Rattle.desk_crew.specs.Shelved.{journals, SameBeside, AllOut, AllIn, AreLater}
 use Rattle.desk_crew.proofs.Taken.{rose_wide}
 use Rattle.batch_engine.specs.Steps.{RunsAll}
-use Rattle.batch_engine.proofs.Running.{item_short, items_more, items_split, take_all, Stay, stay_run, runs_first, runs_more, runs_stopped, runs_cut}
+use Rattle.batch_engine.proofs.Running.{item_short, items_more, items_split, stay_run, runs_first, runs_more, runs_stopped, runs_cut}
 use Rattle.batch_engine.proofs.run.answer_all.Goals.{then-is_broken, else-is_broken}
 use Rattle.batch_engine.proofs.run.answer_all.Goals as goal
 
@@ -18,35 +19,32 @@ loop-item-init g c =
 pub carry_out-requires-clause-limits : goal.carry_out-requires-clause-limits
 carry_out-requires-clause-limits g c =
     let so_far = c.loop-item.invariant.so_far in
-    let stay : Stay c.args.registry.now.schema.now c.args.registry.now.world.now (header_bytes c.args.registry.now.header.now) g.F.D.Disk.told g.F.D.Disk.reads g.F.D.Disk.image g.F.D.Disk.faults c.args.seats.items c.loop-item.seats.items = stay_run c.args.registry.now.schema.now c.args.registry.now.world.now (header_bytes c.args.registry.now.header.now) g.F.D.Disk.told g.F.D.Disk.reads g.F.D.Disk.image g.F.D.Disk.faults _ c.args.seats.items c.loop-item.seats.items so_far.output c.loop-item.is_broken so_far.runs in
-    let same = c.loop-item.invariant.same in
+    let stay = stay_run _ _ _ _ _ _ _ _ _ _ _ _ so_far.runs in
     stay.limits c.requires.limits
 
 pub carry_out-requires-clause-served : goal.carry_out-requires-clause-served
 carry_out-requires-clause-served g c =
     let so_far = c.loop-item.invariant.so_far in
-    let stay : Stay c.args.registry.now.schema.now c.args.registry.now.world.now (header_bytes c.args.registry.now.header.now) g.F.D.Disk.told g.F.D.Disk.reads g.F.D.Disk.image g.F.D.Disk.faults c.args.seats.items c.loop-item.seats.items = stay_run c.args.registry.now.schema.now c.args.registry.now.world.now (header_bytes c.args.registry.now.header.now) g.F.D.Disk.told g.F.D.Disk.reads g.F.D.Disk.image g.F.D.Disk.faults _ c.args.seats.items c.loop-item.seats.items so_far.output c.loop-item.is_broken so_far.runs in
-    let same = c.loop-item.invariant.same in
+    let stay = stay_run _ _ _ _ _ _ _ _ _ _ _ _ so_far.runs in
     stay.served c.requires.served
 
 pub carry_out-requires-clause-distinct : goal.carry_out-requires-clause-distinct
 carry_out-requires-clause-distinct g c =
     let so_far = c.loop-item.invariant.so_far in
-    let stay : Stay c.args.registry.now.schema.now c.args.registry.now.world.now (header_bytes c.args.registry.now.header.now) g.F.D.Disk.told g.F.D.Disk.reads g.F.D.Disk.image g.F.D.Disk.faults c.args.seats.items c.loop-item.seats.items = stay_run c.args.registry.now.schema.now c.args.registry.now.world.now (header_bytes c.args.registry.now.header.now) g.F.D.Disk.told g.F.D.Disk.reads g.F.D.Disk.image g.F.D.Disk.faults _ c.args.seats.items c.loop-item.seats.items so_far.output c.loop-item.is_broken so_far.runs in
-    let same = c.loop-item.invariant.same in
+    let stay = stay_run _ _ _ _ _ _ _ _ _ _ _ _ so_far.runs in
     ap has_duplicate stay.names ∙ c.requires.distinct
 
 pub carry_out-requires-clause-out : goal.carry_out-requires-clause-out
 carry_out-requires-clause-out g c =
     let so_far = c.loop-item.invariant.so_far in
-    let stay : Stay c.args.registry.now.schema.now c.args.registry.now.world.now (header_bytes c.args.registry.now.header.now) g.F.D.Disk.told g.F.D.Disk.reads g.F.D.Disk.image g.F.D.Disk.faults c.args.seats.items c.loop-item.seats.items = stay_run c.args.registry.now.schema.now c.args.registry.now.world.now (header_bytes c.args.registry.now.header.now) g.F.D.Disk.told g.F.D.Disk.reads g.F.D.Disk.image g.F.D.Disk.faults _ c.args.seats.items c.loop-item.seats.items so_far.output c.loop-item.is_broken so_far.runs in
+    let stay = stay_run _ _ _ _ _ _ _ _ _ _ _ _ so_far.runs in
     let same = c.loop-item.invariant.same in
     subst (λ s. AllOut (journals c.loop-item.seats.items) (g.F.Shelf.is_out s)) (sym same) (subst (λ ns. AllOut ns (g.F.Shelf.is_out c.args.shelf.now)) (sym stay.names) c.requires.out)
 
 pub carry_out-requires-clause-later : goal.carry_out-requires-clause-later
 carry_out-requires-clause-later g c =
     let so_far = c.loop-item.invariant.so_far in
-    let stay : Stay c.args.registry.now.schema.now c.args.registry.now.world.now (header_bytes c.args.registry.now.header.now) g.F.D.Disk.told g.F.D.Disk.reads g.F.D.Disk.image g.F.D.Disk.faults c.args.seats.items c.loop-item.seats.items = stay_run c.args.registry.now.schema.now c.args.registry.now.world.now (header_bytes c.args.registry.now.header.now) g.F.D.Disk.told g.F.D.Disk.reads g.F.D.Disk.image g.F.D.Disk.faults _ c.args.seats.items c.loop-item.seats.items so_far.output c.loop-item.is_broken so_far.runs in
+    let stay = stay_run _ _ _ _ _ _ _ _ _ _ _ _ so_far.runs in
     let same = c.loop-item.invariant.same in
     stay.later (g.F.Shelf.disk_faults c.loop-item.shelf) (subst (λ s. AreLater g.F.D.Disk.faults (g.F.Shelf.disk_faults s) c.args.seats.items) (sym same) c.requires.later)
 
@@ -59,8 +57,6 @@ carry_out-requires-clause-short g c =
 pub returns-in_default-clause-answered : goal.returns-in_default-clause-answered
 returns-in_default-clause-answered g c =
     let so_far = c.loop-item.invariant.so_far in
-    let stay : Stay c.args.registry.now.schema.now c.args.registry.now.world.now (header_bytes c.args.registry.now.header.now) g.F.D.Disk.told g.F.D.Disk.reads g.F.D.Disk.image g.F.D.Disk.faults c.args.seats.items c.loop-item.seats.items = stay_run c.args.registry.now.schema.now c.args.registry.now.world.now (header_bytes c.args.registry.now.header.now) g.F.D.Disk.told g.F.D.Disk.reads g.F.D.Disk.image g.F.D.Disk.faults _ c.args.seats.items c.loop-item.seats.items so_far.output c.loop-item.is_broken so_far.runs in
-    let same = c.loop-item.invariant.same in
     let items = c.items-item-items.result.now in
     let i = c.loop-item.item-index in
     (c.loop-item.seats.items, runs_stopped c.args.registry.now.schema.now c.args.registry.now.world.now (header_bytes c.args.registry.now.header.now) g.F.D.Disk.told g.F.D.Disk.reads g.F.D.Disk.image g.F.D.Disk.faults g.K.Sink.told (items_of c.args.batch.now) (map item_in (take i items)) (map item_in (drop i items)) c.args.seats.items c.loop-item.seats.items c.loop-item.is_broken _ _ (sym c.items-item-items.ensures.items ∙ items_split items i) so_far, c.in_default.ensures.back)
@@ -68,29 +64,33 @@ returns-in_default-clause-answered g c =
 pub returns-in_default-clause-inside : goal.returns-in_default-clause-inside
 returns-in_default-clause-inside g c =
     let so_far = c.loop-item.invariant.so_far in
-    let stay : Stay c.args.registry.now.schema.now c.args.registry.now.world.now (header_bytes c.args.registry.now.header.now) g.F.D.Disk.told g.F.D.Disk.reads g.F.D.Disk.image g.F.D.Disk.faults c.args.seats.items c.loop-item.seats.items = stay_run c.args.registry.now.schema.now c.args.registry.now.world.now (header_bytes c.args.registry.now.header.now) g.F.D.Disk.told g.F.D.Disk.reads g.F.D.Disk.image g.F.D.Disk.faults _ c.args.seats.items c.loop-item.seats.items so_far.output c.loop-item.is_broken so_far.runs in
-    let same = c.loop-item.invariant.same in
+    let stay = stay_run _ _ _ _ _ _ _ _ _ _ _ _ so_far.runs in
     λ not. subst (λ ns. AllIn ns (g.F.Shelf.is_out c.carry_out.new.shelf)) stay.names c.in_default.ensures.inside
 
 pub returns-in_default-clause-others_out : goal.returns-in_default-clause-others_out
 returns-in_default-clause-others_out g c =
     let so_far = c.loop-item.invariant.so_far in
-    let stay : Stay c.args.registry.now.schema.now c.args.registry.now.world.now (header_bytes c.args.registry.now.header.now) g.F.D.Disk.told g.F.D.Disk.reads g.F.D.Disk.image g.F.D.Disk.faults c.args.seats.items c.loop-item.seats.items = stay_run c.args.registry.now.schema.now c.args.registry.now.world.now (header_bytes c.args.registry.now.header.now) g.F.D.Disk.told g.F.D.Disk.reads g.F.D.Disk.image g.F.D.Disk.faults _ c.args.seats.items c.loop-item.seats.items so_far.output c.loop-item.is_broken so_far.runs in
+    let stay = stay_run _ _ _ _ _ _ _ _ _ _ _ _ so_far.runs in
     let same = c.loop-item.invariant.same in
     subst (λ ns. SameBeside ns (g.F.Shelf.is_out c.args.shelf.now) (g.F.Shelf.is_out c.carry_out.new.shelf)) stay.names (subst (λ s. SameBeside (journals c.loop-item.seats.items) (g.F.Shelf.is_out s) (g.F.Shelf.is_out c.carry_out.new.shelf)) same c.in_default.ensures.others_out)
 
 pub returns-in_default-clause-counts : goal.returns-in_default-clause-counts
 returns-in_default-clause-counts g c =
     let so_far = c.loop-item.invariant.so_far in
-    let stay : Stay c.args.registry.now.schema.now c.args.registry.now.world.now (header_bytes c.args.registry.now.header.now) g.F.D.Disk.told g.F.D.Disk.reads g.F.D.Disk.image g.F.D.Disk.faults c.args.seats.items c.loop-item.seats.items = stay_run c.args.registry.now.schema.now c.args.registry.now.world.now (header_bytes c.args.registry.now.header.now) g.F.D.Disk.told g.F.D.Disk.reads g.F.D.Disk.image g.F.D.Disk.faults _ c.args.seats.items c.loop-item.seats.items so_far.output c.loop-item.is_broken so_far.runs in
+    let stay = stay_run _ _ _ _ _ _ _ _ _ _ _ _ so_far.runs in
     let same = c.loop-item.invariant.same in
     subst (λ ns. SameBeside ns (g.F.Shelf.disk_faults c.args.shelf.now) (g.F.Shelf.disk_faults c.carry_out.new.shelf)) stay.names (subst (λ s. SameBeside (journals c.loop-item.seats.items) (g.F.Shelf.disk_faults s) (g.F.Shelf.disk_faults c.carry_out.new.shelf)) same c.in_default.ensures.counts)
+
+pub returns-in_default-clause-disks : goal.returns-in_default-clause-disks
+returns-in_default-clause-disks g c =
+    let so_far = c.loop-item.invariant.so_far in
+    let stay = stay_run _ _ _ _ _ _ _ _ _ _ _ _ so_far.runs in
+    let same = c.loop-item.invariant.same in
+    subst (λ ns. SameBeside ns (g.F.Shelf.disk c.args.shelf.now) (g.F.Shelf.disk c.carry_out.new.shelf)) stay.names (subst (λ s. SameBeside (journals c.loop-item.seats.items) (g.F.Shelf.disk s) (g.F.Shelf.disk c.carry_out.new.shelf)) same c.in_default.ensures.disks)
 
 pub returns-in-Err-clause-answered : goal.returns-in-Err-clause-answered
 returns-in-Err-clause-answered g c =
     let so_far = c.loop-item.invariant.so_far in
-    let stay : Stay c.args.registry.now.schema.now c.args.registry.now.world.now (header_bytes c.args.registry.now.header.now) g.F.D.Disk.told g.F.D.Disk.reads g.F.D.Disk.image g.F.D.Disk.faults c.args.seats.items c.loop-item.seats.items = stay_run c.args.registry.now.schema.now c.args.registry.now.world.now (header_bytes c.args.registry.now.header.now) g.F.D.Disk.told g.F.D.Disk.reads g.F.D.Disk.image g.F.D.Disk.faults _ c.args.seats.items c.loop-item.seats.items so_far.output c.loop-item.is_broken so_far.runs in
-    let same = c.loop-item.invariant.same in
     let items = c.items-item-items.result.now in
     let i = c.loop-item.item-index in
     let next = items_more items i c.item-item.result c.loop-item-test.true c.item-item.is in
@@ -103,7 +103,6 @@ returns-in-Err-clause-cause g c =
 pub loop-item-preserved : goal.loop-item-preserved
 loop-item-preserved g c =
     let so_far = c.loop-item.invariant.so_far in
-    let stay : Stay c.args.registry.now.schema.now c.args.registry.now.world.now (header_bytes c.args.registry.now.header.now) g.F.D.Disk.told g.F.D.Disk.reads g.F.D.Disk.image g.F.D.Disk.faults c.args.seats.items c.loop-item.seats.items = stay_run c.args.registry.now.schema.now c.args.registry.now.world.now (header_bytes c.args.registry.now.header.now) g.F.D.Disk.told g.F.D.Disk.reads g.F.D.Disk.image g.F.D.Disk.faults _ c.args.seats.items c.loop-item.seats.items so_far.output c.loop-item.is_broken so_far.runs in
     let same = c.loop-item.invariant.same in
     let items = c.items-item-items.result.now in
     let i = c.loop-item.item-index in
@@ -121,4 +120,4 @@ pub returns-clause-answered : goal.returns-clause-answered
 returns-clause-answered g c =
     let items = c.items-item-items.result.now in
     let i = c.loop-item.item-index in
-    subst (λ done. RunsAll c.args.registry.now.schema.now c.args.registry.now.world.now (header_bytes c.args.registry.now.header.now) g.F.D.Disk.told g.F.D.Disk.reads g.F.D.Disk.image g.F.D.Disk.faults g.K.Sink.told done c.args.seats.items c.loop-item.seats.items c.loop-item.is_broken (g.K.Sink.written c.args.sink.now) (g.K.Sink.written c.loop-item.sink)) (ap (map item_in) (take_all items i (omega (arith, c.loop-item-test.false))) ∙ c.items-item-items.ensures.items) c.loop-item.invariant.so_far
+    subst (λ done. RunsAll c.args.registry.now.schema.now c.args.registry.now.world.now (header_bytes c.args.registry.now.header.now) g.F.D.Disk.told g.F.D.Disk.reads g.F.D.Disk.image g.F.D.Disk.faults g.K.Sink.told done c.args.seats.items c.loop-item.seats.items c.loop-item.is_broken (g.K.Sink.written c.args.sink.now) (g.K.Sink.written c.loop-item.sink)) (ap (map item_in) (take_all i items (omega (arith, c.loop-item-test.false))) ∙ c.items-item-items.ensures.items) c.loop-item.invariant.so_far

@@ -1,19 +1,19 @@
-use Rattle.std.proofs.Common.{inr, ◌++◌, length, map, refl, sym, ap, subst, ◌∙◌, arith}
+use Rattle.std.proofs.Common.{inr, length, map, refl, sym, ap, subst, ◌∙◌, arith}
 use Rattle.cqe_base.specs.Schema.{has_duplicate}
 use Rattle.cqe_base.specs.History.{UserProfile}
 use Rattle.log_journal.specs.Opening.{header_bytes}
 use Rattle.batch_engine.specs.BatchOf.{items_of}
 use Rattle.batch_engine.specs.Batch.{AppendsAll}
 use Rattle.desk_crew.specs.Crew.{named_user}
-use Rattle.desk_crew.specs.Shelved.{journals, journals_on, SameBeside, AllOut, AreLater, AreOut}
-use Rattle.batch_engine.proofs.Running.{Stay, stay_run}
-use Rattle.desk_crew.proofs.Opening.{seats_distinct, seats_later, seats_served, seats_limits, same_length, length-journals, all_out, none_out, none_fell}
+use Rattle.desk_crew.specs.Shelved.{is_among, journals, journals_on, SameBeside, AllOut, AreLater, AreOut}
+use Rattle.batch_engine.proofs.Running.{stay_run}
+use Rattle.desk_crew.proofs.Opening.{seat_journals, seats_distinct, seats_later, seats_served, seats_limits, same_length, length-journals, all_out, none_out, none_fell}
 use Rattle.batch_engine.proofs.Ending.{batch_begins, all_of, finish_all, finish_some}
 use Rattle.batch_engine.proofs.run.run_batch.Goals as goal
 
 pub returns-in-Refused-clause-ends : goal.returns-in-Refused-clause-ends
 returns-in-Refused-clause-ends g c =
-    λ shelf_told source_told sink_told. (sym (batch_begins _ _ c.new.ensures) ∙ c.in-Refused.ensures.reads source_told, refl)
+    λ shelf_told source_told sink_told. (sym (batch_begins _ _ c.new.ensures) ∙ (c.in-Refused.ensures.reads source_told).0, (refl, λ name. (refl, λ crash left. left)))
 
 pub answer_all-requires-clause-limits : goal.answer_all-requires-clause-limits
 answer_all-requires-clause-limits g c =
@@ -34,8 +34,7 @@ answer_all-requires-clause-later g c =
 pub refusals_of-refusals-requires-clause-room : goal.refusals_of-refusals-requires-clause-room
 refusals_of-refusals-requires-clause-room g c =
     let all = c.in-All.ensures.answered in
-    let stay : Stay c.args.registry.now.schema.now c.args.registry.now.world.now (header_bytes c.args.registry.now.header.now) g.F.D.Disk.told g.F.D.Disk.reads g.F.D.Disk.image g.F.D.Disk.faults c.in-Ok-open_all.seats.items c.in-All.seats.items = stay_run c.args.registry.now.schema.now c.args.registry.now.world.now (header_bytes c.args.registry.now.header.now) g.F.D.Disk.told g.F.D.Disk.reads g.F.D.Disk.image g.F.D.Disk.faults _ c.in-Ok-open_all.seats.items c.in-All.seats.items all.output c.in-All.is_broken all.runs in
-    let same = c.in-All.ensures.untouched tt in
+    let stay = stay_run _ _ _ _ _ _ _ _ _ _ _ _ all.runs in
     let room = c.in-Ok.ensures.room in
     let count = same_length c.args.registry.now.directory.now c.args.registry.now.schema.now c.args.registry.now.world.now (header_bytes c.args.registry.now.header.now) g.F.Shelf.told g.F.D.Disk.told g.F.D.Disk.reads g.F.D.Disk.image g.F.D.Disk.faults (g.F.Shelf.disk c.args.shelf.now) (g.F.Shelf.disk_faults c.args.shelf.now) c.args.registry.now.users.now c.in-Ok-open_all.seats.items c.in-Ok-open_all.ensures.opened in
     let names = ap length stay.names in
@@ -47,42 +46,40 @@ refusals_of-refusals-requires-clause-room g c =
 pub give_back-requires-clause-distinct : goal.give_back-requires-clause-distinct
 give_back-requires-clause-distinct g c =
     let all = c.in-All.ensures.answered in
-    let stay : Stay c.args.registry.now.schema.now c.args.registry.now.world.now (header_bytes c.args.registry.now.header.now) g.F.D.Disk.told g.F.D.Disk.reads g.F.D.Disk.image g.F.D.Disk.faults c.in-Ok-open_all.seats.items c.in-All.seats.items = stay_run c.args.registry.now.schema.now c.args.registry.now.world.now (header_bytes c.args.registry.now.header.now) g.F.D.Disk.told g.F.D.Disk.reads g.F.D.Disk.image g.F.D.Disk.faults _ c.in-Ok-open_all.seats.items c.in-All.seats.items all.output c.in-All.is_broken all.runs in
-    let same = c.in-All.ensures.untouched tt in
+    let stay = stay_run _ _ _ _ _ _ _ _ _ _ _ _ all.runs in
     ap has_duplicate stay.names ∙ seats_distinct c.args.registry.now.directory.now c.args.registry.now.schema.now c.args.registry.now.world.now (header_bytes c.args.registry.now.header.now) g.F.Shelf.told g.F.D.Disk.told g.F.D.Disk.reads g.F.D.Disk.image g.F.D.Disk.faults (g.F.Shelf.disk c.args.shelf.now) (g.F.Shelf.disk_faults c.args.shelf.now) c.law_journals_differ.ensures c.args.registry.now.users.now c.in-Ok-open_all.seats.items c.in-Ok-open_all.ensures.opened c.requires.names
 
 pub give_back-requires-clause-out : goal.give_back-requires-clause-out
 give_back-requires-clause-out g c =
     let all = c.in-All.ensures.answered in
-    let stay : Stay c.args.registry.now.schema.now c.args.registry.now.world.now (header_bytes c.args.registry.now.header.now) g.F.D.Disk.told g.F.D.Disk.reads g.F.D.Disk.image g.F.D.Disk.faults c.in-Ok-open_all.seats.items c.in-All.seats.items = stay_run c.args.registry.now.schema.now c.args.registry.now.world.now (header_bytes c.args.registry.now.header.now) g.F.D.Disk.told g.F.D.Disk.reads g.F.D.Disk.image g.F.D.Disk.faults _ c.in-Ok-open_all.seats.items c.in-All.seats.items all.output c.in-All.is_broken all.runs in
+    let stay = stay_run _ _ _ _ _ _ _ _ _ _ _ _ all.runs in
     let same = c.in-All.ensures.untouched tt in
     subst (λ s. AllOut (journals c.in-All.seats.items) (g.F.Shelf.is_out s)) (sym same) (subst (λ ns. AllOut ns (g.F.Shelf.is_out c.open_all.new.shelf)) (sym stay.names) (all_out c.args.registry.now.directory.now c.args.registry.now.schema.now c.args.registry.now.world.now (header_bytes c.args.registry.now.header.now) g.F.Shelf.told g.F.D.Disk.told g.F.D.Disk.reads g.F.D.Disk.image g.F.D.Disk.faults (g.F.Shelf.disk c.args.shelf.now) (g.F.Shelf.disk_faults c.args.shelf.now) c.in-Ok-open_all.seats.items (g.F.Shelf.is_out c.open_all.new.shelf) c.in-Ok-open_all.ensures.out))
 
 pub give_back-requires-clause-later : goal.give_back-requires-clause-later
 give_back-requires-clause-later g c =
     let all = c.in-All.ensures.answered in
-    let stay : Stay c.args.registry.now.schema.now c.args.registry.now.world.now (header_bytes c.args.registry.now.header.now) g.F.D.Disk.told g.F.D.Disk.reads g.F.D.Disk.image g.F.D.Disk.faults c.in-Ok-open_all.seats.items c.in-All.seats.items = stay_run c.args.registry.now.schema.now c.args.registry.now.world.now (header_bytes c.args.registry.now.header.now) g.F.D.Disk.told g.F.D.Disk.reads g.F.D.Disk.image g.F.D.Disk.faults _ c.in-Ok-open_all.seats.items c.in-All.seats.items all.output c.in-All.is_broken all.runs in
+    let stay = stay_run _ _ _ _ _ _ _ _ _ _ _ _ all.runs in
     let same = c.in-All.ensures.untouched tt in
     subst (λ s. AreLater g.F.D.Disk.faults (g.F.Shelf.disk_faults s) c.in-All.seats.items) (sym same) (stay.later (g.F.Shelf.disk_faults c.open_all.new.shelf) (seats_later c.args.registry.now.directory.now c.args.registry.now.schema.now c.args.registry.now.world.now (header_bytes c.args.registry.now.header.now) g.F.Shelf.told g.F.D.Disk.told g.F.D.Disk.reads g.F.D.Disk.image g.F.D.Disk.faults (g.F.Shelf.disk c.args.shelf.now) (g.F.Shelf.disk_faults c.args.shelf.now) (g.F.Shelf.disk_faults c.open_all.new.shelf) c.args.registry.now.users.now c.in-Ok-open_all.seats.items c.in-Ok-open_all.ensures.counts c.in-Ok-open_all.ensures.opened))
 
 pub give_back-requires-in-Cut-clause-distinct : goal.give_back-requires-in-Cut-clause-distinct
 give_back-requires-in-Cut-clause-distinct g c =
     let all = c.in-Cut.ensures.answered in
-    let stay : Stay c.args.registry.now.schema.now c.args.registry.now.world.now (header_bytes c.args.registry.now.header.now) g.F.D.Disk.told g.F.D.Disk.reads g.F.D.Disk.image g.F.D.Disk.faults c.in-Ok-open_all.seats.items c.in-Cut.seats.items = stay_run c.args.registry.now.schema.now c.args.registry.now.world.now (header_bytes c.args.registry.now.header.now) g.F.D.Disk.told g.F.D.Disk.reads g.F.D.Disk.image g.F.D.Disk.faults _ c.in-Ok-open_all.seats.items c.in-Cut.seats.items (all.output ++ all.line) all.is_broken all.runs in
-    let same = c.in-Cut.ensures.untouched tt in
+    let stay = stay_run _ _ _ _ _ _ _ _ _ _ _ _ all.runs in
     ap has_duplicate stay.names ∙ seats_distinct c.args.registry.now.directory.now c.args.registry.now.schema.now c.args.registry.now.world.now (header_bytes c.args.registry.now.header.now) g.F.Shelf.told g.F.D.Disk.told g.F.D.Disk.reads g.F.D.Disk.image g.F.D.Disk.faults (g.F.Shelf.disk c.args.shelf.now) (g.F.Shelf.disk_faults c.args.shelf.now) c.law_journals_differ.ensures c.args.registry.now.users.now c.in-Ok-open_all.seats.items c.in-Ok-open_all.ensures.opened c.requires.names
 
 pub give_back-requires-in-Cut-clause-out : goal.give_back-requires-in-Cut-clause-out
 give_back-requires-in-Cut-clause-out g c =
     let all = c.in-Cut.ensures.answered in
-    let stay : Stay c.args.registry.now.schema.now c.args.registry.now.world.now (header_bytes c.args.registry.now.header.now) g.F.D.Disk.told g.F.D.Disk.reads g.F.D.Disk.image g.F.D.Disk.faults c.in-Ok-open_all.seats.items c.in-Cut.seats.items = stay_run c.args.registry.now.schema.now c.args.registry.now.world.now (header_bytes c.args.registry.now.header.now) g.F.D.Disk.told g.F.D.Disk.reads g.F.D.Disk.image g.F.D.Disk.faults _ c.in-Ok-open_all.seats.items c.in-Cut.seats.items (all.output ++ all.line) all.is_broken all.runs in
+    let stay = stay_run _ _ _ _ _ _ _ _ _ _ _ _ all.runs in
     let same = c.in-Cut.ensures.untouched tt in
     subst (λ s. AllOut (journals c.in-Cut.seats.items) (g.F.Shelf.is_out s)) (sym same) (subst (λ ns. AllOut ns (g.F.Shelf.is_out c.open_all.new.shelf)) (sym stay.names) (all_out c.args.registry.now.directory.now c.args.registry.now.schema.now c.args.registry.now.world.now (header_bytes c.args.registry.now.header.now) g.F.Shelf.told g.F.D.Disk.told g.F.D.Disk.reads g.F.D.Disk.image g.F.D.Disk.faults (g.F.Shelf.disk c.args.shelf.now) (g.F.Shelf.disk_faults c.args.shelf.now) c.in-Ok-open_all.seats.items (g.F.Shelf.is_out c.open_all.new.shelf) c.in-Ok-open_all.ensures.out))
 
 pub give_back-requires-in-Cut-clause-later : goal.give_back-requires-in-Cut-clause-later
 give_back-requires-in-Cut-clause-later g c =
     let all = c.in-Cut.ensures.answered in
-    let stay : Stay c.args.registry.now.schema.now c.args.registry.now.world.now (header_bytes c.args.registry.now.header.now) g.F.D.Disk.told g.F.D.Disk.reads g.F.D.Disk.image g.F.D.Disk.faults c.in-Ok-open_all.seats.items c.in-Cut.seats.items = stay_run c.args.registry.now.schema.now c.args.registry.now.world.now (header_bytes c.args.registry.now.header.now) g.F.D.Disk.told g.F.D.Disk.reads g.F.D.Disk.image g.F.D.Disk.faults _ c.in-Ok-open_all.seats.items c.in-Cut.seats.items (all.output ++ all.line) all.is_broken all.runs in
+    let stay = stay_run _ _ _ _ _ _ _ _ _ _ _ _ all.runs in
     let same = c.in-Cut.ensures.untouched tt in
     subst (λ s. AreLater g.F.D.Disk.faults (g.F.Shelf.disk_faults s) c.in-Cut.seats.items) (sym same) (stay.later (g.F.Shelf.disk_faults c.open_all.new.shelf) (seats_later c.args.registry.now.directory.now c.args.registry.now.schema.now c.args.registry.now.world.now (header_bytes c.args.registry.now.header.now) g.F.Shelf.told g.F.D.Disk.told g.F.D.Disk.reads g.F.D.Disk.image g.F.D.Disk.faults (g.F.Shelf.disk c.args.shelf.now) (g.F.Shelf.disk_faults c.args.shelf.now) (g.F.Shelf.disk_faults c.open_all.new.shelf) c.args.registry.now.users.now c.in-Ok-open_all.seats.items c.in-Ok-open_all.ensures.counts c.in-Ok-open_all.ensures.opened))
 
@@ -96,14 +93,14 @@ returns-in-All-clause-ends g c =
 pub returns-in-All-clause-inside : goal.returns-in-All-clause-inside
 returns-in-All-clause-inside g c =
     let all = c.in-All.ensures.answered in
-    let stay : Stay c.args.registry.now.schema.now c.args.registry.now.world.now (header_bytes c.args.registry.now.header.now) g.F.D.Disk.told g.F.D.Disk.reads g.F.D.Disk.image g.F.D.Disk.faults c.in-Ok-open_all.seats.items c.in-All.seats.items = stay_run c.args.registry.now.schema.now c.args.registry.now.world.now (header_bytes c.args.registry.now.header.now) g.F.D.Disk.told g.F.D.Disk.reads g.F.D.Disk.image g.F.D.Disk.faults _ c.in-Ok-open_all.seats.items c.in-All.seats.items all.output c.in-All.is_broken all.runs in
+    let stay = stay_run _ _ _ _ _ _ _ _ _ _ _ _ all.runs in
     let same = c.in-All.ensures.untouched tt in
     none_out c.args.registry.now.directory.now c.args.registry.now.schema.now c.args.registry.now.world.now (header_bytes c.args.registry.now.header.now) g.F.Shelf.told g.F.D.Disk.told g.F.D.Disk.reads g.F.D.Disk.image g.F.D.Disk.faults (g.F.Shelf.disk c.args.shelf.now) (g.F.Shelf.disk_faults c.args.shelf.now) c.in-All.seats.items (g.F.Shelf.is_out c.open_all.new.shelf) (g.F.Shelf.is_out c.give_back.new.shelf) (subst (λ ns. AreOut ns (g.F.Shelf.is_out c.open_all.new.shelf)) (sym stay.names) c.in-Ok-open_all.ensures.out) c.give_back.ensures.inside (subst (λ s. SameBeside (journals c.in-All.seats.items) (g.F.Shelf.is_out s) (g.F.Shelf.is_out c.give_back.new.shelf)) same c.give_back.ensures.others_out)
 
 pub returns-in-All-clause-counts : goal.returns-in-All-clause-counts
 returns-in-All-clause-counts g c =
     let all = c.in-All.ensures.answered in
-    let stay : Stay c.args.registry.now.schema.now c.args.registry.now.world.now (header_bytes c.args.registry.now.header.now) g.F.D.Disk.told g.F.D.Disk.reads g.F.D.Disk.image g.F.D.Disk.faults c.in-Ok-open_all.seats.items c.in-All.seats.items = stay_run c.args.registry.now.schema.now c.args.registry.now.world.now (header_bytes c.args.registry.now.header.now) g.F.D.Disk.told g.F.D.Disk.reads g.F.D.Disk.image g.F.D.Disk.faults _ c.in-Ok-open_all.seats.items c.in-All.seats.items all.output c.in-All.is_broken all.runs in
+    let stay = stay_run _ _ _ _ _ _ _ _ _ _ _ _ all.runs in
     let same = c.in-All.ensures.untouched tt in
     λ name.
     let first = c.in-Ok-open_all.ensures.counts name in
@@ -120,14 +117,14 @@ returns-in-Cut-clause-ends g c =
 pub returns-in-Cut-clause-inside : goal.returns-in-Cut-clause-inside
 returns-in-Cut-clause-inside g c =
     let all = c.in-Cut.ensures.answered in
-    let stay : Stay c.args.registry.now.schema.now c.args.registry.now.world.now (header_bytes c.args.registry.now.header.now) g.F.D.Disk.told g.F.D.Disk.reads g.F.D.Disk.image g.F.D.Disk.faults c.in-Ok-open_all.seats.items c.in-Cut.seats.items = stay_run c.args.registry.now.schema.now c.args.registry.now.world.now (header_bytes c.args.registry.now.header.now) g.F.D.Disk.told g.F.D.Disk.reads g.F.D.Disk.image g.F.D.Disk.faults _ c.in-Ok-open_all.seats.items c.in-Cut.seats.items (all.output ++ all.line) all.is_broken all.runs in
+    let stay = stay_run _ _ _ _ _ _ _ _ _ _ _ _ all.runs in
     let same = c.in-Cut.ensures.untouched tt in
     none_out c.args.registry.now.directory.now c.args.registry.now.schema.now c.args.registry.now.world.now (header_bytes c.args.registry.now.header.now) g.F.Shelf.told g.F.D.Disk.told g.F.D.Disk.reads g.F.D.Disk.image g.F.D.Disk.faults (g.F.Shelf.disk c.args.shelf.now) (g.F.Shelf.disk_faults c.args.shelf.now) c.in-Cut.seats.items (g.F.Shelf.is_out c.open_all.new.shelf) (g.F.Shelf.is_out c.give_back-in-Cut.new.shelf) (subst (λ ns. AreOut ns (g.F.Shelf.is_out c.open_all.new.shelf)) (sym stay.names) c.in-Ok-open_all.ensures.out) c.give_back-in-Cut.ensures.inside (subst (λ s. SameBeside (journals c.in-Cut.seats.items) (g.F.Shelf.is_out s) (g.F.Shelf.is_out c.give_back-in-Cut.new.shelf)) same c.give_back-in-Cut.ensures.others_out)
 
 pub returns-in-Cut-clause-counts : goal.returns-in-Cut-clause-counts
 returns-in-Cut-clause-counts g c =
     let all = c.in-Cut.ensures.answered in
-    let stay : Stay c.args.registry.now.schema.now c.args.registry.now.world.now (header_bytes c.args.registry.now.header.now) g.F.D.Disk.told g.F.D.Disk.reads g.F.D.Disk.image g.F.D.Disk.faults c.in-Ok-open_all.seats.items c.in-Cut.seats.items = stay_run c.args.registry.now.schema.now c.args.registry.now.world.now (header_bytes c.args.registry.now.header.now) g.F.D.Disk.told g.F.D.Disk.reads g.F.D.Disk.image g.F.D.Disk.faults _ c.in-Ok-open_all.seats.items c.in-Cut.seats.items (all.output ++ all.line) all.is_broken all.runs in
+    let stay = stay_run _ _ _ _ _ _ _ _ _ _ _ _ all.runs in
     let same = c.in-Cut.ensures.untouched tt in
     λ name.
     let first = c.in-Ok-open_all.ensures.counts name in
@@ -142,12 +139,36 @@ returns-clause-ends g c =
     let left = c.in-Memory-answer_all.ensures.answered in
     inr (items_of c.in-Whole.batch, is, finish_some c.args.registry.now.schema.now c.args.registry.now.world.now (header_bytes c.args.registry.now.header.now) c.args.registry.now.directory.now g.F.D.Disk.told g.F.Shelf.told (g.met.F.Shelf.tells_disks shelf_told) shelf_told g.F.D.Disk.reads g.F.D.Disk.image g.F.D.Disk.faults g.met.F.D.Disk.read_is_image (g.F.Shelf.disk c.args.shelf.now) (g.F.Shelf.disk c.answer_all.new.shelf) (g.F.Shelf.disk_faults c.args.shelf.now) (g.F.Shelf.disk_faults c.answer_all.new.shelf) (λ (user : UserProfile) entries bytes why. c.law_openings.ensures.unrefused c.args.registry.now.schema.now c.args.registry.now.world.now user c.args.registry.now.header.now bytes entries why) (λ (user : UserProfile) bytes. c.law_openings.ensures.decided c.args.registry.now.schema.now c.args.registry.now.world.now user (header_bytes c.args.registry.now.header.now) bytes) c.law_legal_grows.ensures.empty c.law_runs_legal.ensures c.law_scripts_hide.ensures c.law_private.ensures c.known.ensures c.args.registry.now.users.now c.requires.limits c.requires.names c.in-Ok-open_all.seats.items c.in-Ok-open_all.ensures.opened g.K.Sink.told sink_told (items_of c.in-Whole.batch) left.0 _ _ left.1 left.2)
 
+pub returns-in-All-clause-disks : goal.returns-in-All-clause-disks
+returns-in-All-clause-disks g c =
+    let all = c.in-All.ensures.answered in
+    let stay = stay_run _ _ _ _ _ _ _ _ _ _ _ _ all.runs in
+    let same = c.in-All.ensures.untouched tt in
+    λ name none.
+    c.give_back.ensures.disks name (ap (λ ns. is_among ns name) (stay.names ∙ seat_journals c.args.registry.now.directory.now c.args.registry.now.schema.now c.args.registry.now.world.now (header_bytes c.args.registry.now.header.now) g.F.Shelf.told g.F.D.Disk.told g.F.D.Disk.reads g.F.D.Disk.image g.F.D.Disk.faults (g.F.Shelf.disk c.args.shelf.now) (g.F.Shelf.disk_faults c.args.shelf.now) c.args.registry.now.users.now c.in-Ok-open_all.seats.items c.in-Ok-open_all.ensures.opened) ∙ none)
+    ∙ ap (λ s. g.F.Shelf.disk s name) same ∙ c.open_all.ensures.disks name none
+
+pub returns-in-Cut-clause-disks : goal.returns-in-Cut-clause-disks
+returns-in-Cut-clause-disks g c =
+    let all = c.in-Cut.ensures.answered in
+    let stay = stay_run _ _ _ _ _ _ _ _ _ _ _ _ all.runs in
+    let same = c.in-Cut.ensures.untouched tt in
+    λ name none.
+    c.give_back-in-Cut.ensures.disks name (ap (λ ns. is_among ns name) (stay.names ∙ seat_journals c.args.registry.now.directory.now c.args.registry.now.schema.now c.args.registry.now.world.now (header_bytes c.args.registry.now.header.now) g.F.Shelf.told g.F.D.Disk.told g.F.D.Disk.reads g.F.D.Disk.image g.F.D.Disk.faults (g.F.Shelf.disk c.args.shelf.now) (g.F.Shelf.disk_faults c.args.shelf.now) c.args.registry.now.users.now c.in-Ok-open_all.seats.items c.in-Ok-open_all.ensures.opened) ∙ none)
+    ∙ ap (λ s. g.F.Shelf.disk s name) same ∙ c.open_all.ensures.disks name none
+
+pub returns-clause-disks : goal.returns-clause-disks
+returns-clause-disks g c =
+    λ name none.
+    c.answer_all.ensures.disks name (ap (λ ns. is_among ns name) (seat_journals c.args.registry.now.directory.now c.args.registry.now.schema.now c.args.registry.now.world.now (header_bytes c.args.registry.now.header.now) g.F.Shelf.told g.F.D.Disk.told g.F.D.Disk.reads g.F.D.Disk.image g.F.D.Disk.faults (g.F.Shelf.disk c.args.shelf.now) (g.F.Shelf.disk_faults c.args.shelf.now) c.args.registry.now.users.now c.in-Ok-open_all.seats.items c.in-Ok-open_all.ensures.opened) ∙ none)
+    ∙ c.open_all.ensures.disks name none
+
 pub returns-clause-counts : goal.returns-clause-counts
 returns-clause-counts g c =
     λ name.
     let left = c.in-Memory-answer_all.ensures.answered in
     let some = left.1 in
-    let stay : Stay c.args.registry.now.schema.now c.args.registry.now.world.now (header_bytes c.args.registry.now.header.now) g.F.D.Disk.told g.F.D.Disk.reads g.F.D.Disk.image g.F.D.Disk.faults c.in-Ok-open_all.seats.items left.0 = stay_run c.args.registry.now.schema.now c.args.registry.now.world.now (header_bytes c.args.registry.now.header.now) g.F.D.Disk.told g.F.D.Disk.reads g.F.D.Disk.image g.F.D.Disk.faults _ c.in-Ok-open_all.seats.items left.0 (some.output ++ some.line) some.is_broken some.runs in
+    let stay = stay_run _ _ _ _ _ _ _ _ _ _ _ _ some.runs in
     let first = c.in-Ok-open_all.ensures.counts name in
     let third = none_fell c.args.registry.now.directory.now c.args.registry.now.schema.now c.args.registry.now.world.now (header_bytes c.args.registry.now.header.now) g.F.Shelf.told g.F.D.Disk.told g.F.D.Disk.reads g.F.D.Disk.image g.F.D.Disk.faults (g.F.Shelf.disk c.args.shelf.now) (g.F.Shelf.disk_faults c.args.shelf.now) (g.F.Shelf.disk_faults c.open_all.new.shelf) (g.F.Shelf.disk_faults c.answer_all.new.shelf) left.0 (stay.later (g.F.Shelf.disk_faults c.open_all.new.shelf) (seats_later c.args.registry.now.directory.now c.args.registry.now.schema.now c.args.registry.now.world.now (header_bytes c.args.registry.now.header.now) g.F.Shelf.told g.F.D.Disk.told g.F.D.Disk.reads g.F.D.Disk.image g.F.D.Disk.faults (g.F.Shelf.disk c.args.shelf.now) (g.F.Shelf.disk_faults c.args.shelf.now) (g.F.Shelf.disk_faults c.open_all.new.shelf) c.args.registry.now.users.now c.in-Ok-open_all.seats.items c.in-Ok-open_all.ensures.counts c.in-Ok-open_all.ensures.opened)) (g.F.Shelf.disk c.answer_all.new.shelf) left.2 (subst (λ ns. SameBeside ns (g.F.Shelf.disk_faults c.open_all.new.shelf) (g.F.Shelf.disk_faults c.answer_all.new.shelf)) (sym stay.names) c.in-Memory-answer_all.ensures.counts) name in
     omega (arith, first, third)

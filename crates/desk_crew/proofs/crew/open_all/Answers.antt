@@ -1,11 +1,13 @@
-use Rattle.std.proofs.Common.{◌≡◌, ◌+◌, length, take, sym, ap, subst, ◌∙◌, arith}
+use Rattle.std.proofs.Common.{◌≡◌, ◌+◌, length, take, map, sym, ap, subst, ◌∙◌, arith}
 use Rattle.std.specs.Prelude.{Err}
+use Rattle.std.proofs.lemmas.List.{take_all}
 use Rattle.log_journal.specs.Opening.{header_bytes}
 use Rattle.desk_crew.specs.declared.crew.NotOpened.TheVariants.{Shelf}
-use Rattle.desk_crew.specs.Shelved.{bytes_on, journals}
+use Rattle.log_journal.specs.Names.{journal_name}
+use Rattle.desk_crew.specs.Shelved.{bytes_on, image_on, is_among, journals}
 use Rattle.desk_crew.proofs.Taken.{rose_wide}
 use Rattle.desk_crew.proofs.Shelving.{later_on, beside_one}
-use Rattle.desk_crew.proofs.Opening.{Opened, first_distinct, seats_distinct, seats_later, opened_none, next_none, next_in, opened_more, none_out, none_fell, same_bytes}
+use Rattle.desk_crew.proofs.Opening.{Opened, names, no_journal, seat_journals, first_distinct, seats_distinct, seats_later, opened_none, next_none, next_in, opened_more, none_out, none_fell, all_same}
 use Rattle.desk_crew.proofs.crew.open_all.Goals as goal
 
 pub open_seat-requires-clause-inside : goal.open_seat-requires-clause-inside
@@ -37,11 +39,37 @@ returns-in-Err-clause-refused_out g c =
     c.loop-user.seats.items (g.F.Shelf.is_out c.open_seat.new.shelf) (g.F.Shelf.is_out c.give_back.new.shelf) (λ name. c.in-Err.ensures.refused_out name ∙ c.loop-user.invariant.opened.out name) c.give_back.ensures.inside c.give_back.ensures.others_out
 
 pub returns-in-Err-clause-refused_bytes : goal.returns-in-Err-clause-refused_bytes
-returns-in-Err-clause-refused_bytes g c = λ told.
+returns-in-Err-clause-refused_bytes g c = λ told name.
     let so_far = c.loop-user.invariant.opened in
-    same_bytes c.args.registry.now.directory.now c.args.registry.now.schema.now c.args.registry.now.world.now (header_bytes c.args.registry.now.header.now) g.F.Shelf.told g.F.D.Disk.told g.F.D.Disk.reads g.F.D.Disk.image g.F.D.Disk.faults (g.F.Shelf.disk c.args.shelf.now) (g.F.Shelf.disk_faults c.args.shelf.now) told
+    (all_same c.args.registry.now.directory.now c.args.registry.now.schema.now c.args.registry.now.world.now (header_bytes c.args.registry.now.header.now) g.F.Shelf.told g.F.D.Disk.told g.F.D.Disk.reads g.F.D.Disk.image g.F.D.Disk.faults (g.F.Shelf.disk c.args.shelf.now) (g.F.Shelf.disk_faults c.args.shelf.now) told
     (take c.loop-user.user-index c.args.registry.now.users.now) c.loop-user.seats.items so_far.are (g.F.Shelf.disk c.give_back.new.shelf) (g.F.Shelf.disk_faults c.give_back.new.shelf) c.give_back.ensures.back
-    (λ name none. ap (bytes_on g.F.D.Disk.reads) (c.give_back.ensures.disks name none) ∙ c.in-Err.ensures.refused_bytes told name ∙ ap (bytes_on g.F.D.Disk.reads) (so_far.disks name none))
+    (λ name none. (
+      ap (bytes_on g.F.D.Disk.reads) (c.give_back.ensures.disks name none) ∙ c.in-Err.ensures.refused_bytes told name ∙ ap (bytes_on g.F.D.Disk.reads) (so_far.disks name none),
+      λ crash left. subst (λ d. image_on g.F.D.Disk.image d crash) (so_far.disks name none) (c.in-Err.ensures.refused_images told name crash (subst (λ d. image_on g.F.D.Disk.image d crash) (c.give_back.ensures.disks name none) left)),
+    )) name).0
+
+pub returns-in-Err-clause-refused_images : goal.returns-in-Err-clause-refused_images
+returns-in-Err-clause-refused_images g c = λ told name.
+    let so_far = c.loop-user.invariant.opened in
+    (all_same c.args.registry.now.directory.now c.args.registry.now.schema.now c.args.registry.now.world.now (header_bytes c.args.registry.now.header.now) g.F.Shelf.told g.F.D.Disk.told g.F.D.Disk.reads g.F.D.Disk.image g.F.D.Disk.faults (g.F.Shelf.disk c.args.shelf.now) (g.F.Shelf.disk_faults c.args.shelf.now) told
+    (take c.loop-user.user-index c.args.registry.now.users.now) c.loop-user.seats.items so_far.are (g.F.Shelf.disk c.give_back.new.shelf) (g.F.Shelf.disk_faults c.give_back.new.shelf) c.give_back.ensures.back
+    (λ name none. (
+      ap (bytes_on g.F.D.Disk.reads) (c.give_back.ensures.disks name none) ∙ c.in-Err.ensures.refused_bytes told name ∙ ap (bytes_on g.F.D.Disk.reads) (so_far.disks name none),
+      λ crash left. subst (λ d. image_on g.F.D.Disk.image d crash) (so_far.disks name none) (c.in-Err.ensures.refused_images told name crash (subst (λ d. image_on g.F.D.Disk.image d crash) (c.give_back.ensures.disks name none) left)),
+    )) name).1
+
+pub returns-in-Err-clause-disks : goal.returns-in-Err-clause-disks
+returns-in-Err-clause-disks g c = λ name none.
+    let so_far = c.loop-user.invariant.opened in
+    let apart = no_journal c.args.registry.now.directory.now c.args.registry.now.schema.now c.args.registry.now.world.now (header_bytes c.args.registry.now.header.now) g.F.Shelf.told g.F.D.Disk.told g.F.D.Disk.reads g.F.D.Disk.image g.F.D.Disk.faults (g.F.Shelf.disk c.args.shelf.now) (g.F.Shelf.disk_faults c.args.shelf.now) c.law_journals_differ.ensures
+    c.args.registry.now.users.now c.requires.distinct c.loop-user.user-index c.user-item.result c.loop-user-test.true c.user-item.is c.loop-user.seats.items _ _ _ so_far name none in
+    c.give_back.ensures.disks name apart.0 ∙ c.open_seat.ensures.disks name apart.1 ∙ so_far.disks name apart.0
+
+pub returns-clause-disks : goal.returns-clause-disks
+returns-clause-disks g c = λ name none.
+    let so_far = c.loop-user.invariant.opened in
+    so_far.disks name (ap (λ ns. is_among ns name) (seat_journals c.args.registry.now.directory.now c.args.registry.now.schema.now c.args.registry.now.world.now (header_bytes c.args.registry.now.header.now) g.F.Shelf.told g.F.D.Disk.told g.F.D.Disk.reads g.F.D.Disk.image g.F.D.Disk.faults (g.F.Shelf.disk c.args.shelf.now) (g.F.Shelf.disk_faults c.args.shelf.now) (take c.loop-user.user-index c.args.registry.now.users.now) c.loop-user.seats.items so_far.are
+    ∙ ap (λ us. map (journal_name c.args.registry.now.directory.now) (names us)) (take_all c.loop-user.user-index c.args.registry.now.users.now (omega (arith, c.loop-user-test.false)))) ∙ none)
 
 pub returns-in-Err-clause-fell : goal.returns-in-Err-clause-fell
 returns-in-Err-clause-fell g c = λ name.

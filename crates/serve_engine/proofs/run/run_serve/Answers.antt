@@ -1,4 +1,4 @@
-use Rattle.std.proofs.Common.{◌++◌, ◌+◌, ap, ◌∙◌, arith}
+use Rattle.std.proofs.Common.{inr, ◌++◌, ◌+◌, ap, ◌∙◌, arith}
 use Rattle.std.specs.List.{sum_by, flat_map}
 use Rattle.log_journal.specs.Opening.{header_bytes}
 use Rattle.desk_crew.specs.Shelved.{journals_on}
@@ -35,3 +35,9 @@ returns-clause-limited g c links_told =
     let gave = c.take_back_all.ensures.given links_told ∙ ap (λ n. n + sum_by g.L.D.Door.given c.serve_opened-end.result.1.items) (heard.given links_told) in
     let most = c.serve_opened-end.ensures.limited (g.met.L.Links.tells_doors links_told) in
     omega (arith, none, gave, most)
+
+pub returns-clause-listens : goal.returns-clause-listens
+returns-clause-listens g c links_told = inr (c.take_back_all.ensures.listened links_told ∙ c.in-Ok.ensures.listened links_told)
+
+pub returns-clause-heard : goal.returns-clause-heard
+returns-clause-heard g c links_told done = c.take_back_all.ensures.listened links_told ∙ c.in-Ok.ensures.listened links_told

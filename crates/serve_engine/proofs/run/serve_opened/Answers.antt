@@ -1,8 +1,8 @@
 use Rattle.std.proofs.Common.{◌∙◌, length, map, sym, ap, subst, arith}
 use Rattle.cqe_base.specs.Schema.{has_duplicate}
 use Rattle.log_journal.specs.Opening.{header_bytes}
-use Rattle.desk_crew.specs.Shelved.{journals_on, AllOut, AreOut}
-use Rattle.desk_crew.proofs.Opening.{seats_distinct, seats_later, same_length, all_out, none_out, none_fell}
+use Rattle.desk_crew.specs.Shelved.{is_among, journals_on, AllOut, AreOut}
+use Rattle.desk_crew.proofs.Opening.{seat_journals, seats_distinct, seats_later, same_length, all_out, none_out, none_fell}
 use Rattle.serve_engine.specs.Serving.{HaveServed, EndsAt, IsDone}
 use Rattle.serve_engine.specs.Served.{Served}
 use Rattle.serve_engine.specs.Sharing.{seat_member, IsServedAt}
@@ -51,7 +51,7 @@ returns-clause-ends g c shelf_told door_told =
       total = served.0;
       served = served_still g.O.Door.told g.O.Door.given g.O.Door.left g.O.Door.faults g.O.Door.back (IsServedAt c.args.registry.now.users.now c.serve_seats-outcome.result.1.items) (Served c.args.registry.now.schema.now c.args.registry.now.world.now c.args.registry.now.users.now (map seat_member c.serve_seats-outcome.result.1.items))
           (λ visit is. is c.args.registry.now.schema.now c.args.registry.now.world.now (all_in_world c.args.registry.now.schema.now c.args.registry.now.world.now (header_bytes c.args.registry.now.header.now) c.args.registry.now.directory.now g.F.D.Disk.told g.F.Shelf.told disk_told shelf_told g.F.D.Disk.reads g.F.D.Disk.image g.F.D.Disk.faults (g.met.F.D.Disk g.world.𝓛 g.world.𝓜 g.world.𝓡 ((λ s x. x), (λ x. x), (λ x. x), λ x. x)).read_is_image (g.F.Shelf.disk c.args.shelf.now) (g.F.Shelf.disk c.give_back-is_broken.new.shelf) (g.F.Shelf.disk_faults c.args.shelf.now) (g.F.Shelf.disk_faults c.give_back-is_broken.new.shelf) c.args.registry.now.users.now c.in-Ok-open_all.seats.items c.serve_seats-outcome.result.1.items c.in-Ok-open_all.ensures.opened c.serve_seats-outcome.ensures.on)) served.0 c.args.doors.items c.serve_seats-outcome.result.2.items served.1;
-    }))
+    }) c.args.limit served.2)
 
 pub returns-clause-ended : goal.returns-clause-ended
 returns-clause-ended g c door_told done =
@@ -74,6 +74,12 @@ pub returns-clause-doors : goal.returns-clause-doors
 returns-clause-doors g c =
     let served = c.serve_seats-outcome.ensures.served in
     doors_many g.O.Door.told g.O.Door.given g.O.Door.left g.O.Door.faults g.O.Door.back (IsServedAt c.args.registry.now.users.now c.serve_seats-outcome.result.1.items) served.0 c.args.doors.items c.serve_seats-outcome.result.2.items served.1
+
+pub returns-clause-disks : goal.returns-clause-disks
+returns-clause-disks g c name none =
+    c.give_back-is_broken.ensures.disks name (ap (λ ns. is_among ns name) (journals_on_same c.in-Ok-open_all.seats.items c.serve_seats-outcome.result.1.items c.serve_seats-outcome.ensures.on
+    ∙ seat_journals c.args.registry.now.directory.now c.args.registry.now.schema.now c.args.registry.now.world.now (header_bytes c.args.registry.now.header.now) g.F.Shelf.told g.F.D.Disk.told g.F.D.Disk.reads g.F.D.Disk.image g.F.D.Disk.faults (g.F.Shelf.disk c.args.shelf.now) (g.F.Shelf.disk_faults c.args.shelf.now) c.args.registry.now.users.now c.in-Ok-open_all.seats.items c.in-Ok-open_all.ensures.opened) ∙ none)
+    ∙ c.open_all.ensures.disks name none
 
 pub returns-clause-inside : goal.returns-clause-inside
 returns-clause-inside g c =

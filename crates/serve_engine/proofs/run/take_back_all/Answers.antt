@@ -1,4 +1,4 @@
-use Rattle.std.proofs.Common.{◌∷◌, [], arith, length-append}
+use Rattle.std.proofs.Common.{◌∷◌, [], ◌∙◌, arith, length-append}
 use Rattle.worker_pool.proofs.Seating.{read_on, read_more}
 use Rattle.serve_engine.proofs.Backing.{sum_more, flat_more, failed_more}
 use Rattle.serve_engine.proofs.run.take_back_all.Goals as goal
@@ -24,6 +24,7 @@ loop-door-preserved g c =
       out = omega (arith, out, less, read);
       given = λ t. sum_more g.L.D.Door.given c.loop-door.yielded c.in-Some.door _ _ _ (so_far.given t) (back.given t);
       at_hand = λ t. sum_more g.L.D.Door.left c.loop-door.yielded c.in-Some.door _ _ _ (so_far.at_hand t) (back.at_hand t);
+      listened = λ t. back.listened t ∙ so_far.listened t;
       back = λ t. flat_more g.L.D.Door.back c.loop-door.yielded c.in-Some.door _ _ _ (so_far.back t) (back.back t);
       later = omega (arith, before, after);
       failed = failed_more g.L.D.Door.faults c.loop-door.yielded c.in-Some.door _ _ _ before after so_far.failed back.failed;

@@ -13,6 +13,7 @@ invariant-loop-door g l = record {
   given : g.L.Links.told → g.L.Links.given l.links ≡ g.L.Links.given l.fn.links + sum_by g.L.D.Door.given l.yielded;
   at_hand : g.L.Links.told → g.L.Links.at_hand l.links ≡ g.L.Links.at_hand l.fn.links + sum_by g.L.D.Door.left l.yielded;
   back : g.L.Links.told → g.L.Links.back l.links ≡ g.L.Links.back l.fn.links ++ flat_map g.L.D.Door.back l.yielded;
+  listened : g.L.Links.told → g.L.Links.listened l.links ≡ g.L.Links.listened l.fn.links;
   later : g.L.Links.faults l.fn.links ≤ g.L.Links.faults l.links;
   failed : SomeFailed g.L.D.Door.faults l.yielded → Rose (g.L.Links.faults l.fn.links) (g.L.Links.faults l.links);
 }

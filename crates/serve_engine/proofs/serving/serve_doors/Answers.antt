@@ -1,5 +1,5 @@
 use denote.Param.Send.{sendable}
-use Rattle.std.proofs.Common.{rules, arith, ◌≡◌, ◌≤◌, length, sym, ap, subst}
+use Rattle.std.proofs.Common.{rules, arith, ◌≡◌, ◌≤◌, length, refl, sym, ap, subst}
 use Rattle.std.specs.Prelude.{None}
 use Rattle.std.proofs.lemmas.List.{length-map}
 use Rattle.std.proofs.lemmas.List.Elements.{All-same, All-weaker, All-from_recursion, recursion_from_All}
@@ -23,11 +23,11 @@ pub returns-in_default-clause-on : goal.returns-in_default-clause-on
 returns-in_default-clause-on g c = on_same (passes_in c.args.passes.now)
 
 pub returns-in_default-clause-served : goal.returns-in_default-clause-served
-returns-in_default-clause-served g c = (0, none_served g.O.Door.told g.O.Door.given g.O.Door.left g.O.Door.faults g.O.Door.back (IsServedBy c.args.counters.now c.args.passes.now) c.args.doors.items, tt, omega arith)
+returns-in_default-clause-served g c = (0, none_served g.O.Door.told g.O.Door.given g.O.Door.left g.O.Door.faults g.O.Door.back (IsServedBy c.args.counters.now c.args.passes.now) c.args.doors.items, refl, omega arith)
 
 pub returns-in_default-split_all-clause-served : goal.returns-in_default-split_all-clause-served
 returns-in_default-split_all-clause-served g c =
-    (0, none_served g.O.Door.told g.O.Door.given g.O.Door.left g.O.Door.faults g.O.Door.back (IsServedBy c.args.counters.now c.split_all.new.passes) c.args.doors.items, tt, omega arith)
+    (0, none_served g.O.Door.told g.O.Door.given g.O.Door.left g.O.Door.faults g.O.Door.back (IsServedBy c.args.counters.now c.split_all.new.passes) c.args.doors.items, refl, omega arith)
 
 pub crew_of-crew-requires-clause-opened : goal.crew_of-crew-requires-clause-opened
 crew_of-crew-requires-clause-opened g c κs within =
@@ -119,6 +119,6 @@ returns-in-Err-clause-served g c =
       0,
       subst (λ ds. AreServedDoors g.O.Door.told g.O.Door.given g.O.Door.left g.O.Door.faults g.O.Door.back stands 0 c.args.doors.items ds) (sym back)
           (none_served g.O.Door.told g.O.Door.given g.O.Door.left g.O.Door.faults g.O.Door.back stands c.args.doors.items),
-      tt,
+      refl,
       omega arith,
     )
