@@ -1,4 +1,13 @@
-//! The program: it makes the real files, streams and sockets, calls `top` and ends with its answer.
+//! The program `cqe`: it makes the real files, streams and sockets, calls `top` and ends with its answer.
+//!
+//! All that is promised is the contract of `top` in `cqe_top`, for any files, streams and sockets that keep to the traits
+//! of `outside`; this crate adds nothing to it. What the system's own files and sockets hold is told to no clause: that they
+//! behave so is tested by the runs that are stored beside this folder and beside `cqe_batch`.
+//!
+//! Words that aren't text are passed on as no words at all, which have no reading. Where memory is wanting for the words
+//! themselves, it ends as `top` does for want of memory.
+//!
+//! Read `top` first, then `main` here.
 #![tactic(auto)]
 
 use cqe_top::top;

@@ -15,10 +15,9 @@ use Rattle.log_journal.specs.Names.{journal_name}
 use Rattle.user_desk.specs.Causes.{Opens}
 use Rattle.user_desk.specs.declared.standing.DeskError.{DeskError}
 use Rattle.init_engine.specs.Disks as init
-use Rattle.desk_crew.specs.Shelved.{Journals}
+use Rattle.desk_crew.specs.Shelved.{Journals, journals_on, bytes_on, image_on, SameBytes, NoNewImages}
 use Rattle.desk_crew.specs.Openings.{IsOpening}
-use Rattle.desk_crew.specs.Shelved.{journals_on, bytes_on, image_on, SameBytes}
-use Rattle.audit_engine.specs.Ends.{IsEnd, NoNewImages}
+use Rattle.audit_engine.specs.Ends.{IsEnd}
 use Rattle.audit_engine.specs.declared.end.AuditEnd.{AuditEnd}
 use Rattle.audit_engine.specs.declared.end.AuditEnd.TheVariants as audit_end
 use Rattle.policy_files.specs.Memory.{named_user_of, policy_value_of}

@@ -1,5 +1,5 @@
 -- What the end of a command reaches, from what its parts did.
-use Rattle.std.proofs.Common.{◌≡◌, inl, inr, ℕ, Bool, true, false, List, Option, refl, subst}
+use Rattle.std.proofs.Common.{◌≡◌, inl, inr, ℕ, Bool, true, false, List, map, Option, refl, ap, subst, ◌∙◌}
 use Rattle.std.specs.Prelude.{Vec, if◌then◌else◌}
 use Rattle.std.specs.declared.alloc.Global.{Global}
 use Rattle.outside.specs.Shelf.{SameNames}
@@ -8,6 +8,7 @@ use Rattle.cqe_base.specs.Facts.{FactSet}
 use Rattle.cqe_base.specs.Transcript.{NamedUser}
 use Rattle.cqe_base.specs.declared.user.User.{User}
 use Rattle.user_desk.specs.declared.standing.DeskError.{DeskError}
+use Rattle.log_journal.specs.Names.{journal_name}
 use Rattle.policy_files.specs.Policies.{PolicyValue}
 use Rattle.policy_files.specs.Users.{names_of}
 use Rattle.init_engine.specs.Disks as init
@@ -15,15 +16,14 @@ use Rattle.case_engine.specs.Case as case
 use Rattle.case_engine.specs.declared.case.CaseEnd.{CaseEnd}
 use Rattle.case_engine.specs.declared.case.CaseEnd.TheVariants as case_end
 use Rattle.batch_engine.specs.Batch as batch
-use Rattle.desk_crew.specs.Shelved.{Journals}
-use Rattle.desk_crew.specs.Shelved.{journals_on}
+use Rattle.desk_crew.specs.Shelved.{Journals, journals_on, bytes_on, image_on, is_among, AreKept, SameBeside}
 use Rattle.batch_engine.specs.declared.run.BatchEnd.{BatchEnd}
 use Rattle.batch_engine.specs.declared.run.BatchEnd.TheVariants as batch_end
 use Rattle.cqe_top.specs.declared.end.CommandEnd.{CommandEnd}
 use Rattle.cqe_top.specs.declared.end.CommandEnd.TheVariants as ends
 use Rattle.cqe_top.specs.Files.{FilesSay, both, new_users}
 use Rattle.cqe_top.specs.Statuses.{end_of_case, end_of_batch, has_refusal}
-use Rattle.cqe_top.specs.Reaches.{CaseReaches, BatchReaches, Completes}
+use Rattle.cqe_top.specs.Reaches.{CaseReaches, BatchReaches, Completes, TouchesJournals}
 use Rattle.cqe_top.specs.Refusals.{RefusesFiles}
 
 module _ (before after old new : List ℕ) where
@@ -66,20 +66,32 @@ batch_over reads image directory disk mid disk' count mid_count count' before af
     (subst (λ n. batch.Ends policy.schema world header (journals_on reads image directory mid disk' n count') (new_users policy) end before after old new) (λ i name. same_counts name i)
     (subst (λ u. batch.Ends policy.schema world header (journals_on reads image directory mid disk' mid_count count') u end before after old new) are reached)))
 
+-- the journals on disks that weren't touched
+pub kept_same : {D : Type 0} (reads : D → List ℕ) (image : D → List ℕ → Type 0) (directory : List ℕ) (disk disk' : Text → Option D) (count count' : Text → ℕ) → SameNames disk disk'
+    → AreKept (journals_on reads image directory disk disk' count count')
+kept_same reads image directory disk disk' count count' same name =
+    (ap (bytes_on reads) (same (journal_name directory name)), λ crash left. subst (λ d. image_on image d crash) (same (journal_name directory name)) left)
+
 -- files that weren't read
-pub refused_reaches : (journals : Journals) (policy_name facts_name : List ℕ) (files : FilesSay) (end : CommandEnd) (before after old : List ℕ) → RefusesFiles policy_name facts_name files end
+pub refused_reaches : (journals : Journals) (policy_name facts_name : List ℕ) (files : FilesSay) (end : CommandEnd) (before after old : List ℕ) → AreKept journals → RefusesFiles policy_name facts_name files end
     → BatchReaches journals before after old old policy_name facts_name files end
-refused_reaches journals policy_name facts_name files ends.Done before after old refused = absurd refused
-refused_reaches journals policy_name facts_name files ends.Usage before after old refused = absurd refused
-refused_reaches journals policy_name facts_name files (ends.Missing name) before after old refused = (refused, refl)
-refused_reaches journals policy_name facts_name files ends.ShelfFault before after old refused = refl
-refused_reaches journals policy_name facts_name files (ends.Policy why) before after old refused = (refused, refl)
-refused_reaches journals policy_name facts_name files (ends.Facts why) before after old refused = (refused, refl)
-refused_reaches journals policy_name facts_name files (ends.Script refusal) before after old refused = absurd refused
-refused_reaches journals policy_name facts_name files ends.ReadFault before after old refused = absurd refused
-refused_reaches journals policy_name facts_name files ends.WriteFault before after old refused = absurd refused
-refused_reaches journals policy_name facts_name files (ends.Journal name why) before after old refused = absurd refused
-refused_reaches journals policy_name facts_name files (ends.Journals users refusals) before after old refused = absurd refused
-refused_reaches journals policy_name facts_name files ends.DiskFault before after old refused = absurd refused
-refused_reaches journals policy_name facts_name files ends.LinksFault before after old refused = absurd refused
-refused_reaches journals policy_name facts_name files ends.Memory before after old refused = inl refl
+refused_reaches journals policy_name facts_name files ends.Done before after old kept refused = absurd refused
+refused_reaches journals policy_name facts_name files ends.Usage before after old kept refused = absurd refused
+refused_reaches journals policy_name facts_name files (ends.Missing name) before after old kept refused = (refused, (refl, kept))
+refused_reaches journals policy_name facts_name files ends.ShelfFault before after old kept refused = (refl, kept)
+refused_reaches journals policy_name facts_name files (ends.Policy why) before after old kept refused = (refused, (refl, kept))
+refused_reaches journals policy_name facts_name files (ends.Facts why) before after old kept refused = (refused, (refl, kept))
+refused_reaches journals policy_name facts_name files (ends.Script refusal) before after old kept refused = absurd refused
+refused_reaches journals policy_name facts_name files ends.ReadFault before after old kept refused = absurd refused
+refused_reaches journals policy_name facts_name files ends.WriteFault before after old kept refused = absurd refused
+refused_reaches journals policy_name facts_name files (ends.Journal name why) before after old kept refused = absurd refused
+refused_reaches journals policy_name facts_name files (ends.Journals users refusals) before after old kept refused = absurd refused
+refused_reaches journals policy_name facts_name files ends.DiskFault before after old kept refused = absurd refused
+refused_reaches journals policy_name facts_name files ends.LinksFault before after old kept refused = absurd refused
+refused_reaches journals policy_name facts_name files ends.Memory before after old kept refused = inl (refl, kept)
+
+-- the disks that a command touched over files that were read, where the users of its registry are those of the policy
+pub touches_over : {D : Type 0} (directory : List ℕ) (files : FilesSay) (policy : PolicyValue) (world : FactSet) (header : List ℕ) (names : List Text) (disk mid disk' : Text → Option D)
+    → files ≡ both policy world header → names ≡ names_of policy.users → SameNames disk mid → SameBeside (map (journal_name directory) names) mid disk' → TouchesJournals directory files disk disk'
+touches_over directory files policy world header names disk mid disk' say same read touched =
+    inr (policy, world, header, say, λ name none. touched name (ap (λ ns. is_among (map (journal_name directory) ns) name) same ∙ none) ∙ read name)

@@ -66,7 +66,7 @@ module _ (journals : Journals) (given given' : ℕ) (back back' : List Visit) (p
   serve_reaches (serve_end.Done refusals is_broken) served = answered refusals is_broken (has_refusal refusals.items) refl served
   serve_reaches serve_end.LinksFault served = (policy_value_of policy, world, header, say, some served)
   serve_reaches serve_end.ShelfFault served = served
-  serve_reaches serve_end.Memory served = inr (policy_value_of policy, world, header, say, some served)
+  serve_reaches serve_end.Memory served = inr (policy_value_of policy, world, header, say, (policy.users.items, refl, served))
 
 -- the same, where the shelf's disks were the same before the files were read
 pub serve_over : {D : Type 0} (reads : D → List ℕ) (image : D → List ℕ → Type 0) (directory : Text) (disk mid disk' : Text → Option D) (count mid_count count' : Text → ℕ)

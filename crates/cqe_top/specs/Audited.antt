@@ -7,9 +7,8 @@ use Rattle.cqe_base.specs.Schema.{Text}
 use Rattle.cqe_base.specs.Facts.{FactSet}
 use Rattle.cqe_base.specs.History.{History}
 use Rattle.user_desk.specs.Causes.{Opens}
-use Rattle.desk_crew.specs.Shelved.{Journals}
-use Rattle.desk_crew.specs.Shelved.{SameBytes}
-use Rattle.audit_engine.specs.Ends.{IsEnd, NoNewImages}
+use Rattle.desk_crew.specs.Shelved.{Journals, SameBytes, NoNewImages}
+use Rattle.audit_engine.specs.Ends.{IsEnd}
 use Rattle.audit_engine.specs.declared.end.AuditEnd.{AuditEnd}
 use Rattle.audit_engine.specs.declared.end.AuditEnd.TheVariants as audit_end
 use Rattle.policy_files.specs.Policies.{NamedUser, PolicyValue}

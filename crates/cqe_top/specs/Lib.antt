@@ -1,5 +1,4 @@
 pub mod Words
-pub mod Parts
 pub mod Files
 pub mod Statuses
 pub mod Complaints

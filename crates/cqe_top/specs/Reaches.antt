@@ -1,5 +1,5 @@
 -- What an end of a command says of the files, of what was read and of what was written.
-use Rattle.std.specs.Prelude.{◌≡◌, ◌⊎◌, ℕ, Bool, true, false, List, [], Option, Ok, Err, string_bytes}
+use Rattle.std.specs.Prelude.{◌≡◌, ◌⊎◌, ℕ, Bool, true, false, List, [], map, Option, Ok, Err, string_bytes}
 use Rattle.outside.specs.Shelf.{SameNames}
 use Rattle.user_desk.specs.declared.standing.DeskError.{DeskError}
 use Rattle.user_desk.specs.declared.standing.DeskError.TheVariants as desk_errors
@@ -11,7 +11,8 @@ use Rattle.init_engine.specs.declared.end.InitEnd.{InitEnd}
 use Rattle.init_engine.specs.declared.end.InitEnd.TheVariants as init_end
 use Rattle.batch_engine.specs.BatchLines.{batch_of, BatchItem}
 use Rattle.batch_engine.specs.Batch as batch
-use Rattle.desk_crew.specs.Shelved.{Journals}
+use Rattle.log_journal.specs.Names.{journal_name}
+use Rattle.desk_crew.specs.Shelved.{Journals, AreKept, SameBeside}
 use Rattle.cqe_base.specs.Facts.{FactSet}
 use Rattle.policy_files.specs.Policies.{PolicyValue}
 use Rattle.policy_files.specs.Users.{names_of}
@@ -27,7 +28,7 @@ CaseReaches Done before after old new = (after ≡ []) × case.Completes before 
 CaseReaches (Script refusal) before after old new = (script_of before ≡ Err refusal) × (new ≡ old)
 CaseReaches ReadFault before after old new = new ≡ old
 CaseReaches WriteFault before after old new = case.Breaks before old new
-CaseReaches Memory before after old new = (new ≡ old) ⊎ case.Breaks before old new
+CaseReaches Memory before after old new = new ≡ old
 CaseReaches Usage before after old new = ⊥
 CaseReaches (Policy why) before after old new = ⊥
 CaseReaches (Facts why) before after old new = ⊥
@@ -86,25 +87,33 @@ module _ (journals : Journals) (before after old new : List ℕ) where
   abbrev pub Breaks : PolicyValue → FactSet → List ℕ → Type 0
   Breaks policy world header = batch.Breaks policy.schema world header journals (new_users policy) before old new
 
+  -- nothing was written, and all journals are as they were
+  abbrev pub LeavesAll : Type 0
+  LeavesAll = (new ≡ old) × AreKept journals
+
   -- an end of the command `batch` over the files of two names, by what they say and by the same bytes
   abbrev pub BatchReaches : List ℕ → List ℕ → FilesSay → CommandEnd → Type 0
   BatchReaches policy_name facts_name files Done =
       Say files (λ policy world header. (refusals : List (Option DeskError)) × (has_refusal refusals ≡ false) × Completes refusals false policy world header)
-  BatchReaches policy_name facts_name files (Policy why) = (files ≡ bad_policy why) × (new ≡ old)
-  BatchReaches policy_name facts_name files (Facts why) = (files ≡ bad_facts why) × (new ≡ old)
-  BatchReaches policy_name facts_name files (Missing name) = IsMissing files policy_name facts_name name.now × (new ≡ old)
-  BatchReaches policy_name facts_name files (Script refusal) = Say files (λ policy world header. batch_of before ≡ Err refusal) × (new ≡ old)
-  BatchReaches policy_name facts_name files ReadFault = Say files (λ policy world header. new ≡ old)
+  BatchReaches policy_name facts_name files (Policy why) = (files ≡ bad_policy why) × LeavesAll
+  BatchReaches policy_name facts_name files (Facts why) = (files ≡ bad_facts why) × LeavesAll
+  BatchReaches policy_name facts_name files (Missing name) = IsMissing files policy_name facts_name name.now × LeavesAll
+  BatchReaches policy_name facts_name files (Script refusal) = Say files (λ policy world header. batch_of before ≡ Err refusal) × LeavesAll
+  BatchReaches policy_name facts_name files ReadFault = Say files (λ policy world header. LeavesAll)
   BatchReaches policy_name facts_name files WriteFault = Say files Breaks
   BatchReaches policy_name facts_name files (end.Journals users refusals) =
       Say files (λ policy world header. (has_refusal refusals.items ≡ true) × (init.names_of users.items ≡ names_of policy.users) × (is_broken : Bool) × Completes refusals.items is_broken policy world header)
   BatchReaches policy_name facts_name files DiskFault =
       Say files (λ policy world header. (refusals : List (Option DeskError)) × (has_refusal refusals ≡ false) × Completes refusals true policy world header)
-  BatchReaches policy_name facts_name files Memory = (new ≡ old) ⊎ Say files Breaks
-  BatchReaches policy_name facts_name files ShelfFault = new ≡ old
+  BatchReaches policy_name facts_name files Memory = LeavesAll ⊎ Say files Breaks
+  BatchReaches policy_name facts_name files ShelfFault = LeavesAll
   BatchReaches policy_name facts_name files Usage = ⊥
   BatchReaches policy_name facts_name files (Journal name why) = ⊥
   BatchReaches policy_name facts_name files LinksFault = ⊥
+
+-- no disk but the journals of the policy's users was touched; where the files give no policy, none was
+abbrev pub TouchesJournals : {D : Type 0} → List ℕ → FilesSay → (List ℕ → Option D) → (List ℕ → Option D) → Type 0
+TouchesJournals directory files old new = SameNames old new ⊎ Say files (λ policy world header. SameBeside (map (journal_name directory) (names_of policy.users)) old new)
 
 -- a status is that of an end, which is one of the words' command, and of which the complaints are told
 pub record Ends (status : ℕ) (AsCase AsInit AsBatch AsAudit AsSelfrun AsServe IsTold : CommandEnd → Type 0) : Type 0 where

@@ -1,6 +1,6 @@
 -- What an end of the command `serve` says of the files, of the journals and of the connections that were given.
-use Rattle.std.specs.Prelude.{◌≡◌, ◌⊎◌, ℕ, Bool, true, false, List, map, Option}
-use Rattle.outside.specs.Visits.{Visit}
+use Rattle.std.specs.Prelude.{◌≡◌, ◌⊎◌, ◌++◌, ◌∷◌, [], ℕ, Bool, true, false, List, map, Option}
+use Rattle.outside.specs.Visits.{Visit, Place, place_of}
 use Rattle.cqe_base.specs.Schema.{Text}
 use Rattle.cqe_base.specs.Facts.{FactSet}
 use Rattle.cqe_base.specs.declared.user.User.{User}
@@ -30,6 +30,10 @@ module _ (journals : Journals) (given given' : ℕ) (back back' : List Visit) wh
   abbrev pub ServesSome : PolicyValue → FactSet → List ℕ → Type 0
   ServesSome policy world header = ServesNobody journals given given' back back' ⊎ ((refusals : List (Option DeskError)) × (is_broken : Bool) × ServesAll refusals is_broken policy world header)
 
+  -- no connection was served, though the journals may have been opened
+  abbrev pub ServesNone : PolicyValue → FactSet → List ℕ → Type 0
+  ServesNone policy world header = (users : List User) × (map named_user_of users ≡ policy.users) × serving.ServesNone policy.schema world header journals users given given' back back'
+
   -- an end of the command `serve` over the files of two names, by what they say; without a fault of the links it is by the journals: whether one was refused,
   -- and else whether an append failed
   abbrev pub ServeReaches : List ℕ → List ℕ → FilesSay → CommandEnd → Type 0
@@ -41,7 +45,7 @@ module _ (journals : Journals) (given given' : ℕ) (back back' : List Visit) wh
   ServeReaches policy_name facts_name files DiskFault =
       Say files (λ policy world header. (refusals : List (Option DeskError)) × (has_refusal refusals ≡ false) × ServesAll refusals true policy world header)
   ServeReaches policy_name facts_name files LinksFault = Say files ServesSome
-  ServeReaches policy_name facts_name files Memory = ServesNobody journals given given' back back' ⊎ Say files ServesSome
+  ServeReaches policy_name facts_name files Memory = ServesNobody journals given given' back back' ⊎ Say files ServesNone
   ServeReaches policy_name facts_name files (Policy why) = (files ≡ bad_policy why) × ServesNobody journals given given' back back'
   ServeReaches policy_name facts_name files (Facts why) = (files ≡ bad_facts why) × ServesNobody journals given given' back back'
   ServeReaches policy_name facts_name files (Missing name) = IsMissing files policy_name facts_name name.now × ServesNobody journals given given' back back'
@@ -51,6 +55,10 @@ module _ (journals : Journals) (given given' : ℕ) (back back' : List Visit) wh
   ServeReaches policy_name facts_name files ReadFault = ⊥
   ServeReaches policy_name facts_name files WriteFault = ⊥
   ServeReaches policy_name facts_name files (Journal name why) = ⊥
+
+-- links listened once more, at this address and with so many doors
+abbrev pub ListenAt : List ℕ → ℕ → List Place → List Place → Type 0
+ListenAt address doors old new = new ≡ old ++ place_of address doors ∷ []
 
 -- the status of a server that came to its end: done, or with journals that were refused, or with an append that failed
 abbrev pub IsComplete : ℕ → Type 0

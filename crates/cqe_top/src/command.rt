@@ -11,10 +11,10 @@ ghost use Rattle.cqe_top.specs.Files.{files_say, Say};
 ghost use Rattle.cqe_top.specs.Ready.{CanBeMade, CanBeOpened};
 ghost use Rattle.cqe_top.specs.Refusals.{IsOfInit};
 ghost use Rattle.cqe_top.specs.Statuses.{status_of};
-ghost use Rattle.cqe_top.specs.Reaches.{CaseReaches, InitReaches, BatchReaches, change_of, Ends};
+ghost use Rattle.cqe_top.specs.Reaches.{CaseReaches, InitReaches, BatchReaches, change_of, Ends, TouchesJournals};
 ghost use Rattle.cqe_top.specs.Audited.{AuditReaches, AuditsNobody, CanBeAudited, LooksAt};
 ghost use Rattle.cqe_top.specs.Selfruns.{SelfrunReaches};
-ghost use Rattle.cqe_top.specs.Serves.{ServeReaches, IsComplete};
+ghost use Rattle.cqe_top.specs.Serves.{ServeReaches, ListenAt, IsComplete};
 ghost use Rattle.cqe_top.specs.Complaints.{complaint_of, Gives};
 
 use crate::audit::audit;
@@ -104,6 +104,12 @@ where
         → LooksAt F.D.reads F.D.image (journal_name journals user) (F.disk shelf.old) (F.disk shelf.new) }
     ensures audit_reads_nothing { (policy facts journals user : List ℕ) (json : Bool) → IsAudit words.now policy facts journals user json → source.new ≡ source.old }
 
+    // A batch and a server touch no disk but the journals of the policy's users.
+    ensures batch_touches { F.told → (policy facts journals : List ℕ) → IsBatch words.now policy facts journals
+        → TouchesJournals journals (files_say (F.file shelf.old policy) (F.file shelf.old facts)) (F.disk shelf.old) (F.disk shelf.new) }
+    ensures serve_touches { F.told → (policy facts journals address : List ℕ) (workers sessions : ℕ) → IsServe words.now policy facts journals address workers sessions
+        → TouchesJournals journals (files_say (F.file shelf.old policy) (F.file shelf.old facts)) (F.disk shelf.old) (F.disk shelf.new) }
+
     // A workload is run over nothing but memory.
     ensures selfrun_takes_nothing { (seed users asks : ℕ) → IsSelfrun words.now seed users asks → shelf.new ≡ shelf.old }
     ensures selfrun_reads_nothing { (seed users asks : ℕ) → IsSelfrun words.now seed users asks → source.new ≡ source.old }
@@ -112,6 +118,12 @@ where
     ensures serve_reads_nothing { (policy facts journals address : List ℕ) (workers sessions : ℕ) → IsServe words.now policy facts journals address workers sessions → source.new ≡ source.old }
     ensures serve_writes_nothing { (policy facts journals address : List ℕ) (workers sessions : ℕ) → IsServe words.now policy facts journals address workers sessions → sink.new ≡ sink.old }
     ensures only_serve_listens { IsNoServer words.now → links.new ≡ links.old }
+
+    // It listens at the address of the words alone, with a door for each worker; and a server that came to its end did.
+    ensures serve_listens { L.told → (policy facts journals address : List ℕ) (workers sessions : ℕ) → IsServe words.now policy facts journals address workers sessions
+        → (L.listened links.new ≡ L.listened links.old) ⊎ ListenAt address workers (L.listened links.old) (L.listened links.new) }
+    ensures serve_heard { L.told → (policy facts journals address : List ℕ) (workers sessions : ℕ) → IsServe words.now policy facts journals address workers sessions → IsComplete result
+        → ListenAt address workers (L.listened links.old) (L.listened links.new) }
 
     // A server ends where no connection is at hand, or where those that were given in this call and the workers together are
     // more than the greatest number of sessions, which are never exceeded. All its doors are back.
@@ -206,11 +218,19 @@ where
     ensures audit_looks { F.told → (policy facts journals user : List ℕ) (json : Bool) → IsAudit words.now policy facts journals user json
         → LooksAt F.D.reads F.D.image (journal_name journals user) (F.disk shelf.old) (F.disk shelf.new) }
     ensures audit_reads_nothing { (policy facts journals user : List ℕ) (json : Bool) → IsAudit words.now policy facts journals user json → source.new ≡ source.old }
+    ensures batch_touches { F.told → (policy facts journals : List ℕ) → IsBatch words.now policy facts journals
+        → TouchesJournals journals (files_say (F.file shelf.old policy) (F.file shelf.old facts)) (F.disk shelf.old) (F.disk shelf.new) }
+    ensures serve_touches { F.told → (policy facts journals address : List ℕ) (workers sessions : ℕ) → IsServe words.now policy facts journals address workers sessions
+        → TouchesJournals journals (files_say (F.file shelf.old policy) (F.file shelf.old facts)) (F.disk shelf.old) (F.disk shelf.new) }
     ensures selfrun_takes_nothing { (seed users asks : ℕ) → IsSelfrun words.now seed users asks → shelf.new ≡ shelf.old }
     ensures selfrun_reads_nothing { (seed users asks : ℕ) → IsSelfrun words.now seed users asks → source.new ≡ source.old }
     ensures serve_reads_nothing { (policy facts journals address : List ℕ) (workers sessions : ℕ) → IsServe words.now policy facts journals address workers sessions → source.new ≡ source.old }
     ensures serve_writes_nothing { (policy facts journals address : List ℕ) (workers sessions : ℕ) → IsServe words.now policy facts journals address workers sessions → sink.new ≡ sink.old }
     ensures only_serve_listens { IsNoServer words.now → links.new ≡ links.old }
+    ensures serve_listens { L.told → (policy facts journals address : List ℕ) (workers sessions : ℕ) → IsServe words.now policy facts journals address workers sessions
+        → (L.listened links.new ≡ L.listened links.old) ⊎ ListenAt address workers (L.listened links.old) (L.listened links.new) }
+    ensures serve_heard { L.told → (policy facts journals address : List ℕ) (workers sessions : ℕ) → IsServe words.now policy facts journals address workers sessions → IsComplete (status_of result)
+        → ListenAt address workers (L.listened links.old) (L.listened links.new) }
     ensures serve_ends { L.told → (policy facts journals address : List ℕ) (workers sessions : ℕ) → IsServe words.now policy facts journals address workers sessions → IsComplete (status_of result)
         → (L.at_hand links.new ≡ 0) ⊎ (L.given links.old + sessions < L.given links.new + workers) }
     ensures serve_limited { L.told → (policy facts journals address : List ℕ) (workers sessions : ℕ) → IsServe words.now policy facts journals address workers sessions → L.given links.new ≤ L.given links.old + sessions }
@@ -298,6 +318,7 @@ fn batch<'w, R: Wait, F: Shelf, S: Source, K: Sink, G: Gate>(
     ensures reaches { F.told → S.told → K.told
         → BatchReaches (journals_on F.D.reads F.D.image journals.now (F.disk shelf.old) (F.disk shelf.new) (F.disk_faults shelf.old) (F.disk_faults shelf.new))
         (S.left source.old) (S.left source.new) (K.written sink.old) (K.written sink.new) policy.now facts.now (files_say (F.file shelf.old policy.now) (F.file shelf.old facts.now)) result }
+    ensures touches { F.told → TouchesJournals journals.now (files_say (F.file shelf.old policy.now) (F.file shelf.old facts.now)) (F.disk shelf.old) (F.disk shelf.new) }
     ensures used { result ≡ CommandEnd.Usage → ⊥ }
     ensures links { result ≡ CommandEnd.LinksFault → ⊥ }
     ensures read_cause { result ≡ CommandEnd.ReadFault → Rose (S.faults source.old) (S.faults source.new) }

@@ -4,7 +4,6 @@ ghost use Rattle.cqe_base.specs.Transcript.{mark_text};
 ghost use Rattle.outside.specs.Faults.{Rose, HasCause};
 ghost use Rattle.outside.specs.Streams.{AppendsPart};
 ghost use Rattle.cqe_top.specs.Complaints.{complaint_of, kind_number, schema_number, place_complaint, script_complaint, policy_complaint, facts_complaint, user_text, index_text, cause_text, opening_cause, journal_cause, journal_line, refusal_line, journal_lines, Gives};
-ghost use Rattle.cqe_top.specs.Parts.{joined};
 
 use crate::end::CommandEnd;
 use cqe_base::schema::SchemaError;
@@ -12,7 +11,7 @@ use cqe_base::text::{ScriptError, ScriptKind, TextError};
 use cqe_base::user::{Mark, User};
 use line_protocol::{LineText, Reply, text_of};
 use log_journal::OpenError;
-use outside::{Failed, Sink, write_all};
+use outside::{Failed, Sink, write_all, write_parts};
 use policy_files::{FactsError, Place, PolicyError};
 use user_desk::DeskError;
 
@@ -153,21 +152,6 @@ fn opening_cause(why: OpenError) -> LineText
         OpenError::DiskFault => LineText::new("disk fault"),
         OpenError::Memory => LineText::new("out of memory"),
     }
-}
-
-/// Appends all of these parts, one after the other. Where it fails, a front of them was appended.
-fn write_parts<K: Sink>(sink: &mut K, parts: &[&[u8]]) -> Result<(), Failed>
-    ensures all { K.told → OnOk result (K.written sink.new ≡ K.written sink.old ++ joined parts.now) }
-    ensures part { K.told → OnErr result (AppendsPart (K.written sink.old) (K.written sink.new) (joined parts.now)) }
-    ensures cause { HasCause (K.faults sink.old) (K.faults sink.new) result }
-{
-    for part in parts {
-        match write_all(sink, part) {
-            Ok(()) => (),
-            Err(Failed) => return Err(Failed),
-        }
-    }
-    Ok(())
 }
 
 /// Gives the complaint of a policy's refusal.

@@ -1,4 +1,7 @@
 //! The program `dimacs` on clauses whose budget is spent, for its stored run.
+//!
+//! A program has one stored run, so this is the same `main` once more. The clauses are a probe of an example, and the budget
+//! is one less than its whole cost. Read `dimacs`.
 #![tactic(auto)]
 
 use dimacs_text::answer_input;

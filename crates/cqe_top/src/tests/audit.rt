@@ -152,7 +152,7 @@ fn facts_in(alloc: Global, line: &str) -> Result<Vec<u8>, AllocError> {
     Ok(bytes)
 }
 
-// In each world that an audit prints, the same asks get the same lines.
+// In each world that an audit prints, the same asks get the same lines. The rows of its table make it long.
 #[test]
 fn a_printed_world_gives_the_same_lines(rt: HostRuntime) -> Result<(), Fail> {
     let alloc = rt.alloc();

@@ -77,6 +77,7 @@ fn a_batch_is_refused_before_its_first_ask(rt: HostRuntime) -> Result<(), Fail> 
     Ok(())
 }
 
+// One table, a row for each kind of refusal: the policy, the facts, the status and the complaint.
 #[test]
 fn each_refused_file_has_its_place(rt: HostRuntime) -> Result<(), Fail> {
     let alloc = rt.alloc();

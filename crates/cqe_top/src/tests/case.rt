@@ -35,7 +35,7 @@ fn repeated(
     Ok(bytes)
 }
 
-// Scripts that are answered, with what is written.
+// Scripts that are answered, with what is written: one table, so that every row is tried with every cut of the streams.
 fn answered() -> [(&'static [&'static str], &'static str); 25] {
     [
         (&[CLINIC, LIAR], "no\nno\nno\n"),
@@ -304,7 +304,8 @@ fn other_words_have_no_reading(rt: HostRuntime) -> Result<(), Fail> {
     Ok(())
 }
 
-// Scripts that are refused: what stands above, the last lines, and the kind and the line.
+// Scripts that are refused: what stands above, the last lines, and the kind and the line. One table in the order of the
+// kinds.
 fn refused() -> [(&'static str, &'static str, &'static str); 38] {
     [
         // no shape
@@ -428,6 +429,8 @@ fn each_limit_may_be_reached_and_not_passed(rt: HostRuntime) -> Result<(), Fail>
     Ok(())
 }
 
+// The source fails at each of its calls, then the sink at each of its own, by bytes and by lines: three runs of eight
+// arguments make it long.
 #[test]
 fn a_stream_may_fail_at_any_call(rt: HostRuntime) -> Result<(), Fail> {
     let alloc = rt.alloc();

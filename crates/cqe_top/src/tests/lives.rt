@@ -46,6 +46,7 @@ fn a_restart_finds_what_was_told(rt: HostRuntime) -> Result<(), Fail> {
     Ok(())
 }
 
+// One journal through its life: made, made again, with a record, and with other facts; each step needs those before it.
 #[test]
 fn journals_are_made_once(rt: HostRuntime) -> Result<(), Fail> {
     let alloc = rt.alloc();
@@ -114,7 +115,8 @@ fn init_stops_at_the_first_user_who_cannot_be_served(rt: HostRuntime) -> Result<
     Ok(())
 }
 
-// Three copies of eve's journal with one byte changed; and journals that are refused for each other cause.
+// Three copies of eve's journal with one byte changed; and journals that are refused for each other cause. One table, whose
+// bytes stand whole so that a row can be read alone.
 #[test]
 fn a_journal_is_refused_by_name_and_cause(rt: HostRuntime) -> Result<(), Fail> {
     let alloc = rt.alloc();
@@ -224,7 +226,7 @@ fn refused_users_are_named_in_the_order_of_the_policy(rt: HostRuntime) -> Result
 }
 
 // The calls of eve's disk are a sync, the length and a read at its opening, and then a write, a sync, a write and a sync
-// for each ask.
+// for each ask. The rows of its table make it long.
 #[test]
 fn a_disk_that_fails_is_told_to_its_user_alone(rt: HostRuntime) -> Result<(), Fail> {
     let alloc = rt.alloc();
@@ -283,7 +285,7 @@ fn a_disk_that_fails_is_told_to_its_user_alone(rt: HostRuntime) -> Result<(), Fa
 }
 
 // A stop at each call of two asks: the disk fails every call from that one on. Each of its crash images begins a new
-// life, which finds the entries whose gates stand open.
+// life, which finds the entries whose gates stand open. What an image has to hold is said step by step, which makes it long.
 #[test]
 fn a_crash_leaves_what_was_told(rt: HostRuntime) -> Result<(), Fail> {
     let alloc = rt.alloc();

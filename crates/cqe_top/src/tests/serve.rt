@@ -124,18 +124,18 @@ fn ward_clients(alloc: Global) -> Result<Vec<Connection>, AllocError> {
     )
 }
 
-// Workers and sessions that serve them all.
-const NUMBERS: [&[&str]; 4] = [
-    &[],
-    &["--workers", "1"],
-    &["--workers=2", "--sessions=100"],
-    &["--workers", "64"],
+// Words about workers and sessions that serve them all, and how many doors they open.
+const NUMBERS: [(&[&str], u32); 4] = [
+    (&[], 4),
+    (&["--workers", "1"], 1),
+    (&["--workers=2", "--sessions=100"], 2),
+    (&["--workers", "64"], 64),
 ];
 
 #[test]
 fn each_client_is_answered(rt: HostRuntime) -> Result<(), Fail> {
     let alloc = rt.alloc();
-    for numbers in NUMBERS {
+    for (numbers, doors) in NUMBERS {
         let mut shelf = ward(&rt, alloc)?;
         let mut links = MemoryLinks::new(alloc, ward_clients(alloc)?);
         let run = serve(&rt, alloc, numbers, &mut shelf, &mut links)?;
@@ -144,6 +144,11 @@ fn each_client_is_answered(rt: HostRuntime) -> Result<(), Fail> {
         assert_eq!(rt; served(&rt, &links, &CLIENTS), 5);
         assert_eq!(rt; links.left(), 0);
         assert_eq!(rt; links.faults(), 0);
+        assert_eq!(rt; links.listened().len(), 1);
+        for place in links.listened() {
+            assert_eq!(rt; place.address.as_str(), "here");
+            assert_eq!(rt; place.doors, doors);
+        }
     }
     Ok(())
 }
@@ -265,7 +270,8 @@ fn causes_come_in_their_order(rt: HostRuntime) -> Result<(), Fail> {
     Ok(())
 }
 
-// A disk that fails is told to its user alone, and a refused journal is the end before it.
+// A disk that fails is told to its user alone, and a refused journal is the end before it. The rows of its table make it
+// long.
 #[test]
 fn a_journal_is_refused_or_fails(rt: HostRuntime) -> Result<(), Fail> {
     let alloc = rt.alloc();

@@ -3,9 +3,10 @@ use Rattle.std.specs.Prelude.{Some, option_map}
 use Rattle.desk_crew.specs.Shelved.{journals_on}
 use Rattle.command_words.specs.Readings.{reading_of, reading_in, names_of_files, runs_selfrun, runs_serve}
 use Rattle.cqe_top.specs.Files.{files_say}
+use Rattle.cqe_top.specs.Reaches.{TouchesJournals}
 use Rattle.cqe_top.specs.Audited.{AuditReaches}
 use Rattle.cqe_top.proofs.Numbers.{kept}
-use Rattle.cqe_top.proofs.Saying.{by_audit}
+use Rattle.cqe_top.proofs.Saying.{by_batch, by_audit, by_serve}
 use Rattle.cqe_top.proofs.command.run.Goals as goal
 
 pub selfrun-requires-clause-some_user : goal.selfrun-requires-clause-some_user
@@ -59,6 +60,21 @@ serve-requires-clause-few_sessions g c = λ lifetimes fit.
     let server = read.words in
     (kept (map string_bytes c.args.words.now) (runs_serve (names_of_files server.files) server.listen.now server.workers server.sessions)
     (sym read.ensures ∙ ap (option_map reading_in) (read.field-0-is ∙ ap Some read.field-0-0-is))).few_sessions
+
+pub returns-in-Ok-Some-Batch-clause-batch_touches : goal.returns-in-Ok-Some-Batch-clause-batch_touches
+returns-in-Ok-Some-Batch-clause-batch_touches g c = λ told policy facts journals is.
+    let files = c.in-Ok-Some-Batch.files in
+    by_batch (reading_of (map string_bytes c.args.words.now)) files.policy.now files.facts.now files.journals.now policy facts journals
+    (λ p f j. TouchesJournals j (files_say (g.F.Shelf.file c.args.shelf.now p) (g.F.Shelf.file c.args.shelf.now f)) (g.F.Shelf.disk c.args.shelf.now) (g.F.Shelf.disk c.batch.new.shelf))
+    (ap (option_map reading_in) (sym (c.in-Ok-Some-Batch.field-0-is ∙ ap Some c.in-Ok-Some-Batch.field-0-0-is)) ∙ c.in-Ok-Some-Batch.ensures) is (c.batch.ensures.touches told)
+
+pub returns-in-Ok-Some-Serve-clause-serve_touches : goal.returns-in-Ok-Some-Serve-clause-serve_touches
+returns-in-Ok-Some-Serve-clause-serve_touches g c = λ told policy facts journals address workers sessions is.
+    let server = c.in-Ok-Some-Serve.words in
+    let files = server.files in
+    by_serve (reading_of (map string_bytes c.args.words.now)) files.policy.now files.facts.now files.journals.now policy facts journals server.listen.now address server.workers server.sessions workers sessions
+    (λ p f j a n m. TouchesJournals j (files_say (g.F.Shelf.file c.args.shelf.now p) (g.F.Shelf.file c.args.shelf.now f)) (g.F.Shelf.disk c.args.shelf.now) (g.F.Shelf.disk c.serve.new.shelf))
+    (ap (option_map reading_in) (sym (c.in-Ok-Some-Serve.field-0-is ∙ ap Some c.in-Ok-Some-Serve.field-0-0-is)) ∙ c.in-Ok-Some-Serve.ensures) is (c.serve.ensures.touches told)
 
 pub returns-in-Ok-Some-Audit-clause-as_audit : goal.returns-in-Ok-Some-Audit-clause-as_audit
 returns-in-Ok-Some-Audit-clause-as_audit g c = λ told sink_told policy facts journals user json is.

@@ -1,6 +1,7 @@
 use Rattle.std.proofs.Common.{◌≡◌, ◌⊎◌, ℕ, sym, subst}
 use Rattle.desk_crew.specs.Shelved.{journals_on}
 use Rattle.cqe_top.specs.Files.{files_say}
+use Rattle.cqe_top.specs.Serves.{IsComplete}
 use Rattle.cqe_top.proofs.Good.{good_init, good_batch}
 use Rattle.cqe_top.proofs.Auditing.{good_audit}
 use Rattle.cqe_top.proofs.Selfrunning.{good_selfrun}
@@ -48,3 +49,7 @@ returns-clause-good_serve g c = λ shelf_told links_told policy facts journals a
     (g.F.Shelf.file c.args.shelf.now policy) (g.F.Shelf.file c.args.shelf.now facts) c.run-end.result
     (c.run-end.ensures.as_serve shelf_told links_told policy facts journals address workers sessions is) says
     (λ fault. shelf (c.run-end.ensures.shelf_cause fault)) (λ fault. links (c.run-end.ensures.links_cause fault)))
+
+pub returns-clause-serve_heard : goal.returns-clause-serve_heard
+returns-clause-serve_heard g c = λ told policy facts journals address workers sessions is complete.
+    c.run-end.ensures.serve_heard told policy facts journals address workers sessions is (subst IsComplete c.status_of.ensures complete)

@@ -5,7 +5,9 @@ use Rattle.desk_crew.specs.Crew.{named_user}
 use Rattle.desk_crew.specs.Shelved.{journals_on}
 use Rattle.cqe_top.specs.Files.{files_say}
 use Rattle.cqe_top.specs.Serves.{ServeReaches}
-use Rattle.cqe_top.proofs.Users.{batch_names_are}
+use Rattle.policy_files.specs.Memory.{policy_value_of}
+use Rattle.cqe_top.proofs.Users.{names_are, batch_names_are}
+use Rattle.cqe_top.proofs.Reaching.{touches_over}
 use Rattle.cqe_top.proofs.Serving.{serve_over}
 use Rattle.cqe_top.proofs.serve.serve.Goals as goal
 
@@ -27,3 +29,12 @@ returns-clause-reaches g c = λ told links_told.
     (files_say (g.F.Shelf.file c.args.shelf.now files.policy.now) (g.F.Shelf.file c.args.shelf.now files.facts.now))
     read.inputs.policy read.inputs.world (header_bytes read.inputs.header) c.as_slice.result.now c.run_serve-end.result
     read.ensures.disks read.ensures.counts (read.ensures.read told) c.as_slice.ensures.value (c.run_serve-end.ensures.ends told links_told))
+
+pub returns-clause-touches : goal.returns-clause-touches
+returns-clause-touches g c = λ told.
+    let files = c.args.words.now.files in
+    let read = c.in-Ok in
+    touches_over files.journals.now (files_say (g.F.Shelf.file c.args.shelf.now files.policy.now) (g.F.Shelf.file c.args.shelf.now files.facts.now))
+    (policy_value_of read.inputs.policy) read.inputs.world (header_bytes read.inputs.header) _ (g.F.Shelf.disk c.args.shelf.now) (g.F.Shelf.disk c.read_files.new.shelf) (g.F.Shelf.disk c.run_serve-end.new.shelf)
+    (read.ensures.read told) (ap (λ users. map (λ user. user.name) (map named_user users)) c.as_slice.ensures.value ∙ batch_names_are read.inputs.policy.users.items ∙ names_are read.inputs.policy.users.items)
+    read.ensures.disks c.run_serve-end.ensures.disks

@@ -1,8 +1,0 @@
--- Texts in parts.
-use Rattle.std.specs.Prelude.{ℕ, List}
-use Rattle.std.specs.Borrow.{Bor}
-use Rattle.std.specs.List.{flat_map}
-
--- the parts, one after the other
-abbrev pub joined : List (Bor (List ℕ)) → List ℕ
-joined parts = flat_map (λ part. part.now) parts
