@@ -13,6 +13,7 @@ pub record Place : Type 0 where
   pub address : List ℕ
   pub doors : ℕ
 
+-- the place with this address and so many doors
 abbrev pub place_of : List ℕ → ℕ → Place
 place_of address doors = record { address = address; doors = doors }
 
