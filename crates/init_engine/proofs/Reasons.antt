@@ -1,12 +1,12 @@
 -- The reason at a disk that was taken is the reason at what stands under its name.
-use Rattle.std.proofs.Common.{◌≡◌, ◌∙◌, ap, subst, inl, inr, ℕ, ◌≤◌, List, Option, Some, None, arith}
+use Rattle.std.proofs.Common.{◌≡◌, ◌∙◌, sym, ap, subst, inl, inr, ℕ, ◌≤◌, List, Option, Some, None, arith}
 use Rattle.outside.specs.Faults.{Rose}
 use Rattle.outside.specs.Shelf.{IsTaken}
 use Rattle.log_journal.specs.Opening.{IsRefused, Refuses}
 use Rattle.log_journal.specs.declared.header.OpenError.{OpenError}
 use Rattle.log_journal.specs.declared.header.OpenError.TheVariants.{NotAJournal, OtherPolicy, Damaged, DiskFault, Memory}
 use Rattle.init_engine.specs.Disks.{bytes_held}
-use Rattle.init_engine.specs.Stops.{HasReason}
+use Rattle.init_engine.specs.Stops.{HasReason, Stays, StaysAt}
 use Rattle.init_engine.specs.declared.end.Stop.{Stop}
 use Rattle.init_engine.specs.declared.end.Stop.TheVariants as stop
 
@@ -14,6 +14,18 @@ use Rattle.init_engine.specs.declared.end.Stop.TheVariants as stop
 pub taken_bytes : {D : Type 0} (reads : D → List ℕ) (image : D → List ℕ → Type 0) (held : Option D) (disk : D) → IsTaken reads image held disk → reads disk ≡ bytes_held reads held
 taken_bytes reads image (Some held) disk is = ap reads is
 taken_bytes reads image None disk is = is.0
+
+-- what stays of a disk that was taken stays of what was held
+module _ {D : Type 0} (reads : D → List ℕ) (image : D → List ℕ → Type 0) (after : D) where
+  held_stays : (held : Option D) (disk : D) → IsTaken reads image held disk → Stays reads image (Some disk) (Some after) → Stays reads image held (Some after)
+  held_stays (Some held) disk is stays = subst (λ d. Stays reads image (Some d) (Some after)) is stays
+  held_stays None disk is stays = record { bytes = stays.bytes ∙ is.0; images = λ c left. is.1 c (stays.images c left) }
+
+  pub held_stays_at : (held : Option D) (disk : D) → IsTaken reads image held disk → (why : Stop) → StaysAt reads image (Some disk) (Some after) why → StaysAt reads image held (Some after) why
+  held_stays_at held disk is (stop.Refused why) stays = held_stays held disk is stays
+  held_stays_at held disk is stop.DiskFault stays = λ some. held_stays held disk is (stays (λ none. some (sym (taken_bytes reads image held disk is) ∙ none)))
+  held_stays_at held disk is stop.ShelfFault stays = held_stays held disk is stays
+  held_stays_at held disk is stop.Memory stays = held_stays held disk is stays
 
 -- a count that rose, rose from an earlier one too
 pub rose_longer : (before before' now now' : ℕ) → before' ≤ before → now ≤ now' → Rose before now → Rose before' now'

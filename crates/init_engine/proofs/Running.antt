@@ -6,7 +6,7 @@ use Rattle.cqe_base.specs.declared.user.User.{User}
 use Rattle.cqe_base.specs.Schema.{has_duplicate}
 use Rattle.log_journal.specs.Names.{journal_name, JournalsDiffer}
 use Rattle.init_engine.specs.Disks.{names_of, bytes_held, IsReady, Readies}
-use Rattle.init_engine.specs.Stops.{HasReason, KeepsBytes}
+use Rattle.init_engine.specs.Stops.{HasReason, StaysAt}
 use Rattle.init_engine.specs.Ends.{Change, StopsAt, IsEnd, end_of}
 use Rattle.init_engine.specs.declared.end.Stop.{Stop}
 use Rattle.init_engine.specs.declared.end.Stop.TheVariants as stop
@@ -67,18 +67,18 @@ module _ {D : Type 0} (told : Type 0) (reads : D → List ℕ) (image : D → Li
   stood t = ap (bytes_held reads) (not_yet reads image header directory names once differ old mid new k name is (so_far t) others)
 
   stops : (why : Stop) → HasReason told header (bytes_held reads (mid journal)) (middle journal) (now journal) shelf_middle shelf_now why
-      → (told → KeepsBytes (bytes_held reads (mid journal)) (bytes_held reads (new journal)) why) → StopsAt told reads image header directory names change k why
+      → (told → StaysAt reads image (mid journal) (new journal) why) → StopsAt told reads image header directory names change k why
   stops why reason kept = record {
     name = name;
     is = is;
     reason = reason_of told told header (bytes_held reads (mid journal)) (bytes_held reads (old journal)) (middle journal) (before journal) (now journal) (now journal)
         (λ t. t) stood (counts journal) (omega arith) shelf_middle shelf_before shelf_now shelf_now (rose_longer shelf_middle shelf_before shelf_now shelf_now later (omega arith)) why reason;
-    kept = λ t. subst (λ b. KeepsBytes b (bytes_held reads (new journal)) why) (stood t) (kept t);
+    kept = λ t. subst (λ d. StaysAt reads image d (new journal) why) (not_yet reads image header directory names once differ old mid new k name is (so_far t) others) (kept t);
     ready = λ t. stopped reads image header directory names once differ old mid new k name is (so_far t) others;
   }
 
   pub ends : (why : Stop) → HasReason told header (bytes_held reads (mid journal)) (middle journal) (now journal) shelf_middle shelf_now why
-      → (told → KeepsBytes (bytes_held reads (mid journal)) (bytes_held reads (new journal)) why) → IsEnd told reads image header directory names change (end_of k why)
+      → (told → StaysAt reads image (mid journal) (new journal) why) → IsEnd told reads image header directory names change (end_of k why)
   ends (stop.Refused why) reason kept = stops (stop.Refused why) reason kept
   ends stop.DiskFault reason kept = (k, stops stop.DiskFault reason kept)
   ends stop.ShelfFault reason kept = (k, stops stop.ShelfFault reason kept)

@@ -14,6 +14,11 @@ abbrev pub bytes_held : {D : Type 0} → (D → List ℕ) → Option D → List 
 bytes_held reads None = []
 bytes_held reads (Some disk) = reads disk
 
+-- what a crash may leave of it
+abbrev pub image_held : {D : Type 0} → (D → List ℕ → Type 0) → Option D → List ℕ → Type 0
+image_held image None bytes = bytes ≡ []
+image_held image (Some disk) bytes = image disk bytes
+
 module _ {D : Type 0} (reads : D → List ℕ) (image : D → List ℕ → Type 0) (header : List ℕ) where
   -- The disk is a journal with this header, in each image. One that was empty is an empty journal, and another has its bytes.
   pub record IsMade (before : List ℕ) (disk : D) : Type 0 where

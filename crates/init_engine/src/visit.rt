@@ -1,12 +1,12 @@
 // What is done with the disk of one user.
-ghost use Rattle.std.specs.Prelude.{◌≡◌, ◌≢◌, ◌≤◌, ◌++◌, ◌∷◌, [], List, ℕ, true, false, IfOk, OnOk, IfErr};
+ghost use Rattle.std.specs.Prelude.{◌≡◌, ◌≢◌, ◌≤◌, ◌++◌, ◌∷◌, [], List, ℕ, true, false, Some, IfOk, OnOk, IfErr};
 ghost use Rattle.outside.specs.Disk.{Only};
 ghost use Rattle.outside.specs.Faults.{HasCause};
 ghost use Rattle.outside.specs.Shelf.{SameNames, SameOthers};
 ghost use Rattle.log_journal.specs.Opening.{header_bytes};
 ghost use Rattle.log_journal.specs.Names.{journal_name};
 ghost use Rattle.init_engine.specs.Disks.{bytes_held, IsMade, IsReady};
-ghost use Rattle.init_engine.specs.Stops.{HasReason, KeepsBytes, stop_of};
+ghost use Rattle.init_engine.specs.Stops.{HasReason, StaysAt, stop_of};
 
 use crate::end::Stop;
 use log_journal::{Header, OpenError, format, journal_name, open};
@@ -25,7 +25,7 @@ pub(crate) fn serve<F: Shelf>(
     ensures ready { F.told → OnOk result (IsReady F.D.reads F.D.image (header_bytes header.now) (F.disk shelf.old (journal_name directory.now name.now)) (F.disk shelf.new (journal_name directory.now name.now))) }
     ensures reason { IfErr result (HasReason F.told (header_bytes header.now) (bytes_held F.D.reads (F.disk shelf.old (journal_name directory.now name.now)))
         (F.disk_faults shelf.old (journal_name directory.now name.now)) (F.disk_faults shelf.new (journal_name directory.now name.now)) (F.faults shelf.old) (F.faults shelf.new)) }
-    ensures kept { F.told → IfErr result (KeepsBytes (bytes_held F.D.reads (F.disk shelf.old (journal_name directory.now name.now))) (bytes_held F.D.reads (F.disk shelf.new (journal_name directory.now name.now)))) }
+    ensures kept { F.told → IfErr result (StaysAt F.D.reads F.D.image (F.disk shelf.old (journal_name directory.now name.now)) (F.disk shelf.new (journal_name directory.now name.now))) }
     ensures disks { SameOthers (journal_name directory.now name.now) (F.disk shelf.old) (F.disk shelf.new) }
     ensures out { SameNames (F.is_out shelf.old) (F.is_out shelf.new) }
     ensures counts { (other : List ℕ) → F.disk_faults shelf.old other ≤ F.disk_faults shelf.new other }
@@ -47,7 +47,7 @@ fn serve_disk<F: Shelf>(
     ensures ready { F.told → OnOk result (IsReady F.D.reads F.D.image (header_bytes header.now) (F.disk shelf.old journal.now) (F.disk shelf.new journal.now)) }
     ensures reason { IfErr result (HasReason F.told (header_bytes header.now) (bytes_held F.D.reads (F.disk shelf.old journal.now))
         (F.disk_faults shelf.old journal.now) (F.disk_faults shelf.new journal.now) (F.faults shelf.old) (F.faults shelf.new)) }
-    ensures kept { F.told → IfErr result (KeepsBytes (bytes_held F.D.reads (F.disk shelf.old journal.now)) (bytes_held F.D.reads (F.disk shelf.new journal.now))) }
+    ensures kept { F.told → IfErr result (StaysAt F.D.reads F.D.image (F.disk shelf.old journal.now) (F.disk shelf.new journal.now)) }
     ensures disks { SameOthers journal.now (F.disk shelf.old) (F.disk shelf.new) }
     ensures out { SameNames (F.is_out shelf.old) (F.is_out shelf.new) }
     ensures counts { (other : List ℕ) → F.disk_faults shelf.old other ≤ F.disk_faults shelf.new other }
@@ -69,7 +69,7 @@ fn serve_disk<F: Shelf>(
 fn make<D: Disk>(alloc: Global, disk: D, header: &Header) -> (D, Result<(), Stop>)
     ensures made { D.told → OnOk result.1 (IsMade D.reads D.image (header_bytes header.now) (D.reads disk) result.0) }
     ensures reason { IfErr result.1 (HasReason D.told (header_bytes header.now) (D.reads disk) (D.faults disk) (D.faults result.0) 0 0) }
-    ensures kept { D.told → IfErr result.1 (KeepsBytes (D.reads disk) (D.reads result.0)) }
+    ensures kept { D.told → IfErr result.1 (StaysAt D.reads D.image (Some disk) (Some result.0)) }
     ensures count { D.faults disk ≤ D.faults result.0 }
 {
     let mut disk = disk;
@@ -98,7 +98,7 @@ fn reopen<D: Disk>(alloc: Global, disk: D, header: &Header) -> (D, Result<(), St
     requires { D.told → D.reads disk ≢ [] }
     ensures made { D.told → OnOk result.1 (IsMade D.reads D.image (header_bytes header.now) (D.reads disk) result.0) }
     ensures reason { IfErr result.1 (HasReason D.told (header_bytes header.now) (D.reads disk) (D.faults disk) (D.faults result.0) 0 0) }
-    ensures kept { D.told → IfErr result.1 (KeepsBytes (D.reads disk) (D.reads result.0)) }
+    ensures kept { D.told → IfErr result.1 (StaysAt D.reads D.image (Some disk) (Some result.0)) }
     ensures count { D.faults disk ≤ D.faults result.0 }
 {
     match open(alloc, disk, header) {
