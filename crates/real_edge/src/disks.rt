@@ -1,5 +1,5 @@
 // A file of the system as a disk. Clauses aren't told what it holds.
-ghost use Rattle.std.specs.Prelude.{◌≡◌, ◌≤◌, [], length, IfOk, Ok};
+ghost use Rattle.std.specs.Prelude.{◌≡◌, ◌≤◌, [], length, IfOk, OnOk, Ok};
 ghost use Rattle.outside.specs.Faults.{HasCause};
 
 use outside::{Disk, Failed};
@@ -73,6 +73,7 @@ impl<F: Read + Write + Seek + OpenFile> Disk for FileDisk<F> {
 fn counted<T>(answer: io::Result<T>, faults: &mut u64) -> Result<T, Failed>
     ensures value { IfOk result (λ value. answer ≡ Ok value) }
     ensures cause { HasCause faults.old faults.new result }
+    ensures steady { OnOk result (faults.new ≡ faults.old) }
 {
     match answer {
         Ok(value) => Ok(value),

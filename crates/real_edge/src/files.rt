@@ -105,6 +105,7 @@ impl<R: Files> Shelf for FileShelf<'_, R> {
 fn count(refusal: ShelfError, faults: &mut u64)
     ensures later { faults.old ≤ faults.new }
     ensures cause { refusal ≡ ShelfError.Failed → Rose faults.old faults.new }
+    ensures steady { (refusal ≡ ShelfError.Failed → ⊥) → faults.new ≡ faults.old }
 {
     if refusal == ShelfError::Failed {
         *faults = faults.saturating_add(1);
