@@ -54,13 +54,13 @@ fn counter_of<'w>(
     }
 }
 
-/// A session over these streams: how it ended, and what was written.
+/// A session over these streams: how it ended, what was written, and how often a read failed.
 fn talk<R: Abort + Wait>(
     rt: &R,
     alloc: Global,
     source: MemorySource,
     sink: MemorySink,
-) -> Result<(Ended, MemorySink), Fail> {
+) -> Result<(Ended, MemorySink, u64), Fail> {
     let clinic = make_clinic(alloc)?;
     let mut eve = user_by(alloc, &clinic, "eve", Method::Lying)?;
     eve.token = Some(TOKEN);
@@ -81,7 +81,7 @@ fn talk<R: Abort + Wait>(
         &mut sink,
         &OpenGate,
     );
-    Ok((ended, sink))
+    Ok((ended, sink, source.faults()))
 }
 
 fn bytes_of(alloc: Global, text: &str) -> Result<Vec<u8>, Fail> {
@@ -112,7 +112,7 @@ fn a_session_is_answered_line_for_line(rt: HostRuntime) -> Result<(), Fail> {
     ];
     for (input, output, end) in rows {
         let source = MemorySource::new(bytes_of(alloc, input)?);
-        let (ended, sink) = talk(&rt, alloc, source, MemorySink::new(alloc))?;
+        let (ended, sink, _faults) = talk(&rt, alloc, source, MemorySink::new(alloc))?;
         assert_eq!(rt; sink.bytes(), output.as_bytes(), "{input}");
         assert_eq!(rt; ended, end, "{input}");
     }
@@ -122,26 +122,42 @@ fn a_session_is_answered_line_for_line(rt: HostRuntime) -> Result<(), Fail> {
 #[test]
 fn each_end_has_its_cause(rt: HostRuntime) -> Result<(), Fail> {
     let alloc = rt.alloc();
-    // a line of 4,097 bytes
+    // a line of 4,097 bytes, in one piece; a read behind it would fail
     let mut long = bytes_of(alloc, "hello\n")?;
     for _ in 0..4_097 {
         long.push(b'a')?;
     }
-    let source = MemorySource::new(long);
-    let (ended, sink) = talk(&rt, alloc, source, MemorySink::new(alloc))?;
+    let source = MemorySource::with_plan(long, Pieces::Whole, Plan::From(1));
+    let (ended, sink, faults) = talk(&rt, alloc, source, MemorySink::new(alloc))?;
     assert_eq!(rt; ended, Ended::TooLong);
+    assert_eq!(rt; faults, 0);
     assert_eq!(rt; sink.bytes(), b"error 26\nerror 26\n".as_slice());
     // the second read fails
     let input = bytes_of(alloc, "hello\nhello\n")?;
     let source = MemorySource::with_plan(input, Pieces::UpTo(6), Plan::From(1));
-    let (ended, sink) = talk(&rt, alloc, source, MemorySink::new(alloc))?;
+    let (ended, sink, _faults) = talk(&rt, alloc, source, MemorySink::new(alloc))?;
     assert_eq!(rt; ended, Ended::ReadFault);
     assert_eq!(rt; sink.bytes(), b"error 26\n".as_slice());
     // the second write fails
     let source = MemorySource::new(bytes_of(alloc, "hello\nquit\n")?);
     let sink = MemorySink::with_plan(alloc, Pieces::Whole, Plan::From(1));
-    let (ended, sink) = talk(&rt, alloc, source, sink)?;
+    let (ended, sink, _faults) = talk(&rt, alloc, source, sink)?;
     assert_eq!(rt; ended, Ended::WriteFault);
     assert_eq!(rt; sink.bytes(), b"error 26\n".as_slice());
+    Ok(())
+}
+
+// Each line comes in a piece of its own, and the read behind `quit` would fail. A client who waits for a reply before he
+// goes on gets it, and one who is silent behind `quit` isn't waited for.
+#[test]
+fn a_line_is_answered_before_more_is_read(rt: HostRuntime) -> Result<(), Fail> {
+    let alloc = rt.alloc();
+    let input = bytes_of(alloc, "login eve abc\nask hiv(bob)\nquit\nquit\n")?;
+    let lines = Pieces::InTurn(Vec::from_array(alloc, [14, 13, 5])?);
+    let source = MemorySource::with_plan(input, lines, Plan::From(3));
+    let (ended, sink, faults) = talk(&rt, alloc, source, MemorySink::new(alloc))?;
+    assert_eq!(rt; sink.bytes(), b"welcome\nno\nbye\n".as_slice());
+    assert_eq!(rt; ended, Ended::Quit);
+    assert_eq!(rt; faults, 0);
     Ok(())
 }
