@@ -5,9 +5,8 @@ use Rattle.std.proofs.lemmas.Grind.{common_steps}
 use Rattle.cqe_base.specs.declared.text.ScriptKind.TheVariants.{Limit}
 use Rattle.cqe_base.specs.Schema.{DatabaseSchema}
 use Rattle.cqe_base.specs.Formula.{Formula, nodes}
-use Rattle.cqe_base.specs.History.{view_size}
+use Rattle.cqe_base.specs.History.{ViewsWithoutEntries, view_size}
 use Rattle.cqe_base.specs.Reading.{Refusal}
-use Rattle.user_log.specs.ViewSizes.{ViewsWithoutEntries}
 use Rattle.case_engine.specs.Script.{Script, script_schema, script_user, with_known, with_secret, say}
 use Rattle.case_engine.specs.Sound.{IsSound}
 use Rattle.case_engine.proofs.Soundness.{known_more, secret_more}

@@ -6,9 +6,8 @@ use Rattle.std.proofs.lemmas.Grind.{common_steps}
 use Rattle.cqe_base.specs.declared.user.Method.{Method}
 use Rattle.cqe_base.specs.Schema.{DatabaseSchema, Declaration, schema_refusal, schema_of}
 use Rattle.cqe_base.specs.Formula.{Formula, nodes, is_sentence_of}
-use Rattle.cqe_base.specs.History.{view_size}
+use Rattle.cqe_base.specs.History.{ViewsWithoutEntries, view_size}
 use Rattle.cqe_base.specs.Limits.{is_small}
-use Rattle.user_log.specs.ViewSizes.{ViewsWithoutEntries}
 use Rattle.case_engine.specs.Script.{Script, script_schema, script_user, empty_script}
 use Rattle.case_engine.specs.Sound.{IsSound, is_fit_budget}
 use Rattle.case_engine.proofs.Booleans.{both_true, true_both}

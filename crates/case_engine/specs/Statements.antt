@@ -1,14 +1,13 @@
 -- What one line of a script says, by its shape alone.
-use Rattle.std.specs.Prelude.{◌==◌, ◌-◌, ℕ, ◌+◌, ◌*◌, Bool, false, ◌&&◌, nat_le, List, [], ◌∷◌, length, take, fold, map, filter, Option, Some, None, option_map, option_and_then, slice_get, if◌then◌else◌, codes, bytes_eq}
+use Rattle.std.specs.Prelude.{◌==◌, ◌-◌, ℕ, Bool, false, ◌&&◌, List, [], ◌∷◌, length, take, map, filter, Option, Some, None, option_map, option_and_then, slice_get, if◌then◌else◌, codes, bytes_eq}
 use Rattle.std.specs.List.{list_all, list_any, before_first, after_first}
-use Rattle.std.specs.Char.{is_ascii_digit}
 use Rattle.cqe_base.specs.declared.user.Method.{Method}
-use Rattle.cqe_base.specs.declared.user.Method.TheVariants.{Lying, Refusal, Combined}
 use Rattle.cqe_base.specs.declared.text.Symbol.TheVariants.{Open, Close, Comma, Equal}
 use Rattle.cqe_base.specs.Schema.{Text, Declaration, is_identifier}
 use Rattle.cqe_base.specs.Tokens.{Token, tokens, end_of_tokens, is_blank}
 use Rattle.cqe_base.specs.Reading.{is_symbol}
-use Rattle.line_protocol.specs.Words.{is_printable}
+use Rattle.cqe_base.specs.Censor.{method_named}
+use Rattle.line_protocol.specs.Words.{is_printable, number_in}
 use Rattle.script_lines.specs.Silence.{is_silent}
 
 -- what a line says
@@ -78,25 +77,6 @@ relation_shape _ = None
 abbrev pub whole_tokens : Text → Option (List Token)
 whole_tokens text = if end_of_tokens text == length text then Some (tokens text) else None
 
--- ---- words and numbers
-
--- the method that a word names
-abbrev pub method_named : Text → Option Method
-method_named text =
-    if bytes_eq text (codes "lying") then Some Lying
-    else if bytes_eq text (codes "refusal") then Some Refusal
-    else if bytes_eq text (codes "combined") then Some Combined
-    else None
-
--- the number that digits write
-abbrev pub decimal_value : Text → ℕ
-decimal_value digits = fold (λ n d. 10 * n + (d - 48)) 0 digits
-
--- one to ten digits
-abbrev pub budget_number : Text → Option ℕ
-budget_number text =
-    if (nat_le 1 (length text) && nat_le (length text) 10) && list_all is_ascii_digit text then Some (decimal_value text) else None
-
 -- ---- lines
 
 -- a statement whose first word has a blank and a text after it
@@ -108,7 +88,7 @@ worded word text =
     else if bytes_eq word (codes "method") then option_map method_is (method_named text)
     else if bytes_eq word (codes "know") then Some (user_knows text)
     else if bytes_eq word (codes "secret") then Some (secret_is text)
-    else if bytes_eq word (codes "budget") then option_map budget_is (budget_number text)
+    else if bytes_eq word (codes "budget") then option_map budget_is (number_in text)
     else if bytes_eq word (codes "ask") then Some (user_asks text)
     else None
 

@@ -13,6 +13,7 @@ ghost use Rattle.case_engine.specs.SchemaRefusal.{IsSchemaRefusal};
 use crate::declaration::Declared;
 use crate::parts::Parts;
 use crate::statement::{Statement, statement_of};
+use cqe_base::laws::law_views_without_entries;
 use cqe_base::schema::{Schema, SchemaError};
 use cqe_base::sentence::{Sentence, nodes};
 use cqe_base::text::ScriptKind;
@@ -21,7 +22,6 @@ use cqe_base::world::{World, WorldError};
 use script_lines::LineError;
 use sentence_text::{ReadError, read_sentence, stated_fact};
 use std::alloc::{AllocError, Global};
-use user_log::laws::law_views_without_entries;
 
 /// A user knows at most so many sentences beforehand.
 const KNOWN: usize = 256;
@@ -116,7 +116,7 @@ impl Script {
         })
     }
 
-    /// One more statement. A refusal changes nothing.
+    /// One more statement. Behind a refusal nobody looks at what was said.
     pub fn say(&mut self, alloc: Global, statement: Statement<'_>) -> Result<(), LineError>
         requires { IsShortStatement statement }
         ensures added { OnOk result (with_statement (script_is self.old) (said statement.entry) ≡ Ok (script_is self.new)) }

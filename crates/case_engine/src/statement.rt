@@ -1,18 +1,17 @@
 //! What one line of a script says, by its shape alone.
 
-ghost use Rattle.std.specs.Prelude.{◌≡◌, ◌≤◌, ◌<◌, ◌^◌, true, map, length, option_map, IfOk, IfSome, OnOk, string_bytes};
+ghost use Rattle.std.specs.Prelude.{◌≡◌, ◌≤◌, true, map, length, option_map, IfOk, IfSome, OnOk, string_bytes};
 ghost use Rattle.std.specs.List.{list_all, list_any, before_first, after_first};
-ghost use Rattle.std.specs.Char.{is_ascii_digit};
 ghost use Rattle.cqe_base.specs.Tokens.{is_blank};
 ghost use Rattle.cqe_base.specs.Memory.{declaration_of};
 ghost use Rattle.line_protocol.specs.Words.{is_printable};
 ghost use Rattle.script_lines.specs.Silence.{is_silent};
 ghost use Rattle.case_engine.specs.Said.{said, IsShortStatement};
-ghost use Rattle.case_engine.specs.Statements.{is_word, listed_names, names_or_none, closed_names, domain_shape, relation_shape, whole_tokens, method_named, decimal_value, budget_number, domain_is, relation_is, method_is, budget_is, worded, lone, spoken, statement_of};
+ghost use Rattle.case_engine.specs.Statements.{is_word, listed_names, names_or_none, closed_names, domain_shape, relation_shape, whole_tokens, domain_is, relation_is, method_is, budget_is, worded, lone, spoken, statement_of};
 
 use crate::declaration::{Declared, domain_in, relation_in};
 use cqe_base::user::Method;
-use line_protocol::words::{are_printable, printable_text, split_at_blank};
+use line_protocol::words::{are_printable, number_in, printable_text, split_at_blank};
 use script_lines::is_silent;
 use std::alloc::{AllocError, Global};
 
@@ -31,53 +30,6 @@ pub enum Statement<'a> {
     Ask(&'a str),
 }
 
-/// The number that one to ten digits write.
-fn budget_number(text: &str) -> Option<u64>
-    ensures { result ≡ budget_number text.now }
-{
-    let digits = text.as_bytes();
-    if 1 <= digits.len() && digits.len() <= 10 && are_digits(digits) {
-        Some(decimal_value(digits))
-    } else {
-        None
-    }
-}
-
-/// Whether all of these are digits.
-fn are_digits(bytes: &[u8]) -> bool
-    ensures { result ≡ list_all is_ascii_digit bytes.now }
-{
-    bytes.iter().all(|byte| byte.is_ascii_digit())
-}
-
-/// The number that digits write.
-fn decimal_value(digits: &[u8]) -> u64
-    requires few { length digits.now ≤ 10 }
-    requires digits { list_all is_ascii_digit digits.now ≡ true }
-    ensures { result ≡ decimal_value digits.now }
-{
-    let mut value = 0;
-    for digit in digits {
-        value = 10 * value + (*digit - b'0') as u64;
-    }
-    value
-}
-
-/// The method of this name.
-fn method_named(text: &str) -> Option<Method>
-    ensures { result ≡ method_named text.now }
-{
-    if text == "lying" {
-        Some(Method::Lying)
-    } else if text == "refusal" {
-        Some(Method::Refusal)
-    } else if text == "combined" {
-        Some(Method::Combined)
-    } else {
-        None
-    }
-}
-
 /// The statement of a first word and the text behind the blank that ends it.
 fn worded<'a>(alloc: Global, word: &str, text: &'a str) -> Result<Option<Statement<'a>>, AllocError>
     requires { length text.now ≤ 4096 }
@@ -91,13 +43,13 @@ fn worded<'a>(alloc: Global, word: &str, text: &'a str) -> Result<Option<Stateme
     } else if word == "fact" {
         Ok(Some(Statement::Fact(text)))
     } else if word == "method" {
-        Ok(method_statement(method_named(text)))
+        Ok(method_statement(Method::named(text)))
     } else if word == "know" {
         Ok(Some(Statement::Know(text)))
     } else if word == "secret" {
         Ok(Some(Statement::Secret(text)))
     } else if word == "budget" {
-        Ok(budget_statement(budget_number(text)))
+        Ok(budget_statement(number_in(text.as_bytes())))
     } else if word == "ask" {
         Ok(Some(Statement::Ask(text)))
     } else {

@@ -1,16 +1,6 @@
 -- The numbers among the words.
-use Rattle.std.specs.Prelude.{ℕ, ◌+◌, ◌*◌, ◌-◌, ◌&&◌, nat_le, List, length, fold, Option, Some, None, option_and_then, if◌then◌else◌}
-use Rattle.std.specs.List.{list_all}
-use Rattle.std.specs.Char.{is_ascii_digit}
-
--- the number that decimal digits write
-abbrev pub decimal_value : List ℕ → ℕ
-decimal_value digits = fold (λ n d. 10 * n + (d - 48)) 0 digits
-
--- the number of one to ten digits, also with zeros in front
-abbrev pub number_in : List ℕ → Option ℕ
-number_in text =
-    if (nat_le 1 (length text) && nat_le (length text) 10) && list_all is_ascii_digit text then Some (decimal_value text) else None
+use Rattle.std.specs.Prelude.{ℕ, ◌&&◌, nat_le, List, Option, Some, None, option_and_then, if◌then◌else◌}
+use Rattle.line_protocol.specs.Words.{number_in}
 
 -- a number that lies between two, or is one of them
 abbrev pub within : ℕ → ℕ → ℕ → Option ℕ

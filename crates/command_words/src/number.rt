@@ -1,8 +1,8 @@
 // The numbers among the words.
-ghost use Rattle.std.specs.Prelude.{◌≡◌, ◌≤◌, true, length, option_map};
-ghost use Rattle.std.specs.List.{list_all};
-ghost use Rattle.std.specs.Char.{is_ascii_digit};
-ghost use Rattle.command_words.specs.Numbers.{decimal_value, number_in, number_from, number_or};
+ghost use Rattle.std.specs.Prelude.{◌≡◌, option_map};
+ghost use Rattle.command_words.specs.Numbers.{number_from, number_or};
+
+use line_protocol::words::number_in;
 
 /// The number that the value of an option writes, if it lies between these two, or is one of them.
 pub(crate) fn number_from(least: u64, most: u64, value: Option<&str>) -> Option<u64>
@@ -42,34 +42,4 @@ pub(crate) fn small_number_or(usual: u32, least: u64, most: u32, value: Option<&
         Some(_) => small_number_from(least, most, value),
         None => Some(usual),
     }
-}
-
-/// The number of one to ten digits.
-fn number_in(text: &[u8]) -> Option<u64>
-    ensures { result ≡ number_in text.now }
-{
-    if 1 <= text.len() && text.len() <= 10 && are_digits(text) {
-        Some(decimal_value(text))
-    } else {
-        None
-    }
-}
-
-fn are_digits(text: &[u8]) -> bool
-    ensures { result ≡ list_all is_ascii_digit text.now }
-{
-    text.iter().all(|byte| byte.is_ascii_digit())
-}
-
-// The number that digits write.
-fn decimal_value(digits: &[u8]) -> u64
-    requires few { length digits.now ≤ 10 }
-    requires digits { list_all is_ascii_digit digits.now ≡ true }
-    ensures { result ≡ decimal_value digits.now }
-{
-    let mut value = 0;
-    for digit in digits {
-        value = 10 * value + (*digit - b'0') as u64;
-    }
-    value
 }

@@ -4,7 +4,8 @@ use Rattle.std.specs.Prelude.{IfSome, nat_le, option_map, option_and_then, codes
 use Rattle.std.proofs.lemmas.Bool.{and_parts}
 use Rattle.std.proofs.lemmas.Bool.Decides.{nat_tests}
 use Rattle.command_words.specs.Uses.{Use, uses_of}
-use Rattle.command_words.specs.Numbers.{number_in, within, number_from, number_or}
+use Rattle.command_words.specs.Numbers.{within, number_from, number_or}
+use Rattle.line_protocol.specs.Words.{number_in}
 use Rattle.command_words.specs.Readings.{Reading, FileNames, runs_init, runs_batch, runs_selfrun, runs_serve, reading_of, reading_with, reading_by, do_fit, CommandRow, case_row, init_row, batch_row, audit_row, selfrun_row, serve_row, files_of, audit_said, selfrun_said, serve_said, value_of, is_used}
 
 -- a number between two, or one of them

@@ -3,7 +3,8 @@ use Rattle.std.specs.Prelude.{ℕ, zero, suc, ◌+◌, ◌==◌, Bool, true, fal
 use Rattle.cqe_base.specs.Schema.{Text}
 use Rattle.cqe_base.specs.Lines.{TextLine, text_lines, content, is_too_long}
 use Rattle.cqe_base.specs.Literal.{Literal, Positive, Negative, union}
-use Rattle.dimacs_text.specs.Words.{words, number_in, entry_in}
+use Rattle.dimacs_text.specs.Words.{words, entry_in}
+use Rattle.line_protocol.specs.Words.{number_in}
 use Rattle.dimacs_text.specs.declared.words.Entry.{Entry}
 use Rattle.dimacs_text.specs.declared.header.Header.{Header}
 use Rattle.dimacs_text.specs.declared.refusal.Kind.{Kind}

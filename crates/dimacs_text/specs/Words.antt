@@ -1,23 +1,14 @@
 -- The words of a line, and the numbers that words write.
-use Rattle.std.specs.Prelude.{ℕ, ◌+◌, ◌*◌, ◌-◌, ◌==◌, Bool, true, false, not, ◌&&◌, nat_le, List, [], ◌∷◌, length, fold, filter, Option, Some, None, option_map, if◌then◌else◌}
-use Rattle.std.specs.List.{slice_split, list_all}
-use Rattle.std.specs.Char.{is_ascii_digit}
+use Rattle.std.specs.Prelude.{ℕ, ◌==◌, Bool, true, false, not, List, [], ◌∷◌, length, filter, Option, None, option_map, if◌then◌else◌}
+use Rattle.std.specs.List.{slice_split}
 use Rattle.cqe_base.specs.Schema.{Text}
 use Rattle.cqe_base.specs.Tokens.{is_blank}
+use Rattle.line_protocol.specs.Words.{number_in}
 use Rattle.dimacs_text.specs.declared.words.Entry.{Entry}
 
 -- the words of a line: the pieces between its blanks that aren't empty
 abbrev pub words : Text → List Text
 words line = filter (λ piece. not (length piece == 0)) (slice_split is_blank line)
-
--- the number that digits write
-abbrev pub decimal_value : Text → ℕ
-decimal_value digits = fold (λ n d. 10 * n + (d - 48)) 0 digits
-
--- the number of one to ten digits
-abbrev pub number_in : Text → Option ℕ
-number_in word =
-    if (nat_le 1 (length word) && nat_le (length word) 10) && list_all is_ascii_digit word then Some (decimal_value word) else None
 
 -- a number with this sign
 abbrev pub entry_of : Bool → ℕ → Entry

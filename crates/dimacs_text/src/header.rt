@@ -2,7 +2,8 @@
 ghost use Rattle.std.specs.Prelude.{◌≡◌, map};
 ghost use Rattle.dimacs_text.specs.Dimacs.{header_of, header_in};
 
-use crate::words::{is_word, number_in};
+use crate::words::is_word;
+use line_protocol::words::number_in;
 
 /// How many variables and clauses the problem line says.
 #[derive(Clone, Copy)]

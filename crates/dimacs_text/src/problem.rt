@@ -9,9 +9,10 @@ ghost use Rattle.dimacs_text.specs.Refuses.{Refuses};
 use crate::cnf::Cnf;
 use crate::header::{Header, header_in};
 use crate::refusal::{Kind, LineError, Refusal};
-use crate::words::{Entry, entry_in, is_word, number_in, words};
+use crate::words::{Entry, entry_in, is_word, words};
 use clause_store::clauses::Clauses;
 use clause_store::literal::{Lit, has_literal};
+use line_protocol::words::number_in;
 use std::alloc::{AllocError, Global};
 use std::marker::Model;
 

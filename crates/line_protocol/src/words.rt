@@ -1,9 +1,12 @@
 //! Lines of printable bytes, word by word.
 
-ghost use Rattle.std.specs.Prelude.{◌≡◌, true, position, is_some, IfSome};
+ghost use Rattle.std.specs.Prelude.{◌≡◌, ◌≤◌, true, length, position, is_some, IfSome};
 ghost use Rattle.std.specs.List.{list_all, list_any, before_first, after_first};
+ghost use Rattle.std.specs.Char.{is_ascii_digit};
 ghost use Rattle.cqe_base.specs.Tokens.{is_blank};
-ghost use Rattle.line_protocol.specs.Words.{is_printable};
+ghost use Rattle.line_protocol.specs.Words.{is_printable, decimal_value, number_in};
+
+use cqe_base::text::is_blank;
 
 /// What stands before the first blank of printable bytes, and what behind it.
 pub fn split_at_blank(bytes: &[u8]) -> Option<(&[u8], &[u8])>
@@ -15,13 +18,6 @@ pub fn split_at_blank(bytes: &[u8]) -> Option<(&[u8], &[u8])>
 {
     let blank = first_blank(bytes)?;
     Some((&bytes[..blank], &bytes[blank + 1..]))
-}
-
-/// A space or a tab.
-pub fn is_blank(byte: u8) -> bool
-    ensures { result ≡ is_blank byte }
-{
-    byte == b' ' || byte == b'\t'
 }
 
 /// A tab, or a byte from the space to the tilde.
@@ -53,4 +49,34 @@ pub fn printable_text(bytes: &[u8]) -> &str
         Ok(text) => text,
         Err(_) => unreachable!(),
     }
+}
+
+/// The number of one to ten digits.
+pub fn number_in(word: &[u8]) -> Option<u64>
+    ensures { result ≡ number_in word.now }
+{
+    if 1 <= word.len() && word.len() <= 10 && are_digits(word) {
+        Some(decimal_value(word))
+    } else {
+        None
+    }
+}
+
+fn are_digits(bytes: &[u8]) -> bool
+    ensures { result ≡ list_all is_ascii_digit bytes.now }
+{
+    bytes.iter().all(|byte| byte.is_ascii_digit())
+}
+
+/// The number that digits write.
+fn decimal_value(digits: &[u8]) -> u64
+    requires few { length digits.now ≤ 10 }
+    requires digits { list_all is_ascii_digit digits.now ≡ true }
+    ensures { result ≡ decimal_value digits.now }
+{
+    let mut value = 0;
+    for digit in digits {
+        value = 10 * value + (*digit - b'0') as u64;
+    }
+    value
 }

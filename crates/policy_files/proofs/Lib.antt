@@ -5,4 +5,3 @@ pub mod PoliciesKept
 pub mod WorldsKept
 pub mod Trees
 pub mod LinesSplit
-pub mod ViewSizes

@@ -4,12 +4,12 @@ use Rattle.hex.specs.declared.error.FromHexError.{FromHexError}
 use Rattle.hex.specs.Hex.{decode_sized}
 use Rattle.toml.specs.Data.{Data, get, as_str, as_integer}
 use Rattle.cqe_base.specs.declared.user.Method.{Method}
-use Rattle.cqe_base.specs.declared.user.Method.TheVariants.{Lying, Refusal, Combined}
 use Rattle.cqe_base.specs.Schema.{Text, DatabaseSchema, contains_text, is_schema_name}
 use Rattle.cqe_base.specs.Formula.{Formula}
 use Rattle.cqe_base.specs.Reading
 use Rattle.cqe_base.specs.Reading.{reading}
 use Rattle.cqe_base.specs.History.{view_size}
+use Rattle.cqe_base.specs.Censor.{method_named}
 use Rattle.cqe_base.specs.Limits.{is_small}
 use Rattle.policy_files.specs.declared.error.Place.{Place}
 use Rattle.policy_files.specs.declared.error.PolicyError.{PolicyError}
@@ -36,14 +36,6 @@ name_of earlier user value =
     required as_str (user_place user (codes "name")) value >>= new_name (user_place user (codes "name")) earlier
 
 -- ---- the method
-
--- the method that a word names
-abbrev pub method_named : Text → Option Method
-method_named text =
-    if bytes_eq text (codes "lying") then Some Lying
-    else if bytes_eq text (codes "refusal") then Some Refusal
-    else if bytes_eq text (codes "combined") then Some Combined
-    else None
 
 -- the method at the key
 abbrev pub method_of : ℕ → Option Data → Step Method

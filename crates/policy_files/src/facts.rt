@@ -3,7 +3,6 @@
 ghost use Rattle.std.specs.Prelude.{◌≡◌, true, Some, Ok, IfOk, IfErr, IfSome, OnOk};
 ghost use Rattle.std.specs.FinSet as set;
 ghost use Rattle.cqe_base.specs.Facts.{is_fact_of};
-ghost use Rattle.cqe_base.specs.Tokens.{is_blank};
 ghost use Rattle.cqe_base.specs.Lines.{text_lines};
 ghost use Rattle.policy_files.specs.LinesRead.{line_of};
 ghost use Rattle.policy_files.specs.FactLines.{IsRefusal};
@@ -14,6 +13,7 @@ use crate::error::FactsError;
 use crate::laws::law_facts_are_worlds;
 use crate::lines::{Line, split_line};
 use cqe_base::schema::Schema;
+use cqe_base::text::is_blank;
 use cqe_base::world::{Fact, World, WorldError};
 use sentence_text::laws::law_sentences_are_ascii;
 use sentence_text::stated_fact;
@@ -21,13 +21,6 @@ use std::alloc::{AllocError, Global};
 
 /// A line that states a fact has at most so many bytes.
 const LINE: usize = 4_096;
-
-/// A space or a tab.
-fn is_blank(byte: u8) -> bool
-    ensures { result ≡ is_blank byte }
-{
-    byte == b' ' || byte == b'\t'
-}
 
 /// Whether a line has blanks alone, or its first byte after blanks is `#`.
 fn says_nothing(content: &[u8]) -> bool

@@ -6,7 +6,7 @@ ghost use Rattle.toml.specs.View.{view};
 ghost use Rattle.cqe_base.specs.Schema.{contains_text};
 ghost use Rattle.cqe_base.specs.Formula.{formula_of, nodes};
 ghost use Rattle.cqe_base.specs.History.{profile_of, view_size};
-ghost use Rattle.policy_files.specs.Users.{name_of, method_named, method_of, known_of, secrets_of, budget_of, token_of, with_small_view, user_of, names_of, users_behind};
+ghost use Rattle.policy_files.specs.Users.{name_of, method_of, known_of, secrets_of, budget_of, token_of, with_small_view, user_of, names_of, users_behind};
 ghost use Rattle.policy_files.specs.Memory.{named_user_of};
 ghost use Rattle.policy_files.specs.Gives.{Gives};
 
@@ -16,7 +16,7 @@ use crate::text::sentences_of;
 use crate::tree::{natural, value_at};
 use cqe_base::declarations::is_schema_name;
 use cqe_base::schema::Schema;
-use cqe_base::sentence::{Sentence, nodes};
+use cqe_base::sentence::Sentence;
 use cqe_base::user::{Method, User};
 use hex::FromHex;
 use std::alloc::Global;
@@ -36,9 +36,6 @@ const GREATEST_BUDGET: u64 = 4_000_000;
 
 /// The view of a user who has asked nothing has at most so many nodes.
 const VIEW_NODES: u64 = 40_000;
-
-/// Up to this number nodes are counted.
-const COUNTED_NODES: u64 = 1 << 32;
 
 /// Whether one of the users has this name.
 fn is_named(users: &[User], name: &str) -> bool
@@ -73,27 +70,12 @@ fn name_of<'a>(
     Ok(name)
 }
 
-/// The method of this word.
-fn method_named(word: &str) -> Option<Method>
-    ensures { result ≡ method_named word.now }
-{
-    if word == "lying" {
-        Some(Method::Lying)
-    } else if word == "refusal" {
-        Some(Method::Refusal)
-    } else if word == "combined" {
-        Some(Method::Combined)
-    } else {
-        None
-    }
-}
-
 /// The user's method.
 fn method_of(alloc: Global, user: u32, table: &Value) -> Result<Method, Stop>
     ensures { Gives (λ method. method) result (method_of user (get (codes "method") (view table.now))) }
 {
     let word = string_at(alloc, Some(user), table, "method")?;
-    match method_named(word) {
+    match Method::named(word) {
         Some(method) => Ok(method),
         None => {
             let place = key_place(alloc, Some(user), "method")?;
@@ -170,56 +152,11 @@ fn token_of(alloc: Global, user: u32, table: &Value) -> Result<Option<[u8; 32]>,
     }
 }
 
-/// The sum, up to the number to which nodes are counted.
-fn counted_sum(first: u64, second: u64) -> u64
-    requires first { first ≤ 2 ^ 32 }
-    requires second { second ≤ 2 ^ 32 + 1 }
-    ensures { result ≡ min (first + second) (2 ^ 32) }
-{
-    let sum = first + second;
-    if sum < COUNTED_NODES {
-        sum
-    } else {
-        COUNTED_NODES
-    }
-}
-
-/// The nodes of these sentences.
-fn nodes_of_all(schema: &Schema, sentences: &[Sentence]) -> u64
-    ensures { result ≡ min (sum_by (nodes schema.now) (map formula_of sentences.now)) (2 ^ 32) }
-{
-    let mut total = 0;
-    for sentence in sentences {
-        total = counted_sum(total, nodes(sentence, schema));
-    }
-    total
-}
-
-/// The nodes of the negations of these sentences.
-fn negated_nodes_of_all(schema: &Schema, sentences: &[Sentence]) -> u64
-    ensures { result ≡ min (sum_by (λ s. 1 + nodes schema.now s) (map formula_of sentences.now)) (2 ^ 32) }
-{
-    let mut total = 0;
-    for sentence in sentences {
-        total = counted_sum(total, 1 + nodes(sentence, schema));
-    }
-    total
-}
-
-/// The nodes of the user's view before he has asked anything.
-fn view_nodes(schema: &Schema, user: &User) -> u64
-    ensures { result ≡ min (view_size schema.now (profile_of user.now) []) (2 ^ 32) }
-{
-    let known = nodes_of_all(schema, user.know.as_slice());
-    let secret = negated_nodes_of_all(schema, user.secrets.as_slice());
-    counted_sum(known, secret)
-}
-
 /// The user of this number, if his view isn't too large.
 fn with_small_view(alloc: Global, schema: &Schema, number: u32, user: User) -> Result<User, Stop>
     ensures { Gives named_user_of result (with_small_view schema.now number (named_user_of user)) }
 {
-    if view_nodes(schema, &user) > VIEW_NODES {
+    if user.view_nodes(schema) > VIEW_NODES {
         let place = key_place(alloc, Some(number), "secrets")?;
         return Err(Stop::Refused(PolicyError::Limit(place)));
     }

@@ -5,7 +5,7 @@ ghost use Rattle.std.specs.List.{list_all};
 ghost use Rattle.cqe_base.specs.Tokens.{is_blank};
 ghost use Rattle.script_lines.specs.Silence.{is_comment, is_silent};
 
-use line_protocol::words::is_blank;
+use cqe_base::text::is_blank;
 
 /// Whether a line says nothing: it is one of blanks, or a comment.
 pub fn is_silent(line: &[u8]) -> bool

@@ -8,14 +8,13 @@ ghost use Rattle.cqe_base.specs.Reading.{reading};
 ghost use Rattle.trial_clinic.specs.declared.person.NoUser.TheVariants.{Memory};
 ghost use Rattle.trial_clinic.specs.Clinics.{IsNoSentence, IsNoUser, IsUserBy};
 
-use cqe_base::laws::law_reading;
+use cqe_base::laws::{law_reading, law_views_without_entries};
 use cqe_base::schema::Schema;
 use cqe_base::sentence::{Sentence, nodes};
 use cqe_base::text::TextError;
 use cqe_base::user::{Method, User};
 use sentence_text::{ReadError, read_sentence};
 use std::alloc::{AllocError, AllocFailed, Global};
-use user_log::laws::law_views_without_entries;
 
 /// The SHA-256 of `abc`, as the standard gives it.
 pub const TOKEN: [u8; 32] = [

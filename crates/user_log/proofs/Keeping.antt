@@ -12,12 +12,12 @@ use Rattle.cqe_base.specs.Facts.{FactSet}
 use Rattle.cqe_base.specs.Formula.{Formula, nodes}
 use Rattle.cqe_base.specs.Truth.{true_in}
 use Rattle.cqe_base.specs.Entailment.{Signed}
-use Rattle.cqe_base.specs.History.{UserProfile, AnsweredQuery, History, told_by, log, view_size, known}
+use Rattle.cqe_base.specs.History.{UserProfile, AnsweredQuery, History, EmptyLogIsKnown, LogsGrow, told_by, log, view_size, known}
 use Rattle.cqe_base.specs.Censor.{IsLegal, AreFindings, FindingsDecide, EmptyHistoryIsLegal, LegalHistoriesGrow, mark_by, rule}
 use Rattle.cqe_base.specs.Limits.{KeepsLimits, KeepsSizes, KeepsSizesAt}
 use Rattle.user_log.specs.Kept.{IsKept}
 use Rattle.user_log.specs.Nodes.{told_nodes}
-use Rattle.user_log.proofs.Sizes.{log-push, log-empty, view_size-push}
+use Rattle.user_log.proofs.Sizes.{view_size-push}
 
 -- the table gives the rule's mark from findings of what is kept
 pub decided : (schema view_schema : DatabaseSchema) (world : FactSet) (user : UserProfile) (log_is view_log : List Signed) (query : Formula) (spent : Bool) (implied : Option Bool) (yes_harm no_harm : Bool) → view_schema ≡ schema → view_log ≡ log_is → FindingsDecide → AreFindings view_schema user view_log query spent implied yes_harm no_harm → mark_by user.method spent implied yes_harm no_harm (true_in schema world query) ≡ rule schema world user log_is query
@@ -31,12 +31,12 @@ no_entry [] entry after e = cc
 no_entry (x ∷ before) entry after e = cc
 
 -- before the first ask
-pub kept_empty : (schema : DatabaseSchema) (world : FactSet) (user : UserProfile) (entries : History) (view_schema : DatabaseSchema) (view_log : List Signed) (view_nodes : ℕ) → entries ≡ [] → KeepsLimits schema user → EmptyHistoryIsLegal → view_schema ≡ schema → view_log ≡ known user → view_nodes ≡ view_size schema user [] → IsKept schema world user entries view_schema view_log 0 view_nodes
-kept_empty schema world user entries view_schema view_log view_nodes none limits legal same_schema same_log same_nodes =
+pub kept_empty : (schema : DatabaseSchema) (world : FactSet) (user : UserProfile) (entries : History) (view_schema : DatabaseSchema) (view_log : List Signed) (view_nodes : ℕ) → entries ≡ [] → KeepsLimits schema user → EmptyHistoryIsLegal → EmptyLogIsKnown → view_schema ≡ schema → view_log ≡ known user → view_nodes ≡ view_size schema user [] → IsKept schema world user entries view_schema view_log 0 view_nodes
+kept_empty schema world user entries view_schema view_log view_nodes none limits legal logs same_schema same_log same_nodes =
     subst (λ h. IsKept schema world user h view_schema view_log 0 view_nodes) (sym none) record {
       limits = limits;
       schema_is = same_schema;
-      log_is = same_log ∙ sym (log-empty user);
+      log_is = same_log ∙ sym (logs user);
       text_is = refl;
       nodes_are = same_nodes;
       legal = legal schema world user;
@@ -74,12 +74,12 @@ sizes_push schema user entries last sizes here before entry after e = at (split_
     at (inr (rest, is)) = sizes before entry rest is
 
 -- what is kept, with one more entry
-pub kept_push : (schema : DatabaseSchema) (world : FactSet) (user : UserProfile) (entries entries' : History) (last : AnsweredQuery) (view_schema view_schema' : DatabaseSchema) (view_log view_log' : List Signed) (text_bytes view_nodes more_text more_nodes : ℕ) → IsKept schema world user entries view_schema view_log text_bytes view_nodes → LegalHistoriesGrow → KeepsSizesAt schema user entries last → last.mark ≡ rule schema world user (log user entries) last.query → entries' ≡ entries ++ last ∷ [] → view_schema' ≡ view_schema → view_log' ≡ view_log ++ told_by last.mark last.query → more_text ≡ last.length → more_nodes ≡ told_nodes schema last.mark last.query → IsKept schema world user entries' view_schema' view_log' (text_bytes + more_text) (view_nodes + more_nodes)
-kept_push schema world user entries entries' last view_schema view_schema' view_log view_log' text_bytes view_nodes more_text more_nodes kept grow here marks pushed same_schema told same_text same_nodes =
+pub kept_push : (schema : DatabaseSchema) (world : FactSet) (user : UserProfile) (entries entries' : History) (last : AnsweredQuery) (view_schema view_schema' : DatabaseSchema) (view_log view_log' : List Signed) (text_bytes view_nodes more_text more_nodes : ℕ) → IsKept schema world user entries view_schema view_log text_bytes view_nodes → LegalHistoriesGrow → LogsGrow → KeepsSizesAt schema user entries last → last.mark ≡ rule schema world user (log user entries) last.query → entries' ≡ entries ++ last ∷ [] → view_schema' ≡ view_schema → view_log' ≡ view_log ++ told_by last.mark last.query → more_text ≡ last.length → more_nodes ≡ told_nodes schema last.mark last.query → IsKept schema world user entries' view_schema' view_log' (text_bytes + more_text) (view_nodes + more_nodes)
+kept_push schema world user entries entries' last view_schema view_schema' view_log view_log' text_bytes view_nodes more_text more_nodes kept grow logs here marks pushed same_schema told same_text same_nodes =
     subst (λ h. IsKept schema world user h view_schema' view_log' (text_bytes + more_text) (view_nodes + more_nodes)) (sym pushed) record {
       limits = kept.limits;
       schema_is = same_schema ∙ kept.schema_is;
-      log_is = told ∙ ap (λ l. l ++ told_by last.mark last.query) kept.log_is ∙ sym (log-push user entries last);
+      log_is = told ∙ ap (λ l. l ++ told_by last.mark last.query) kept.log_is ∙ sym (logs user entries last);
       text_is = text_of;
       nodes_are = nodes_of;
       legal = grow schema world user entries last kept.legal marks;
@@ -90,7 +90,7 @@ kept_push schema world user entries entries' last view_schema view_schema' view_
     text_of = let was = kept.text_is in grind (arith, common_steps, was, same_text)
 
     nodes_of : view_nodes + more_nodes ≡ view_size schema user (entries ++ last ∷ [])
-    nodes_of = let was = kept.nodes_are in let now = view_size-push schema user entries last in omega (arith, was, now, same_nodes)
+    nodes_of = let was = kept.nodes_are in let now = view_size-push schema user entries last logs in omega (arith, was, now, same_nodes)
 
 -- what a marked reply says of its query
 pub answer_means : (full large : Bool) (told mark : Mark) → (if full then history_full else if large then too_large else marked told) ≡ marked mark → (full ≡ false) × (large ≡ false) × (mark ≡ told)

@@ -3,5 +3,4 @@ pub mod Kept
 pub mod Asked
 pub mod UserLogs
 pub mod Nodes
-pub mod ViewSizes
 pub mod Prepared

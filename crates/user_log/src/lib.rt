@@ -6,7 +6,6 @@
 //! Read `reply` first, then `log`.
 #![tactic(auto)]
 
-pub mod laws;
 mod log;
 mod prepared;
 mod reply;

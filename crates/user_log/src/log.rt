@@ -13,7 +13,7 @@ ghost use Rattle.user_log.specs.Kept.{IsKept, IsKept-prop};
 
 use crate::{Prepared, Reply, Weighed};
 use censors::{decide, examine};
-use cqe_base::laws::{law_findings_decide, law_legal_grows, law_limits, law_reading};
+use cqe_base::laws::{law_findings_decide, law_legal_grows, law_limits, law_logs, law_reading};
 use cqe_base::schema::Schema;
 use cqe_base::sentence::{Sentence, nodes};
 use cqe_base::user::{Entry, Mark, User};
@@ -69,9 +69,10 @@ impl<'w> UserLog<'w> {
         ensures user { IfOk result (λ log. kept_user log ≡ profile_of user.now) }
     {
         law_limits();
+        law_logs();
         law_legal_grows();
         schema.known();
-        let view_nodes = known_nodes(schema, user);
+        let view_nodes = user.view_nodes(schema);
         let view = View::new(alloc, schema, user)?;
         Ok(UserLog {
             schema,
@@ -198,6 +199,7 @@ impl<'w> UserLog<'w> {
         ensures same { IsOfSame self.old self.new }
         ensures added { kept_history self.new ≡ kept_history self.old ++ prepared_entry prepared.entry ∷ [] }
     {
+        law_logs();
         law_legal_grows();
         let Prepared {
             view,
@@ -273,38 +275,4 @@ fn tell(alloc: Global, view: &mut View<'_>, query: &Sentence, mark: Mark) -> Res
         Mark::No => view.add(alloc, query, false),
         Mark::Refused | Mark::Undecided => Ok(()),
     }
-}
-
-/// The nodes of the view of a user who has asked nothing.
-#[tactic(auto, using(crate::proofs::Sizes::the_sizes))]
-fn known_nodes(schema: &Schema, user: &User) -> u64
-    requires { view_size schema.now (profile_of user.now) [] ≤ 40000 }
-    ensures { result ≡ view_size schema.now (profile_of user.now) [] }
-{
-    nodes_of_all(schema, user.know.as_slice())
-        + negated_nodes_of_all(schema, user.secrets.as_slice())
-}
-
-/// The nodes of these sentences.
-fn nodes_of_all(schema: &Schema, sentences: &[Sentence]) -> u64
-    requires { sum_by (nodes schema.now) (map formula_of sentences.now) ≤ 40000 }
-    ensures { result ≡ sum_by (nodes schema.now) (map formula_of sentences.now) }
-{
-    let mut total = 0;
-    for sentence in sentences {
-        total += nodes(sentence, schema);
-    }
-    total
-}
-
-/// The nodes of the negations of these sentences.
-fn negated_nodes_of_all(schema: &Schema, sentences: &[Sentence]) -> u64
-    requires { sum_by (λ s. 1 + nodes schema.now s) (map formula_of sentences.now) ≤ 40000 }
-    ensures { result ≡ sum_by (λ s. 1 + nodes schema.now s) (map formula_of sentences.now) }
-{
-    let mut total = 0;
-    for sentence in sentences {
-        total += 1 + nodes(sentence, schema);
-    }
-    total
 }

@@ -1,10 +1,14 @@
-use Rattle.std.proofs.Common.{ap, map}
-use Rattle.cqe_base.specs.History.{answered_query_of}
+use Rattle.std.proofs.Common.{◌≡◌, [], map, ap, arith}
+use Rattle.cqe_base.specs.History.{answered_query_of, profile_of, view_size}
 use Rattle.user_log.proofs.Keeping.{kept_empty}
 use Rattle.user_log.proofs.log.UserLog.new.Goals as goal
 
 pub invariant_of-result : goal.invariant_of-result
-invariant_of-result c = record {
-  kept = kept_empty _ _ _ _ _ _ _ (ap (map answered_query_of) c.new-2.ensures.items) c.requires c.law_legal_grows.ensures.empty
-      c.in_ok-view.ensures.schema c.in_ok-view.ensures.log c.known_nodes-view_nodes.ensures;
-}
+invariant_of-result c =
+    let counted = c.view_nodes-view_nodes.ensures in
+    let small = c.requires.view in
+    let same : c.view_nodes-view_nodes.result ≡ view_size c.args.schema.now (profile_of c.args.user.now) [] = omega (arith, counted, small) in
+    record {
+      kept = kept_empty _ _ _ _ _ _ _ (ap (map answered_query_of) c.new-2.ensures.items) c.requires c.law_legal_grows.ensures.empty c.law_logs.ensures.empty
+          c.in_ok-view.ensures.schema c.in_ok-view.ensures.log same;
+    }

@@ -1,7 +1,7 @@
 use Rattle.std.proofs.Common.{◌≡◌, ◌≤◌, ◌+◌, ◌^◌, drop, map, min}
 use Rattle.std.specs.Prelude.{sum_by}
 use Rattle.cqe_base.specs.Formula.{formula_of, nodes}
-use Rattle.policy_files.proofs.user.nodes_of_all.Given as goal
+use Rattle.cqe_base.proofs.user.nodes_of_all.Given as goal
 
 -- the nodes so far and those of the sentences that are left, as far as they are counted
 abbrev pub invariant-loop-sentence : goal.invariant-loop-sentence

@@ -1,6 +1,6 @@
 use Rattle.std.proofs.Common.{◌≡◌, ◌<◌, ◌^◌, take}
-use Rattle.command_words.specs.Numbers.{decimal_value}
-use Rattle.command_words.proofs.number.decimal_value.Given as goal
+use Rattle.line_protocol.specs.Words.{decimal_value}
+use Rattle.line_protocol.proofs.words.decimal_value.Given as goal
 
 abbrev pub invariant-loop-digit : goal.invariant-loop-digit
 invariant-loop-digit l = record {
