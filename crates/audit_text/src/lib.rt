@@ -10,7 +10,5 @@
 mod json;
 mod lines;
 mod report;
-#[cfg(test)]
-mod tests;
 
 pub use report::{EntryRow, Report, SecretRow, lines_of};

@@ -8,8 +8,6 @@ ghost use Rattle.cqe_base.specs.Literal.{sign_at};
 ghost use Rattle.cqe_base.specs.ClauseForm.{world_of};
 ghost use Rattle.clause_form.specs.Forms.{form_of, with_formula, size_of, IsSizeWithin, first_of};
 
-#[cfg(test)]
-pub(crate) mod tested;
 mod walk;
 
 use crate::worlds::{add_fact, sign_of};

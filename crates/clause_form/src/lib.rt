@@ -9,6 +9,4 @@
 pub mod former;
 pub mod laws;
 mod nodes;
-#[cfg(test)]
-mod tests;
 mod worlds;

@@ -24,10 +24,6 @@ mod marked_clause;
 mod plain;
 mod rules;
 mod run;
-#[cfg(test)]
-mod same_tests;
-#[cfg(test)]
-mod tests;
 mod watches;
 
 pub use conditions::is_searchable;

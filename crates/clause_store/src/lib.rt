@@ -10,5 +10,3 @@ pub mod clauses;
 pub mod literal;
 pub mod refutation;
 pub mod resolution;
-#[cfg(test)]
-mod tests;

@@ -12,7 +12,5 @@
 mod command;
 mod number;
 mod program;
-#[cfg(test)]
-mod tests;
 
 pub use command::{AuditWords, Command, Files, SelfrunWords, ServeWords, read_words};

@@ -14,8 +14,6 @@ mod end;
 mod files;
 mod selfrun;
 mod serve;
-#[cfg(test)]
-mod tests;
 
 pub use command::top;
 pub use end::CommandEnd;

@@ -14,8 +14,6 @@
 mod counter;
 mod item;
 mod sole;
-#[cfg(test)]
-mod tests;
 mod ticketed_desk;
 
 pub use counter::{Counter, CounterOf, DeskPass};

@@ -16,8 +16,6 @@ mod printed;
 mod problem;
 mod reading;
 mod refusal;
-#[cfg(test)]
-mod tests;
 mod words;
 
 pub use answer::answer_input;

@@ -129,7 +129,5 @@ fn copied(alloc: Global, log: &[Told]) -> Result<Vec<Told>, AllocError>
 }
 
 mod probes;
-#[cfg(test)]
-mod tests;
 
 pub use probes::test;

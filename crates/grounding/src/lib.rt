@@ -8,6 +8,3 @@
 mod instances;
 
 pub use instances::{GroundError, ground};
-
-#[cfg(test)]
-mod tests;

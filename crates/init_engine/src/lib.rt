@@ -10,8 +10,6 @@
 
 mod end;
 mod init;
-#[cfg(test)]
-mod tests;
 mod visit;
 
 pub use end::InitEnd;

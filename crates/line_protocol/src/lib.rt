@@ -13,8 +13,6 @@ mod lines;
 mod login;
 mod reply;
 mod request;
-#[cfg(test)]
-mod tests;
 pub mod words;
 
 pub use line_text::LineText;

@@ -9,13 +9,9 @@
 #![tactic(auto)]
 
 mod disk;
-#[cfg(test)]
-mod disk_tests;
 mod fault;
 mod gate;
 mod links;
-#[cfg(test)]
-mod links_tests;
 mod memory_disk;
 mod memory_door;
 mod memory_links;
@@ -24,11 +20,7 @@ mod memory_stream;
 mod places;
 mod plan;
 mod shelf;
-#[cfg(test)]
-mod shelf_tests;
 mod stream;
-#[cfg(test)]
-mod stream_tests;
 mod write;
 
 pub use disk::Disk;

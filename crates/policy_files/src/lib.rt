@@ -15,8 +15,6 @@ mod keys;
 pub mod laws;
 mod lines;
 mod policy;
-#[cfg(test)]
-mod tests;
 mod text;
 mod tree;
 mod user;

@@ -8,5 +8,3 @@
 
 pub mod model;
 pub mod refutation;
-#[cfg(test)]
-mod tests;

@@ -29,6 +29,3 @@ pub use lexer::{TokenIter, symbol_of, tokens};
 pub use parser::read_sentence;
 pub use printer::print_sentence;
 pub use token::Token;
-
-#[cfg(test)]
-mod tests;

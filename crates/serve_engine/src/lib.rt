@@ -14,8 +14,6 @@ pub mod laws;
 mod run;
 mod serving;
 mod sharing;
-#[cfg(test)]
-mod tests;
 
 pub use job::{SessionJob, SessionJobOf};
 pub use run::{Listening, ServeEnd, run_serve};

@@ -10,8 +10,6 @@
 
 mod counters;
 mod session;
-#[cfg(test)]
-mod tests;
 
 pub use counters::{Counters, CountersOf, Passes};
 pub use session::{Ended, serve_session};

@@ -7,6 +7,3 @@
 mod evaluation;
 
 pub use evaluation::holds;
-
-#[cfg(test)]
-mod tests;

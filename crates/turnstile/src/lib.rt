@@ -7,8 +7,6 @@
 
 mod pass;
 mod steps;
-#[cfg(test)]
-mod tests;
 mod turnstile;
 mod view;
 

@@ -19,8 +19,6 @@ mod opening;
 mod replay;
 mod standing;
 mod store;
-#[cfg(test)]
-mod tests;
 
 pub use desk::Desk;
 pub use opening::open_desk;

@@ -12,8 +12,6 @@
 mod hand;
 mod numbers;
 mod pool;
-#[cfg(test)]
-mod tests;
 mod worker;
 
 pub use pool::serve_all;

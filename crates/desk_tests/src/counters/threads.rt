@@ -1,0 +1,339 @@
+//! Threads that ask at desks.
+ghost use Rattle.std.specs.Prelude.{◌≡◌, ◌+◌, ◌*◌, ◌^◌, ◌≤◌, length, Some};
+ghost use Rattle.turnstile.specs.Passes.{IsOf, IsReady, first_value, fixed, shares as shares_of, turns};
+ghost use Rattle.desk_counter.specs.Counters.{IsPassOf};
+
+use super::{HEADER, counter_of, make_ward};
+use cqe_base::sentence::Sentence;
+use cqe_base::user::Mark;
+use desk_counter::{Counter, CounterOf, DeskPass, Owned, TicketedDesk};
+use outside::{Disk, Gate, MemoryDisk, OpenGate, Point};
+use std::alloc::Global;
+use std::sync::Wait;
+use std::sync::atomic::AtomicU64;
+use std::sync::atomic::Ordering::SeqCst;
+use std::test::Fail;
+use std::thread;
+use std::thread::{Threads, join};
+use turnstile::Pass;
+use user_desk::{Desk, Standing, open_desk};
+use user_log::Reply;
+
+/// A session at a counter, which asks one text so often and counts the replies that are its mark.
+#[derive(Drop)]
+struct Session<'a, 'w, V: Owned, G> {
+    counter: &'a CounterOf<'w, V>,
+    pass: Pass<V::Item, V::Fixed>,
+    shares: u64,
+    text: &'a str,
+    mark: Mark,
+    asks: u64,
+    told: u64,
+    alloc: Global,
+    gate: &'a G,
+    ghost place: { IsOf pass counter.now.turnstile },
+    ghost ready: { IsReady pass },
+    ghost kept: { fixed pass ≡ Some (V.kept (first_value counter.now.turnstile)) },
+    ghost counted: { shares ≡ shares_of pass },
+    ghost turns: { 2 * asks ≤ turns pass },
+    ghost short: { length text.now ≤ 4096 },
+    ghost few: { told + asks ≤ 1000 },
+}
+
+impl<'a, 'w, D: Disk, G: Gate> Session<'a, 'w, TicketedDesk<'w, D>, G> {
+    // One ask.
+    fn ask<R: Wait>(&mut self, rt: &R)
+        requires { 1 ≤ self.old.asks }
+        ensures counter { self.new.counter.now ≡ self.old.counter.now }
+        ensures asks { self.new.asks + 1 ≡ self.old.asks }
+    {
+        let reply = self
+            .counter
+            .ask(rt, self.alloc, &mut self.pass, self.text, self.gate);
+        self.asks -= 1;
+        if is_mark(&reply, self.mark) {
+            self.told += 1;
+        }
+    }
+}
+
+/// What a thread does.
+trait Work {
+    // What it leaves as it was.
+    ghost same: { Self → Self → Type 0 };
+
+    fn work<R: Wait>(self, rt: &R) -> Self
+        ensures { same self result };
+}
+
+// All asks of a session.
+impl<'a, 'w, D: Disk, G: Gate> Work for Session<'a, 'w, TicketedDesk<'w, D>, G> {
+    ghost same = { λ before after. after.counter.now ≡ before.counter.now };
+
+    fn work<R: Wait>(self, rt: &R) -> Session<'a, 'w, TicketedDesk<'w, D>, G> {
+        let mut session = self;
+        while session.asks > 0 {
+            session.ask(rt);
+        }
+        session
+    }
+}
+
+// Both in threads.
+fn work_beside<J: Work + Drop + Send, K: Work + Drop, R: Threads + Wait + Sync>(
+    rt: &R,
+    one: J,
+    two: K,
+) -> (J, K)
+    ensures one { J.same one result.0 }
+    ensures two { K.same two result.1 }
+{
+    join(rt, move || one.work(rt), move || two.work(rt))
+}
+
+fn is_mark(reply: &Reply, mark: Mark) -> bool {
+    match reply {
+        Reply::Mark(told) => *told == mark,
+        _ => false,
+    }
+}
+
+/// A session that makes so many asks.
+fn session_at<'a, 'w, V: Owned, G: Gate>(
+    alloc: Global,
+    counter: &'a CounterOf<'w, V>,
+    pass: Pass<V::Item, V::Fixed>,
+    shares: u64,
+    question: (&'a str, Mark),
+    asks: u64,
+    gate: &'a G,
+) -> Session<'a, 'w, V, G>
+    requires place { IsOf pass counter.now.turnstile × IsReady pass }
+    requires kept { fixed pass ≡ Some (V.kept (first_value counter.now.turnstile)) }
+    requires shares { shares ≡ shares_of pass }
+    requires turns { 2 * asks ≤ turns pass }
+    requires short { length question.0.now ≤ 4096 }
+    requires few { asks ≤ 1000 }
+    ensures { result.counter.now ≡ counter.now }
+{
+    let (text, mark) = question;
+    Session {
+        counter,
+        pass,
+        shares,
+        text,
+        mark,
+        asks,
+        told: 0,
+        alloc,
+        gate,
+    }
+}
+
+// A session asks in a thread of its own, beside other work.
+fn ask_in_thread<
+    'a,
+    'w,
+    R: Threads + Wait + Sync,
+    D: Disk + Drop + Send,
+    G: Gate + Sync,
+    K: Work + Drop,
+>(
+    rt: &R,
+    one: Session<'a, 'w, TicketedDesk<'w, D>, G>,
+    two: K,
+) -> (Session<'a, 'w, TicketedDesk<'w, D>, G>, K)
+    ensures one { result.0.counter.now ≡ one.entry.counter.now }
+    ensures two { K.same two result.1 }
+{
+    work_beside(rt, one, two)
+}
+
+// Two threads ask one desk 100 times each, with a pass and a question of their own. The passes meet, and the counter is
+// closed. It says how many replies were the marks that were looked for.
+fn ask_by_two<'w, R: Threads + Wait + Sync>(
+    rt: &R,
+    alloc: Global,
+    counter: Counter<'w, MemoryDisk>,
+    pass: DeskPass<MemoryDisk>,
+    questions: ((&str, Mark), (&str, Mark)),
+) -> Option<(Desk<'w, MemoryDisk>, u64)>
+    requires pass { IsPassOf pass counter }
+    requires all { (shares_of pass ≡ 65) × (turns pass ≡ 65 * 2 ^ 57) }
+    requires short { (length questions.0.0.now ≤ 4096) × (length questions.1.0.now ≤ 4096) }
+{
+    let mut first = pass;
+    let second = counter.split(&mut first).ok()?;
+    let one = session_at(alloc, &counter, first, 64, questions.0, 100, &OpenGate);
+    let two = session_at(alloc, &counter, second, 1, questions.1, 100, &OpenGate);
+    let (one, two) = ask_in_thread(rt, one, two);
+    let told = one.told + two.told;
+    if one.shares != 64 || two.shares != 1 {
+        return None;
+    }
+    let mut pass = one.pass;
+    counter.meet(&mut pass, two.pass);
+    Some((counter.close(pass), told))
+}
+
+// A liar who keeps `hiv(ann)` secret is told `no` of `drug(ann)`, a lie, and `yes` of `not hiv(bob)`, the truth.
+#[test]
+fn two_threads_ask_one_desk(rt: HostRuntime) -> Result<(), Fail> {
+    let alloc = rt.alloc();
+    let ward = make_ward(alloc)?;
+    let (counter, pass) = counter_of(&rt, alloc, &ward.clinic, &ward.eve)?;
+    let questions = (("drug(ann)", Mark::No), ("not hiv(bob)", Mark::Yes));
+    let (desk, told) = ask_by_two(&rt, alloc, counter, pass, questions).ok_or("not split")?;
+    assert_eq!(rt;
+        (told, desk.entries().len(), desk.broken()),
+        (200, 200, false)
+    );
+    let mut lies = 0u64;
+    for entry in desk.entries() {
+        match entry.query {
+            Sentence::Not(_) => assert_eq!(rt; entry.mark, Mark::Yes),
+            _ => {
+                assert_eq!(rt; entry.mark, Mark::No);
+                lies = lies.wrapping_add(1);
+            }
+        }
+    }
+    assert_eq!(rt; lies, 100);
+    // Its journal is opened again only where each mark is that of the rule.
+    let disk = desk.close();
+    let opened = open_desk(
+        alloc,
+        &ward.clinic.schema,
+        &ward.clinic.world,
+        &ward.eve,
+        &HEADER,
+        disk,
+    );
+    let Ok(again) = opened else {
+        panic!(rt; "no memory for a desk");
+    };
+    assert_eq!(rt; *again.standing(), Standing::Open);
+    assert_eq!(rt; again.entries().len(), 200);
+    Ok(())
+}
+
+/// So often a call is waited for at most.
+const PATIENCE: u64 = 1 << 22;
+
+/// A gate that holds each ask of eve's, once its text was examined, until another ask has been answered.
+#[derive(Drop)]
+struct Hold {
+    held: AtomicU64,
+    answered: AtomicU64,
+    given_up: AtomicU64,
+}
+
+impl Gate for Hold {
+    fn pass(&self, user: &str, point: Point) {
+        if user == "eve" && point == Point::Examined {
+            self.held.store(1, SeqCst);
+            if !was_set(&self.answered) {
+                self.given_up.store(1, SeqCst);
+            }
+        }
+    }
+}
+
+// Waits until a mark is set, a limited time; it says whether it was.
+fn was_set(mark: &AtomicU64) -> bool {
+    for _ in 0..PATIENCE {
+        if mark.load(SeqCst) == 1 {
+            return true;
+        }
+        thread::yield_now();
+    }
+    false
+}
+
+/// A session that asks while an ask at the gate is held, and then lets that go on.
+#[derive(Drop)]
+struct Other<'a, 'w, V: Owned> {
+    session: Session<'a, 'w, V, Hold>,
+    /// An ask was held before this one began.
+    saw_held: bool,
+}
+
+impl<'a, 'w, D: Disk> Work for Other<'a, 'w, TicketedDesk<'w, D>> {
+    ghost same = { λ before after. after.session.counter.now ≡ before.session.counter.now };
+
+    fn work<R: Wait>(self, rt: &R) -> Other<'a, 'w, TicketedDesk<'w, D>> {
+        let hold = self.session.gate;
+        let saw_held = was_set(&hold.held);
+        let session = self.session.work(rt);
+        hold.answered.store(1, SeqCst);
+        Other { session, saw_held }
+    }
+}
+
+/// What came of two asks, of which the first was held until the second was answered.
+#[derive(Clone, Copy, Debug, PartialEq, Eq)]
+struct Beside {
+    first_told: u64,
+    second_told: u64,
+    saw_held: bool,
+    gave_up: bool,
+}
+
+// The second session asks while the first is held.
+fn ask_while_held<'a, 'w, R: Threads + Wait + Sync, D: Disk + Drop + Send>(
+    rt: &R,
+    one: Session<'a, 'w, TicketedDesk<'w, D>, Hold>,
+    two: Session<'a, 'w, TicketedDesk<'w, D>, Hold>,
+) -> Beside {
+    let hold = two.gate;
+    let other = Other {
+        session: two,
+        saw_held: false,
+    };
+    let (one, other) = ask_in_thread(rt, one, other);
+    Beside {
+        first_told: one.told,
+        second_told: other.session.told,
+        saw_held: other.saw_held,
+        gave_up: hold.given_up.load(SeqCst) == 1,
+    }
+}
+
+// Two users ask once, each at his desk, the second while the first is held.
+fn ask_two_desks<'w, R: Threads + Wait + Sync>(
+    rt: &R,
+    alloc: Global,
+    first: (Counter<'w, MemoryDisk>, DeskPass<MemoryDisk>),
+    second: (Counter<'w, MemoryDisk>, DeskPass<MemoryDisk>),
+) -> Beside
+    requires first { IsPassOf first.1 first.0 × (shares_of first.1 ≡ 65) × (turns first.1 ≡ 65 * 2 ^ 57) }
+    requires second { IsPassOf second.1 second.0 × (shares_of second.1 ≡ 65) × (turns second.1 ≡ 65 * 2 ^ 57) }
+{
+    let (counter, pass) = first;
+    let (other, others_pass) = second;
+    let hold = Hold {
+        held: AtomicU64::new(0),
+        answered: AtomicU64::new(0),
+        given_up: AtomicU64::new(0),
+    };
+    let question = ("drug(ann)", Mark::No);
+    let one = session_at(alloc, &counter, pass, 65, question, 1, &hold);
+    let two = session_at(alloc, &other, others_pass, 65, question, 1, &hold);
+    ask_while_held(rt, one, two)
+}
+
+#[test]
+fn users_do_not_wait_for_each_other(rt: HostRuntime) -> Result<(), Fail> {
+    let alloc = rt.alloc();
+    let ward = make_ward(alloc)?;
+    let eves = counter_of(&rt, alloc, &ward.clinic, &ward.eve)?;
+    let dans = counter_of(&rt, alloc, &ward.clinic, &ward.dan)?;
+    let beside = Beside {
+        first_told: 1,
+        second_told: 1,
+        saw_held: true,
+        gave_up: false,
+    };
+    assert_eq!(rt; ask_two_desks(&rt, alloc, eves, dans), beside);
+    Ok(())
+}

@@ -1,0 +1,163 @@
+//! Sessions over streams in memory. Replies were worked out by hand.
+ghost use Rattle.std.specs.Prelude.{◌≡◌, ◌*◌, ◌^◌, IfOk};
+ghost use Rattle.cqe_base.specs.History.{profile_of};
+ghost use Rattle.cqe_base.specs.Limits.{KeepsLimits};
+ghost use Rattle.turnstile.specs.Passes.{turns};
+ghost use Rattle.desk_counter.specs.Counters.{IsPassOf};
+
+use crate::clinic::{Clinic, TOKEN, make_clinic, make_user};
+use cqe_base::user::{Method, User};
+use desk_counter::{Counter, DeskPass};
+use log_journal::{Header, format};
+use outside::{MemoryDisk, MemorySink, MemorySource, OpenGate, Pieces, Plan};
+use session_core::{Counters, Ended, serve_session};
+use std::alloc::Global;
+use std::process::Abort;
+use std::sync::Wait;
+use std::test::Fail;
+use user_desk::open_desk;
+
+const HEADER: Header = Header {
+    policy: [7; 32],
+    facts: [9; 32],
+};
+
+/// A user who knows that who takes the drug is infected, and from whom Ann's infection is kept.
+fn user_by(alloc: Global, clinic: &Clinic, name: &str, method: Method) -> Result<User, Fail>
+    ensures { IfOk result (λ user. KeepsLimits clinic.now.schema (profile_of user)) }
+{
+    let known = "forall x: person . drug(x) -> hiv(x)";
+    let user = make_user(alloc, &clinic.schema, name, method, known, "hiv(ann)")?;
+    Ok(user)
+}
+
+/// A user's desk on an empty journal, under a counter.
+fn counter_of<'w>(
+    rt: &impl Abort,
+    alloc: Global,
+    clinic: &'w Clinic,
+    user: &'w User,
+) -> Result<(Counter<'w, MemoryDisk>, DeskPass<MemoryDisk>), Fail>
+    requires { KeepsLimits clinic.now.schema (profile_of user.now) }
+    ensures pass { IfOk result (λ c. IsPassOf c.1 c.0) }
+    ensures all { IfOk result (λ c. turns c.1 ≡ 65 * 2 ^ 57) }
+{
+    let mut disk = MemoryDisk::new(alloc, Vec::new(alloc))?;
+    format(&mut disk, &HEADER)?;
+    let opened = open_desk(alloc, &clinic.schema, &clinic.world, user, &HEADER, disk);
+    let Ok(desk) = opened else {
+        panic!(rt; "no memory for a desk");
+    };
+    match Counter::new(alloc, desk) {
+        Ok(counter) => Ok(counter),
+        Err(_) => panic!(rt; "no memory for a counter"),
+    }
+}
+
+/// A session over these streams: how it ended, what was written, and how often a read failed.
+fn talk<R: Abort + Wait>(
+    rt: &R,
+    alloc: Global,
+    source: MemorySource,
+    sink: MemorySink,
+) -> Result<(Ended, MemorySink, u64), Fail> {
+    let clinic = make_clinic(alloc)?;
+    let mut eve = user_by(alloc, &clinic, "eve", Method::Lying)?;
+    eve.token = Some(TOKEN);
+    let ron = user_by(alloc, &clinic, "ron", Method::Refusal)?;
+    let users = [eve, ron];
+    let (eve_counter, eve_pass) = counter_of(rt, alloc, &clinic, &users[0])?;
+    let (ron_counter, ron_pass) = counter_of(rt, alloc, &clinic, &users[1])?;
+    let counters = Vec::from_array(alloc, [eve_counter, ron_counter])?;
+    let passes = Vec::from_array(alloc, [eve_pass, ron_pass])?;
+    let (counters, mut passes) = Counters::new(&users, counters, passes);
+    let (mut source, mut sink) = (source, sink);
+    let ended = serve_session(
+        rt,
+        alloc,
+        &counters,
+        &mut passes,
+        &mut source,
+        &mut sink,
+        &OpenGate,
+    );
+    Ok((ended, sink, source.faults()))
+}
+
+fn bytes_of(alloc: Global, text: &str) -> Result<Vec<u8>, Fail> {
+    let mut bytes = Vec::new(alloc);
+    bytes.extend_from_slice(text.as_bytes())?;
+    Ok(bytes)
+}
+
+// The liar is told `no` of `drug(ann)`, which is true and would give the secret away, and `no` of `hiv(bob)`.
+#[test]
+fn a_session_is_answered_line_for_line(rt: HostRuntime) -> Result<(), Fail> {
+    let alloc = rt.alloc();
+    let rows = [
+        (
+            "ask true\nlogin eve wrong\nlogin eve abc\nask drug(ann)\nask\nhello\nquit\nask true\n",
+            "error 25\nerror 25\nwelcome\nno\nerror 20 2 0\nerror 26\nbye\n",
+            Ended::Quit,
+        ),
+        // one who has no token, one whom nobody knows, and a second login
+        (
+            "login ron abc\nlogin zoe abc\r\nlogin eve abc\nlogin eve abc\nask hiv(bob)",
+            "error 25\nerror 25\nwelcome\nerror 26\nno\n",
+            Ended::InputEnd,
+        ),
+        ("", "", Ended::InputEnd),
+        ("quit", "bye\n", Ended::Quit),
+        ("\nquit now\n", "error 26\nerror 26\n", Ended::InputEnd),
+    ];
+    for (input, output, end) in rows {
+        let source = MemorySource::new(bytes_of(alloc, input)?);
+        let (ended, sink, _faults) = talk(&rt, alloc, source, MemorySink::new(alloc))?;
+        assert_eq!(rt; sink.bytes(), output.as_bytes(), "{input}");
+        assert_eq!(rt; ended, end, "{input}");
+    }
+    Ok(())
+}
+
+#[test]
+fn each_end_has_its_cause(rt: HostRuntime) -> Result<(), Fail> {
+    let alloc = rt.alloc();
+    // a line of 4,097 bytes, in one piece; a read behind it would fail
+    let mut long = bytes_of(alloc, "hello\n")?;
+    for _ in 0..4_097 {
+        long.push(b'a')?;
+    }
+    let source = MemorySource::with_plan(long, Pieces::Whole, Plan::From(1));
+    let (ended, sink, faults) = talk(&rt, alloc, source, MemorySink::new(alloc))?;
+    assert_eq!(rt; ended, Ended::TooLong);
+    assert_eq!(rt; faults, 0);
+    assert_eq!(rt; sink.bytes(), b"error 26\nerror 26\n".as_slice());
+    // the second read fails
+    let input = bytes_of(alloc, "hello\nhello\n")?;
+    let source = MemorySource::with_plan(input, Pieces::UpTo(6), Plan::From(1));
+    let (ended, sink, _faults) = talk(&rt, alloc, source, MemorySink::new(alloc))?;
+    assert_eq!(rt; ended, Ended::ReadFault);
+    assert_eq!(rt; sink.bytes(), b"error 26\n".as_slice());
+    // the second write fails
+    let source = MemorySource::new(bytes_of(alloc, "hello\nquit\n")?);
+    let sink = MemorySink::with_plan(alloc, Pieces::Whole, Plan::From(1));
+    let (ended, sink, _faults) = talk(&rt, alloc, source, sink)?;
+    assert_eq!(rt; ended, Ended::WriteFault);
+    assert_eq!(rt; sink.bytes(), b"error 26\n".as_slice());
+    Ok(())
+}
+
+// Each line comes in a piece of its own, and the read behind `quit` would fail. A client who waits for a reply before he
+// goes on gets it, and one who is silent behind `quit` isn't waited for.
+#[test]
+fn a_line_is_answered_before_more_is_read(rt: HostRuntime) -> Result<(), Fail> {
+    let alloc = rt.alloc();
+    let input = bytes_of(alloc, "login eve abc\nask hiv(bob)\nquit\nquit\n")?;
+    let lines = Pieces::InTurn(Vec::from_array(alloc, [14, 13, 5])?);
+    let source = MemorySource::with_plan(input, lines, Plan::From(3));
+    let (ended, sink, faults) = talk(&rt, alloc, source, MemorySink::new(alloc))?;
+    assert_eq!(rt; sink.bytes(), b"welcome\nno\nbye\n".as_slice());
+    assert_eq!(rt; ended, Ended::Quit);
+    assert_eq!(rt; faults, 0);
+    Ok(())
+}

@@ -1,0 +1,282 @@
+ghost use Rattle.std.specs.Prelude.{◌≤◌};
+
+use log_journal::{AppendError, Header, Journal, OpenError, format, journal_name, open};
+use outside::{MemoryDisk, Operation, Plan};
+use std::alloc::Global;
+use std::test::Fail;
+
+const HEADER: Header = Header {
+    policy: [7; 32],
+    facts: [9; 32],
+};
+
+// What stands from the first gate on after `drug(ann)` was appended with kind 2.
+const FROM_THE_GATE: [u8; 14] = [
+    0x01, 0x02, 0x00, 0x09, 0x64, 0x72, 0x75, 0x67, 0x28, 0x61, 0x6e, 0x6e, 0x29, 0x00,
+];
+
+// The device calls of an opening: a sync, the length and one read.
+const OPENING: u64 = 3;
+
+// The bytes of a journal with this behind its header.
+fn with_header(alloc: Global, behind: &[u8]) -> Result<Vec<u8>, Fail> {
+    let mut bytes = Vec::new(alloc);
+    bytes.extend_from_slice(b"CQEJRNL1")?;
+    bytes.extend_from_slice(&[7; 32])?;
+    bytes.extend_from_slice(&[9; 32])?;
+    bytes.extend_from_slice(behind)?;
+    Ok(bytes)
+}
+
+// Opens these bytes, and answers the refusal or the number of the records and the kind of the last.
+fn opened(alloc: Global, bytes: Vec<u8>) -> Result<Result<(usize, u8), OpenError>, Fail> {
+    let disk = MemoryDisk::new(alloc, bytes)?;
+    match open(alloc, disk, &HEADER) {
+        Ok((_, records)) => {
+            let kind = match records.last() {
+                Some(record) => record.kind,
+                None => 0,
+            };
+            Ok(Ok((records.len(), kind)))
+        }
+        Err(refused) => Ok(Err(refused.why)),
+    }
+}
+
+fn journal_of(alloc: Global, disk: MemoryDisk) -> Result<Journal<MemoryDisk>, OpenError> {
+    match open(alloc, disk, &HEADER) {
+        Ok((journal, _records)) => Ok(journal),
+        Err(refused) => Err(refused.why),
+    }
+}
+
+// Appends, and answers whether the record is acknowledged.
+fn is_appended(journal: &mut Journal<MemoryDisk>, kind: u8, text: &[u8; 9]) -> Result<bool, Fail>
+    requires low { 1 ≤ kind }
+    requires high { kind ≤ 4 }
+{
+    journal.reserve(9)?;
+    Ok(journal.append(kind, text).is_ok())
+}
+
+fn letter(operation: &Operation) -> u8 {
+    match operation {
+        Operation::Length => b'L',
+        Operation::Read { .. } => b'r',
+        Operation::Write { .. } => b'w',
+        Operation::Sync => b's',
+    }
+}
+
+#[test]
+fn one_append_writes_its_bytes(rt: HostRuntime) -> Result<(), Fail> {
+    let alloc = rt.alloc();
+    let mut disk = MemoryDisk::new(alloc, Vec::new(alloc))?;
+    format(&mut disk, &HEADER)?;
+    assert_eq!(rt; disk.bytes().len(), 73);
+    let mut journal = journal_of(alloc, disk)?;
+    assert!(rt; is_appended(&mut journal, 2, b"drug(ann)")?);
+    let disk = journal.close();
+    let want = with_header(alloc, &FROM_THE_GATE)?;
+    assert_eq!(rt; disk.bytes(), want.as_slice());
+    assert_eq!(rt; disk.bytes().len(), 86);
+    // Two calls of `format`, three of `open`, four of `append`.
+    let mut letters = Vec::new(alloc);
+    for call in disk.calls() {
+        letters.push(letter(&call.operation))?;
+    }
+    assert_eq!(rt; letters.as_slice(), b"wssLrwsws".as_slice());
+    Ok(())
+}
+
+// Behind the header stands what each case names: a gate, and then records with their next gates. The function is long by its
+// table.
+#[test]
+fn any_bytes_are_opened_or_refused(rt: HostRuntime) -> Result<(), Fail> {
+    let alloc = rt.alloc();
+    let cases: [(&[u8], Result<(usize, u8), OpenError>); 24] = [
+        (&[], Err(OpenError::NotAJournal)),
+        (&[0], Ok((0, 0))),
+        (&[2, 1, 0, 0, 0], Ok((0, 0))),
+        (&[255], Ok((0, 0))),
+        (&[1], Err(OpenError::Damaged(0))),
+        (&[1, 1], Err(OpenError::Damaged(0))),
+        (&[1, 1, 0], Err(OpenError::Damaged(0))),
+        (&[1, 1, 0, 0], Err(OpenError::Damaged(0))),
+        (&[1, 1, 0, 0, 0], Ok((1, 1))),
+        (&[1, 1, 0, 2, 120, 0], Err(OpenError::Damaged(0))),
+        (&[1, 1, 0, 2, 120, 120, 0], Ok((1, 1))),
+        (&[1, 1, 1, 0, 120, 0], Err(OpenError::Damaged(0))),
+        (&[1, 0, 0, 0, 0], Err(OpenError::Damaged(0))),
+        (&[1, 5, 0, 0, 0], Err(OpenError::Damaged(0))),
+        (&[1, 9, 0, 0, 0], Err(OpenError::Damaged(0))),
+        (&[1, 255, 0, 0, 0], Err(OpenError::Damaged(0))),
+        (&[1, 4, 0, 0, 1], Err(OpenError::Damaged(1))),
+        (&[1, 4, 0, 0, 9, 1, 0], Ok((1, 4))),
+        (
+            &[1, 1, 0, 1, 120, 1, 0, 0, 0, 0],
+            Err(OpenError::Damaged(1)),
+        ),
+        (
+            &[1, 1, 0, 1, 120, 1, 2, 0, 1, 120],
+            Err(OpenError::Damaged(1)),
+        ),
+        (
+            &[1, 1, 0, 0, 1, 2, 0, 0, 1, 3, 0, 0],
+            Err(OpenError::Damaged(2)),
+        ),
+        (
+            &[1, 1, 0, 0, 1, 6, 0, 0, 1, 7, 0, 0, 0],
+            Err(OpenError::Damaged(1)),
+        ),
+        (&[1, 1, 0, 0, 1, 2, 0, 0, 1, 3, 0, 0, 0], Ok((3, 3))),
+        (&[1, 3, 255, 255, 120, 0], Err(OpenError::Damaged(0))),
+    ];
+    for (behind, want) in cases {
+        assert_eq!(rt;
+            opened(alloc, with_header(alloc, behind)?)?,
+            want,
+            "{behind:?}"
+        );
+    }
+    assert_eq!(rt;
+        opened(alloc, Vec::new(alloc))?,
+        Err(OpenError::NotAJournal)
+    );
+    for (length, want) in [(4096, Ok((1, 2))), (4097, Err(OpenError::Damaged(0)))] {
+        let mut bytes = with_header(alloc, &[1, 2, 16, (length - 4096) as u8])?;
+        bytes.resize(76 + length + 1, 0)?;
+        assert_eq!(rt; opened(alloc, bytes)?, want, "a text of {length}");
+    }
+    Ok(())
+}
+
+// One byte of a journal with one record is changed.
+#[test]
+fn a_changed_byte_is_refused_or_read(rt: HostRuntime) -> Result<(), Fail> {
+    let alloc = rt.alloc();
+    let cases = [
+        (0, 99, Err(OpenError::NotAJournal)),
+        (7, 50, Err(OpenError::NotAJournal)),
+        (8, 0, Err(OpenError::OtherPolicy)),
+        (39, 0, Err(OpenError::OtherPolicy)),
+        (40, 0, Err(OpenError::OtherPolicy)),
+        (71, 0, Err(OpenError::OtherPolicy)),
+        (72, 1, Ok((1, 2))),
+        (72, 7, Ok((0, 0))),
+        (73, 1, Ok((1, 1))),
+        (73, 9, Err(OpenError::Damaged(0))),
+        (74, 16, Err(OpenError::Damaged(0))),
+        (75, 10, Err(OpenError::Damaged(0))),
+        (85, 1, Err(OpenError::Damaged(1))),
+        (85, 2, Ok((1, 2))),
+    ];
+    for (place, byte, want) in cases {
+        let mut bytes = with_header(alloc, &FROM_THE_GATE)?;
+        if let Some(changed) = bytes.get_mut(place) {
+            *changed = byte;
+        }
+        assert_eq!(rt; opened(alloc, bytes)?, want, "byte {place} set to {byte}");
+    }
+    Ok(())
+}
+
+// Opens, appends twice, and answers the disk and how many records were acknowledged.
+fn two_appends(alloc: Global, disk: MemoryDisk) -> Result<(MemoryDisk, usize), Fail> {
+    match open(alloc, disk, &HEADER) {
+        Ok((mut journal, _records)) => {
+            let first = is_appended(&mut journal, 3, b"drug(bob)")?;
+            let second = is_appended(&mut journal, 4, b"hiv(ann) ")?;
+            Ok((journal.close(), first as usize + second as usize))
+        }
+        Err(refused) => Ok((refused.disk, 0)),
+    }
+}
+
+// A stop at each device call, and several pictures of what was torn. A tail of an earlier crash stands behind the
+// closed gate: a record and an open gate with another record, which nothing may bring back.
+#[test]
+fn a_stop_leaves_the_acknowledged_records(rt: HostRuntime) -> Result<(), Fail> {
+    let alloc = rt.alloc();
+    for stop in 0..OPENING + 8 + 1 {
+        for picture in [0, 1, 2, 4, 7, 8, 9, 13, 18, 38, 53, 1277] {
+            let mut bytes = with_header(alloc, b"\0\x02\0\x09drug(eve)")?;
+            bytes.extend_from_slice(&FROM_THE_GATE)?;
+            let (disk, acknowledged) = two_appends(
+                alloc,
+                MemoryDisk::with_plan(alloc, bytes, Plan::From(stop))?,
+            )?;
+            let left = opened(alloc, disk.crash_image(alloc, picture)?)?;
+            let is_right = match acknowledged {
+                0 => left == Ok((0, 0)) || left == Ok((1, 3)),
+                1 => left == Ok((1, 3)) || left == Ok((2, 4)),
+                _ => left == Ok((2, 4)),
+            };
+            assert!(rt; is_right, "stop {stop}, picture {picture}");
+        }
+    }
+    Ok(())
+}
+
+#[test]
+fn a_failed_sync_breaks_the_journal(rt: HostRuntime) -> Result<(), Fail> {
+    let alloc = rt.alloc();
+    let disk = MemoryDisk::with_plan(
+        alloc,
+        with_header(alloc, &FROM_THE_GATE)?,
+        Plan::At(vec![in alloc; OPENING + 1]?),
+    )?;
+    let mut journal = journal_of(alloc, disk)?;
+    journal.reserve(9)?;
+    assert_eq!(rt;
+        journal.append(1, b"hiv(bob) "),
+        Err(AppendError::DiskFault)
+    );
+    assert_eq!(rt; journal.append(1, b"hiv(bob) "), Err(AppendError::Broken));
+    let image = journal.close().crash_image(alloc, 1)?;
+    assert_eq!(rt; opened(alloc, image)?, Ok((1, 2)));
+    Ok(())
+}
+
+#[test]
+fn a_disk_fault_at_the_opening(rt: HostRuntime) -> Result<(), Fail> {
+    let alloc = rt.alloc();
+    for call in 0..OPENING {
+        let disk = MemoryDisk::with_plan(
+            alloc,
+            with_header(alloc, &FROM_THE_GATE)?,
+            Plan::At(vec![in alloc; call]?),
+        )?;
+        match open(alloc, disk, &HEADER) {
+            Ok(_) => assert!(rt; false),
+            Err(refused) => {
+                assert_eq!(rt; refused.why, OpenError::DiskFault);
+                assert_eq!(rt;
+                    refused.disk.bytes(),
+                    with_header(alloc, &FROM_THE_GATE)?.as_slice()
+                );
+            }
+        }
+    }
+    Ok(())
+}
+
+fn crosses_threads<T: Send + Sync>(_value: &T) {}
+
+#[test]
+fn a_journal_crosses_threads(rt: HostRuntime) -> Result<(), Fail> {
+    let alloc = rt.alloc();
+    let journal = journal_of(
+        alloc,
+        MemoryDisk::new(alloc, with_header(alloc, &FROM_THE_GATE)?)?,
+    )?;
+    crosses_threads(&journal);
+    Ok(())
+}
+
+#[test]
+fn a_journal_has_the_name_of_its_user(rt: HostRuntime) -> Result<(), Fail> {
+    let name = journal_name(rt.alloc(), "/var/cqe", "eve")?;
+    assert_eq!(rt; name.as_str(), "/var/cqe/eve.log");
+    Ok(())
+}

@@ -1,0 +1,184 @@
+ghost use Rattle.std.specs.Prelude.{[], None};
+
+use outside::{
+    Connection, Door, Failed, Links, LinksError, MemoryDoor, MemoryLinks, MemorySink, MemorySource,
+    Plan, Sink, Source, write_all,
+};
+use std::alloc::Global;
+use std::process::Abort;
+use std::test::Fail;
+
+// Connections whose clients send one byte each, from this one on.
+fn connections(alloc: Global, first: u8, count: u8) -> Result<Vec<Connection>, Fail> {
+    let mut all = Vec::new(alloc);
+    for number in 0..count {
+        let source = MemorySource::new(vec![in alloc; first.wrapping_add(number)]?);
+        all.push(Connection::new(source, MemorySink::new(alloc)))?;
+    }
+    Ok(all)
+}
+
+// Answers the next connection with the byte that its client sent, and answers whether one came.
+fn echo_next<D: Door>(door: &mut D) -> Result<bool, Failed> {
+    let Some((source, sink)) = door.next()? else {
+        return Ok(false);
+    };
+    let (mut source, mut sink) = (source, sink);
+    let mut byte = [0];
+    let taken = source.take(&mut byte);
+    let given = write_all(&mut sink, &byte);
+    door.done(source, sink);
+    taken?;
+    given?;
+    Ok(true)
+}
+
+// Checks that these doors got back connections with these bytes, each of them answered.
+fn check_back(rt: &impl Abort, links: &MemoryLinks, want: &[&[u8]]) {
+    assert_eq!(rt; links.doors_back().len(), want.len());
+    for (door, bytes) in links.doors_back().iter().zip(want) {
+        assert_eq!(rt; door.given(), bytes.len());
+        assert_eq!(rt; door.finished().len(), bytes.len());
+        for (finished, byte) in door.finished().iter().zip(bytes.iter()) {
+            assert_eq!(rt; finished.source.held(), [*byte].as_slice());
+            assert_eq!(rt; finished.sink.bytes(), [*byte].as_slice());
+        }
+    }
+}
+
+// Answers the connections of a door up to its end or its first failure, and answers whether it came to its end.
+fn echo_all<D: Door>(door: &mut D) -> bool {
+    for _ in 0..10 {
+        match echo_next(door) {
+            Ok(true) => (),
+            Ok(false) => return true,
+            Err(Failed) => return false,
+        }
+    }
+    false
+}
+
+#[test]
+fn connections_are_spread_over_doors(rt: HostRuntime) -> Result<(), Fail> {
+    let alloc = rt.alloc();
+    let mut links = MemoryLinks::new(alloc, connections(alloc, b'a', 5)?);
+    let mut doors = links.listen(alloc, "here", 2)?;
+    let mut second = doors.pop().expect(&rt, "a second door");
+    let mut first = doors.pop().expect(&rt, "a first door");
+    assert!(rt; echo_all(&mut first));
+    assert!(rt; echo_all(&mut second));
+    assert_eq!(rt; second.left(), 0);
+    assert_eq!(rt; second.ends(), 1);
+    assert_eq!(rt; second.finished().len(), 3);
+    links.take_back(first);
+    links.take_back(second);
+    check_back(&rt, &links, &[b"ab", b"cde"]);
+    assert_eq!(rt; links.left(), 0);
+    assert_eq!(rt; links.faults(), 0);
+    Ok(())
+}
+
+// Opens one door, answers its connections as far as it gives them, and gives it back.
+fn serve_one(rt: &impl Abort, alloc: Global, links: &mut MemoryLinks) -> Result<bool, Fail> {
+    let mut doors = links.listen(alloc, "", 1)?;
+    let mut door = doors.pop().expect(rt, "a door");
+    let ended = echo_all(&mut door);
+    links.take_back(door);
+    Ok(ended)
+}
+
+#[test]
+fn what_was_not_given_comes_through_the_next_doors(rt: HostRuntime) -> Result<(), Fail> {
+    let alloc = rt.alloc();
+    let plan = Plan::At(vec![in alloc; 0]?);
+    let mut door_plans = Vec::new(alloc);
+    door_plans.push(Plan::At(vec![in alloc; 1]?))?;
+    let all = connections(alloc, b'a', 3)?;
+    let mut links = MemoryLinks::with_plans(alloc, all, plan, door_plans);
+    assert_eq!(rt; links.listen(alloc, "", 1).err(), Some(LinksError::Failed));
+    assert_eq!(rt; links.faults(), 1);
+    assert_eq!(rt; serve_one(&rt, alloc, &mut links)?, false);
+    assert_eq!(rt; links.left(), 2);
+    assert_eq!(rt; links.faults(), 2);
+    assert_eq!(rt; serve_one(&rt, alloc, &mut links)?, true);
+    check_back(&rt, &links, &[b"a", b"bc"]);
+    assert_eq!(rt; links.left(), 0);
+    assert_eq!(rt; links.faults(), 2);
+    Ok(())
+}
+
+#[test]
+fn a_door_of_its_own_fails_by_its_plan(rt: HostRuntime) -> Result<(), Fail> {
+    let alloc = rt.alloc();
+    let mut door = MemoryDoor::with_plan(alloc, connections(alloc, b'a', 3)?, Plan::From(1))?;
+    assert!(rt; !echo_all(&mut door));
+    assert_eq!(rt; door.left(), 2);
+    assert_eq!(rt; door.faults(), 1);
+    let mut door = MemoryDoor::new(alloc, Vec::new(alloc))?;
+    assert!(rt; echo_all(&mut door));
+    assert!(rt; echo_all(&mut door));
+    assert_eq!(rt; door.ends(), 2);
+    Ok(())
+}
+
+// A door of which clauses aren't told anything, as real ones are.
+#[derive(Drop)]
+struct UntoldDoor {
+    alloc: Global,
+    calls: u64,
+    ends: u64,
+    faults: u64,
+}
+
+impl Door for UntoldDoor {
+    type Src = MemorySource;
+
+    type Snk = MemorySink;
+
+    ghost told = { ⊥ };
+
+    ghost given = { λ door. 0 };
+
+    ghost left = { λ door. 0 };
+
+    ghost back = { λ door. [] };
+
+    ghost last = { λ door. None };
+
+    ghost ends = { λ door. door.ends };
+
+    ghost faults = { λ door. door.faults };
+
+    ghost tells_ends = { λ told. absurd told };
+
+    fn next(&mut self) -> Result<Option<(MemorySource, MemorySink)>, Failed> {
+        if self.calls > 1 {
+            self.ends = self.ends.saturating_add(1);
+            return Ok(None);
+        }
+        self.calls += 1;
+        let Ok(byte) = vec![in self.alloc; 7] else {
+            self.faults = self.faults.saturating_add(1);
+            return Err(Failed);
+        };
+        Ok(Some((MemorySource::new(byte), MemorySink::new(self.alloc))))
+    }
+
+    fn done(&mut self, _source: MemorySource, _sink: MemorySink) {}
+}
+
+#[test]
+fn doors_may_be_untold(rt: HostRuntime) -> Result<(), Fail> {
+    let alloc = rt.alloc();
+    let (calls, ends, faults) = (0, 0, 0);
+    let mut door = UntoldDoor {
+        alloc,
+        calls,
+        ends,
+        faults,
+    };
+    assert!(rt; echo_all(&mut door));
+    assert_eq!(rt; door.calls, 2);
+    assert_eq!(rt; door.faults, 0);
+    Ok(())
+}

@@ -1,0 +1,219 @@
+ghost use Rattle.std.specs.Prelude.{◌≡◌, List, ℕ, false, IfOk, string_bytes};
+ghost use Rattle.cqe_base.specs.Schema.{has_duplicate};
+ghost use Rattle.init_engine.specs.Disks.{names_of};
+ghost use Rattle.outside.specs.MemoryShelves.{is_disk_out};
+
+use cqe_base::user::{Method, User};
+use init_engine::{InitEnd, run_init};
+use log_journal::{Header, OpenError};
+use outside::{MemoryDisk, MemoryShelf, Plan};
+use std::alloc::{AllocError, Global};
+use std::test::Fail;
+
+const HEADER: Header = Header {
+    policy: [7; 32],
+    facts: [9; 32],
+};
+
+const JOURNALS: [&str; 3] = ["d/ann.log", "d/bob.log", "d/eve.log"];
+
+fn user(alloc: Global, name: &str) -> Result<User, AllocError>
+    ensures { IfOk result (λ user. string_bytes user.name ≡ name.now) }
+{
+    Ok(User {
+        name: String::from_str(alloc, name)?,
+        method: Method::Lying,
+        know: Vec::new(alloc),
+        secrets: Vec::new(alloc),
+        budget: 1,
+        token: None,
+    })
+}
+
+fn users(alloc: Global) -> Result<Vec<User>, AllocError>
+    ensures { IfOk result (λ users. has_duplicate (names_of users.items) ≡ false) }
+{
+    let mut users = Vec::new(alloc);
+    users.push(user(alloc, "ann")?)?;
+    users.push(user(alloc, "bob")?)?;
+    users.push(user(alloc, "eve")?)?;
+    Ok(users)
+}
+
+// Makes the journals of ann, bob and eve.
+fn init(alloc: Global, shelf: &mut MemoryShelf, header: &Header) -> Result<InitEnd, AllocError>
+    requires { (name : List ℕ) → is_disk_out shelf.old name ≡ false }
+    ensures { (name : List ℕ) → is_disk_out shelf.new name ≡ false }
+{
+    let users = users(alloc)?;
+    Ok(run_init(alloc, &users, header, "d", shelf))
+}
+
+// The bytes of a journal with this behind its header.
+fn with_header(alloc: Global, behind: &[u8]) -> Result<Vec<u8>, AllocError> {
+    let mut bytes = Vec::new(alloc);
+    bytes.extend_from_slice(b"CQEJRNL1")?;
+    bytes.extend_from_slice(&[7; 32])?;
+    bytes.extend_from_slice(&[9; 32])?;
+    bytes.extend_from_slice(behind)?;
+    Ok(bytes)
+}
+
+// What the disks hold from byte 72 on, one after the other, with a 255 behind each, and a 254 for a disk that isn't
+// there. An empty disk shows nothing.
+fn shown(alloc: Global, shelf: &MemoryShelf) -> Result<Vec<u8>, AllocError> {
+    let mut all = Vec::new(alloc);
+    for name in JOURNALS {
+        match shelf.disk(name) {
+            Some(disk) => {
+                let bytes = disk.bytes();
+                all.extend_from_slice(bytes.get(72..).unwrap_or(&[]))?;
+                all.push(255)?;
+            }
+            None => all.push(254)?,
+        }
+    }
+    Ok(all)
+}
+
+#[test]
+fn empty_disks_become_journals(rt: HostRuntime) -> Result<(), Fail> {
+    let alloc = rt.alloc();
+    let mut shelf = MemoryShelf::new(alloc);
+    assert_eq!(rt; init(alloc, &mut shelf, &HEADER)?, InitEnd::Done);
+    let want = with_header(alloc, &[0])?;
+    for name in JOURNALS {
+        match shelf.disk(name) {
+            Some(disk) => assert_eq!(rt; disk.bytes(), want.as_slice(), "{name}"),
+            None => assert!(rt; false, "{name}"),
+        }
+    }
+    assert_eq!(rt; init(alloc, &mut shelf, &HEADER)?, InitEnd::Done);
+    assert_eq!(rt;
+        shown(alloc, &shelf)?.as_slice(),
+        [0, 255, 0, 255, 0, 255].as_slice()
+    );
+    let other = Header {
+        policy: [7; 32],
+        facts: [8; 32],
+    };
+    let refused = InitEnd::Refused {
+        user: 0,
+        why: OpenError::OtherPolicy,
+    };
+    assert_eq!(rt; init(alloc, &mut shelf, &other)?, refused);
+    assert_eq!(rt;
+        shown(alloc, &shelf)?.as_slice(),
+        [0, 255, 0, 255, 0, 255].as_slice()
+    );
+    assert_eq!(rt; shelf.faults(), 0);
+    Ok(())
+}
+
+// A disk of bob with these bytes, between two that are empty, is refused or left as it is.
+#[test]
+fn a_disk_that_is_not_empty_is_left(rt: HostRuntime) -> Result<(), Fail> {
+    let alloc = rt.alloc();
+    let cases: [(&[u8], InitEnd); 5] = [
+        (&[0], InitEnd::Done),
+        (&[1, 2, 0, 1, 120, 0], InitEnd::Done),
+        (&[0, 9, 9], InitEnd::Done),
+        (
+            &[1, 9, 0, 1, 120, 0],
+            InitEnd::Refused {
+                user: 1,
+                why: OpenError::Damaged(0),
+            },
+        ),
+        (
+            &[],
+            InitEnd::Refused {
+                user: 1,
+                why: OpenError::NotAJournal,
+            },
+        ),
+    ];
+    for (behind, want) in cases {
+        let mut shelf = MemoryShelf::new(alloc);
+        let disk = MemoryDisk::new(alloc, with_header(alloc, behind)?)?;
+        shelf.put_disk(alloc, "d/bob.log", disk)?;
+        assert_eq!(rt; init(alloc, &mut shelf, &HEADER)?, want, "{behind:?}");
+        let mut all = vec![in alloc; 0, 255]?;
+        all.extend_from_slice(behind)?;
+        all.push(255)?;
+        if want == InitEnd::Done {
+            all.extend_from_slice(&[0, 255])?;
+        } else {
+            all.push(254)?;
+        }
+        assert_eq!(rt;
+            shown(alloc, &shelf)?.as_slice(),
+            all.as_slice(),
+            "{behind:?}"
+        );
+    }
+    Ok(())
+}
+
+// One call of bob's disk fails: of an empty one the length, a sync, the write and a sync; of another the length, and
+// then those of the opening.
+#[test]
+fn a_disk_that_fails_stops_it(rt: HostRuntime) -> Result<(), Fail> {
+    let alloc = rt.alloc();
+    let refused = InitEnd::Refused {
+        user: 1,
+        why: OpenError::DiskFault,
+    };
+    for call in 0..4 {
+        for is_empty in [true, false] {
+            let plan = Plan::At(vec![in alloc; call]?);
+            let bytes = if is_empty {
+                Vec::new(alloc)
+            } else {
+                with_header(alloc, &[0])?
+            };
+            let mut shelf = MemoryShelf::new(alloc);
+            shelf.put_disk(
+                alloc,
+                "d/bob.log",
+                MemoryDisk::with_plan(alloc, bytes, plan)?,
+            )?;
+            let want = if is_empty || call == 0 {
+                InitEnd::DiskFault
+            } else {
+                refused
+            };
+            assert_eq!(rt;
+                init(alloc, &mut shelf, &HEADER)?,
+                want,
+                "call {call}, {is_empty}"
+            );
+            assert!(rt;
+                shelf.disk("d/bob.log").is_some(),
+                "call {call}, {is_empty}"
+            );
+            assert!(rt;
+                shelf.disk("d/eve.log").is_none(),
+                "call {call}, {is_empty}"
+            );
+        }
+    }
+    Ok(())
+}
+
+#[test]
+fn a_shelf_that_fails_stops_it(rt: HostRuntime) -> Result<(), Fail> {
+    let alloc = rt.alloc();
+    let mut shelf = MemoryShelf::with_plan(alloc, Plan::At(vec![in alloc; 1]?));
+    assert_eq!(rt; init(alloc, &mut shelf, &HEADER)?, InitEnd::ShelfFault);
+    assert_eq!(rt;
+        shown(alloc, &shelf)?.as_slice(),
+        [0, 255, 254, 254].as_slice()
+    );
+    assert_eq!(rt; init(alloc, &mut shelf, &HEADER)?, InitEnd::Done);
+    assert_eq!(rt;
+        shown(alloc, &shelf)?.as_slice(),
+        [0, 255, 0, 255, 0, 255].as_slice()
+    );
+    Ok(())
+}

@@ -1,0 +1,189 @@
+ghost use Rattle.std.specs.Prelude.{[]};
+
+use outside::{
+    Failed, MemorySink, MemorySource, Pieces, Plan, Sink, Source, write_all, write_parts,
+};
+use std::alloc::Global;
+use std::process::Abort;
+use std::test::Fail;
+
+// All that a source gives in calls of five bytes, up to its first refusal.
+fn taken<S: Source>(alloc: Global, source: &mut S) -> Result<(Vec<u8>, bool), Fail> {
+    let mut all = Vec::new(alloc);
+    let mut piece = [0; 5];
+    for _ in 0..20 {
+        let Ok(count) = source.take(&mut piece) else {
+            return Ok((all, false));
+        };
+        if count == 0 {
+            break;
+        }
+        all.extend_from_slice(&piece[..count])?;
+    }
+    Ok((all, true))
+}
+
+#[test]
+fn a_source_gives_its_bytes_in_any_pieces(rt: HostRuntime) -> Result<(), Fail> {
+    let alloc = rt.alloc();
+    let bytes = b"ask drug(ann)";
+    let cuts = [
+        Pieces::Whole,
+        Pieces::UpTo(0),
+        Pieces::UpTo(3),
+        Pieces::InTurn(Vec::new(alloc)),
+        Pieces::InTurn(vec![in alloc; 4, 0, 9]?),
+    ];
+    for pieces in cuts {
+        let mut source = MemorySource::with_plan(bytes.to_vec(alloc)?, pieces, Plan::Never);
+        let (all, ended) = taken(alloc, &mut source)?;
+        assert!(rt; ended);
+        assert_eq!(rt; all.as_slice(), bytes.as_slice());
+        assert_eq!(rt; source.take(&mut [7]), Ok(0));
+        assert_eq!(rt; source.faults(), 0);
+    }
+    Ok(())
+}
+
+#[test]
+fn a_source_fails_at_the_named_calls(rt: HostRuntime) -> Result<(), Fail> {
+    let alloc = rt.alloc();
+    let plan = Plan::At(vec![in alloc; 1, 3]?);
+    let mut source = MemorySource::with_plan(b"abcdefg".to_vec(alloc)?, Pieces::UpTo(2), plan);
+    let mut piece = [0; 3];
+    assert_eq!(rt; source.take(&mut piece), Ok(2));
+    assert_eq!(rt; source.take(&mut piece), Err(Failed));
+    assert_eq!(rt; source.left(), b"cdefg".as_slice());
+    assert_eq!(rt; source.take(&mut piece), Ok(2));
+    assert_eq!(rt; piece.as_slice(), b"cd\0".as_slice());
+    assert_eq!(rt; source.take(&mut piece), Err(Failed));
+    assert_eq!(rt; source.take(&mut []), Ok(0));
+    assert_eq!(rt; source.left(), b"efg".as_slice());
+    assert_eq!(rt; source.held(), b"abcdefg".as_slice());
+    assert_eq!(rt; source.faults(), 2);
+    let mut stopped = MemorySource::with_plan(Vec::new(alloc), Pieces::Whole, Plan::From(0));
+    assert_eq!(rt; stopped.take(&mut piece), Err(Failed));
+    Ok(())
+}
+
+// What is written of seven bytes, and how many faults there are then.
+fn check_written(
+    rt: &impl Abort,
+    alloc: Global,
+    pieces: Pieces,
+    plan: Plan,
+    want: &[u8],
+    faults: u64,
+) {
+    let mut sink = MemorySink::with_plan(alloc, pieces, plan);
+    let answer = write_all(&mut sink, b"refused");
+    assert_eq!(rt; answer.is_ok(), faults == 0);
+    assert_eq!(rt; sink.bytes(), want);
+    assert_eq!(rt; sink.faults(), faults);
+}
+
+#[test]
+fn a_sink_takes_all_or_a_part(rt: HostRuntime) -> Result<(), Fail> {
+    let alloc = rt.alloc();
+    check_written(&rt, alloc, Pieces::Whole, Plan::Never, b"refused", 0);
+    check_written(&rt, alloc, Pieces::UpTo(3), Plan::Never, b"refused", 0);
+    check_written(&rt, alloc, Pieces::UpTo(0), Plan::Never, b"", 1);
+    check_written(
+        &rt,
+        alloc,
+        Pieces::UpTo(3),
+        Plan::At(vec![in alloc; 2]?),
+        b"refuse",
+        1,
+    );
+    check_written(&rt, alloc, Pieces::UpTo(2), Plan::From(1), b"re", 1);
+    let stuck = Pieces::InTurn(vec![in alloc; 5, 0]?);
+    check_written(&rt, alloc, stuck, Plan::Never, b"refus", 1);
+    let mut sink = MemorySink::new(alloc);
+    write_all(&mut sink, b"")?;
+    write_all(&mut sink, b"yes\n")?;
+    write_all(&mut sink, b"no\n")?;
+    assert_eq!(rt; sink.bytes(), b"yes\nno\n".as_slice());
+    Ok(())
+}
+
+#[test]
+fn parts_are_written_one_after_the_other(rt: HostRuntime) -> Result<(), Fail> {
+    let alloc = rt.alloc();
+    let mut sink = MemorySink::new(alloc);
+    write_parts(
+        &mut sink,
+        vec![in alloc;
+            format!(in alloc; "yes\n")?,
+            String::new(alloc),
+            format!(in alloc; "no\n")?,
+        ]?
+        .as_slice(),
+    )?;
+    let none: [&[u8]; 0] = [];
+    write_parts(&mut sink, &none)?;
+    write_parts::<_, &[u8]>(&mut sink, &[b"cqe: ", "missing".as_bytes(), b"\n"])?;
+    assert_eq!(rt; sink.bytes(), b"yes\nno\ncqe: missing\n".as_slice());
+    let mut sink = MemorySink::with_plan(alloc, Pieces::UpTo(2), Plan::From(2));
+    assert_eq!(rt;
+        write_parts::<_, &[u8]>(&mut sink, &[b"abc", b"def"]),
+        Err(Failed)
+    );
+    assert_eq!(rt; sink.bytes(), b"abc".as_slice());
+    assert_eq!(rt; sink.faults(), 1);
+    Ok(())
+}
+
+// Streams of which clauses aren't told anything, as real ones are.
+#[derive(Drop)]
+struct UntoldStream {
+    faults: u64,
+}
+
+impl Source for UntoldStream {
+    ghost told = { ⊥ };
+
+    ghost held = { λ stream. [] };
+
+    ghost left = { λ stream. [] };
+
+    ghost faults = { λ stream. stream.faults };
+
+    ghost left_of_held = { λ stream told. ([], absurd told) };
+
+    fn take(&mut self, into: &mut [u8]) -> Result<usize, Failed> {
+        into.fill(9);
+        if into.len() > 4 {
+            self.faults = self.faults.saturating_add(1);
+            return Err(Failed);
+        }
+        Ok(into.len())
+    }
+}
+
+impl Sink for UntoldStream {
+    ghost told = { ⊥ };
+
+    ghost written = { λ stream. [] };
+
+    ghost faults = { λ stream. stream.faults };
+
+    fn give(&mut self, bytes: &[u8]) -> Result<usize, Failed> {
+        if bytes.len() > 4 {
+            self.faults = self.faults.saturating_add(1);
+            return Ok(0);
+        }
+        Ok(bytes.len())
+    }
+}
+
+#[test]
+fn streams_may_be_untold(rt: HostRuntime) -> Result<(), Fail> {
+    let mut stream = UntoldStream { faults: 0 };
+    let (all, ended) = taken(rt.alloc(), &mut stream)?;
+    assert!(rt; !ended);
+    assert!(rt; all.is_empty());
+    assert_eq!(rt; write_all(&mut stream, b"no\n"), Ok(()));
+    assert_eq!(rt; write_all(&mut stream, b"undecided\n"), Err(Failed));
+    Ok(())
+}

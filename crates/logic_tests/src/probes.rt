@@ -1,0 +1,217 @@
+// Probes of the hospital's rule, with verdicts, worlds and costs that were worked out by hand.
+ghost use Rattle.std.specs.Prelude.{◌≡◌, ◌≤◌, true, nat_le, IfOk, IsTrue};
+ghost use Rattle.std.specs.List.{list_all};
+ghost use Rattle.cqe_base.specs.Formula.{formula_of, nodes, is_sentence_of};
+ghost use Rattle.cqe_base.specs.Entailment.{are_sentences_of};
+ghost use Rattle.entailment.specs.Logs.{log_nodes, sentence_nodes};
+ghost use Rattle.entailment.specs.Views.{schema_of, log_of};
+ghost use Rattle.entailment.specs.Probes.{premise_list};
+
+use cqe_base::schema::Schema;
+use cqe_base::sentence::{Constant, Sentence, Term, Terms, nodes};
+use cqe_base::user::{Method, User};
+use cqe_base::well_formed::is_sentence_of;
+use entailment::{Probe, Verdict, View, test};
+use std::alloc::{AllocError, Global};
+use std::process::Abort;
+use std::test::Fail;
+
+/// The relations and persons of the schema.
+const DRUG: u32 = 0;
+
+const HIV: u32 = 1;
+
+const ANN: u32 = 0;
+
+const BOB: u32 = 1;
+
+/// Two persons, `drug(person)` and `hiv(person)`.
+fn hospital(alloc: Global) -> Result<Schema, Fail> {
+    let mut persons = Vec::new(alloc);
+    persons.push(String::from_str(alloc, "ann")?)?;
+    persons.push(String::from_str(alloc, "bob")?)?;
+    let mut domains = Vec::new(alloc);
+    domains.push((String::from_str(alloc, "person")?, persons))?;
+    let mut relations = Vec::new(alloc);
+    for name in ["drug", "hiv"] {
+        let mut columns = Vec::new(alloc);
+        columns.push(String::from_str(alloc, "person")?)?;
+        relations.push((String::from_str(alloc, name)?, columns))?;
+    }
+    Ok(Schema::new(alloc, domains, relations)?)
+}
+
+fn atom(alloc: Global, relation: u32, term: Term) -> Result<Sentence, AllocError> {
+    let terms = Vec::from_array(alloc, [term])?;
+    Ok(Sentence::Atom(relation, Terms::from_vec(terms)))
+}
+
+/// A relation of a person.
+fn of(alloc: Global, relation: u32, person: u32) -> Result<Sentence, AllocError> {
+    let constant = Constant {
+        domain: 0,
+        index: person,
+    };
+    atom(alloc, relation, Term::Constant(constant))
+}
+
+/// Each person who takes the drug is infected.
+fn rule(alloc: Global) -> Result<Sentence, AllocError> {
+    let drug = Box::new(alloc, atom(alloc, DRUG, Term::Place(0))?)?;
+    let hiv = Box::new(alloc, atom(alloc, HIV, Term::Place(0))?)?;
+    let body = Box::new(alloc, Sentence::Implies(drug, hiv))?;
+    Ok(Sentence::Forall(0, body))
+}
+
+/// Whether it is a sentence of the schema with few nodes.
+fn fits(schema: &Schema, sentence: &Sentence) -> bool
+    ensures sentence { IsTrue result → is_sentence_of schema.now (formula_of sentence.now) ≡ true }
+    ensures small { IsTrue result → nodes schema.now (formula_of sentence.now) ≤ 10000 }
+{
+    is_sentence_of(schema, sentence) && nodes(sentence, schema) <= 10_000
+}
+
+/// Whether there is no premise, or one that fits.
+fn premise_fits(schema: &Schema, premise: Option<(&Sentence, bool)>) -> bool
+    ensures sentence { IsTrue result → are_sentences_of schema.now (premise_list premise.entry) ≡ true }
+    ensures each { IsTrue result → list_all (λ signed. nat_le (nodes schema.now signed.0) 20000) (premise_list premise.entry) ≡ true }
+    ensures small { IsTrue result → sentence_nodes schema.now (premise_list premise.entry) ≤ 10000 }
+{
+    match premise {
+        Some((sentence, _)) => fits(schema, sentence),
+        None => true,
+    }
+}
+
+/// The view of a user who knows the rule.
+#[tactic(auto, unfolding(cqe_base::specs::History::known))]
+fn rule_view<'s>(rt: &impl Abort, alloc: Global, schema: &'s Schema) -> Result<View<'s>, Fail>
+    ensures schema { IfOk result (λ view. schema_of view ≡ schema.now) }
+    ensures few { IfOk result (λ view. log_nodes (schema_of view) (log_of view) ≤ 10000) }
+{
+    let user = User {
+        name: String::from_str(alloc, "eve")?,
+        method: Method::Lying,
+        know: Vec::new(alloc),
+        secrets: Vec::new(alloc),
+        budget: 10,
+        token: None,
+    };
+    let mut view = View::new(alloc, schema, &user)?;
+    let rule = rule(alloc)?;
+    assert!(rt; fits(schema, &rule));
+    view.add(alloc, &rule, true)?;
+    Ok(view)
+}
+
+/// What a probe of the view finds, in words; the facts of a world by their relations and persons.
+fn found(
+    rt: &impl Abort,
+    alloc: Global,
+    schema: &Schema,
+    view: &mut View<'_>,
+    probe: &Probe<'_>,
+    budget: u64,
+) -> Result<String, Fail>
+    requires schema { schema_of view.old ≡ schema.now }
+    requires size { log_nodes (schema_of view.old) (log_of view.old) ≤ 30000 }
+    ensures schema { schema_of view.new ≡ schema_of view.old }
+    ensures log { log_of view.new ≡ log_of view.old }
+{
+    let (goal, _) = probe.goal;
+    assert!(rt; fits(schema, goal));
+    assert!(rt; premise_fits(schema, probe.premise));
+    assert!(rt; budget <= 4_000_000);
+    let verdict = test(alloc, view, probe, budget)?;
+    Ok(words(alloc, &verdict)?)
+}
+
+/// A verdict in words.
+fn words(alloc: Global, verdict: &Verdict) -> Result<String, AllocError> {
+    match verdict {
+        Verdict::Follows => String::from_str(alloc, "follows"),
+        Verdict::Spent => String::from_str(alloc, "spent"),
+        Verdict::Open(world) => {
+            let mut text = String::from_str(alloc, "open")?;
+            for fact in world.facts() {
+                let [person, ..] = fact.columns;
+                write!(text, " {}-{person}", fact.relation)?;
+            }
+            Ok(text)
+        }
+    }
+}
+
+/// Premise, goal, budget, and what is found.
+type Case = (
+    Option<(u32, u32, bool)>,
+    (u32, u32, bool),
+    u64,
+    &'static str,
+);
+
+/// The first four are the two probes of the query whether ann takes the drug, against the secret that she is infected: they cost 11 and 9.
+const CASES: [Case; 9] = [
+    (Some((DRUG, ANN, true)), (HIV, ANN, true), 10, "spent"),
+    (Some((DRUG, ANN, true)), (HIV, ANN, true), 11, "follows"),
+    (Some((DRUG, ANN, false)), (HIV, ANN, true), 8, "spent"),
+    (Some((DRUG, ANN, false)), (HIV, ANN, true), 9, "open"),
+    (Some((DRUG, BOB, true)), (HIV, ANN, true), 9, "open 0-1 1-1"),
+    (None, (HIV, ANN, true), 1_000, "open"),
+    (None, (HIV, ANN, false), 1_000, "open 1-0"),
+    (
+        Some((HIV, BOB, false)),
+        (DRUG, BOB, false),
+        1_000,
+        "follows",
+    ),
+    (Some((HIV, BOB, false)), (DRUG, ANN, true), 0, "spent"),
+];
+
+#[test]
+fn worked_probes(rt: HostRuntime) -> Result<(), Fail> {
+    let alloc = rt.alloc();
+    let schema = hospital(alloc)?;
+    for (number, (premise, goal, budget, wanted)) in CASES.iter().enumerate() {
+        let mut view = rule_view(&rt, alloc, &schema)?;
+        let (relation, person, yes) = *goal;
+        let goal = of(alloc, relation, person)?;
+        let (further, is_true) = match premise {
+            Some((relation, person, yes)) => (Some(of(alloc, *relation, *person)?), *yes),
+            None => (None, true),
+        };
+        let probe = Probe {
+            premise: match &further {
+                Some(sentence) => Some((sentence, is_true)),
+                None => None,
+            },
+            goal: (&goal, yes),
+        };
+        let found = found(&rt, alloc, &schema, &mut view, &probe, *budget)?;
+        assert_eq!(rt; found.as_str(), *wanted, "case {number}");
+    }
+    Ok(())
+}
+
+/// A copy that learns more leaves the view as it was.
+#[test]
+fn copies_learn_alone(rt: HostRuntime) -> Result<(), Fail> {
+    let alloc = rt.alloc();
+    let schema = hospital(alloc)?;
+    let mut view = rule_view(&rt, alloc, &schema)?;
+    let mut copy = view.copy(alloc)?;
+    let learnt = of(alloc, HIV, BOB)?;
+    assert!(rt; fits(&schema, &learnt));
+    copy.add(alloc, &learnt, false)?;
+    let goal = of(alloc, DRUG, BOB)?;
+    let probe = Probe {
+        premise: None,
+        goal: (&goal, false),
+    };
+    let in_copy = found(&rt, alloc, &schema, &mut copy, &probe, 100)?;
+    assert_eq!(rt; in_copy.as_str(), "follows");
+    let in_view = found(&rt, alloc, &schema, &mut view, &probe, 100)?;
+    assert_eq!(rt; in_view.as_str(), "open 0-1 1-1");
+    assert_eq!(rt; (view.len(), copy.len()), (1, 2));
+    Ok(())
+}

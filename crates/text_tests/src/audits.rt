@@ -1,0 +1,124 @@
+// Audits as text and as JSON, with texts that were worked out by hand.
+use audit_text::{EntryRow, Report, SecretRow, lines_of};
+use cqe_base::user::Mark;
+use std::alloc::{AllocError, Global};
+use std::test::Fail;
+
+fn texts(alloc: Global, texts: &[&str]) -> Result<Vec<String>, AllocError> {
+    let mut copies = Vec::new(alloc);
+    for text in texts {
+        copies.push(String::from_str(alloc, text)?)?;
+    }
+    Ok(copies)
+}
+
+fn entry(alloc: Global, mark: Mark, query: &str) -> Result<EntryRow, AllocError> {
+    Ok(EntryRow {
+        mark,
+        query: String::from_str(alloc, query)?,
+    })
+}
+
+fn secret(alloc: Global, secret: &str, facts: &[&str]) -> Result<SecretRow, AllocError> {
+    Ok(SecretRow {
+        secret: String::from_str(alloc, secret)?,
+        world: Some(texts(alloc, facts)?),
+    })
+}
+
+fn spent(alloc: Global, secret: &str) -> Result<SecretRow, AllocError> {
+    Ok(SecretRow {
+        secret: String::from_str(alloc, secret)?,
+        world: None,
+    })
+}
+
+// The lines behind one another.
+fn printed(alloc: Global, report: &Report<'_>, json: bool) -> Result<String, AllocError> {
+    let mut text = String::new(alloc);
+    for line in lines_of(alloc, report, json)? {
+        text.push_str(&line)?;
+    }
+    Ok(text)
+}
+
+#[test]
+fn a_served_user_has_entries_and_secrets(rt: HostRuntime) -> Result<(), Fail> {
+    let alloc = rt.alloc();
+    let entries = [
+        entry(alloc, Mark::Yes, "(hiv(ann) or hiv(bob))")?,
+        entry(alloc, Mark::Refused, "hiv(ann)")?,
+    ];
+    let secrets = [
+        secret(alloc, "hiv(ann)", &["hiv(bob)"])?,
+        secret(alloc, "hiv(bob)", &["hiv(ann)"])?,
+    ];
+    let report = Report {
+        name: "kim",
+        method: "combined",
+        standing: "open",
+        entries: Vec::from_array(alloc, entries)?,
+        secrets: Vec::from_array(alloc, secrets)?,
+    };
+    assert_eq!(rt;
+        printed(alloc, &report, false)?.as_str(),
+        "user kim combined open\n1 yes (hiv(ann) or hiv(bob))\n2 refused hiv(ann)\nsecret hiv(ann) world hiv(bob)\nsecret hiv(bob) world hiv(ann)\n"
+    );
+    assert_eq!(rt;
+        printed(alloc, &report, true)?.as_str(),
+        "{\"entries\":[{\"mark\":\"yes\",\"query\":\"(hiv(ann) or hiv(bob))\"},{\"mark\":\"refused\",\"query\":\"hiv(ann)\"}],\"method\":\"combined\",\"name\":\"kim\",\"secrets\":[{\"secret\":\"hiv(ann)\",\"world\":[\"hiv(bob)\"]},{\"secret\":\"hiv(bob)\",\"world\":[\"hiv(ann)\"]}],\"standing\":\"open\"}\n"
+    );
+    Ok(())
+}
+
+// A world of two facts, one of none, and none at all; the other two marks.
+#[test]
+fn worlds_may_be_empty_or_spent(rt: HostRuntime) -> Result<(), Fail> {
+    let alloc = rt.alloc();
+    let entries = [
+        entry(alloc, Mark::No, "true")?,
+        entry(alloc, Mark::Undecided, "v")?,
+    ];
+    let secrets = [
+        secret(alloc, "a()", &["b()", "c(d, e)"])?,
+        secret(alloc, "b()", &[])?,
+        spent(alloc, "c()")?,
+    ];
+    let report = Report {
+        name: "ron",
+        method: "refusal",
+        standing: "open",
+        entries: Vec::from_array(alloc, entries)?,
+        secrets: Vec::from_array(alloc, secrets)?,
+    };
+    assert_eq!(rt;
+        printed(alloc, &report, false)?.as_str(),
+        "user ron refusal open\n1 no true\n2 undecided v\nsecret a() world b() c(d, e)\nsecret b() world -\nsecret c() world spent\n"
+    );
+    assert_eq!(rt;
+        printed(alloc, &report, true)?.as_str(),
+        "{\"entries\":[{\"mark\":\"no\",\"query\":\"true\"},{\"mark\":\"undecided\",\"query\":\"v\"}],\"method\":\"refusal\",\"name\":\"ron\",\"secrets\":[{\"secret\":\"a()\",\"world\":[\"b()\",\"c(d, e)\"]},{\"secret\":\"b()\",\"world\":[]},{\"secret\":\"c()\",\"world\":null}],\"standing\":\"open\"}\n"
+    );
+    Ok(())
+}
+
+#[test]
+fn a_user_who_is_refused_has_one_line(rt: HostRuntime) -> Result<(), Fail> {
+    let alloc = rt.alloc();
+    let report = Report {
+        name: "lou",
+        method: "lying",
+        standing: "closed",
+        entries: Vec::new(alloc),
+        secrets: Vec::new(alloc),
+    };
+    assert_eq!(rt;
+        printed(alloc, &report, false)?.as_str(),
+        "user lou lying closed\n"
+    );
+    assert_eq!(rt;
+        printed(alloc, &report, true)?.as_str(),
+        "{\"entries\":[],\"method\":\"lying\",\"name\":\"lou\",\"secrets\":[],\"standing\":\"closed\"}\n"
+    );
+    Ok(())
+}
