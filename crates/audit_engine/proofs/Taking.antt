@@ -1,11 +1,10 @@
 -- A disk that was taken and given back is what stood under its name.
-use Rattle.std.proofs.Common.{◌≡◌, ℕ, Bool, true, false, List, [], Option, None, Some, refl, sym, ap, subst, ◌∙◌}
+use Rattle.std.proofs.Common.{◌≡◌, ℕ, Bool, true, false, List, Option, None, Some, refl, sym, ap, subst}
 use Rattle.std.specs.Prelude.{bytes_eq}
 use Rattle.std.proofs.lemmas.Slice.Eq.{bytes_eq-Decides}
-use Rattle.outside.specs.Disk.{Only}
-use Rattle.outside.specs.Shelf.{IsTaken, SameOthers}
+use Rattle.outside.specs.Shelf.{IsTaken, SameOthers, bytes_on, image_on}
 use Rattle.cqe_base.specs.Schema.{Text}
-use Rattle.desk_crew.specs.Shelved.{bytes_on, image_on, SameBytes, NoNewImages}
+use Rattle.desk_crew.specs.Shelved.{SameBytes, NoNewImages}
 
 module _ {D : Type 0} (reads : D → List ℕ) (image : D → List ℕ → Type 0) where
   -- it had the bytes

@@ -1,5 +1,5 @@
 -- What the audit of a desk writes, as what the bytes of the journal say.
-use Rattle.std.proofs.Common.{◌≡◌, ◌⊎◌, inl, inr, ℕ, Bool, true, false, List, [], ◌++◌, refl, sym, subst}
+use Rattle.std.proofs.Common.{◌≡◌, ◌⊎◌, inl, inr, ℕ, Bool, List, [], refl, subst}
 use Rattle.outside.specs.Faults.{Rose}
 use Rattle.cqe_base.specs.Schema.{DatabaseSchema, Text}
 use Rattle.cqe_base.specs.Facts.{FactSet}
@@ -12,11 +12,10 @@ use Rattle.user_desk.specs.declared.standing.DeskError.{DeskError}
 use Rattle.user_desk.specs.declared.standing.DeskError.TheVariants.{Journal, Stale, Unlawful, Size, NotAdmitted}
 use Rattle.user_desk.specs.declared.standing.Standing.{Standing}
 use Rattle.user_desk.specs.declared.standing.Standing.TheVariants.{Open, Closed, Sealed}
-use Rattle.desk_crew.specs.Openings.{IsOpening}
 use Rattle.audit_text.specs.Said.{AuditSaid}
 use Rattle.audit_print.specs.Audits.{Audits}
-use Rattle.audit_engine.specs.Printed.{IsPrinted, end_of}
-use Rattle.audit_engine.specs.Ends.{HasStanding, Says, IsEnd}
+use Rattle.audit_engine.specs.Printed.{IsPrinted}
+use Rattle.audit_engine.specs.Ends.{Says, IsEnd}
 use Rattle.audit_engine.specs.declared.end.AuditEnd.{AuditEnd}
 use Rattle.audit_engine.specs.declared.end.AuditEnd.TheVariants as ends
 

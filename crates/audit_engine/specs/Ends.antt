@@ -1,5 +1,5 @@
 -- How the audit of a user ends, by the bytes of his journal.
-use Rattle.std.specs.Prelude.{◌≡◌, ℕ, Bool, true, false, List, ◌++◌, Option}
+use Rattle.std.specs.Prelude.{◌≡◌, ℕ, Bool, true, false, List, ◌++◌}
 use Rattle.outside.specs.Faults.{Rose}
 use Rattle.outside.specs.Streams.{AppendsPart}
 use Rattle.cqe_base.specs.Schema.{DatabaseSchema, Text}
@@ -9,7 +9,6 @@ use Rattle.cqe_base.specs.Censor.{admitted}
 use Rattle.censors.specs.Admitting.{admission_of}
 use Rattle.user_desk.specs.Causes.{Opens, IsSealedBy}
 use Rattle.user_desk.specs.Standings.{is_sealed}
-use Rattle.user_desk.specs.declared.standing.DeskError.{DeskError}
 use Rattle.user_desk.specs.declared.standing.Standing.{Standing}
 use Rattle.user_desk.specs.declared.standing.Standing.TheVariants.{Open, Closed, Sealed}
 use Rattle.desk_crew.specs.Openings.{IsOpening}

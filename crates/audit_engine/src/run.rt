@@ -1,12 +1,12 @@
 // The audit of a user whose journal lies on a shelf.
 ghost use Rattle.std.specs.Prelude.{◌≡◌, ◌≤◌, List, ℕ, false, string_bytes};
 ghost use Rattle.outside.specs.Faults.{Rose};
-ghost use Rattle.outside.specs.Shelf.{SameOthers};
+ghost use Rattle.outside.specs.Shelf.{bytes_on, image_on, SameOthers};
 ghost use Rattle.cqe_base.specs.History.{profile_of};
 ghost use Rattle.cqe_base.specs.Limits.{KeepsLimits};
 ghost use Rattle.log_journal.specs.Names.{journal_name};
 ghost use Rattle.log_journal.specs.Opening.{header_bytes};
-ghost use Rattle.desk_crew.specs.Shelved.{bytes_on, image_on, NoneOut, NoneFell, SameBytes, NoNewImages};
+ghost use Rattle.desk_crew.specs.Shelved.{NoneOut, NoneFell, SameBytes, NoNewImages};
 ghost use Rattle.audit_engine.specs.Ends.{IsEnd};
 ghost use Rattle.audit_engine.specs.declared.end.AuditEnd.{AuditEnd};
 

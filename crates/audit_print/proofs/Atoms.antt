@@ -1,5 +1,5 @@
 -- The atom of a fact of the schema is a sentence, and the facts of a world are listed once.
-use Rattle.std.proofs.Common.{◌≡◌, ◌≤◌, ℕ, Bool, true, false, ◌||◌, List, [], ◌∷◌, ◌++◌, length, refl, sym, ap, ◌∙◌, arith}
+use Rattle.std.proofs.Common.{◌≡◌, ◌≤◌, ℕ, Bool, true, false, ◌||◌, List, [], ◌∷◌, ◌++◌, length, refl, sym, ap, ◌∙◌, arith, append_assoc}
 use Rattle.std.specs.Prelude.{Some, None, nat_lt, nat_le, nat_eq, unwrap_or}
 use Rattle.std.proofs.lemmas.Bool.{and_parts, eq-eqb, leb-true}
 use Rattle.cqe_base.specs.declared.world.Fact.{Fact}
@@ -12,7 +12,6 @@ use Rattle.std.specs.Ordering.{eq_by_cmp, is_eq}
 use Rattle.std.specs.Cmp.{IsTotalOrder, nat_cmp_total, on_total, then_total, tied_itself}
 use Rattle.std.specs.Cmp.Lexicographic.{nat_list_cmp_total}
 use Rattle.audit_print.specs.Said.{atom_of, constants_in}
-use Rattle.audit_print.proofs.Each.{push_front}
 
 fact_cmp_total : IsTotalOrder fact_cmp
 fact_cmp_total = then_total (on_total (λ f. f.relation) nat_cmp_total) (on_total (λ f. f.columns) nat_list_cmp_total)
@@ -62,7 +61,7 @@ listed_good : (schema : DatabaseSchema) (world : FactSet) (facts : List Fact) �
 listed_good schema world facts of_schema is before [] at = refl
 listed_good schema world facts of_schema is before (fact ∷ after) at =
     let first = first_listed schema world facts of_schema is before fact after at in
-    rw first (listed_good schema world facts of_schema is (before ++ fact ∷ []) after (at ∙ sym (push_front before fact after)))
+    rw first (listed_good schema world facts of_schema is (before ++ fact ∷ []) after (at ∙ sym (append_assoc before (fact ∷ []) after)))
 
 pub all_listed : (schema : DatabaseSchema) (world : FactSet) (facts : List Fact) → IsWorldOf schema world → set.from_list facts ≡ world → list_all (is_fact_of schema) facts ≡ true
 all_listed schema world facts of_schema is = listed_good schema world facts of_schema is [] facts refl

@@ -1,5 +1,5 @@
 -- What a desk holds, as what an audit says.
-use Rattle.std.proofs.Common.{◌≡◌, ℕ, true, List, map, sym, ap, subst, ◌∙◌, arith}
+use Rattle.std.proofs.Common.{◌≡◌, ℕ, true, map, sym, ap, subst, ◌∙◌, arith}
 use Rattle.std.specs.Prelude.{◌<◌, Option, None, Some, IfSome, length, codes}
 use Rattle.std.specs.List.{range_with_len}
 use Rattle.cqe_base.specs.declared.user.Method.{Method}

@@ -1,5 +1,5 @@
 -- Facts of each element of a list.
-use Rattle.std.proofs.Common.{◌≡◌, ◌<◌, ◌+◌, ℕ, zero, suc, Bool, true, List, [], ◌∷◌, ◌++◌, length, get_or, map, refl, sym, ap, subst, ◌∙◌, arith}
+use Rattle.std.proofs.Common.{◌≡◌, ◌<◌, ◌+◌, ℕ, zero, suc, Bool, true, List, [], ◌∷◌, ◌++◌, length, get_or, map, refl, sym, ap, subst, ◌∙◌, arith, append_assoc}
 use Rattle.std.specs.List.{list_all, range_with_len}
 use Rattle.std.proofs.lemmas.Bool.{and_parts}
 use Rattle.cqe_base.specs.Schema.{DatabaseSchema}
@@ -16,15 +16,11 @@ all_at p f [] i x all is low = absurd (omega arith)
 all_at p f (y ∷ ys) zero x all is low = ap (λ z. p (f z)) is ∙ (and_parts (p (f y)) (list_all p (map f ys)) all).0
 all_at p f (y ∷ ys) (suc i) x all is low = all_at p f ys i x (and_parts (p (f y)) (list_all p (map f ys)) all).1 is (omega arith)
 
-pub push_front : {X : Type 0} (xs : List X) (y : X) (ys : List X) → (xs ++ y ∷ []) ++ ys ≡ xs ++ y ∷ ys
-push_front [] y ys = refl
-push_front (x ∷ xs) y ys = ap (λ l. x ∷ l) (push_front xs y ys)
-
 sentences_behind : (schema : DatabaseSchema) (user : UserProfile) (before after : History) → KeepsSizes schema user (before ++ after) → list_all (λ (e : AnsweredQuery). is_sentence_of schema e.query) after ≡ true
 sentences_behind schema user before [] sizes = refl
 sentences_behind schema user before (e ∷ after) sizes =
     let first : is_sentence_of schema e.query ≡ true = (sizes before e after refl).sentence in
-    rw first (sentences_behind schema user (before ++ e ∷ []) after (subst (KeepsSizes schema user) (sym (push_front before e after)) sizes))
+    rw first (sentences_behind schema user (before ++ e ∷ []) after (subst (KeepsSizes schema user) (sym (append_assoc before (e ∷ []) after)) sizes))
 
 -- the queries of entries within the sizes are sentences
 pub sentences : (schema : DatabaseSchema) (user : UserProfile) (entries : History) → KeepsSizes schema user entries → list_all (λ (e : AnsweredQuery). is_sentence_of schema e.query) entries ≡ true

@@ -3,6 +3,7 @@ use Rattle.std.proofs.Common.{◌≡◌, ◌<◌, ◌≤◌, ◌+◌, ◌==◌, 
 use Rattle.std.specs.Prelude.{Option, None, option_map}
 use Rattle.std.specs.List.{range_with_len}
 use Rattle.std.proofs.lemmas.Bool.{eq-eqb, ne_eqb, eqb-false}
+use Rattle.std.proofs.lemmas.List.{map-append}
 use Rattle.cqe_base.specs.declared.world.Fact.{Fact}
 use Rattle.cqe_base.specs.Canonical.{canonical}
 use Rattle.cqe_base.specs.Schema.{DatabaseSchema, Text}
@@ -29,10 +30,6 @@ same_said schema user f g a zero same = refl
 same_said schema user f g a (suc n) same =
     let rest = same_said schema user f g (a + 1) n (λ k low high. same k (omega (arith, low)) (omega (arith, high))) in
     (λ i. (canonical schema (secret_at user a), option_map (world_said schema) (same a (omega arith) (omega arith) i)) ∷ rest i)
-
-map-append : {X Y : Type 0} (f : X → Y) (xs ys : List X) → map f (xs ++ ys) ≡ map f xs ++ map f ys
-map-append f [] ys = refl
-map-append f (x ∷ xs) ys = ap (λ l. f x ∷ l) (map-append f xs ys)
 
 pub lists_none : (schema : DatabaseSchema) (user : UserProfile) (worlds : ℕ → Option FactSet) (said : List (Text × Option (List Text))) → said ≡ [] → ListsAll schema user worlds 0 said
 lists_none schema user worlds said is = record { listings = λ _. None; listed = λ k low. absurd (omega (arith, low)); whole = is }

@@ -3,6 +3,7 @@ use Rattle.std.proofs.Common.{◌≡◌, ◌≢◌, inl, inr, ℕ, ◌≤◌, Bo
 use Rattle.std.specs.Prelude.{Option, Some, find, bytes_eq, All, if◌then◌else◌}
 use Rattle.std.specs.List.{list_any, AllByRecursion}
 use Rattle.std.proofs.lemmas.List.Elements.{All-head, All-tail}
+use Rattle.outside.specs.Shelf.{bytes_on, image_on}
 use Rattle.cqe_base.specs.Schema.{Text, DatabaseSchema, is_valid_schema, has_duplicate}
 use Rattle.cqe_base.specs.Facts.{FactSet}
 use Rattle.cqe_base.specs.History.{profile_of}
@@ -12,6 +13,7 @@ use Rattle.cqe_base.specs.Headline.{RunsStayLegal, ScriptsHide}
 use Rattle.cqe_base.specs.Run.{UserState, standing_sealed}
 use Rattle.cqe_base.specs.Transcript.{NamedUser, ScriptEvent, own_events, state_after, TranscriptIsPrivate}
 use Rattle.cqe_base.specs.declared.user.User.{User}
+use Rattle.cqe_base.proofs.Truths.{or_first, or_second}
 use Rattle.user_desk.specs.Causes.{Opens}
 use Rattle.user_desk.specs.Lives.{IsState}
 use Rattle.user_desk.specs.Standings.{is_sealed}
@@ -23,10 +25,10 @@ use Rattle.desk_crew.specs.Openings.{OpensNone, IsOpening}
 use Rattle.batch_engine.specs.Lives.{RoseBy, is_opened, failures}
 use Rattle.batch_engine.specs.Batch.{Serves, Answers, AreRefusals, AppendsAll, AppendsSome, line_bytes, unopened, with_opening}
 use Rattle.desk_crew.specs.Crew.{named_user, seat_standing, seat_state, IsLeft, IsClosed}
-use Rattle.desk_crew.specs.Shelved.{bytes_on, image_on, journals_on, IsBack, AreBack}
+use Rattle.desk_crew.specs.Shelved.{journals_on, IsBack, AreBack}
 use Rattle.desk_crew.specs.Seats.{DeskSeat}
 use Rattle.batch_engine.proofs.Courses.{Course, course_on, Fits, IsRunning}
-use Rattle.desk_crew.proofs.Taken.{left_false, right_false, text_is}
+use Rattle.desk_crew.proofs.Taken.{text_is}
 use Rattle.batch_engine.proofs.Seating.{names, IsSeated, AreSeated, close_at}
 use Rattle.batch_engine.proofs.Telling.{SoFar, LastLine}
 
@@ -38,8 +40,8 @@ Finds users user = find (λ u. bytes_eq u.name user.name) users ≡ Some user
 find_behind : (first : NamedUser) (base users : List NamedUser) → list_any (bytes_eq first.name) (names users) ≡ false → AllByRecursion (Finds base) users → AllByRecursion (Finds (first ∷ base)) users
 find_behind first base [] none found = tt
 find_behind first base (user ∷ users) none found = (
-  ap (λ b. if b then Some first else find (λ u. bytes_eq u.name user.name) base) (left_false _ _ none) ∙ found.0,
-  find_behind first base users (right_false _ _ none) found.1,
+  ap (λ b. if b then Some first else find (λ u. bytes_eq u.name user.name) base) (or_first _ _ none) ∙ found.0,
+  find_behind first base users (or_second _ _ none) found.1,
 )
 
 -- each user is the first of his name
@@ -47,7 +49,7 @@ pub find_all : (users : List NamedUser) → has_duplicate (names users) ≡ fals
 find_all [] distinct = tt
 find_all (user ∷ users) distinct = (
   ap (λ b. if b then Some user else find (λ u. bytes_eq u.name user.name) users) (text_is user.name),
-  find_behind user users users (left_false _ _ distinct) (find_all users (right_false _ _ distinct)),
+  find_behind user users users (or_first _ _ distinct) (find_all users (or_second _ _ distinct)),
 )
 
 -- names don't tell of openings

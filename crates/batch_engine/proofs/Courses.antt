@@ -2,7 +2,9 @@
 use Rattle.std.proofs.Common.{◌≡◌, ◌⊎◌, inl, inr, ℕ, ◌+◌, ◌≤◌, Bool, true, false, List, [], ◌∷◌, ◌++◌, refl, sym, ap, subst, ◌∙◌, append-nil, arith}
 use Rattle.std.specs.Prelude.{Option, Some, None, is_some, ◌||◌, option_to_list, Result, Ok, Err, if◌then◌else◌}
 use Rattle.std.specs.List.{list_any}
+use Rattle.std.proofs.lemmas.Bool.{or_left}
 use Rattle.outside.specs.Faults.{Rose}
+use Rattle.outside.proofs.Rises.{rose_wide}
 use Rattle.cqe_base.specs.Schema.{DatabaseSchema, Text}
 use Rattle.cqe_base.specs.Facts.{FactSet}
 use Rattle.cqe_base.specs.Formula.{Formula}
@@ -11,6 +13,8 @@ use Rattle.cqe_base.specs.History.{UserProfile, AnsweredQuery, History}
 use Rattle.cqe_base.specs.Censor.{admitted}
 use Rattle.cqe_base.specs.Run
 use Rattle.cqe_base.specs.Run.{Reply, Ending, want, kept, failed, Event, ask, restart, UserState, opening, after_event, after_events, reply_to_ask, entry_at, standing_sealed}
+use Rattle.cqe_base.proofs.Runs.{after_events-push}
+use Rattle.cqe_base.proofs.Lists.{or_assoc}
 use Rattle.log_journal.specs.declared.header.OpenError.TheVariants as journal_error
 use Rattle.user_desk.specs.Causes.{Opens, IsSealedBy, IsStanding, Refuses}
 use Rattle.user_desk.specs.Lives.{Holds, Restarts, IsState, shown}
@@ -48,19 +52,8 @@ any-push test [] x = by (test x)
     by true = refl
     by false = refl
 any-push test (y ∷ xs) x = ap (λ b. test y || b) (any-push test xs x) ∙ sym (or_assoc (test y) (list_any test xs) (test x))
-  where
-    or_assoc : (a b c : Bool) → ((a || b) || c) ≡ (a || (b || c))
-    or_assoc true b c = refl
-    or_assoc false b c = refl
-
-or_true : (a b : Bool) → a ≡ true → (a || b) ≡ true
-or_true a b e = ap (λ x. x || b) e
 
 module _ (schema : DatabaseSchema) (world : FactSet) (user : UserProfile) where
-  after-push : (state : UserState) (events : List Event) (event : Event) → after_events schema world user state (events ++ event ∷ []) ≡ after_event schema world user (after_events schema world user state events) event
-  after-push state [] event = refl
-  after-push state (e ∷ events) event = after-push (after_event schema world user state e) events event
-
   caused-push : (state : UserState) (events : List Event) (event : Event) → AreCaused schema world user state events → IsCaused schema world user (after_events schema world user state events) event
       → AreCaused schema world user state (events ++ event ∷ [])
   caused-push state [] event all last = (last, tt)
@@ -138,11 +131,7 @@ module _ (schema : DatabaseSchema) (world : FactSet) (user : UserProfile) where
 
     sealed_on : (now later : ℕ) → now ≤ later → (why : DeskError) → IsSealedBy schema world user (Unit {0}) header bytes before now why → IsSealedBy schema world user (Unit {0}) header bytes before later why
     sealed_on now later on (Journal journal_error.Memory) is = is
-    sealed_on now later on (Journal journal_error.DiskFault) is = rose_on is
-      where
-        rose_on : Rose before now → Rose before later
-        rose_on (inl some) = inl (omega (arith, some, on))
-        rose_on (inr full) = inr (omega (arith, full, on))
+    sealed_on now later on (Journal journal_error.DiskFault) is = rose_wide before before now later (omega arith) on is
     sealed_on now later on (Journal journal_error.NotAJournal) is = is
     sealed_on now later on (Journal journal_error.OtherPolicy) is = is
     sealed_on now later on (Journal (journal_error.Damaged number)) is = is
@@ -151,11 +140,16 @@ module _ (schema : DatabaseSchema) (world : FactSet) (user : UserProfile) where
     sealed_on now later on (Size number) is = is
     sealed_on now later on (NotAdmitted admission) is = is
 
+    refused_later : (now later : ℕ) → now ≤ later → (events : List Event) (refusal : Option DeskError) → IsRefusal schema world user header bytes before now events refusal
+        → IsRefusal schema world user header bytes before later events refusal
+    refused_later now later on events None none = none
+    refused_later now later on events (Some why) is = (is.0, sealed_on now later on why is.1)
+
     -- a refusal is still the first behind an event that is none
     refusal_on : (now later : ℕ) → now ≤ later → (events : List Event) (event : Event) → is_refused event ≡ false → (refusal : Option DeskError)
         → IsRefusal schema world user header bytes before now events refusal → IsRefusal schema world user header bytes before later (events ++ event ∷ []) refusal
     refusal_on now later on events event isnt None none = any-push is_refused events event ∙ ap (λ b. b || is_refused event) none ∙ isnt
-    refusal_on now later on events event isnt (Some why) is = (any-push is_refused events event ∙ or_true (list_any is_refused events) (is_refused event) is.0, sealed_on now later on why is.1)
+    refusal_on now later on events event isnt (Some why) is = (any-push is_refused events event ∙ or_left (list_any is_refused events) (is_refused event) is.0, sealed_on now later on why is.1)
 
     -- the course at a later count
     pub course_on : (opened : History) (events : List Event) (reads reads' : List ℕ) (now later : ℕ) (refusal : Option DeskError) → reads' ≡ reads → now ≤ later → Course opened events reads now refusal
@@ -164,16 +158,12 @@ module _ (schema : DatabaseSchema) (world : FactSet) (user : UserProfile) where
       later = omega (arith, course.later, on);
       caused = course.caused;
       fits = fits_on course.fits;
-      refused = refused_on refusal course.refused;
+      refused = refused_later now later on events refusal course.refused;
     }
       where
         fits_on : Fits opened events reads now → Fits opened events reads' later
         fits_on (inl (opens, holds, rose)) = inl (opens, subst (Holds schema world user header (after_events schema world user (opening schema world user opened) events)) (sym same) holds, rose_more (failures events) before now later rose on)
         fits_on (inr (none, empty, is, never)) = inr (none, empty, same ∙ is, never)
-
-        refused_on : (r : Option DeskError) → IsRefusal schema world user header bytes before now events r → IsRefusal schema world user header bytes before later events r
-        refused_on None none = none
-        refused_on (Some why) is = (is.0, sealed_on now later on why is.1)
 
     -- ---- an ask
 
@@ -254,16 +244,12 @@ module _ (schema : DatabaseSchema) (world : FactSet) (user : UserProfile) where
         later = omega (arith, living.later, on);
         caused = living.caused;
         fits = by living.fits;
-        refused = refused_later refusal living.refused;
+        refused = refused_later now later on events refusal living.refused;
       };
       shut = living.shut;
       images = λ served c at. subst (λ s. Holds schema world user header s c) (sym (shown_is standing state _ served living.is_in)) (holds served c at);
     }
       where
-        refused_later : (r : Option DeskError) → IsRefusal schema world user header bytes before now events r → IsRefusal schema world user header bytes before later events r
-        refused_later None none = none
-        refused_later (Some why) is = (is.0, sealed_on now later on why is.1)
-
         rises : RoseBut events standing state now → RoseBy (failures events) before later
         rises (all_rose rose) = rose_more (failures events) before now later rose on
         rises (last_flies earlier count rose served broken) = subst (λ n. RoseBy n before later) (sym count) (rose_again earlier before now later rose on (cause broken))
@@ -305,7 +291,7 @@ module _ (schema : DatabaseSchema) (world : FactSet) (user : UserProfile) where
         state = after_events schema world user (opening schema world user opened) events
 
         pushed : (ending : Ending) → after_events schema world user (opening schema world user opened) (events ++ ask text ending ∷ []) ≡ after_event schema world user state (ask text ending)
-        pushed ending = after-push (opening schema world user opened) events (ask text ending)
+        pushed ending = after_events-push schema world user (opening schema world user opened) events (ask text ending)
 
         -- a desk whose append failed is still so
         broken_still : (ending : Ending) → IsState standing new (after_event schema world user state (ask text ending)) → is_sealed standing ≡ false → old.broken ≡ true → (after_event schema world user state (ask text ending)).broken ≡ state.broken → new.broken ≡ true
@@ -395,7 +381,7 @@ module _ (schema : DatabaseSchema) (world : FactSet) (user : UserProfile) where
         → (refusal : Option DeskError) → IsRefusal schema world user header bytes before now events refusal
         → IsRefusal schema world user header bytes before later (events ++ restart found opens ∷ []) (first_refusal refusal standing)
     refusal_next now later on events found opens standing shut held cause (Some why) is =
-        (any-push is_refused events (restart found opens) ∙ or_true (list_any is_refused events) (is_refused (restart found opens)) is.0, sealed_on now later on why is.1)
+        (any-push is_refused events (restart found opens) ∙ or_left (list_any is_refused events) (is_refused (restart found opens)) is.0, sealed_on now later on why is.1)
     refusal_next now later on events found opens Open shut held cause None none =
         any-push is_refused events (restart found opens) ∙ ap (λ b. b || is_refused (restart found opens)) none ∙ ap (λ b. is_refused (restart found b)) (held refl)
     refusal_next now later on events found opens (Closed admission) shut held cause None none =
@@ -475,7 +461,7 @@ module _ (schema : DatabaseSchema) (world : FactSet) (user : UserProfile) where
             let again : Restarts schema world user (IsState standing desk_state) state now later = known.restarted state was in
             let event : Event = restart again.found again.opened in
             let next = after_event schema world user state event in
-            let pushed : after_events schema world user (opening schema world user opened) (events ++ event ∷ []) ≡ next = after-push (opening schema world user opened) events event in
+            let pushed : after_events schema world user (opening schema world user opened) (events ++ event ∷ []) ≡ next = after_events-push schema world user (opening schema world user opened) events event in
             record {
               found = again.found;
               opens = again.opened;
@@ -500,7 +486,7 @@ module _ (schema : DatabaseSchema) (world : FactSet) (user : UserProfile) where
         by (inr (none, empty, same, never)) =
             let sealed : is_sealed standing ≡ true = shut_by T t entries standing reads now later none same known.standing_is in
             let event : Event = restart false false in
-            let pushed : after_events schema world user (opening schema world user opened) (events ++ event ∷ []) ≡ after_event schema world user state event = after-push (opening schema world user opened) events event in
+            let pushed : after_events schema world user (opening schema world user opened) (events ++ event ∷ []) ≡ after_event schema world user state event = after_events-push schema world user (opening schema world user opened) events event in
             record {
               found = false;
               opens = false;

@@ -1,8 +1,9 @@
 -- The items of a batch, carried out one after the other: what stays of the seats.
 use Rattle.std.proofs.Common.{◌≡◌, inl, inr, ℕ, zero, suc, ◌≤◌, ◌<◌, ◌+◌, Bool, true, false, List, [], ◌∷◌, ◌++◌, length, take, drop, get_or, map, refl, sym, ap, subst, ◌∙◌, append-nil, append_assoc, arith}
-use Rattle.std.specs.Prelude.{Option, ◌&&◌, ◌||◌}
+use Rattle.std.specs.Prelude.{Option, ◌||◌}
 use Rattle.std.specs.List.{list_all, AllByRecursion}
 use Rattle.std.proofs.lemmas.List.{take-append-drop, map-append}
+use Rattle.std.proofs.lemmas.Bool.{and_parts}
 use Rattle.cqe_base.specs.Schema.{Text, DatabaseSchema}
 use Rattle.cqe_base.specs.Facts.{FactSet}
 use Rattle.cqe_base.specs.History.{profile_of}
@@ -20,10 +21,6 @@ use Rattle.batch_engine.specs.Steps.{Carries, Runs, nothing, more, RunsAll, Runs
 use Rattle.desk_crew.specs.Seats.{DeskSeat}
 use Rattle.batch_engine.specs.declared.batch.BatchItem as memory
 
-both : (a b : Bool) → (a && b) ≡ true → (a ≡ true) × (b ≡ true)
-both true b e = (refl, e)
-both false b e = absurd cc
-
 -- ---- items
 
 pub item_short : (items : List memory.BatchItem) (i : ℕ) (item : memory.BatchItem) → i < length items → item ≡ get_or items i item → list_all is_short_item (map item_in items) ≡ true → is_short_item (item_in item) ≡ true
@@ -31,8 +28,8 @@ item_short items i item low is short = ap (λ a. is_short_item (item_in a)) is �
   where
     short_at : (all : List memory.BatchItem) (n : ℕ) (d : memory.BatchItem) → n < length all → list_all is_short_item (map item_in all) ≡ true → is_short_item (item_in (get_or all n d)) ≡ true
     short_at [] n d small all_short = absurd (omega (arith, small))
-    short_at (x ∷ all) zero d small all_short = (both _ _ all_short).0
-    short_at (x ∷ all) (suc n) d small all_short = short_at all n d (omega (arith, small)) (both _ _ all_short).1
+    short_at (x ∷ all) zero d small all_short = (and_parts _ _ all_short).0
+    short_at (x ∷ all) (suc n) d small all_short = short_at all n d (omega (arith, small)) (and_parts _ _ all_short).1
 
 pub items_more : (items : List memory.BatchItem) (i : ℕ) (item : memory.BatchItem) → i < length items → item ≡ get_or items i item → map item_in (take (i + 1) items) ≡ map item_in (take i items) ++ item_in item ∷ []
 items_more items i item low is = map_more item_in items i item low is

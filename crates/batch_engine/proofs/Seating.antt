@@ -3,13 +3,17 @@ use Rattle.std.proofs.Common.{◌≡◌, ◌⊎◌, inl, inr, ℕ, Bool, true, f
 use Rattle.std.specs.Prelude.{Option, Some, None, find, bytes_eq, if◌then◌else◌, string_bytes}
 use Rattle.std.specs.List.{list_any, flat_map, AllByRecursion}
 use Rattle.std.specs.Cmp.Lexicographic.{same_text}
+use Rattle.outside.proofs.Taken.{taken_reads}
+use Rattle.outside.specs.Shelf.{bytes_on}
 use Rattle.cqe_base.specs.Schema.{Text, DatabaseSchema, has_duplicate}
 use Rattle.cqe_base.specs.Facts.{FactSet}
 use Rattle.cqe_base.specs.History.{UserProfile, History, profile_of}
 use Rattle.cqe_base.specs.Run
 use Rattle.cqe_base.specs.declared.user.User.{User}
-use Rattle.cqe_base.specs.Run.{Reply, Ending, Event, ask, restart, UserState, opening, after_event, after_events, reply_to_ask}
+use Rattle.cqe_base.specs.Run.{Reply, Ending, Event, ask, restart, opening, after_events, reply_to_ask}
 use Rattle.cqe_base.specs.Transcript.{NamedUser, ScriptEvent, script_ask, own_event, own_events, told_after}
+use Rattle.cqe_base.proofs.Lists.{other_text}
+use Rattle.cqe_base.proofs.Truths.{or_first, or_second}
 use Rattle.user_desk.specs.Causes.{Opens, IsStanding}
 use Rattle.user_desk.specs.Lives.{Holds, Restarts, IsState}
 use Rattle.desk_counter.specs.declared.item.Fixed.{Fixed}
@@ -19,10 +23,10 @@ use Rattle.desk_counter.specs.Sole.{pairs_of_sole}
 use Rattle.log_journal.specs.Names.{journal_name}
 use Rattle.desk_crew.specs.Openings.{OpensNone, IsOpening}
 use Rattle.batch_engine.specs.Batch.{unopened}
-use Rattle.desk_crew.specs.Shelved.{bytes_on, IsSeatOf, AreSeatsOf}
+use Rattle.desk_crew.specs.Shelved.{IsSeatOf, AreSeatsOf}
 use Rattle.desk_crew.specs.Crew.{named_user, first_refusal, seat_user, seat_name, seat_journal, seat_kept, seat_standing, seat_history, seat_state, seat_disk, IsSeatIn, is_named, IsClosed, IsServed, IsToldAt, IsReopened, AreReopened, Tells, nobody, here, further}
 use Rattle.desk_crew.specs.Seats.{DeskSeat}
-use Rattle.desk_crew.proofs.Taken.{left_false, right_false, text_is, other_text, taken_reads}
+use Rattle.desk_crew.proofs.Taken.{text_is}
 use Rattle.batch_engine.proofs.Courses.{Course, course_on, IsRunning, IsLiving, live, closing, Asked, ask_step, Restarted, IsExclusive, open_step}
 
 -- ---- lists and texts
@@ -121,7 +125,7 @@ module _ (schema : DatabaseSchema) (world : FactSet) (header directory : List �
   all_unnamed script name session text ending [] (seat ∷ seats) none seated = absurd seated
   all_unnamed script name session text ending (user ∷ users) [] none seated = absurd seated
   all_unnamed script name session text ending (user ∷ users) (seat ∷ seats) none seated =
-      (unnamed script name session text ending user seat (left_false _ _ none) seated.0, all_unnamed script name session text ending users seats (right_false _ _ none) seated.1)
+      (unnamed script name session text ending user seat (or_first _ _ none) seated.0, all_unnamed script name session text ending users seats (or_second _ _ none) seated.1)
 
   -- an ask with some ending: what is told, and the seats behind it
   pub record Next (script : List ScriptEvent) (name : Text) (session : ℕ) (text : Text) (users : List NamedUser) (new : List (DeskSeat D g h)) (told : Option Reply) : Type 0 where
@@ -152,10 +156,10 @@ module _ (schema : DatabaseSchema) (world : FactSet) (header directory : List �
   told_next script name session text (user ∷ users) old new told distinct seated nobody = absurd seated
   told_next script name session text [] old new told distinct seated (here is answer) = absurd seated
   told_next script name session text (user ∷ users) old new told distinct seated (here {old = first} {new = next} {others} {told_reply = reply} is answer) =
-      told_here script name session text user users first next others reply is answer (left_false _ _ distinct) seated.0 seated.1
+      told_here script name session text user users first next others reply is answer (or_first _ _ distinct) seated.0 seated.1
   told_next script name session text [] old new told distinct seated (further other more) = absurd seated
   told_next script name session text (user ∷ users) old new told distinct seated (further {seat} {others} {after} {told_reply = reply} other more) =
-      let rest : Next script name session text users after reply = told_next script name session text users others after reply (right_false _ _ distinct) seated.1 more in
+      let rest : Next script name session text users after reply = told_next script name session text users others after reply (or_second _ _ distinct) seated.1 more in
       let differs : bytes_eq user.name name ≡ false = ap (λ n. bytes_eq n name) (sym seated.0.name_is) ∙ other in
       record {
         ending = rest.ending;
@@ -205,8 +209,8 @@ module _ (schema : DatabaseSchema) (world : FactSet) (header directory : List �
       subst (λ es. IsSeated user es seat)
           (own-opening event own user.name script found opens (found user.name) (opens user.name) refl refl
           ∙ sym (own-opening event own user.name script (with_name name f found) (with_name name o opens) (found user.name) (opens user.name)
-          (ap (λ b. if b then f else found user.name) (left_false (bytes_eq name user.name) (list_any (bytes_eq name) (names users)) none)) (ap (λ b. if b then o else opens user.name) (left_false (bytes_eq name user.name) (list_any (bytes_eq name) (names users)) none)))) seated.0,
-      others_seated script name f o found opens users seats (right_false (bytes_eq name user.name) (list_any (bytes_eq name) (names users)) none) seated.1,
+          (ap (λ b. if b then f else found user.name) (or_first (bytes_eq name user.name) (list_any (bytes_eq name) (names users)) none)) (ap (λ b. if b then o else opens user.name) (or_first (bytes_eq name user.name) (list_any (bytes_eq name) (names users)) none)))) seated.0,
+      others_seated script name f o found opens users seats (or_second (bytes_eq name user.name) (list_any (bytes_eq name) (names users)) none) seated.1,
     )
 
     pub choose : (script : List ScriptEvent) (users : List NamedUser) (seats : List (DeskSeat D g h)) → has_duplicate (names users) ≡ false → Choices script users seats → Chosen script users seats
@@ -214,7 +218,7 @@ module _ (schema : DatabaseSchema) (world : FactSet) (header directory : List �
     choose script [] (seat ∷ seats) distinct choices = absurd choices
     choose script (user ∷ users) [] distinct choices = absurd choices
     choose script (user ∷ users) (seat ∷ seats) distinct ((f, o, seated), choices) =
-        let rest : Chosen script users seats = choose script users seats (right_false (list_any (bytes_eq user.name) (names users)) (has_duplicate (names users)) distinct) choices in
+        let rest : Chosen script users seats = choose script users seats (or_second (list_any (bytes_eq user.name) (names users)) (has_duplicate (names users)) distinct) choices in
         let found = with_name user.name f rest.found in
         let opens = with_name user.name o rest.opens in
         record {
@@ -223,7 +227,7 @@ module _ (schema : DatabaseSchema) (world : FactSet) (header directory : List �
           seated = (
             subst (λ es. IsSeated user es seat)
                 (sym (own-opening event own user.name script found opens f o (ap (λ b. if b then f else rest.found user.name) (text_is user.name)) (ap (λ b. if b then o else rest.opens user.name) (text_is user.name)))) seated,
-            others_seated script user.name f o rest.found rest.opens users seats (left_false (list_any (bytes_eq user.name) (names users)) (has_duplicate (names users)) distinct) rest.seated,
+            others_seated script user.name f o rest.found rest.opens users seats (or_first (list_any (bytes_eq user.name) (names users)) (has_duplicate (names users)) distinct) rest.seated,
           );
         }
 

@@ -1,22 +1,19 @@
 -- What short asks are short of.
-use Rattle.std.proofs.Common.{◌≡◌, ◌≤◌, ℕ, true, false, Bool, ◌&&◌, List, [], ◌∷◌, length, map, get_or, ◌<◌, zero, suc, refl, arith}
+use Rattle.std.proofs.Common.{◌≡◌, ◌≤◌, ℕ, true, List, [], ◌∷◌, length, map, get_or, ◌<◌, zero, suc, arith}
 use Rattle.std.specs.Prelude.{nat_le, decimal}
 use Rattle.std.specs.List.{list_all}
 use Rattle.std.proofs.lemmas.Fmt.{length-decimal-le}
+use Rattle.std.proofs.lemmas.Bool.{and_parts}
 use Rattle.batch_engine.specs.BatchLines.{NamedAsk}
 use Rattle.batch_engine.specs.Said.{is_short_ask}
 use Rattle.batch_engine.specs.Batches.{named_ask}
 use Rattle.batch_engine.specs.declared.batch.BatchAsk.{BatchAsk}
 
-both : (a b : Bool) → (a && b) ≡ true → (a ≡ true) × (b ≡ true)
-both true b e = (refl, e)
-both false b e = absurd cc
-
 -- its name, its session and its text
 pub short_ask : (ask : NamedAsk) → is_short_ask ask ≡ true → (length ask.name ≤ 32) × (ask.session ≤ 64) × (length ask.text ≤ 4096)
 short_ask ask e =
-    let outer = both _ _ e in
-    let inner = both _ _ outer.0 in
+    let outer = and_parts _ _ e in
+    let inner = and_parts _ _ outer.0 in
     let name : nat_le (length ask.name) 32 ≡ true = inner.0 in
     let session : nat_le ask.session 64 ≡ true = inner.1 in
     let text : nat_le (length ask.text) 4096 ≡ true = outer.1 in
@@ -29,5 +26,5 @@ session_digits n small = length-decimal-le 2 n (omega arith) (omega arith) (omeg
 -- each of the asks of a batch is short
 pub short_at : (asks : List BatchAsk) (i : ℕ) (d : BatchAsk) → i < length asks → list_all is_short_ask (map named_ask asks) ≡ true → is_short_ask (named_ask (get_or asks i d)) ≡ true
 short_at [] i d low short = absurd (omega (arith, low))
-short_at (ask ∷ asks) zero d low short = (both _ _ short).0
-short_at (ask ∷ asks) (suc i) d low short = short_at asks i d (omega (arith, low)) (both _ _ short).1
+short_at (ask ∷ asks) zero d low short = (and_parts _ _ short).0
+short_at (ask ∷ asks) (suc i) d low short = short_at asks i d (omega (arith, low)) (and_parts _ _ short).1

@@ -2,11 +2,11 @@
 use Rattle.std.proofs.Common.{◌≡◌, ◌<◌, ◌+◌, ℕ, zero, suc, Bool, true, false, cond, not, List, [], ◌∷◌, ◌++◌, map, length, refl, sym, ap, subst, ◌∙◌, arith, length-append, append-nil}
 use Rattle.std.specs.Prelude.{◌||◌, Option, Some, None, nat_lt, nat_le, bytes_eq, unwrap_or, if◌then◌else◌, slice_get, option_map, position}
 use Rattle.std.specs.List.{list_any, list_all, prefix_len}
-use Rattle.std.proofs.lemmas.Bool.{lt-ltb}
+use Rattle.std.proofs.lemmas.Bool.{lt-ltb, and_parts, or_parts}
 use Rattle.std.proofs.lemmas.Option.{none-some}
+use Rattle.std.proofs.lemmas.List.{map-append}
 use Rattle.cqe_base.specs.declared.schema.SchemaError.TheVariants.{DuplicateName, UnknownDomain, TooMany, EmptyDomain, BadName}
 use Rattle.cqe_base.specs.Schema.{Text, NamedDomain, RelationSchema, DatabaseSchema, Declaration, contains_text, names_unknown_domain, declared_names, has_duplicate, is_within_limits, is_schema_name, schema_refusal, domain_number, made_domain, made_relation, schema_of}
-use Rattle.case_engine.proofs.Booleans.{both_true}
 use Rattle.case_engine.proofs.Growth.{Grows}
 
 -- ---- lists with more behind them
@@ -52,21 +52,17 @@ module _ (domains more : List Declaration) where
   numbers_kept : (parts : List Text) → list_all (contains_text (map (λ d. d.name) domains)) parts ≡ true → map (domain_number (domains ++ more)) parts ≡ map (domain_number domains) parts
   numbers_kept [] known = refl
   numbers_kept (part ∷ parts) known =
-      let each = both_true (contains_text (map (λ d. d.name) domains) part) (list_all (contains_text (map (λ d. d.name) domains)) parts) known in
+      let each = and_parts (contains_text (map (λ d. d.name) domains) part) (list_all (contains_text (map (λ d. d.name) domains)) parts) known in
       rw (number_kept part each.0, numbers_kept parts each.1)
 
   unnot : (b : Bool) → not b ≡ false → b ≡ true
   unnot true e = refl
   unnot false e = absurd cc
 
-  neither : (a b : Bool) → (a || b) ≡ false → (a ≡ false) × (b ≡ false)
-  neither true b e = absurd cc
-  neither false b e = (refl, e)
-
   relations_kept : (relations : List Declaration) → list_any (names_unknown_domain domains) relations ≡ false → map (made_relation (domains ++ more)) relations ≡ map (made_relation domains) relations
   relations_kept [] known = refl
   relations_kept (r ∷ relations) known =
-      let each = neither (names_unknown_domain domains r) (list_any (names_unknown_domain domains) relations) known in
+      let each = or_parts (names_unknown_domain domains r) (list_any (names_unknown_domain domains) relations) known in
       let columns = numbers_kept r.parts (unnot (list_all (contains_text (map (λ d. d.name) domains)) r.parts) each.0) in
       rw (columns, relations_kept relations each.1)
 
@@ -110,10 +106,6 @@ module _ (ds es : List NamedDomain) (rs ss : List RelationSchema) where
         );
     relations = λ r columns found. ap (option_map (λ (x : RelationSchema). x.columns)) (columns_at (slice_get rs r) r columns refl found) ∙ found;
   }
-
-map-append : {X Y : Type 0} (f : X → Y) (xs ys : List X) → map f (xs ++ ys) ≡ map f xs ++ map f ys
-map-append f [] ys = refl
-map-append f (x ∷ xs) ys = ap (λ l. f x ∷ l) (map-append f xs ys)
 
 -- declarations that are accepted name only declared domains
 known_domains : (domains relations : List Declaration) → schema_refusal domains relations ≡ None → list_any (names_unknown_domain domains) relations ≡ false

@@ -1,11 +1,11 @@
 -- A schema that grew: what was a sentence of it still is one, with as many nodes.
 use Rattle.std.proofs.Common.{◌≡◌, ℕ, ◌+◌, Bool, true, false, List, [], ◌∷◌, ◌++◌, length, refl, ap}
 use Rattle.std.specs.Prelude.{Option, Some, None, nat_lt, if◌then◌else◌}
+use Rattle.std.proofs.lemmas.Bool.{and_parts, and_from}
 use Rattle.cqe_base.specs.declared.sentence.Term.{Term}
 use Rattle.cqe_base.specs.declared.sentence.Term.TheVariants.{Constant as constant, Place}
 use Rattle.cqe_base.specs.Schema.{DatabaseSchema, domain_size, columns_of}
 use Rattle.cqe_base.specs.Formula.{Formula, verum, falsum, atom, equality, inequality, negation, conjunction, disjunction, implication, biconditional, universal, existential, nodes, term_domain, is_domain, have_one_domain, have_domains, fit_relation, may_quantify, is_well_formed}
-use Rattle.case_engine.proofs.Booleans.{both_true, true_both}
 
 -- the domains and relations of a schema are those of another, which may have more
 pub record Grows (small big : DatabaseSchema) : Type 0 where
@@ -37,8 +37,8 @@ module _ (small big : DatabaseSchema) (grows : Grows small big) where
   columns_grow scope [] (d ∷ domains) fit = absurd cc
   columns_grow scope (t ∷ terms) [] fit = absurd cc
   columns_grow scope (t ∷ terms) (d ∷ domains) fit =
-      let parts = both_true (is_domain (term_domain small scope t) d) (have_domains small scope terms domains) fit in
-      true_both (is_domain (term_domain big scope t) d) (have_domains big scope terms domains)
+      let parts = and_parts (is_domain (term_domain small scope t) d) (have_domains small scope terms domains) fit in
+      and_from (is_domain (term_domain big scope t) d) (have_domains big scope terms domains)
       (domain_grows scope t (term_domain small scope t) d refl parts.0) (columns_grow scope terms domains parts.1)
 
   relation_grows : (scope : List ℕ) (terms : List Term) (r : ℕ) (o : Option (List ℕ)) → columns_of small r ≡ o → fit_relation small scope terms o ≡ true → fit_relation big scope terms (columns_of big r) ≡ true
@@ -47,8 +47,8 @@ module _ (small big : DatabaseSchema) (grows : Grows small big) where
 
   quantifier_grows : (scope : List ℕ) (d : ℕ) → may_quantify small scope d ≡ true → may_quantify big scope d ≡ true
   quantifier_grows scope d may =
-      let parts = both_true (nat_lt (length scope) 8) (nat_lt d (length small.domains)) may in
-      true_both (nat_lt (length scope) 8) (nat_lt d (length big.domains)) parts.0 (grows.domains d parts.1).0
+      let parts = and_parts (nat_lt (length scope) 8) (nat_lt d (length small.domains)) may in
+      and_from (nat_lt (length scope) 8) (nat_lt d (length big.domains)) parts.0 (grows.domains d parts.1).0
 
   pub well_formed_grows : (scope : List ℕ) (f : Formula) → is_well_formed small scope f ≡ true → is_well_formed big scope f ≡ true
   well_formed_grows scope verum is = refl
@@ -58,27 +58,27 @@ module _ (small big : DatabaseSchema) (grows : Grows small big) where
   well_formed_grows scope (inequality s t) is = one_domain_grows scope s t (term_domain small scope s) refl is
   well_formed_grows scope (negation a) is = well_formed_grows scope a is
   well_formed_grows scope (conjunction a b) is =
-      let parts = both_true (is_well_formed small scope a) (is_well_formed small scope b) is in
-      true_both (is_well_formed big scope a) (is_well_formed big scope b) (well_formed_grows scope a parts.0) (well_formed_grows scope b parts.1)
+      let parts = and_parts (is_well_formed small scope a) (is_well_formed small scope b) is in
+      and_from (is_well_formed big scope a) (is_well_formed big scope b) (well_formed_grows scope a parts.0) (well_formed_grows scope b parts.1)
   well_formed_grows scope (disjunction a b) is =
-      let parts = both_true (is_well_formed small scope a) (is_well_formed small scope b) is in
-      true_both (is_well_formed big scope a) (is_well_formed big scope b) (well_formed_grows scope a parts.0) (well_formed_grows scope b parts.1)
+      let parts = and_parts (is_well_formed small scope a) (is_well_formed small scope b) is in
+      and_from (is_well_formed big scope a) (is_well_formed big scope b) (well_formed_grows scope a parts.0) (well_formed_grows scope b parts.1)
   well_formed_grows scope (implication a b) is =
-      let parts = both_true (is_well_formed small scope a) (is_well_formed small scope b) is in
-      true_both (is_well_formed big scope a) (is_well_formed big scope b) (well_formed_grows scope a parts.0) (well_formed_grows scope b parts.1)
+      let parts = and_parts (is_well_formed small scope a) (is_well_formed small scope b) is in
+      and_from (is_well_formed big scope a) (is_well_formed big scope b) (well_formed_grows scope a parts.0) (well_formed_grows scope b parts.1)
   well_formed_grows scope (biconditional a b) is =
-      let parts = both_true (is_well_formed small scope a) (is_well_formed small scope b) is in
-      true_both (is_well_formed big scope a) (is_well_formed big scope b) (well_formed_grows scope a parts.0) (well_formed_grows scope b parts.1)
+      let parts = and_parts (is_well_formed small scope a) (is_well_formed small scope b) is in
+      and_from (is_well_formed big scope a) (is_well_formed big scope b) (well_formed_grows scope a parts.0) (well_formed_grows scope b parts.1)
   well_formed_grows scope (universal d a) is =
-      let parts = both_true (may_quantify small scope d) (is_well_formed small (scope ++ d ∷ []) a) is in
-      true_both (may_quantify big scope d) (is_well_formed big (scope ++ d ∷ []) a) (quantifier_grows scope d parts.0) (well_formed_grows (scope ++ d ∷ []) a parts.1)
+      let parts = and_parts (may_quantify small scope d) (is_well_formed small (scope ++ d ∷ []) a) is in
+      and_from (may_quantify big scope d) (is_well_formed big (scope ++ d ∷ []) a) (quantifier_grows scope d parts.0) (well_formed_grows (scope ++ d ∷ []) a parts.1)
   well_formed_grows scope (existential d a) is =
-      let parts = both_true (may_quantify small scope d) (is_well_formed small (scope ++ d ∷ []) a) is in
-      true_both (may_quantify big scope d) (is_well_formed big (scope ++ d ∷ []) a) (quantifier_grows scope d parts.0) (well_formed_grows (scope ++ d ∷ []) a parts.1)
+      let parts = and_parts (may_quantify small scope d) (is_well_formed small (scope ++ d ∷ []) a) is in
+      and_from (may_quantify big scope d) (is_well_formed big (scope ++ d ∷ []) a) (quantifier_grows scope d parts.0) (well_formed_grows (scope ++ d ∷ []) a parts.1)
 
   -- a quantifier keeps the number of its instances
   size_kept : (scope : List ℕ) (d : ℕ) → may_quantify small scope d ≡ true → domain_size big d ≡ domain_size small d
-  size_kept scope d may = (grows.domains d (both_true (nat_lt (length scope) 8) (nat_lt d (length small.domains)) may).1).1
+  size_kept scope d may = (grows.domains d (and_parts (nat_lt (length scope) 8) (nat_lt d (length small.domains)) may).1).1
 
   pub nodes_kept : (scope : List ℕ) (f : Formula) → is_well_formed small scope f ≡ true → nodes big f ≡ nodes small f
   nodes_kept scope verum is = refl
@@ -88,20 +88,20 @@ module _ (small big : DatabaseSchema) (grows : Grows small big) where
   nodes_kept scope (inequality s t) is = refl
   nodes_kept scope (negation a) is = ap (λ n. 1 + n) (nodes_kept scope a is)
   nodes_kept scope (conjunction a b) is =
-      let parts = both_true (is_well_formed small scope a) (is_well_formed small scope b) is in
+      let parts = and_parts (is_well_formed small scope a) (is_well_formed small scope b) is in
       rw (nodes_kept scope a parts.0, nodes_kept scope b parts.1)
   nodes_kept scope (disjunction a b) is =
-      let parts = both_true (is_well_formed small scope a) (is_well_formed small scope b) is in
+      let parts = and_parts (is_well_formed small scope a) (is_well_formed small scope b) is in
       rw (nodes_kept scope a parts.0, nodes_kept scope b parts.1)
   nodes_kept scope (implication a b) is =
-      let parts = both_true (is_well_formed small scope a) (is_well_formed small scope b) is in
+      let parts = and_parts (is_well_formed small scope a) (is_well_formed small scope b) is in
       rw (nodes_kept scope a parts.0, nodes_kept scope b parts.1)
   nodes_kept scope (biconditional a b) is =
-      let parts = both_true (is_well_formed small scope a) (is_well_formed small scope b) is in
+      let parts = and_parts (is_well_formed small scope a) (is_well_formed small scope b) is in
       rw (nodes_kept scope a parts.0, nodes_kept scope b parts.1)
   nodes_kept scope (universal d a) is =
-      let parts = both_true (may_quantify small scope d) (is_well_formed small (scope ++ d ∷ []) a) is in
+      let parts = and_parts (may_quantify small scope d) (is_well_formed small (scope ++ d ∷ []) a) is in
       rw (size_kept scope d parts.0, nodes_kept (scope ++ d ∷ []) a parts.1)
   nodes_kept scope (existential d a) is =
-      let parts = both_true (may_quantify small scope d) (is_well_formed small (scope ++ d ∷ []) a) is in
+      let parts = and_parts (may_quantify small scope d) (is_well_formed small (scope ++ d ∷ []) a) is in
       rw (size_kept scope d parts.0, nodes_kept (scope ++ d ∷ []) a parts.1)

@@ -1,4 +1,3 @@
-pub mod Booleans
 pub mod Growth
 pub mod Closing
 pub mod Declaring

@@ -13,6 +13,7 @@ use Rattle.cqe_base.specs.Headline.{RunsStayLegal}
 use Rattle.cqe_base.specs.Hiding.{LegalHistoriesHide}
 use Rattle.cqe_base.specs.Run.{Reply, Standing, standing_open, standing_closed, user_closed, Ending, want, kept, Event, ask, UserState, opening, after_event, after_events, replies_from, replies_to_event, reply_to_ask, replies, final_history, entry_added}
 use Rattle.cqe_base.specs.Transcript.{reply_text}
+use Rattle.cqe_base.proofs.Runs.{after_events-push}
 use Rattle.user_log.specs.Asked.{IsAsked, wanted, answered}
 use Rattle.case_engine.specs.Answering.{IsTold}
 use Rattle.case_engine.specs.Case.{ask_events, IsKeptOrWant, reply_lines, Answers}
@@ -41,10 +42,6 @@ module _ (schema : DatabaseSchema) (world : FactSet) (user : UserProfile) where
   replies_count state [] endings same = refl
   replies_count state (text ∷ asks) [] same = absurd (omega arith)
   replies_count state (text ∷ asks) (ending ∷ endings) same = ap suc (replies_count (after_event schema world user state (ask text ending)) asks endings (omega (arith, same)))
-
-  after_events-push : (state : UserState) (events : List Event) (event : Event) → after_events schema world user state (events ++ event ∷ []) ≡ after_event schema world user (after_events schema world user state events) event
-  after_events-push state [] event = refl
-  after_events-push state (e ∷ events) event = after_events-push (after_event schema world user state e) events event
 
   replies_from-push : (state : UserState) (events : List Event) (event : Event) → replies_from schema world user state (events ++ event ∷ []) ≡ replies_from schema world user state events ++ replies_to_event schema world user (after_events schema world user state events) event
   replies_from-push state [] event = append-nil (replies_to_event schema world user state event)
@@ -98,7 +95,7 @@ module _ (schema : DatabaseSchema) (world : FactSet) (user : UserProfile) where
             ∙ sym (ap (λ r. reply_lines (replies_from schema world user start before ++ r)) (ap (λ s. replies_to_event schema world user s (ask text ending)) so_far.state ∙ replied))
             ∙ sym (ap reply_lines (ap (replies_from schema world user start) events ∙ replies_from-push start before (ask text ending)));
         state =
-            ap (after_events schema world user start) events ∙ after_events-push start before (ask text ending)
+            ap (after_events schema world user start) events ∙ after_events-push schema world user start before (ask text ending)
             ∙ ap (λ s. after_event schema world user s (ask text ending)) so_far.state ∙ next;
       }
 

@@ -3,14 +3,15 @@ use Rattle.std.proofs.Common.{◌≡◌, ◌≤◌, ◌<◌, ◌+◌, ℕ, Bool,
 use Rattle.std.specs.Prelude.{◌||◌, Some, None, is_none, nat_le, sum_by}
 use Rattle.std.specs.List.{list_all}
 use Rattle.std.proofs.lemmas.Grind.{common_steps}
+use Rattle.std.proofs.lemmas.Bool.{and_parts, and_from}
 use Rattle.cqe_base.specs.declared.user.Method.{Method}
 use Rattle.cqe_base.specs.Schema.{DatabaseSchema, Declaration, schema_refusal, schema_of}
 use Rattle.cqe_base.specs.Formula.{Formula, nodes, is_sentence_of}
 use Rattle.cqe_base.specs.History.{ViewsWithoutEntries, view_size}
 use Rattle.cqe_base.specs.Limits.{is_small}
+use Rattle.cqe_base.proofs.Truths.{or_second}
 use Rattle.case_engine.specs.Script.{Script, script_schema, script_user, empty_script}
 use Rattle.case_engine.specs.Sound.{IsSound, is_fit_budget}
-use Rattle.case_engine.proofs.Booleans.{both_true, true_both}
 use Rattle.case_engine.proofs.Growth.{Grows, well_formed_grows, nodes_kept}
 use Rattle.case_engine.proofs.Declaring.{domain_grows, relation_grows}
 
@@ -49,20 +50,20 @@ module _ (small big : DatabaseSchema) (grows : Grows small big) where
   sentences_grow : (sentences : List Formula) → list_all (is_sentence_of small) sentences ≡ true → list_all (is_sentence_of big) sentences ≡ true
   sentences_grow [] are = refl
   sentences_grow (s ∷ sentences) are =
-      let each = both_true (is_sentence_of small s) (list_all (is_sentence_of small) sentences) are in
-      true_both (is_sentence_of big s) (list_all (is_sentence_of big) sentences) (well_formed_grows small big grows [] s each.0) (sentences_grow sentences each.1)
+      let each = and_parts (is_sentence_of small s) (list_all (is_sentence_of small) sentences) are in
+      and_from (is_sentence_of big s) (list_all (is_sentence_of big) sentences) (well_formed_grows small big grows [] s each.0) (sentences_grow sentences each.1)
 
   smalls_grow : (sentences : List Formula) → list_all (is_sentence_of small) sentences ≡ true → list_all (is_small small) sentences ≡ true → list_all (is_small big) sentences ≡ true
   smalls_grow [] are smalls = refl
   smalls_grow (s ∷ sentences) are smalls =
-      let each = both_true (is_sentence_of small s) (list_all (is_sentence_of small) sentences) are in
-      let few = both_true (is_small small s) (list_all (is_small small) sentences) smalls in
-      true_both (is_small big s) (list_all (is_small big) sentences) (ap (λ n. nat_le n 20000) (nodes_kept small big grows [] s each.0) ∙ few.0) (smalls_grow sentences each.1 few.1)
+      let each = and_parts (is_sentence_of small s) (list_all (is_sentence_of small) sentences) are in
+      let few = and_parts (is_small small s) (list_all (is_small small) sentences) smalls in
+      and_from (is_small big s) (list_all (is_small big) sentences) (ap (λ n. nat_le n 20000) (nodes_kept small big grows [] s each.0) ∙ few.0) (smalls_grow sentences each.1 few.1)
 
   known_kept : (sentences : List Formula) → list_all (is_sentence_of small) sentences ≡ true → known_nodes big sentences ≡ known_nodes small sentences
   known_kept [] are = refl
   known_kept (s ∷ sentences) are =
-      let each = both_true (is_sentence_of small s) (list_all (is_sentence_of small) sentences) are in
+      let each = and_parts (is_sentence_of small s) (list_all (is_sentence_of small) sentences) are in
       let here = nodes_kept small big grows [] s each.0 in
       let rest = known_kept sentences each.1 in
       grind (arith, common_steps, here, rest)
@@ -70,7 +71,7 @@ module _ (small big : DatabaseSchema) (grows : Grows small big) where
   secrets_kept : (sentences : List Formula) → list_all (is_sentence_of small) sentences ≡ true → secret_nodes big sentences ≡ secret_nodes small sentences
   secrets_kept [] are = refl
   secrets_kept (s ∷ sentences) are =
-      let each = both_true (is_sentence_of small s) (list_all (is_sentence_of small) sentences) are in
+      let each = and_parts (is_sentence_of small s) (list_all (is_sentence_of small) sentences) are in
       let here = nodes_kept small big grows [] s each.0 in
       let rest = secrets_kept sentences each.1 in
       grind (arith, common_steps, here, rest)
@@ -107,10 +108,6 @@ same_view : (schema : DatabaseSchema) (script new : Script) → new.know ≡ scr
 same_view schema script new same_know same_secrets views =
     views schema (script_user script) ∙ sym (ap (λ k. known_nodes schema k + secret_nodes schema script.secrets) same_know) ∙ sym (ap (λ k. known_nodes schema new.know + secret_nodes schema k) same_secrets) ∙ sym (views schema (script_user new))
 
-not_behind : (a b : Bool) → (a || b) ≡ false → b ≡ false
-not_behind true b e = absurd cc
-not_behind false b e = e
-
 pub sound_method : (script : Script) (schema : DatabaseSchema) (view_nodes : ℕ) (method : Method) → IsSound script schema view_nodes → ViewsWithoutEntries → IsSound (record script { method = Some method }) schema view_nodes
 sound_method script schema view_nodes method sound views = record {
   schema_is = sound.schema_is;
@@ -124,7 +121,7 @@ sound_method script schema view_nodes method sound views = record {
   nodes_are = sound.nodes_are ∙ same_view schema script (record script { method = Some method }) refl refl views;
   view = sound.view;
   budget = sound.budget;
-  ready = λ e. not_behind (is_none script.method) (nat_le (length script.secrets) 0) (sound.ready e);
+  ready = λ e. or_second (is_none script.method) (nat_le (length script.secrets) 0) (sound.ready e);
   short = sound.short;
 }
 
@@ -147,10 +144,10 @@ sound_budget script schema view_nodes budget sound low high views = record {
 
 -- one more sentence at the end of a list
 all_push : (p : Formula → Bool) (sentences : List Formula) (s : Formula) → list_all p sentences ≡ true → p s ≡ true → list_all p (sentences ++ s ∷ []) ≡ true
-all_push p [] s all here = true_both (p s) true here refl
+all_push p [] s all here = and_from (p s) true here refl
 all_push p (x ∷ sentences) s all here =
-    let each = both_true (p x) (list_all p sentences) all in
-    true_both (p x) (list_all p (sentences ++ s ∷ [])) each.0 (all_push p sentences s each.1 here)
+    let each = and_parts (p x) (list_all p sentences) all in
+    and_from (p x) (list_all p (sentences ++ s ∷ [])) each.0 (all_push p sentences s each.1 here)
 
 pub known_more : (schema : DatabaseSchema) (script : Script) (s : Formula) → ViewsWithoutEntries → view_size schema (script_user (record script { know = script.know ++ s ∷ [] })) [] ≡ view_size schema (script_user script) [] + nodes schema s
 known_more schema script s views =

@@ -11,6 +11,7 @@ use Rattle.cqe_base.specs.Entailment.{Signed}
 use Rattle.cqe_base.specs.Outcome.{outcome, is_spent}
 use Rattle.cqe_base.specs.History.{UserProfile, disjunction_of}
 use Rattle.cqe_base.specs.Censor.{Probe, probes_against, probes_by, guarded, guarded_by, with_query, with_negation, implied_by, spent, yes_harm, no_harm, implied}
+use Rattle.cqe_base.proofs.Lists.{or_assoc}
 use Rattle.censors.specs.declared.examination.Harms.{Harms}
 use Rattle.censors.specs.declared.examination.Implied.{Implied}
 use Rattle.censors.specs.Asked.{is_spent_at, some_spent, AreHarms, IsImplied, findings_of}
@@ -61,11 +62,7 @@ module _ (schema : DatabaseSchema) (user : UserProfile) (log : List Signed) (que
   refusal-spent is =
       ap (λ m. list_any probe_spent (probes_by m (guarded user) log query)) is
       ∙ ap (λ b. is_spent_at schema user.budget log (query, true) || (is_spent_at schema user.budget log (query, false) || b)) (both-spent (guarded user))
-      ∙ regroup (is_spent_at schema user.budget log (query, true)) (is_spent_at schema user.budget log (query, false)) _
-    where
-      regroup : (a b c : Bool) → (a || (b || c)) ≡ ((a || b) || c)
-      regroup true b c = refl
-      regroup false b c = refl
+      ∙ sym (or_assoc (is_spent_at schema user.budget log (query, true)) (is_spent_at schema user.budget log (query, false)) _)
 
   refusal_found : user.method ≡ Refusal → (log_found : Implied) → IsImplied schema user.budget log query log_found
       → (harms : Harms) → AreHarms schema user.budget log query (guarded user) harms → HasFindings schema user log query (findings_of harms (Some log_found))

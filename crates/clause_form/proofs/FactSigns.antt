@@ -2,35 +2,16 @@
 use Rattle.std.proofs.Common.{◌≡◌, ℕ, zero, suc, ◌+◌, ◌≤◌, Bool, true, false, cond, ◌||◌, List, [], ◌∷◌, ◌++◌, map, filter, Some, refl, sym, ap, ◌∙◌, arith}
 use Rattle.std.specs.Prelude.{slice_get}
 use Rattle.std.specs.List.{list_any, list_all}
-use Rattle.std.specs.declared.cmp.Ordering.{Ordering}
-use Rattle.std.specs.declared.cmp.Ordering.TheVariants.{Less, Equal, Greater}
-use Rattle.std.specs.Ordering.{nat_cmp, eq_by_cmp, ordering_then}
-use Rattle.std.specs.Cmp.{IsTotalOrder, nat_cmp_total, on_total, then_total}
-use Rattle.std.specs.Cmp.Lexicographic.{slice_cmp, nat_list_cmp_total}
+use Rattle.std.specs.Ordering.{eq_by_cmp}
 use Rattle.std.specs.FinSet as set
-use Rattle.std.specs.FinSet.{IsAntisymmetric, nat_cmp-IsAntisymmetric, slice_cmp-IsAntisymmetric}
+use Rattle.std.specs.FinSet.{IsAntisymmetric}
 use Rattle.std.proofs.lemmas.Bool.{and_parts}
 use Rattle.std.proofs.lemmas.List.Folds.{list_any-append}
 use Rattle.cqe_base.specs.declared.world.Fact.{Fact}
 use Rattle.cqe_base.specs.Facts.{fact_cmp, FactSet}
 use Rattle.cqe_base.specs.ClauseForm.{NumberedFact, world_of}
+use Rattle.cqe_base.proofs.Worlds.{fact_cmp_total, fact_cmp-IsAntisymmetric}
 use Rattle.clause_form.specs.Inside.{numbered_of, numbered_facts}
-
--- ---- the order of facts
-
-pub fact_order : IsTotalOrder fact_cmp
-fact_order = then_total (on_total (λ f. f.relation) nat_cmp_total) (on_total (λ f. f.columns) nat_list_cmp_total)
-
-pub fact_order_strict : IsAntisymmetric fact_cmp
-fact_order_strict f g e = by (nat_cmp f.relation g.relation) refl e
-  where
-    by : (r : Ordering) → nat_cmp f.relation g.relation ≡ r → ordering_then r (slice_cmp nat_cmp f.columns g.columns) ≡ Equal → f ≡ g
-    by Less p q = absurd (let x : ⊥ = cc in x)
-    by Greater p q = absurd (let x : ⊥ = cc in x)
-    by Equal p q =
-        let relations : f.relation ≡ g.relation = nat_cmp-IsAntisymmetric f.relation g.relation p in
-        let columns : f.columns ≡ g.columns = slice_cmp-IsAntisymmetric nat_cmp-IsAntisymmetric f.columns g.columns q in
-        λ i. record { relation = relations i; columns = columns i }
 
 -- ---- worlds
 
@@ -71,7 +52,7 @@ pub fact_joins : (world new : FactSet) (entries : List (Fact × ℕ)) (f : Fact)
 fact_joins world new entries f n signs has sign e q =
     let facts = true_facts (numbered_facts entries) signs in
     ap (λ w. set.contains w q) e
-    ∙ set.contains-insert fact_order world f q
+    ∙ set.contains-insert fact_cmp_total world f q
     ∙ ap (λ b. eq_by_cmp fact_cmp q f || b) (has q)
     ∙ swap_or (eq_by_cmp fact_cmp q f) (list_any (eq_by_cmp fact_cmp q) facts)
     ∙ sym (list_any-append (eq_by_cmp fact_cmp q) facts (f ∷ []))
@@ -90,7 +71,7 @@ fact_stays_out world entries f n signs has sign q =
 
 -- a world grows by one fact at most
 pub len_joins : (world new : FactSet) (f : Fact) → new ≡ set.insert world f → set.len new ≤ set.len world + 1
-len_joins world new f e = by (set.contains world f) (ap set.len e ∙ set.len-insert fact_order world f)
+len_joins world new f e = by (set.contains world f) (ap set.len e ∙ set.len-insert fact_cmp_total world f)
   where
     by : (b : Bool) → set.len new ≡ cond b (set.len world) (set.len world + 1) → set.len new ≤ set.len world + 1
     by true h = omega arith
@@ -99,7 +80,7 @@ len_joins world new f e = by (set.contains world f) (ap set.len e ∙ set.len-in
 -- a world with just these facts is the world of them
 pub world_has : (world : FactSet) (facts : List NumberedFact) (signs : ℕ → Bool) → HasFacts world (true_facts facts signs) → world ≡ world_of facts signs
 world_has world facts signs has =
-    set.same_set fact_order fact_order_strict world (world_of facts signs) (λ q. has q ∙ sym (set.contains-from_list fact_order (true_facts facts signs) q))
+    set.same_set fact_cmp_total fact_cmp-IsAntisymmetric world (world_of facts signs) (λ q. has q ∙ sym (set.contains-from_list fact_cmp_total (true_facts facts signs) q))
 
 -- each numbered fact passes where all do
 pub passes_at : (p : Fact → Bool) (entries : List (Fact × ℕ)) (k : ℕ) (e : Fact × ℕ) → list_all (λ d. p d.fact) (numbered_facts entries) ≡ true → slice_get entries k ≡ Some e → p e.0 ≡ true

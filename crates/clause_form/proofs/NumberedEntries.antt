@@ -60,7 +60,3 @@ numbered_push (e ∷ entries) f n = ap (λ es. numbered_of e ∷ es) (numbered_p
 -- the numbered facts after a fact that was missing is inserted
 pub added : {S : Type 0} (m : IndexMap Fact ℕ S) (f : Fact) (n : ℕ) (after : List (Fact × ℕ)) → get same_fact m f ≡ None → after ≡ insert_entry same_fact m.entries f n → numbered_facts after ≡ numbered_facts m.entries ++ record { fact = f; number = n } ∷ []
 added m f n after none e = ap numbered_facts (e ∙ insert_entry-new same_fact m f n none) ∙ numbered_push m.entries f n
-
-pub each_push : {X : Type 0} (P : X → Type 0) (xs : List X) (x : X) → AllByRecursion P xs → P x → AllByRecursion P (xs ++ x ∷ [])
-each_push P [] x h p = (p, tt)
-each_push P (y ∷ ys) x h p = (h.0, each_push P ys x h.1 p)

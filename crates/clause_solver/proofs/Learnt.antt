@@ -1,8 +1,8 @@
 -- The literals that a learnt clause watches, and those of a given one.
-use Rattle.std.proofs.Common.{◌≡◌, ℕ, zero, suc, get_or, ◌<◌, ◌≤◌, true, false, cond, ◌||◌, eqb, List, [], ◌∷◌, ◌++◌, length, refl, sym, ap, ◌∙◌, subst, inl, inr, ⊎_elim, ◌⊎◌, arith}
+use Rattle.std.proofs.Common.{◌≡◌, ℕ, ◌≤◌, true, false, cond, ◌||◌, eqb, List, [], ◌∷◌, ◌++◌, length, refl, sym, ap, ◌∙◌, subst, inl, inr, ⊎_elim, ◌⊎◌, arith}
 use Rattle.std.proofs.lemmas.Bool.{both_ways, cases_lt, or_cases, or_left, or_right, eq-eqb}
 use Rattle.std.proofs.lemmas.List.Folds.{list_any-append}
-use Rattle.cqe_base.specs.Literal.{Literal, variable_of, same_literal, has_literal, HasNoRepeat, HaveNoRepeat}
+use Rattle.cqe_base.specs.Literal.{Literal, variable_of, same_literal, has_literal, HasNoRepeat}
 use Rattle.cqe_base.specs.Machine.{Assigned, Because, is_true, is_false, level, level_of, cut}
 use Rattle.cqe_base.specs.MachineStates.{IsDistinct}
 use Rattle.cqe_base.proofs.ClauseTruth.{same_literal-true, same_literal-same, variable_of-opposite}
@@ -119,8 +119,3 @@ given_watched (l ∷ m ∷ c) r = record {
   where
     apart : l ≡ m → ⊥
     apart same = both_ways _ r.0 (or_left _ _ (subst (λ x. same_literal l x ≡ true) same (same_literal-same l)))
-
-pub no_repeat_at : (cs : List (List Literal)) (i : ℕ) → HaveNoRepeat cs → i < length cs → HasNoRepeat (get_or cs i [])
-no_repeat_at [] i h lt = absurd (omega arith)
-no_repeat_at (c ∷ cs) zero h lt = h.0
-no_repeat_at (c ∷ cs) (suc i) h lt = no_repeat_at cs i h.1 (omega arith)

@@ -3,17 +3,23 @@ use Rattle.std.proofs.Common.{◌≡◌, ℕ, ◌<◌, Bool, true, false, cond, 
 use Rattle.std.specs.Prelude.{IfSome}
 use Rattle.std.specs.List.{list_all, AllByRecursion}
 use Rattle.std.proofs.lemmas.Bool.{both_ways, cases_eq, cases_lt, or_cases, or_left, or_right, eq-eqb, eqb-true, and_parts, and_from}
-use Rattle.std.proofs.lemmas.List.{get_or-set_same, get_or-set_other, length-set, map-set, get_or-map}
+use Rattle.std.proofs.lemmas.List.{get_or-set_same, get_or-set_other, length-set, map-set, get_or-map, length-map}
 use Rattle.std.proofs.lemmas.List.Folds.{list_any-append}
 use Rattle.cqe_base.specs.Literal.{Literal, variable_of, opposite, has_literal}
 use Rattle.cqe_base.specs.Machine.{Assigned, assigned_literal, is_false, level, cut}
 use Rattle.cqe_base.specs.MachineStates.{IsDistinct, is_assigned as trail_assigned}
 use Rattle.clause_solver.specs.declared.watches.Pair.{Pair}
 use Rattle.clause_solver.specs.declared.watches.Watch.{Watch}
+use Rattle.clause_solver.specs.declared.watches.Watches.{Watches}
 use Rattle.clause_solver.specs.Assigning.{code_of, is_assigned, AssignsOnce}
 use Rattle.clause_solver.specs.Watching.{IsWatched, IsHalfWatched, IsWatching, IsWatchOf, AllFalseBut, has_number, has_clause, is_caught, no_pair}
 use Rattle.clause_solver.proofs.Kept.{code_of-injective}
 use Rattle.clause_solver.proofs.Watching.{which, watched_more, half_more, IsSteady, watched_push, half_push, none_push, watched_cut}
+use Rattle.clause_solver.specs.WatchesInside.{lists_of}
+
+-- a code that has a list has one among the lists
+pub low_listed : (w : Watches) (k : ℕ) → k < length w.lists.items → k < length (lists_of w)
+low_listed w k low = let same = length-map w.lists.items (λ v. v.items) in omega arith
 
 -- a clause with a blocker
 abbrev pub watch_of : ℕ → Literal → Watch

@@ -9,6 +9,7 @@ use Rattle.cqe_base.specs.MachineStates.{IsDistinct}
 use Rattle.cqe_base.proofs.ClauseTruth.{same_literal-true, same_literal-same}
 use Rattle.cqe_base.proofs.Trails.{not_both, true_is_assigned, level_of-le}
 use Rattle.cqe_base.proofs.MachineRules.{IsUnit, is_unit, each_has}
+use Rattle.cqe_base.proofs.NoRepeats.{no_repeat_at}
 use Rattle.clause_solver.specs.declared.watches.Pair.{Pair}
 use Rattle.clause_solver.specs.declared.watches.Watch.{Watch}
 use Rattle.clause_solver.specs.Watching.{HasTrue, IsAnswered, satisfied, is_unit as answered_unit, is_falsified, IsWatched, IsWatching, AllFalseBut, has_number, is_caught, no_pair, HaveSameLiterals}
@@ -229,11 +230,6 @@ module _ (n : ℕ) (t : List Assigned) (d : IsDistinct n t) (cs ds : List (List 
       only : (m : Literal) → has_literal (get_or cs i []) m ≡ true → (m ≡ (w.units_are i has).1) ⊎ (is_false t m ≡ true)
       only m h = each_has (λ x. (x ≡ (w.units_are i has).1) ⊎ (is_false t x ≡ true)) (get_or ds i []) m (w.units_are i has).2 (sym (same.same i m) ∙ h)
 
-      no_repeat : (es : List (List Literal)) (k : ℕ) → HaveNoRepeat es → k < length es → HasNoRepeat (get_or es k [])
-      no_repeat [] k h lt = absurd (omega arith)
-      no_repeat (e ∷ es) zero h lt = h.0
-      no_repeat (e ∷ es) (suc k) h lt = no_repeat es k h.1 (omega arith)
-
       -- the least one that may be unit has an open literal
       module _ (l : Literal) (found : find (not_false t) (get_or cs i []) ≡ Some l) where
         parts : (has_literal (get_or cs i []) l ≡ true) × (is_false t l ≡ false)
@@ -248,7 +244,7 @@ module _ (n : ℕ) (t : List Assigned) (d : IsDistinct n t) (cs ds : List (List 
 
         pub is_unit_literal : is_true t l ≡ false → unit_literal t (get_or cs i []) ≡ Some l
         is_unit_literal off =
-            ap (only_literal t) (one_left t l (get_or cs i []) (each_but t l (get_or cs i []) is_only) (no_repeat cs i repeat unit_within) parts.1 parts.0)
+            ap (only_literal t) (one_left t l (get_or cs i []) (each_but t l (get_or cs i []) is_only) (no_repeat_at cs i repeat unit_within) parts.1 parts.0)
             ∙ ap (λ b. cond b None (Some l)) off
 
         -- it is the first unit clause

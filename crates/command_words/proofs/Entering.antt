@@ -1,5 +1,5 @@
 -- The walk over all words enters the command that the first one names.
-use Rattle.std.proofs.Common.{◌≡◌, true, false, ◌&&◌, ◌||◌, cond, List, [], ◌∷◌, ◌++◌, map, refl, sym, ap, ◌∙◌, true≢false}
+use Rattle.std.proofs.Common.{◌≡◌, true, false, ◌&&◌, ◌||◌, cond, List, [], ◌∷◌, ◌++◌, map, refl, sym, ap, ◌∙◌, true≢false, append_assoc}
 use Rattle.std.specs.Prelude.{Option, Some, None, option_map, is_some, find, fold, unwrap_or, bytes_eq, codes}
 use Rattle.std.proofs.Math.Bool.{and-false}
 use Rattle.std.proofs.lemmas.Slice.Eq.{bytes_eq-Decides}
@@ -10,7 +10,7 @@ use Rattle.clap.specs.Kinds.{or_else}
 use Rattle.clap.specs.Faults.{check_fault, defaults_fault, entered_fault, settle_fault, turn_fault, walk_fault}
 use Rattle.command_words.specs.Readings.{CommandRow, command_of, commands}
 use Rattle.command_words.specs.Matched.{program, with_settings}
-use Rattle.command_words.proofs.Options.{append_nil, none, none_nil, push_front, shape_for}
+use Rattle.command_words.proofs.Options.{append_nil, none, none_nil, shape_for}
 use Rattle.command_words.proofs.Turns.{Named, plain_word, option_word, passes, ends}
 use Rattle.command_words.proofs.Walks.{held}
 
@@ -76,7 +76,7 @@ stopped_at name words = record (walk_from nothing_held) { stopped = Some (name, 
 kept : (name : Text) (before words : List Text) → fold (walked [] names) (stopped_at name before) words ≡ stopped_at name (before ++ words)
 unfolding walked
 kept name before [] = ap (stopped_at name) (sym (append_nil before))
-kept name before (word ∷ words) = kept name (before ++ word ∷ []) words ∙ ap (stopped_at name) (push_front before word words)
+kept name before (word ∷ words) = kept name (before ++ word ∷ []) words ∙ ap (stopped_at name) (append_assoc before (word ∷ []) words)
 
 kept_fault : (name : Text) (before words : List Text) → ◌≡◌ {A = Kinds} (walk_fault top names (stopped_at name before) words) []
 unfolding walked walk_fault

@@ -3,7 +3,7 @@ use Rattle.std.proofs.Common.{◌≡◌, ◌==◌, Bool, true, false, not, ◌&&
 use Rattle.std.specs.Prelude.{Option, Some, None, option_map, option_and_then, is_some, find, bytes_eq, if◌then◌else◌}
 use Rattle.std.specs.List.{list_all, list_any}
 use Rattle.std.proofs.Math.Bool.{and-false}
-use Rattle.std.proofs.lemmas.Bool.{and_parts}
+use Rattle.std.proofs.lemmas.Bool.{and_parts, or_parts}
 use Rattle.std.proofs.lemmas.Slice.Eq.{bytes_eq-Decides}
 use Rattle.clap.specs.Words.{HasKind, Row, Text, Kinds, fault_of, kind_of, subcommand_of}
 use Rattle.clap.specs.declared.error.Error.{Error}
@@ -12,7 +12,7 @@ use Rattle.clap.specs.Lexer.{has_byte}
 use Rattle.command_words.specs.Uses.{OptionRow, Use, alone, name_and_value, option_of, is_flag, is_value_word, in_front, uses_of, followed}
 use Rattle.command_words.specs.Readings.{CommandRow, Reading, command_of, do_fit, has_no_repeat, is_used, reading_by, reading_of, reading_with}
 use Rattle.command_words.specs.Matched.{command_with, is_short, program}
-use Rattle.command_words.proofs.Options.{is_complete, needs, none, or_false, sort_of}
+use Rattle.command_words.proofs.Options.{is_complete, needs, none, sort_of}
 use Rattle.command_words.proofs.Turns.{Named, plain_word, option_word, named, option_at, name_at, value_at}
 use Rattle.command_words.proofs.Walks.{completes, extends, gives, uses_apart, uses_attached, uses_flag}
 use Rattle.command_words.proofs.Entering.{enters, no_command, no_words}
@@ -199,7 +199,7 @@ taken (word ∷ words) long free = by_command (command_of word) refl
     by_uses row known None is bad = absurd (cc)
     by_uses row known (Some uses) is good =
         let parts = and_parts (extends row.options [] uses) (is_complete row.options uses) good in
-        let rows = (gives row [] words (or_false (is_short word) (list_any is_short words) long).1).ends uses is parts.0 in
+        let rows = (gives row [] words (or_parts (is_short word) (list_any is_short words) long).1).ends uses is parts.0 in
         let fit : do_fit row.options uses ≡ true = sym (fits row.options uses) ∙ good in
         let reading : reading_by row (Some uses) ≡ row.says uses = rw fit refl in
         ap matched_reading ((enters row word words known).matched ∙ ap (λ (r : List Row). Some (row.name, r)) rows)
@@ -210,9 +210,9 @@ taken (word ∷ words) long free = by_command (command_of word) refl
 
     by_command : (o : Option CommandRow) → command_of word ≡ o → matched_reading (subcommand_of program (word ∷ words)) ≡ reading_of (word ∷ words)
     by_command None unknown =
-        absurd (true≢false (sym (ap none free) ∙ no_command word words (named word (or_false (is_short word) (list_any is_short words) long).0) unknown))
+        absurd (true≢false (sym (ap none free) ∙ no_command word words (named word (or_parts (is_short word) (list_any is_short words) long).0) unknown))
     by_command (Some row) known =
-        let given = gives row [] words (or_false (is_short word) (list_any is_short words) long).1 in
+        let given = gives row [] words (or_parts (is_short word) (list_any is_short words) long).1 in
         by_uses row known (uses_of row.options words) refl (sym given.passes ∙ sym (enters row word words known).faults ∙ ap none free)
 
 -- words that it refuses
@@ -230,7 +230,7 @@ refused (word ∷ words) long fails = by_command (command_of word) refl
     by_command : (o : Option CommandRow) → command_of word ≡ o → ◌≡◌ {A = Option Reading} (reading_of (word ∷ words)) None
     by_command None unknown = ap (λ (o : Option CommandRow). reading_with o words) unknown
     by_command (Some row) known =
-        let given = gives row [] words (or_false (is_short word) (list_any is_short words) long).1 in
+        let given = gives row [] words (or_parts (is_short word) (list_any is_short words) long).1 in
         ap (λ (o : Option CommandRow). reading_with o words) known
         ∙ by_uses row (uses_of row.options words) (sym given.passes ∙ sym (enters row word words known).faults ∙ fails)
 

@@ -5,6 +5,7 @@ use Rattle.std.specs.List.{list_all, list_any}
 use Rattle.std.specs.Option.{option_map_or}
 use Rattle.clap.specs.Facts.{explicit_source}
 use Rattle.std.proofs.lemmas.Slice.Eq.{bytes_eq-Decides}
+use Rattle.std.proofs.lemmas.Bool.{or_parts}
 use Rattle.clap.specs.Words.{Row, Rule, Shape, Text, Kinds, new_rule, reading_of}
 use Rattle.clap.specs.Simple.{new_shape}
 use Rattle.clap.specs.Walk.{arg_by_id, arg_by_index, arg_by_long, at_row, has_row, is_empty, more_values, used, with_default, with_values, without}
@@ -153,15 +154,11 @@ pub flag_passes : (options : List OptionRow) (name : Text) (is_needed : Bool) (g
     → none (use_fault false (rule_named name is_needed false) [] (rows_of_uses options given)) ≡ not (is_used given name)
 flag_passes options name is_needed given = rw (used_rows options given name) (flag_bits (is_used given name))
 
-pub or_false : (a b : Bool) → (a || b) ≡ false → (a ≡ false) × (b ≡ false)
-or_false true b e = absurd (cc)
-or_false false b e = (refl, e)
-
 -- where there is no such row, one is set behind the others
 row_behind : (id : Text) (change : Row → List Row) (missing rows : List Row) → has_row id rows ≡ false → at_row id change missing rows ≡ rows ++ missing
 row_behind id change missing [] fresh = refl
 row_behind id change missing (r ∷ rows) fresh =
-    let parts = or_false (bytes_eq r.id id) (has_row id rows) fresh in
+    let parts = or_parts (bytes_eq r.id id) (has_row id rows) fresh in
     rw parts.0 (ap (λ (l : List Row). r ∷ l) (row_behind id change missing rows parts.1))
 
 rows_append : (options : List OptionRow) (given more : List Use) → rows_of_uses options given ++ rows_of_uses options more ≡ rows_of_uses options (given ++ more)
@@ -171,10 +168,6 @@ rows_append options (u ∷ given) more = ap (λ (rows : List Row). row_of_use op
 pub append_nil : {X : Type 0} (xs : List X) → xs ++ [] ≡ xs
 append_nil [] = refl
 append_nil (x ∷ xs) = ap (λ ys. x ∷ ys) (append_nil xs)
-
-pub push_front : {X : Type 0} (xs : List X) (y : X) (ys : List X) → (xs ++ y ∷ []) ++ ys ≡ xs ++ y ∷ ys
-push_front [] y ys = refl
-push_front (x ∷ xs) y ys = ap (λ l. x ∷ l) (push_front xs y ys)
 
 -- the row that a use of an option leaves behind the others
 row_used : (options : List OptionRow) (name value text : Text) (given : List Use) → is_used given name ≡ false → text ≡ text_of (is_flag options name) value

@@ -1,10 +1,10 @@
 -- The walk over the options of a command gives the uses that the words make.
-use Rattle.std.proofs.Common.{◌≡◌, ℕ, Bool, true, false, not, ◌&&◌, ◌||◌, List, [], ◌∷◌, ◌++◌, refl, sym, ap, ◌∙◌, true≢false, arith}
+use Rattle.std.proofs.Common.{◌≡◌, ℕ, Bool, true, false, not, ◌&&◌, ◌||◌, List, [], ◌∷◌, ◌++◌, refl, sym, ap, ◌∙◌, true≢false, arith, append_assoc}
 use Rattle.std.specs.Prelude.{Option, Some, None, is_some, nat_lt, length, unwrap_or, if◌then◌else◌}
 use Rattle.std.specs.List.{list_any}
 use Rattle.std.specs.Option.{option_map_or}
 use Rattle.std.proofs.Math.Bool.{and-false}
-use Rattle.std.proofs.lemmas.Bool.{lt-ltb}
+use Rattle.std.proofs.lemmas.Bool.{lt-ltb, or_parts}
 use Rattle.clap.specs.Words.{Row, Rule, Text, Kinds}
 use Rattle.clap.specs.Lexer.{has_byte}
 use Rattle.clap.specs.Walk.{Held, Walk, settled, used, used_by_id, walk_from, walked}
@@ -12,7 +12,7 @@ use Rattle.clap.specs.Faults.{check_fault, defaults_fault, settle_fault, use_fau
 use Rattle.command_words.specs.Uses.{OptionRow, Use, alone, in_front, is_flag, uses_of, with_value, followed, is_value_word}
 use Rattle.command_words.specs.Readings.{CommandRow, is_used}
 use Rattle.command_words.specs.Matched.{is_short}
-use Rattle.command_words.proofs.Options.{Sort, append_nil, check_passes, defaults_pass, finished_rows, flag_behind, flag_is, flag_passes, is_complete, needs, none, none_both, or_false, push_front, rows_of_uses, rule_named, rules_for, shape_for, use_passes, used_behind}
+use Rattle.command_words.proofs.Options.{Sort, append_nil, check_passes, defaults_pass, finished_rows, flag_behind, flag_is, flag_passes, is_complete, needs, none, none_both, rows_of_uses, rule_named, rules_for, shape_for, use_passes, used_behind}
 use Rattle.command_words.proofs.Turns.{IsPlain, Named, plain_word, option_word, named, option_at, name_at, value_at, passes, ends, turns, passes_step, idle_plain, idle_unknown, idle_attached, idle_apart, idle_flag, idle_flag_valued, awaiting, awaiting_end, awaiting_option, awaiting_plain, id_rule}
 
 -- what an idle state and the same with its last use settled have in common
@@ -84,7 +84,7 @@ pub settles : (row : CommandRow) (h : Held) (words : List Text) → list_any is_
 unfolding walk_fault
 settles row h [] long = record { passes = none_both (settle_fault (rules_for row.options) false h) _; ends = refl }
 settles row h (word ∷ rest) long =
-    let parts = or_false (is_short word) (list_any is_short rest) long in
+    let parts = or_parts (is_short word) (list_any is_short rest) long in
     word_settles row h word rest (named word parts.0) (settles row h rest parts.1)
 
 -- uses that follow others are of options, and none is used again
@@ -125,7 +125,7 @@ front_fresh : (options : List OptionRow) (given : List Use) (u : Use) (o : Optio
     → completes options (given ++ u ∷ []) o ≡ completes options given (in_front (Some u) o)
 front_fresh options given u None s known fresh = refl
 front_fresh options given u (Some uses) s known fresh =
-    rw (known, fresh) (ap (λ (all : List Use). extends options (given ++ u ∷ []) uses && is_complete options all) (push_front given u uses))
+    rw (known, fresh) (ap (λ (all : List Use). extends options (given ++ u ∷ []) uses && is_complete options all) (append_assoc given (u ∷ []) uses))
 
 -- a first use of no option
 front_unknown : (options : List OptionRow) (given : List Use) (w : Option Use) → ((u : Use) → w ≡ Some u → needs options u.name ≡ None) → (o : Option (List Use))
@@ -193,7 +193,7 @@ use_gives row given u s rest first rows known is behind later = record {
         let parts = behind_front given row.options u more s known (ap (extends row.options given) all ∙ good) in
         ap (λ (l : List Row). ends row (state_of l) rest) (behind parts.0)
         ∙ (later (given ++ u ∷ [])).ends more are parts.1
-        ∙ ap (rows_at_end row.options) (push_front given u more)
+        ∙ ap (rows_at_end row.options) (append_assoc given (u ∷ []) more)
         ∙ ap (λ (l : List Use). rows_at_end row.options (given ++ l)) all
 
 -- an option of the sort with a value, or without one
@@ -407,8 +407,8 @@ next_word row given word next rest (option_word x xs) long other later behind =
 -- the walk over words with no short form, after uses
 pub gives : (row : CommandRow) (given : List Use) (words : List Text) → list_any is_short words ≡ false → Gives row given words
 gives row given [] long = nothing_left row given
-gives row given (word ∷ []) long = last_word row given word (named word (or_false (is_short word) false long).0)
+gives row given (word ∷ []) long = last_word row given word (named word (or_parts (is_short word) false long).0)
 gives row given (word ∷ next ∷ rest) long =
-    let parts = or_false (is_short word) (is_short next || list_any is_short rest) long in
-    let others = or_false (is_short next) (list_any is_short rest) parts.1 in
+    let parts = or_parts (is_short word) (is_short next || list_any is_short rest) long in
+    let others = or_parts (is_short next) (list_any is_short rest) parts.1 in
     next_word row given word next rest (named word parts.0) others.1 (named next others.0) (λ more. gives row more (next ∷ rest) parts.1) (λ more. gives row more rest others.1)

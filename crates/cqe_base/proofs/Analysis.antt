@@ -11,6 +11,7 @@ use Rattle.cqe_base.specs.MachineStates.{is_assigned, IsDistinct, AllFalse, IsCa
 use Rattle.cqe_base.proofs.ClauseTruth.{same_literal-true, same_literal-same, opposite-opposite, variable_of-opposite}
 use Rattle.cqe_base.proofs.NoRepeats.{HasNoRepeat-union}
 use Rattle.cqe_base.proofs.Trails.{Suffix, Suffix-tail, not_both, false_is_assigned, false_on_rest, level_of-le, other_variable}
+use Rattle.cqe_base.proofs.Lists.{all_push}
 
 module _ (P : Literal → Type 0) where
   -- what holds of each literal holds of each that is kept
@@ -18,14 +19,10 @@ module _ (P : Literal → Type 0) where
   each_filter p [] h = h
   each_filter p (l ∷ c) h = cond_both (p l) (l ∷ filter p c) (filter p c) (AllByRecursion P) (λ _. (h.0, each_filter p c h.1)) (λ _. each_filter p c h.1)
 
-  each_push : (c : List Literal) (l : Literal) → AllByRecursion P c → P l → AllByRecursion P (c ++ l ∷ [])
-  each_push [] l h x = (x, tt)
-  each_push (m ∷ c) l h x = (h.0, each_push c l h.1 x)
-
   -- and of each of a union
   pub each_union : (d c : List Literal) → AllByRecursion P c → AllByRecursion P d → AllByRecursion P (union c d)
   each_union [] c h i = h
-  each_union (l ∷ d) c h i = each_union d _ (cond_both (has_literal c l) c (c ++ l ∷ []) (AllByRecursion P) (λ _. h) (λ _. each_push c l h i.0)) i.1
+  each_union (l ∷ d) c h i = each_union d _ (cond_both (has_literal c l) c (c ++ l ∷ []) (AllByRecursion P) (λ _. h) (λ _. all_push P c l h i.0)) i.1
 
 -- each literal that is kept passes
 pub each_passes : (p : Literal → Bool) (c : List Literal) → AllByRecursion (λ l. p l ≡ true) (filter p c)

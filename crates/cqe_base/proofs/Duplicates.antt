@@ -7,6 +7,7 @@ use Rattle.std.specs.List.{list_any}
 use Rattle.std.specs.Map.{update, lookup}
 use Rattle.cqe_base.specs.Schema.{Text, contains_text, has_duplicate}
 use Rattle.cqe_base.specs.Memory.{texts_of}
+use Rattle.cqe_base.proofs.Lists.{or_assoc}
 
 -- the texts that were seen: the keys of a map
 abbrev pub seen_in : tree.BTreeMap (Bor Text) Unit → Text → Bool
@@ -32,12 +33,8 @@ pub goes_on : (old new : Text → Bool) (text : Text) (texts : List Text)
     → (list_any old (text ∷ texts) || has_duplicate (text ∷ texts)) ≡ (list_any new texts || has_duplicate texts)
 goes_on old new text texts sees unseen =
     ap (λ b. (b || list_any old texts) || (contains_text texts text || has_duplicate texts)) unseen
-    ∙ regroup (list_any old texts) (contains_text texts text) (has_duplicate texts)
+    ∙ sym (or_assoc (list_any old texts) (contains_text texts text) (has_duplicate texts))
     ∙ ap (λ b. b || has_duplicate texts) (sym (sees_one old new text texts sees))
-  where
-    regroup : (a b c : Bool) → (a || (b || c)) ≡ ((a || b) || c)
-    regroup true b c = refl
-    regroup false b c = refl
 
 -- whether a text stands twice, by the texts that were seen and those from a place on
 abbrev pub Twice : List (Bor Text) → ℕ → tree.BTreeMap (Bor Text) Unit → Type 0

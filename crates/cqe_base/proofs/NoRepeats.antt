@@ -1,5 +1,5 @@
 -- No clause that a walk appends has a literal twice.
-use Rattle.std.proofs.Common.{◌≡◌, ℕ, false, eqb, List, [], ◌∷◌, ◌++◌, map, refl, ◌∙◌, arith}
+use Rattle.std.proofs.Common.{◌≡◌, ℕ, zero, suc, ◌<◌, false, eqb, List, [], ◌∷◌, ◌++◌, length, get_or, map, refl, ◌∙◌, arith}
 use Rattle.std.proofs.lemmas.Bool.{or_from, or_parts, cond_both}
 use Rattle.std.proofs.lemmas.Bool.Decides.{nat_tests}
 use Rattle.std.proofs.lemmas.List.Folds.{list_any-append}
@@ -19,11 +19,18 @@ same_literal-comm (Negative v) (Negative w) = eqb_comm v w
 push_has : (c : List Literal) (l m : Literal) → has_literal c m ≡ false → same_literal m l ≡ false → has_literal (c ++ l ∷ []) m ≡ false
 push_has c l m h e = list_any-append (same_literal m) c (l ∷ []) ∙ or_from _ _ h (or_from _ _ e refl)
 
-push_no_repeat : (c : List Literal) (l : Literal) → HasNoRepeat c → has_literal c l ≡ false → HasNoRepeat (c ++ l ∷ [])
+-- a literal that isn't there yet is no repeat
+pub push_no_repeat : (c : List Literal) (l : Literal) → HasNoRepeat c → has_literal c l ≡ false → HasNoRepeat (c ++ l ∷ [])
 push_no_repeat [] l h e = (refl, tt)
 push_no_repeat (m ∷ c) l h e =
     let parts = or_parts (same_literal l m) (has_literal c l) e in
     (push_has c l m h.0 (same_literal-comm m l ∙ parts.0), push_no_repeat c l h.1 parts.1)
+
+-- nor has the clause at a place
+pub no_repeat_at : (cs : List (List Literal)) (i : ℕ) → HaveNoRepeat cs → i < length cs → HasNoRepeat (get_or cs i [])
+no_repeat_at [] i h lt = absurd (omega arith)
+no_repeat_at (c ∷ cs) zero h lt = h.0
+no_repeat_at (c ∷ cs) (suc i) h lt = no_repeat_at cs i h.1 (omega arith)
 
 -- a union keeps that no literal is there twice
 pub HasNoRepeat-union : (d c : List Literal) → HasNoRepeat c → HasNoRepeat (union c d)

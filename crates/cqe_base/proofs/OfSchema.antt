@@ -14,6 +14,7 @@ use Rattle.cqe_base.specs.Reading.{Scope, TypedTerm, ReadingsAreSentences, varia
 use Rattle.cqe_base.specs.Grammar.{Part, IsTerm, Columns, no_column, last_column, next_column, Begins, is_true, is_false, is_atom, is_equal, is_differs, is_not, in_parentheses, is_forall, is_exists, one_and, more_and, one_or, more_or, no_arrow, one_arrow, no_double_arrow, one_double_arrow}
 use Rattle.cqe_base.proofs.Truths.{and_both}
 use Rattle.cqe_base.proofs.GrammarIsRead.{reading-sound}
+use Rattle.cqe_base.proofs.Lists.{some_at}
 
 -- the domains of the enclosing quantifiers, from the outside
 domains_of : Scope → List ℕ
@@ -39,11 +40,6 @@ still-found : (xs ys : List ℕ) (i d : ℕ) → slice_get xs i ≡ Some d → s
 still-found [] ys i d h = absurd (cc)
 still-found (x ∷ xs) ys zero d h = h
 still-found (x ∷ xs) ys (suc i) d h = still-found xs ys i d h
-
-some-at : {X : Type 0} (xs : List X) (i : ℕ) → i < length xs → (x : X) × (slice_get xs i ≡ Some x)
-some-at [] i lt = absurd (omega arith)
-some-at (x ∷ xs) zero lt = (x, refl)
-some-at (x ∷ xs) (suc i) lt = some-at xs i (omega arith)
 
 -- how many constants the domain at a place has
 abbrev size_at : List NamedDomain → ℕ → ℕ
@@ -109,7 +105,7 @@ module _ (schema : DatabaseSchema) where
   columns-fit {scope} (next_column {d = d} {t = t} {a = a} h c others) = rw (term-of_domain scope t.text a d h.stands_for, same-number d) (columns-fit others)
 
   columns-found : (r : ℕ) → r < length schema.relations → columns_of schema r ≡ Some (column_domains schema r)
-  columns-found r lt = let s = some-at schema.relations r lt in rw s.1 refl
+  columns-found r lt = let s = some_at schema.relations r lt in rw s.1 refl
 
   atom-fits : (scope : List ℕ) (r : ℕ) (terms : List Term) → r < length schema.relations → have_domains schema scope terms (column_domains schema r) ≡ true → fit_relation schema scope terms (columns_of schema r) ≡ true
   atom-fits scope r terms lt fits = ap (fit_relation schema scope terms) (columns-found r lt) ∙ fits

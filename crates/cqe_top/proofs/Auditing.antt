@@ -1,12 +1,12 @@
 -- What the command `audit` reaches, from what its parts did.
-use Rattle.std.proofs.Common.{◌≡◌, ◌⊎◌, inl, inr, ℕ, suc, ◌+◌, ◌<◌, ◌≤◌, Bool, true, false, not, List, [], ◌∷◌, map, length, get_or, Option, None, Some, refl, sym, ap, subst, ◌∙◌, arith}
+use Rattle.std.proofs.Common.{◌≡◌, ◌⊎◌, inl, inr, ℕ, suc, ◌+◌, ◌<◌, Bool, true, false, not, List, [], ◌∷◌, map, length, get_or, Option, None, Some, refl, sym, ap, subst, ◌∙◌, arith}
 use Rattle.std.specs.Prelude.{find, cond, position, nat_lt, bytes_eq, option_map, string_bytes}
 use Rattle.std.specs.List.{prefix_len}
 use Rattle.std.proofs.lemmas.Bool.{lt-ltb, false≢true}
 use Rattle.std.proofs.lemmas.Option.{slice_get-map, slice_get_read}
 use Rattle.std.proofs.lemmas.Slice.Eq.{bytes_eq-Decides}
 use Rattle.outside.specs.Faults.{Rose}
-use Rattle.outside.specs.Shelf.{SameNames, SameOthers}
+use Rattle.outside.specs.Shelf.{SameNames, SameOthers, bytes_on, image_on}
 use Rattle.cqe_base.specs.Schema.{Text, DatabaseSchema}
 use Rattle.cqe_base.specs.Facts.{FactSet}
 use Rattle.cqe_base.specs.History.{UserProfile, profile_of}
@@ -15,7 +15,7 @@ use Rattle.log_journal.specs.Names.{journal_name}
 use Rattle.user_desk.specs.Causes.{Opens}
 use Rattle.user_desk.specs.declared.standing.DeskError.{DeskError}
 use Rattle.init_engine.specs.Disks as init
-use Rattle.desk_crew.specs.Shelved.{Journals, journals_on, bytes_on, image_on, SameBytes, NoNewImages}
+use Rattle.desk_crew.specs.Shelved.{Journals, journals_on, SameBytes, NoNewImages}
 use Rattle.desk_crew.specs.Openings.{IsOpening}
 use Rattle.audit_engine.specs.Ends.{IsEnd}
 use Rattle.audit_engine.specs.declared.end.AuditEnd.{AuditEnd}
@@ -212,14 +212,6 @@ module _ {D : Type 0} (reads : D → List ℕ) (image : D → List ℕ → Type 
     images = λ other c left. subst (λ d. image_on image d c) (same_disks other) (images other c left);
   }
 
--- a shelf whose disks weren't touched
-pub looked_at_none : {D : Type 0} (reads : D → List ℕ) (image : D → List ℕ → Type 0) (journal : Text) (disk disk' : Text → Option D) → SameNames disk disk' → LooksAt reads image journal disk disk'
-looked_at_none reads image journal disk disk' same = record {
-  others = λ other apart. same other;
-  bytes = λ other. ap (bytes_on reads) (same other);
-  images = λ other c left. subst (λ d. image_on image d c) (same other) left;
-}
-
 -- ---- the user at a place
 
 -- he has the name
@@ -285,8 +277,3 @@ shelf_fault users number (audit_end.Refused why) end (owner, owned, is) same = l
 shelf_fault users number audit_end.WriteFault end is same = let clash : ends.WriteFault ≡ ends.ShelfFault = sym is ∙ same in absurd cc
 shelf_fault users number audit_end.ShelfFault end is same = refl
 shelf_fault users number audit_end.Memory end is same = let clash : ends.Memory ≡ ends.ShelfFault = sym is ∙ same in absurd cc
-
--- a count that rose, rose from an earlier one too
-pub rose_longer : (before middle now : ℕ) → before ≤ middle → Rose middle now → Rose before now
-rose_longer before middle now later (inl less) = inl (omega (arith, later, less))
-rose_longer before middle now later (inr full) = inr full

@@ -1,8 +1,9 @@
 -- Without a rise of a disk's count no journal is refused that can be opened, and no line says that an append failed.
-use Rattle.std.proofs.Common.{◌≡◌, inl, inr, ℕ, ◌+◌, ◌≤◌, Bool, true, false, ◌||◌, List, [], ◌∷◌, ◌++◌, length, Option, None, Some, Result, Ok, Err, refl, sym, ap, subst, ◌∙◌, arith}
-use Rattle.std.specs.Prelude.{find, cond, bytes_eq, if◌then◌else◌}
+use Rattle.std.proofs.Common.{◌≡◌, inl, inr, ℕ, ◌+◌, ◌≤◌, Bool, true, false, ◌||◌, List, [], ◌∷◌, ◌++◌, length, Option, None, Some, Result, Ok, Err, refl, sym, ap, ◌∙◌, arith}
+use Rattle.std.specs.Prelude.{find, bytes_eq, if◌then◌else◌}
 use Rattle.std.specs.List.{list_any, AllByRecursion}
 use Rattle.std.proofs.lemmas.Slice.Eq.{bytes_eq-Decides}
+use Rattle.std.proofs.lemmas.Bool.{or_right}
 use Rattle.outside.specs.Faults.{Rose}
 use Rattle.cqe_base.specs.Schema.{Text, DatabaseSchema}
 use Rattle.cqe_base.specs.Facts.{FactSet}
@@ -13,6 +14,7 @@ use Rattle.cqe_base.specs.Censor.{rule}
 use Rattle.cqe_base.specs.Run
 use Rattle.cqe_base.specs.Run.{Reply, marked, no_sentence, history_full, too_large, user_closed, desk_sealed, desk_broken, no_memory, standing_open, standing_closed, standing_sealed, Event, ask, stop, restart, want, kept, failed, UserState, reply_by, is_full, is_too_large, after_event, replies_from, replies, opening}
 use Rattle.cqe_base.specs.Transcript.{NamedUser, ScriptEvent, script_ask, script_stop, script_restart, script_opening, Line, reply_line, restart_line, own_events, own_reply, own_replies, told_after, lines_after, transcript}
+use Rattle.cqe_base.proofs.Lists.{one_found}
 use Rattle.user_desk.specs.Causes.{Opens}
 use Rattle.user_desk.specs.declared.standing.DeskError.{DeskError}
 use Rattle.desk_crew.specs.Openings.{IsOpening}
@@ -26,22 +28,9 @@ use Rattle.cqe_top.specs.Statuses.{has_refusal}
 other : (a b : Bool) → a ≡ false → (a || b) ≡ true → b ≡ true
 other a b none either = sym (ap (λ c. c || b) none) ∙ either
 
-or_behind : (a b : Bool) → b ≡ true → (a || b) ≡ true
-or_behind true b says = refl
-or_behind false b says = says
-
 any_behind : {X : Type 0} (test : X → Bool) (xs ys : List X) → list_any test ys ≡ true → list_any test (xs ++ ys) ≡ true
 any_behind test [] ys says = says
-any_behind test (x ∷ xs) ys says = or_behind (test x) (list_any test (xs ++ ys)) (any_behind test xs ys says)
-
--- what all have, the one that is found has
-one_found : {X : Type 0} (P : X → Type 0) (test : X → Bool) (xs : List X) (x : X) → AllByRecursion P xs → find test xs ≡ Some x → P x × (test x ≡ true)
-one_found P test [] x all is = let clash : None ≡ Some x = is in absurd cc
-one_found P test (y ∷ ys) x all is = by (test y) refl (one_found P test ys x all.1) is
-  where
-    by : (b : Bool) → test y ≡ b → (find test ys ≡ Some x → P x × (test x ≡ true)) → cond b (Some y) (find test ys) ≡ Some x → P x × (test x ≡ true)
-    by true passes further is = let same : y ≡ x = cc in (subst P same all.0, sym (ap test same) ∙ passes)
-    by false passes further is = further is
+any_behind test (x ∷ xs) ys says = or_right (test x) (list_any test (xs ++ ys)) (any_behind test xs ys says)
 
 -- ---- one user
 

@@ -13,9 +13,9 @@ use Rattle.log_journal.specs.Opening.{Refuses, IsRefused}
 use Rattle.log_journal.specs.declared.header.OpenError.{OpenError}
 use Rattle.log_journal.specs.declared.header.OpenError.TheVariants.{NotAJournal, OtherPolicy, Damaged, DiskFault, Memory}
 use Rattle.batch_engine.specs.BatchLines.{batch_of}
-use Rattle.desk_crew.specs.Shelved.{Journals}
 use Rattle.batch_engine.specs.Batch.{unopened, with_opening}
-use Rattle.desk_crew.specs.Shelved.{journals_on, bytes_on}
+use Rattle.outside.specs.Shelf.{bytes_on}
+use Rattle.desk_crew.specs.Shelved.{Journals, journals_on}
 use Rattle.policy_files.specs.Policies
 use Rattle.policy_files.specs.Policies.{PolicyValue}
 use Rattle.policy_files.specs.Users.{names_of}

@@ -1,4 +1,3 @@
-mod Digits
 mod Writing
 mod Users
 mod Reaching

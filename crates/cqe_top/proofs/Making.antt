@@ -1,6 +1,7 @@
 -- What the end of the making of journals reaches, from what its parts did.
 use Rattle.std.proofs.Common.{◌≡◌, inl, inr, ℕ, zero, suc, ◌<◌, ◌≤◌, List, [], ◌∷◌, length, Option, None, Some, sym, subst, ◌∙◌, arith}
 use Rattle.std.specs.Prelude.{slice_get, string_bytes}
+use Rattle.outside.proofs.Rises.{rose_since}
 use Rattle.outside.specs.Shelf.{SameNames}
 use Rattle.outside.specs.Faults.{Rose}
 use Rattle.cqe_base.specs.Facts.{FactSet}
@@ -86,8 +87,7 @@ init_over told reads image header directory users disk mid disk' count mid_count
     (subst (λ n. IsEnd told reads image header directory (init.names_of users) (change_of mid disk' n count' mid_faults faults') made) (λ i name. same_counts name i) ended))
   where
     rose : Rose mid_faults faults' → Rose faults faults'
-    rose (inl less) = inl (omega (arith, less, later))
-    rose (inr full) = inr full
+    rose = rose_since faults mid_faults faults' later
 
     earlier : (made : InitEnd) → IsEnd told reads image header directory (init.names_of users) (change_of disk disk' count count' mid_faults faults') made
         → IsEnd told reads image header directory (init.names_of users) (change_of disk disk' count count' faults faults') made

@@ -2,7 +2,7 @@
 use Rattle.std.proofs.Common.{◌≡◌, inl, inr, ℕ, Bool, true, false, List, map, Option, refl, ap, subst, ◌∙◌}
 use Rattle.std.specs.Prelude.{Vec, if◌then◌else◌}
 use Rattle.std.specs.declared.alloc.Global.{Global}
-use Rattle.outside.specs.Shelf.{SameNames}
+use Rattle.outside.specs.Shelf.{SameNames, bytes_on, image_on}
 use Rattle.cqe_base.specs.Schema.{Text}
 use Rattle.cqe_base.specs.Facts.{FactSet}
 use Rattle.cqe_base.specs.Transcript.{NamedUser}
@@ -16,7 +16,7 @@ use Rattle.case_engine.specs.Case as case
 use Rattle.case_engine.specs.declared.case.CaseEnd.{CaseEnd}
 use Rattle.case_engine.specs.declared.case.CaseEnd.TheVariants as case_end
 use Rattle.batch_engine.specs.Batch as batch
-use Rattle.desk_crew.specs.Shelved.{Journals, journals_on, bytes_on, image_on, is_among, AreKept, SameBeside}
+use Rattle.desk_crew.specs.Shelved.{Journals, journals_on, is_among, AreKept, SameBeside}
 use Rattle.batch_engine.specs.declared.run.BatchEnd.{BatchEnd}
 use Rattle.batch_engine.specs.declared.run.BatchEnd.TheVariants as batch_end
 use Rattle.cqe_top.specs.declared.end.CommandEnd.{CommandEnd}
@@ -73,22 +73,22 @@ kept_same reads image directory disk disk' count count' same name =
     (ap (bytes_on reads) (same (journal_name directory name)), λ crash left. subst (λ d. image_on image d crash) (same (journal_name directory name)) left)
 
 -- files that weren't read
-pub refused_reaches : (journals : Journals) (policy_name facts_name : List ℕ) (files : FilesSay) (end : CommandEnd) (before after old : List ℕ) → AreKept journals → RefusesFiles policy_name facts_name files end
-    → BatchReaches journals before after old old policy_name facts_name files end
-refused_reaches journals policy_name facts_name files ends.Done before after old kept refused = absurd refused
-refused_reaches journals policy_name facts_name files ends.Usage before after old kept refused = absurd refused
-refused_reaches journals policy_name facts_name files (ends.Missing name) before after old kept refused = (refused, (refl, kept))
-refused_reaches journals policy_name facts_name files ends.ShelfFault before after old kept refused = (refl, kept)
-refused_reaches journals policy_name facts_name files (ends.Policy why) before after old kept refused = (refused, (refl, kept))
-refused_reaches journals policy_name facts_name files (ends.Facts why) before after old kept refused = (refused, (refl, kept))
-refused_reaches journals policy_name facts_name files (ends.Script refusal) before after old kept refused = absurd refused
-refused_reaches journals policy_name facts_name files ends.ReadFault before after old kept refused = absurd refused
-refused_reaches journals policy_name facts_name files ends.WriteFault before after old kept refused = absurd refused
-refused_reaches journals policy_name facts_name files (ends.Journal name why) before after old kept refused = absurd refused
-refused_reaches journals policy_name facts_name files (ends.Journals users refusals) before after old kept refused = absurd refused
-refused_reaches journals policy_name facts_name files ends.DiskFault before after old kept refused = absurd refused
-refused_reaches journals policy_name facts_name files ends.LinksFault before after old kept refused = absurd refused
-refused_reaches journals policy_name facts_name files ends.Memory before after old kept refused = inl (refl, kept)
+pub refused_reaches : (journals : Journals) (policy_name facts_name : List ℕ) (files : FilesSay) (end : CommandEnd) (before old : List ℕ) → AreKept journals → RefusesFiles policy_name facts_name files end
+    → BatchReaches journals before before old old policy_name facts_name files end
+refused_reaches journals policy_name facts_name files ends.Done before old kept refused = absurd refused
+refused_reaches journals policy_name facts_name files ends.Usage before old kept refused = absurd refused
+refused_reaches journals policy_name facts_name files (ends.Missing name) before old kept refused = (refused, ((refl, kept), refl))
+refused_reaches journals policy_name facts_name files ends.ShelfFault before old kept refused = (refl, kept)
+refused_reaches journals policy_name facts_name files (ends.Policy why) before old kept refused = (refused, ((refl, kept), refl))
+refused_reaches journals policy_name facts_name files (ends.Facts why) before old kept refused = (refused, ((refl, kept), refl))
+refused_reaches journals policy_name facts_name files (ends.Script refusal) before old kept refused = absurd refused
+refused_reaches journals policy_name facts_name files ends.ReadFault before old kept refused = absurd refused
+refused_reaches journals policy_name facts_name files ends.WriteFault before old kept refused = absurd refused
+refused_reaches journals policy_name facts_name files (ends.Journal name why) before old kept refused = absurd refused
+refused_reaches journals policy_name facts_name files (ends.Journals users refusals) before old kept refused = absurd refused
+refused_reaches journals policy_name facts_name files ends.DiskFault before old kept refused = absurd refused
+refused_reaches journals policy_name facts_name files ends.LinksFault before old kept refused = absurd refused
+refused_reaches journals policy_name facts_name files ends.Memory before old kept refused = inl (refl, kept)
 
 -- the disks that a command touched over files that were read, where the users of its registry are those of the policy
 pub touches_over : {D : Type 0} (directory : List ℕ) (files : FilesSay) (policy : PolicyValue) (world : FactSet) (header : List ℕ) (names : List Text) (disk mid disk' : Text → Option D)

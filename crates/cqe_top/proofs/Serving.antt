@@ -6,7 +6,7 @@ use Rattle.std.specs.declared.alloc.Global.{Global}
 use Rattle.sha2.specs.Sha256.{sha256}
 use Rattle.outside.specs.Faults.{Rose}
 use Rattle.outside.specs.Shelf.{SameNames}
-use Rattle.outside.specs.Visits.{Visit}
+use Rattle.outside.specs.Visits.{Visit, Place}
 use Rattle.cqe_base.specs.Schema.{Text, DatabaseSchema}
 use Rattle.cqe_base.specs.Facts.{FactSet}
 use Rattle.cqe_base.specs.History.{UserProfile, History, profile_of}
@@ -38,7 +38,7 @@ use Rattle.cqe_top.specs.Files.{FilesSay, no_policy, bad_policy, no_facts, bad_f
 use Rattle.cqe_top.specs.Ready.{CanBeOpened}
 use Rattle.cqe_top.specs.Statuses.{status_of, has_refusal, end_of_serve}
 use Rattle.serve_engine.specs.Serving.{ServesNobody}
-use Rattle.cqe_top.specs.Serves.{ServesAll, ServesSome, ServeReaches}
+use Rattle.cqe_top.specs.Serves.{ServesAll, ServesSome, ServeReaches, ListenAt, ListensOver}
 use Rattle.cqe_top.proofs.Users.{names_are}
 use Rattle.cqe_top.proofs.Good.{agree, IsBoth, not_missing}
 
@@ -79,6 +79,12 @@ serve_over reads image directory disk mid disk' count mid_count count' given giv
     (subst (λ d. serving.Ends policy.schema world header (journals_on reads image directory d disk' count count') policy.users.items given given' back back' end) (λ i name. same_disks name i)
     (subst (λ n. serving.Ends policy.schema world header (journals_on reads image directory mid disk' n count') policy.users.items given given' back back' end) (λ i name. same_counts name i)
     (subst (λ u. serving.Ends policy.schema world header (journals_on reads image directory mid disk' mid_count count') u given given' back back' end) are reached)))
+
+-- what it listened at, where the files said a policy
+pub listens_over : (told : Type 0) (files : FilesSay) (policy : PolicyValue) (world : FactSet) (header address : List ℕ) (doors : ℕ) (old new : List Place) → (told → files ≡ both policy world header)
+    → (new ≡ old) ⊎ ListenAt address doors old new → ListensOver told files address doors old new
+listens_over told files policy world header address doors old new say (inl same) = inl same
+listens_over told files policy world header address doors old new say (inr listened) = inr (λ known. (policy, world, header, say known, tt), listened)
 
 -- ---- the header that files say is that of a journal
 

@@ -1,11 +1,12 @@
 -- What an end of the command `audit` says of the files, of the journal of the user who is named, and of what was written.
-use Rattle.std.specs.Prelude.{◌≡◌, ℕ, Bool, List, find, bytes_eq, Option, Some, None, String, string_bytes}
+use Rattle.std.specs.Prelude.{◌≡◌, ◌⊎◌, ℕ, Bool, List, find, bytes_eq, Option, Some, None, String, string_bytes}
 use Rattle.std.specs.declared.alloc.Global.{Global}
 use Rattle.outside.specs.Faults.{Rose}
-use Rattle.outside.specs.Shelf.{SameOthers}
+use Rattle.outside.specs.Shelf.{SameNames, SameOthers}
 use Rattle.cqe_base.specs.Schema.{Text}
 use Rattle.cqe_base.specs.Facts.{FactSet}
 use Rattle.cqe_base.specs.History.{History}
+use Rattle.log_journal.specs.Names.{journal_name}
 use Rattle.user_desk.specs.Causes.{Opens}
 use Rattle.desk_crew.specs.Shelved.{Journals, SameBytes, NoNewImages}
 use Rattle.audit_engine.specs.Ends.{IsEnd}
@@ -69,3 +70,8 @@ pub record LooksAt {D : Type 0} (reads : D → List ℕ) (image : D → List ℕ
   pub others : SameOthers journal old new
   pub bytes : SameBytes reads old new
   pub images : NoNewImages image old new
+
+-- no disk was touched; or the files say a policy that has a user of this name, and his journal was looked at
+abbrev pub LooksFor : {D : Type 0} → (D → List ℕ) → (D → List ℕ → Type 0) → Text → Text → FilesSay → (Text → Option D) → (Text → Option D) → Type 0
+LooksFor reads image directory name files old new =
+    SameNames old new ⊎ (Say files (λ policy world header. (user : NamedUser) × (user_named name policy.users ≡ Some user)) × LooksAt reads image (journal_name directory name) old new)

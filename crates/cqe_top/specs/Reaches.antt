@@ -91,13 +91,17 @@ module _ (journals : Journals) (before after old new : List ℕ) where
   abbrev pub LeavesAll : Type 0
   LeavesAll = (new ≡ old) × AreKept journals
 
+  -- and nothing was read
+  abbrev pub BeginsNothing : Type 0
+  BeginsNothing = LeavesAll × (after ≡ before)
+
   -- an end of the command `batch` over the files of two names, by what they say and by the same bytes
   abbrev pub BatchReaches : List ℕ → List ℕ → FilesSay → CommandEnd → Type 0
   BatchReaches policy_name facts_name files Done =
       Say files (λ policy world header. (refusals : List (Option DeskError)) × (has_refusal refusals ≡ false) × Completes refusals false policy world header)
-  BatchReaches policy_name facts_name files (Policy why) = (files ≡ bad_policy why) × LeavesAll
-  BatchReaches policy_name facts_name files (Facts why) = (files ≡ bad_facts why) × LeavesAll
-  BatchReaches policy_name facts_name files (Missing name) = IsMissing files policy_name facts_name name.now × LeavesAll
+  BatchReaches policy_name facts_name files (Policy why) = (files ≡ bad_policy why) × BeginsNothing
+  BatchReaches policy_name facts_name files (Facts why) = (files ≡ bad_facts why) × BeginsNothing
+  BatchReaches policy_name facts_name files (Missing name) = IsMissing files policy_name facts_name name.now × BeginsNothing
   BatchReaches policy_name facts_name files (Script refusal) = Say files (λ policy world header. batch_of before ≡ Err refusal) × LeavesAll
   BatchReaches policy_name facts_name files ReadFault = Say files (λ policy world header. LeavesAll)
   BatchReaches policy_name facts_name files WriteFault = Say files Breaks

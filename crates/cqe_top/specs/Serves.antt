@@ -1,7 +1,6 @@
 -- What an end of the command `serve` says of the files, of the journals and of the connections that were given.
-use Rattle.std.specs.Prelude.{◌≡◌, ◌⊎◌, ◌++◌, ◌∷◌, [], ℕ, Bool, true, false, List, map, Option}
+use Rattle.std.specs.Prelude.{⊤, ◌≡◌, ◌⊎◌, ◌++◌, ◌∷◌, [], ℕ, Bool, true, false, List, map, Option}
 use Rattle.outside.specs.Visits.{Visit, Place, place_of}
-use Rattle.cqe_base.specs.Schema.{Text}
 use Rattle.cqe_base.specs.Facts.{FactSet}
 use Rattle.cqe_base.specs.declared.user.User.{User}
 use Rattle.user_desk.specs.declared.standing.DeskError.{DeskError}
@@ -59,6 +58,10 @@ module _ (journals : Journals) (given given' : ℕ) (back back' : List Visit) wh
 -- links listened once more, at this address and with so many doors
 abbrev pub ListenAt : List ℕ → ℕ → List Place → List Place → Type 0
 ListenAt address doors old new = new ≡ old ++ place_of address doors ∷ []
+
+-- links listened no more; or once more at this address, over files that say a policy, where clauses are told of files
+abbrev pub ListensOver : Type 0 → FilesSay → List ℕ → ℕ → List Place → List Place → Type 0
+ListensOver told files address doors old new = (new ≡ old) ⊎ ((told → Say files (λ policy world header. ⊤)) × ListenAt address doors old new)
 
 -- the status of a server that came to its end: done, or with journals that were refused, or with an append that failed
 abbrev pub IsComplete : ℕ → Type 0

@@ -1,11 +1,10 @@
 // The command `audit`.
 ghost use Rattle.std.specs.Prelude.{◌≡◌, ◌≤◌, ◌<◌, List, ℕ, bytes_eq, length, position, string_bytes, IfSome};
 ghost use Rattle.outside.specs.Faults.{Rose};
-ghost use Rattle.log_journal.specs.Names.{journal_name};
 ghost use Rattle.desk_crew.specs.Shelved.{journals_on, NoneOut, NoneFell};
 ghost use Rattle.cqe_top.specs.declared.end.CommandEnd.{CommandEnd};
 ghost use Rattle.cqe_top.specs.Files.{files_say};
-ghost use Rattle.cqe_top.specs.Audited.{AuditReaches, LooksAt};
+ghost use Rattle.cqe_top.specs.Audited.{AuditReaches, LooksFor};
 
 use crate::end::{CommandEnd, end_of_audit};
 use crate::files::read_files;
@@ -29,7 +28,8 @@ pub(crate) fn audit<'w, F: Shelf, K: Sink>(
     ensures reaches { F.told → K.told
         → AuditReaches (journals_on F.D.reads F.D.image files.now.journals.now (F.disk shelf.old) (F.disk shelf.new) (F.disk_faults shelf.old) (F.disk_faults shelf.new))
         json (K.written sink.old) (K.written sink.new) files.now.policy.now files.now.facts.now name.now (files_say (F.file shelf.old files.now.policy.now) (F.file shelf.old files.now.facts.now)) result }
-    ensures looks { F.told → LooksAt F.D.reads F.D.image (journal_name files.now.journals.now name.now) (F.disk shelf.old) (F.disk shelf.new) }
+    ensures looks { F.told
+        → LooksFor F.D.reads F.D.image files.now.journals.now name.now (files_say (F.file shelf.old files.now.policy.now) (F.file shelf.old files.now.facts.now)) (F.disk shelf.old) (F.disk shelf.new) }
     ensures nobody { result ≡ CommandEnd.Usage → sink.new ≡ sink.old }
     ensures read { result ≡ CommandEnd.ReadFault → ⊥ }
     ensures links { result ≡ CommandEnd.LinksFault → ⊥ }

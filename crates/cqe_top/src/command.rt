@@ -5,16 +5,15 @@ ghost use Rattle.case_engine.specs.Script.{script_of};
 ghost use Rattle.batch_engine.specs.BatchLines.{batch_of};
 ghost use Rattle.desk_crew.specs.Shelved.{journals_on, NoneOut, NoneFell};
 ghost use Rattle.cqe_top.specs.declared.end.CommandEnd.{CommandEnd};
-ghost use Rattle.log_journal.specs.Names.{journal_name};
 ghost use Rattle.cqe_top.specs.Words.{IsUsage, IsCase, IsInit, IsBatch, IsAudit, IsSelfrun, IsServe, IsNoServer};
 ghost use Rattle.cqe_top.specs.Files.{files_say, Say};
 ghost use Rattle.cqe_top.specs.Ready.{CanBeMade, CanBeOpened};
 ghost use Rattle.cqe_top.specs.Refusals.{IsOfInit};
 ghost use Rattle.cqe_top.specs.Statuses.{status_of};
 ghost use Rattle.cqe_top.specs.Reaches.{CaseReaches, InitReaches, BatchReaches, change_of, Ends, TouchesJournals};
-ghost use Rattle.cqe_top.specs.Audited.{AuditReaches, AuditsNobody, CanBeAudited, LooksAt};
+ghost use Rattle.cqe_top.specs.Audited.{AuditReaches, AuditsNobody, CanBeAudited, LooksFor};
 ghost use Rattle.cqe_top.specs.Selfruns.{SelfrunReaches};
-ghost use Rattle.cqe_top.specs.Serves.{ServeReaches, ListenAt, IsComplete};
+ghost use Rattle.cqe_top.specs.Serves.{ServeReaches, ListenAt, ListensOver, IsComplete};
 ghost use Rattle.cqe_top.specs.Complaints.{complaint_of, Gives};
 
 use crate::audit::audit;
@@ -87,21 +86,22 @@ where
         (λ end. E.told → Gives (complaint_of end) (E.written complaints.old) (E.written complaints.new) (Rose (E.faults complaints.old) (E.faults complaints.new))) }
 
     // Words without a reading, and the audit of a user whom the policy doesn't have, alone have the status of usage, and then
-    // nothing is written.
+    // nothing is written; such words are all that is looked at.
     ensures usage { result ≡ 2 → IsUsage words.now ⊎ AuditsNobody (F.told × K.told) words.now (F.file shelf.old) }
     ensures is_usage { IsUsage words.now → (result ≡ 2) ⊎ (result ≡ 13) }
-    ensures usage_takes_nothing { IsUsage words.now → shelf.new ≡ shelf.old }
-    ensures usage_reads_nothing { result ≡ 2 → source.new ≡ source.old }
     ensures usage_writes_nothing { result ≡ 2 → sink.new ≡ sink.old }
+    ensures other_words_take_nothing { IsUsage words.now → shelf.new ≡ shelf.old }
+    ensures other_words_read_nothing { IsUsage words.now → source.new ≡ source.old }
+    ensures other_words_write_nothing { IsUsage words.now → sink.new ≡ sink.old }
 
     // A case takes nothing from the shelf, and the making of journals has no input and no output.
     ensures case_takes_nothing { IsCase words.now → shelf.new ≡ shelf.old }
     ensures init_reads_nothing { (policy facts journals : List ℕ) → IsInit words.now policy facts journals → source.new ≡ source.old }
     ensures init_writes_nothing { (policy facts journals : List ℕ) → IsInit words.now policy facts journals → sink.new ≡ sink.old }
 
-    // An audit looks at one disk and has no input.
+    // An audit looks at one disk, the journal of a user whom the policy has, and has no input.
     ensures audit_looks { F.told → (policy facts journals user : List ℕ) (json : Bool) → IsAudit words.now policy facts journals user json
-        → LooksAt F.D.reads F.D.image (journal_name journals user) (F.disk shelf.old) (F.disk shelf.new) }
+        → LooksFor F.D.reads F.D.image journals user (files_say (F.file shelf.old policy) (F.file shelf.old facts)) (F.disk shelf.old) (F.disk shelf.new) }
     ensures audit_reads_nothing { (policy facts journals user : List ℕ) (json : Bool) → IsAudit words.now policy facts journals user json → source.new ≡ source.old }
 
     // A batch and a server touch no disk but the journals of the policy's users.
@@ -119,9 +119,10 @@ where
     ensures serve_writes_nothing { (policy facts journals address : List ℕ) (workers sessions : ℕ) → IsServe words.now policy facts journals address workers sessions → sink.new ≡ sink.old }
     ensures only_serve_listens { IsNoServer words.now → links.new ≡ links.old }
 
-    // It listens at the address of the words alone, with a door for each worker; and a server that came to its end did.
+    // It listens at the address of the words alone, with a door for each worker, and only over files that are read; and a
+    // server that came to its end did.
     ensures serve_listens { L.told → (policy facts journals address : List ℕ) (workers sessions : ℕ) → IsServe words.now policy facts journals address workers sessions
-        → (L.listened links.new ≡ L.listened links.old) ⊎ ListenAt address workers (L.listened links.old) (L.listened links.new) }
+        → ListensOver F.told (files_say (F.file shelf.old policy) (F.file shelf.old facts)) address workers (L.listened links.old) (L.listened links.new) }
     ensures serve_heard { L.told → (policy facts journals address : List ℕ) (workers sessions : ℕ) → IsServe words.now policy facts journals address workers sessions → IsComplete result
         → ListenAt address workers (L.listened links.old) (L.listened links.new) }
 
@@ -209,14 +210,15 @@ where
         (L.given links.old) (L.given links.new) (L.back links.old) (L.back links.new) policy facts (files_say (F.file shelf.old policy) (F.file shelf.old facts)) result }
     ensures usage { result ≡ CommandEnd.Usage → IsUsage words.now ⊎ AuditsNobody (F.told × K.told) words.now (F.file shelf.old) }
     ensures is_usage { IsUsage words.now → (result ≡ CommandEnd.Usage) ⊎ (result ≡ CommandEnd.Memory) }
-    ensures usage_takes_nothing { IsUsage words.now → shelf.new ≡ shelf.old }
-    ensures usage_reads_nothing { result ≡ CommandEnd.Usage → source.new ≡ source.old }
     ensures usage_writes_nothing { result ≡ CommandEnd.Usage → sink.new ≡ sink.old }
+    ensures other_words_take_nothing { IsUsage words.now → shelf.new ≡ shelf.old }
+    ensures other_words_read_nothing { IsUsage words.now → source.new ≡ source.old }
+    ensures other_words_write_nothing { IsUsage words.now → sink.new ≡ sink.old }
     ensures case_takes_nothing { IsCase words.now → shelf.new ≡ shelf.old }
     ensures init_reads_nothing { (policy facts journals : List ℕ) → IsInit words.now policy facts journals → source.new ≡ source.old }
     ensures init_writes_nothing { (policy facts journals : List ℕ) → IsInit words.now policy facts journals → sink.new ≡ sink.old }
     ensures audit_looks { F.told → (policy facts journals user : List ℕ) (json : Bool) → IsAudit words.now policy facts journals user json
-        → LooksAt F.D.reads F.D.image (journal_name journals user) (F.disk shelf.old) (F.disk shelf.new) }
+        → LooksFor F.D.reads F.D.image journals user (files_say (F.file shelf.old policy) (F.file shelf.old facts)) (F.disk shelf.old) (F.disk shelf.new) }
     ensures audit_reads_nothing { (policy facts journals user : List ℕ) (json : Bool) → IsAudit words.now policy facts journals user json → source.new ≡ source.old }
     ensures batch_touches { F.told → (policy facts journals : List ℕ) → IsBatch words.now policy facts journals
         → TouchesJournals journals (files_say (F.file shelf.old policy) (F.file shelf.old facts)) (F.disk shelf.old) (F.disk shelf.new) }
@@ -228,7 +230,7 @@ where
     ensures serve_writes_nothing { (policy facts journals address : List ℕ) (workers sessions : ℕ) → IsServe words.now policy facts journals address workers sessions → sink.new ≡ sink.old }
     ensures only_serve_listens { IsNoServer words.now → links.new ≡ links.old }
     ensures serve_listens { L.told → (policy facts journals address : List ℕ) (workers sessions : ℕ) → IsServe words.now policy facts journals address workers sessions
-        → (L.listened links.new ≡ L.listened links.old) ⊎ ListenAt address workers (L.listened links.old) (L.listened links.new) }
+        → ListensOver F.told (files_say (F.file shelf.old policy) (F.file shelf.old facts)) address workers (L.listened links.old) (L.listened links.new) }
     ensures serve_heard { L.told → (policy facts journals address : List ℕ) (workers sessions : ℕ) → IsServe words.now policy facts journals address workers sessions → IsComplete (status_of result)
         → ListenAt address workers (L.listened links.old) (L.listened links.new) }
     ensures serve_ends { L.told → (policy facts journals address : List ℕ) (workers sessions : ℕ) → IsServe words.now policy facts journals address workers sessions → IsComplete (status_of result)

@@ -5,7 +5,7 @@ ghost use Rattle.desk_crew.specs.Shelved.{journals_on, NoneOut, NoneFell};
 ghost use Rattle.cqe_top.specs.declared.end.CommandEnd.{CommandEnd};
 ghost use Rattle.cqe_top.specs.Files.{files_say};
 ghost use Rattle.cqe_top.specs.Reaches.{TouchesJournals};
-ghost use Rattle.cqe_top.specs.Serves.{ServeReaches, ListenAt, IsComplete};
+ghost use Rattle.cqe_top.specs.Serves.{ServeReaches, ListenAt, ListensOver, IsComplete};
 ghost use Rattle.cqe_top.specs.Statuses.{status_of};
 
 use crate::end::{CommandEnd, end_of_serve};
@@ -39,7 +39,8 @@ where
         (L.given links.old) (L.given links.new) (L.back links.old) (L.back links.new) words.now.files.policy.now words.now.files.facts.now
         (files_say (F.file shelf.old words.now.files.policy.now) (F.file shelf.old words.now.files.facts.now)) result }
     ensures ends { L.told → IsComplete (status_of result) → (L.at_hand links.new ≡ 0) ⊎ (L.given links.old + words.now.sessions < L.given links.new + words.now.workers) }
-    ensures listens { L.told → (L.listened links.new ≡ L.listened links.old) ⊎ ListenAt words.now.listen.now words.now.workers (L.listened links.old) (L.listened links.new) }
+    ensures listens { L.told
+        → ListensOver F.told (files_say (F.file shelf.old words.now.files.policy.now) (F.file shelf.old words.now.files.facts.now)) words.now.listen.now words.now.workers (L.listened links.old) (L.listened links.new) }
     ensures heard { L.told → IsComplete (status_of result) → ListenAt words.now.listen.now words.now.workers (L.listened links.old) (L.listened links.new) }
     ensures limited { L.told → L.given links.new ≤ L.given links.old + words.now.sessions }
     ensures doors { L.out links.new ≡ L.out links.old }

@@ -1,11 +1,11 @@
 -- What an ask tells of a pass.
-use Rattle.std.proofs.Common.{◌≡◌, ◌⊎◌, ℕ, ◌≤◌, Bool, true, false, List, [], ◌∷◌, ◌++◌, length, refl, sym, ap, ◌∙◌, subst, inl, inr, append_assoc}
-use Rattle.std.specs.Prelude.{Option, Some, None, is_some, ◌↔◌, IsTrue}
+use Rattle.std.proofs.Common.{◌≡◌, ℕ, ◌≤◌, [], ◌∷◌, ◌++◌, refl, sym, ap, ◌∙◌, subst, inl, inr, append_assoc}
+use Rattle.std.specs.Prelude.{Option, Some, None, is_some}
 use Rattle.std.proofs.lemmas.List.{append-nil}
 use Rattle.cqe_base.specs.declared.user.Mark as base
 use Rattle.cqe_base.specs.Schema.{Text}
 use Rattle.cqe_base.specs.Formula.{Formula}
-use Rattle.cqe_base.specs.History.{AnsweredQuery, History}
+use Rattle.cqe_base.specs.History.{AnsweredQuery}
 use Rattle.cqe_base.specs.Run.{reply_at, reply_by, standing_open, desk_broken, marked}
 use Rattle.cqe_base.specs.Reading.{reading}
 use Rattle.turnstile.specs.declared.pass.Pass.{Pass}
@@ -13,15 +13,12 @@ use Rattle.turnstile.specs.declared.view.View.{View}
 use Rattle.turnstile.specs.History.{Entries, IsPrefix, AddsAlike, AddsAtMostOne, count_of}
 use Rattle.turnstile.specs.Views.{turn_view, outside_view}
 use Rattle.turnstile.specs.Passes.{view_of, seen, mine, shares, tickets}
-use Rattle.user_log.specs.Replies.{reply_of}
 use Rattle.user_log.specs.declared.reply.Reply.{Reply}
 use Rattle.user_log.specs.declared.reply.Reply.TheVariants.{Mark, Syntax, Full, Size, Closed, Sealed, Broken, Memory}
-use Rattle.user_desk.specs.Standings.{standing_of}
-use Rattle.user_desk.specs.Lives.{shown}
 use Rattle.desk_counter.specs.declared.item.Item.{Item}
 use Rattle.desk_counter.specs.declared.item.Item.TheVariants.{Kept, Broke}
 use Rattle.desk_counter.specs.declared.item.Fixed.{Fixed}
-use Rattle.desk_counter.specs.Items.{history_of, kept_pair, kept_pairs, flying, flying_or, has_broke}
+use Rattle.desk_counter.specs.Items.{history_of, kept_pair, kept_pairs, flying, has_broke}
 use Rattle.desk_counter.specs.Desks.{state_shown}
 use Rattle.desk_counter.specs.Asks.{entry_for, NoMark, Adds, told, broke, coded, wanted, IsServed, Answers, Asked, all_but_last, pairs_behind, IsReply, Tells, TellsMark, AddsNone}
 

@@ -1,28 +1,22 @@
 -- What a closed desk shows of the pairs that were seen.
-use Rattle.std.proofs.Common.{◌≡◌, ℕ, ◌≤◌, Bool, true, false, List, [], ◌++◌, length, refl, sym, ap, ◌∙◌, subst}
-use Rattle.std.specs.Prelude.{Option, Some, None, is_some, option_to_list}
+use Rattle.std.proofs.Common.{◌≡◌, ℕ, ◌≤◌, true, false, List, [], ◌++◌, length, sym, ap, ◌∙◌, subst}
+use Rattle.std.specs.Prelude.{Option, None, is_some, option_to_list}
 use Rattle.std.proofs.lemmas.List.{length-take-le}
-use Rattle.outside.specs.Disk.{Elapses}
 use Rattle.outside.specs.Faults.{Rose}
 use Rattle.cqe_base.specs.Censor.{IsLegal}
 use Rattle.cqe_base.specs.Limits.{KeepsSizes}
 use Rattle.cqe_base.specs.History.{AnsweredQuery, History}
-use Rattle.cqe_base.specs.Run.{UserState}
 use Rattle.turnstile.specs.History.{Entries}
 use Rattle.user_desk.specs.declared.desk.Desk.{Desk}
 use Rattle.user_desk.specs.Entries.{StandsFor, StandsWithin}
 use Rattle.user_desk.specs.Standings.{standing_of, is_open, is_sealed}
 use Rattle.user_desk.specs.Lives.{Holds, shown}
-use Rattle.user_desk.specs.Desks.{desk_schema, desk_world, desk_user, desk_header, desk_standing, desk_history, desk_disk, opening_count, opening_history, opening_disk, entry_in_flight, is_broken_desk, state_of}
+use Rattle.user_desk.specs.Desks.{desk_schema, desk_world, desk_user, desk_header, desk_standing, desk_history, desk_disk, opening_count, opening_disk, entry_in_flight, is_broken_desk, state_of}
 use Rattle.desk_counter.specs.declared.item.Item.{Item}
 use Rattle.desk_counter.specs.declared.item.Fixed.{Fixed}
 use Rattle.desk_counter.specs.Items.{history_of, flying, has_broke}
 use Rattle.desk_counter.specs.Desks.{fixed_of, state_shown}
-
--- no entry is in flight
-pub none_flies : (in_flight : Option AnsweredQuery) → is_some in_flight ≡ false → in_flight ≡ None
-none_flies None e = refl
-none_flies (Some entry) e = absurd cc
+use Rattle.desk_counter.proofs.Settling.{none_flies}
 
 module _ {D : Type 0} {g : _} (desk : Desk D g) (fixed : Fixed D) (pairs : Entries Item) (same : fixed_of desk ≡ fixed) (entries : desk_history desk ≡ history_of pairs) (flies : entry_in_flight desk ≡ flying pairs) where
   pub closed_legal : IsLegal (desk_schema desk) (desk_world desk) (desk_user desk) (desk_history desk) → IsLegal fixed.schema fixed.world fixed.user (history_of pairs)

@@ -1,6 +1,6 @@
 -- What settling a text makes of a desk with tickets.
-use Rattle.std.proofs.Common.{◌≡◌, ℕ, zero, suc, ◌+◌, Bool, true, false, List, [], ◌∷◌, ◌++◌, map, length, refl, sym, ap, ◌∙◌, subst, arith, length-append}
-use Rattle.std.specs.Prelude.{Option, Some, None, is_some, option_to_list, replicate, ◌↔◌, IsTrue}
+use Rattle.std.proofs.Common.{◌≡◌, ℕ, zero, suc, ◌+◌, true, false, List, [], ◌∷◌, ◌++◌, map, length, refl, sym, ap, ◌∙◌, subst, length-append}
+use Rattle.std.specs.Prelude.{Option, Some, None, is_some, option_to_list, replicate}
 use Rattle.std.proofs.lemmas.List.Elements.{All-nil, All-cons}
 use Rattle.cqe_base.specs.declared.user.Mark as base
 use Rattle.cqe_base.specs.Schema.{Text}

@@ -1,14 +1,14 @@
 -- What an ask adds is an event of the run of the desk's user.
-use Rattle.std.proofs.Common.{◌≡◌, ℕ, Bool, true, false, List, [], ◌∷◌, ◌++◌, map, refl, sym, ap, ◌∙◌, subst}
-use Rattle.std.specs.Prelude.{Option, Some, None, is_some, option_to_list, Result, Ok, Err}
-use Rattle.std.proofs.lemmas.List.{append-nil}
+use Rattle.std.proofs.Common.{◌≡◌, ℕ, true, [], ◌∷◌, ◌++◌, map, refl, sym, ap, ◌∙◌, subst}
+use Rattle.std.specs.Prelude.{Option, Some, None, option_to_list, Result, Ok, Err}
+use Rattle.std.proofs.lemmas.List.{append-nil, map-append}
 use Rattle.cqe_base.specs.declared.user.Mark as base
 use Rattle.cqe_base.specs.Schema.{Text}
 use Rattle.cqe_base.specs.Formula.{Formula}
 use Rattle.cqe_base.specs.Reading.{Refusal, reading}
 use Rattle.cqe_base.specs.History.{AnsweredQuery, History}
 use Rattle.cqe_base.specs.Run as run
-use Rattle.cqe_base.specs.Run.{UserState, want, kept, failed, ask, after_event, after_failure, reply_at, reply_at_failure, entry_at, entry_added, standing_open, standing_sealed, marked}
+use Rattle.cqe_base.specs.Run.{UserState, want, kept, failed, ask, after_event, after_failure, reply_at, reply_at_failure, entry_at, entry_added, standing_open, marked}
 use Rattle.turnstile.specs.History.{Entries}
 use Rattle.user_log.specs.Replies.{reply_of}
 use Rattle.user_log.specs.declared.reply.Reply.{Reply}
@@ -25,10 +25,6 @@ use Rattle.desk_counter.specs.Desks.{state_shown}
 use Rattle.desk_counter.specs.Lives.{IsAskOf}
 use Rattle.desk_counter.specs.Asks.{entry_for, NoMark, Adds, told, broke, coded, wanted, IsServed, Answers}
 use Rattle.desk_counter.proofs.Asking.{kept_more, kept_broke, flying_broke, served_replies}
-
-map-append : {X Y : Type 0} (f : X → Y) (xs ys : List X) → map f (xs ++ ys) ≡ map f xs ++ map f ys
-map-append f [] ys = refl
-map-append f (x ∷ xs) ys = ap (λ l. f x ∷ l) (map-append f xs ys)
 
 -- one entry more
 history_more : (pairs : Entries Item) (ticket : ℕ) (entry : AnsweredQuery) → history_of (pairs ++ (ticket, Kept entry) ∷ []) ≡ history_of pairs ++ entry ∷ []

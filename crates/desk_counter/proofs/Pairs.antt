@@ -1,5 +1,5 @@
 -- The pairs of a desk, and what a settled text adds to them.
-use Rattle.std.proofs.Common.{◌≡◌, ◌⊎◌, ℕ, Bool, true, false, List, [], ◌∷◌, ◌++◌, map, length, zip, refl, sym, ap, ◌∙◌, subst, inl, inr, arith}
+use Rattle.std.proofs.Common.{◌≡◌, ℕ, true, false, List, [], ◌∷◌, ◌++◌, map, length, zip, refl, sym, ap, ◌∙◌, subst, arith}
 use Rattle.std.specs.Prelude.{Option, Some, None, is_some, option_to_list}
 use Rattle.std.proofs.lemmas.List.{append-nil}
 use Rattle.cqe_base.specs.declared.user.Mark as base
@@ -9,15 +9,14 @@ use Rattle.cqe_base.specs.Formula.{Formula}
 use Rattle.cqe_base.specs.Run.{reply_at, standing_open}
 use Rattle.turnstile.specs.History.{Entries}
 use Rattle.user_log.specs.Asked.{IsAnswer}
-use Rattle.user_log.specs.Replies.{reply_of}
 use Rattle.user_log.specs.declared.reply.Reply.{Reply}
-use Rattle.user_log.specs.declared.reply.Reply.TheVariants.{Mark, Broken, Memory}
+use Rattle.user_log.specs.declared.reply.Reply.TheVariants.{Mark, Broken}
 use Rattle.user_desk.specs.Standings.{standing_of}
 use Rattle.user_desk.specs.Lives.{shown}
 use Rattle.desk_counter.specs.declared.item.Item.{Item}
 use Rattle.desk_counter.specs.declared.item.Item.TheVariants.{Kept, Broke}
 use Rattle.desk_counter.specs.declared.item.Fixed.{Fixed}
-use Rattle.desk_counter.specs.Items.{history_of, kept_pairs, flying, pairs_of, BrokeIsLast}
+use Rattle.desk_counter.specs.Items.{history_of, flying, pairs_of, BrokeIsLast}
 use Rattle.desk_counter.specs.Desks.{state_shown}
 use Rattle.desk_counter.specs.Asks.{entry_for, NoMark, Adds, told, broke, coded, wanted, IsServed, Answers}
 use Rattle.desk_counter.proofs.Settling.{Changes}

@@ -1,5 +1,5 @@
 -- What settling a text makes of a desk's entries.
-use Rattle.std.proofs.Common.{◌≡◌, ◌⊎◌, ℕ, Bool, true, false, List, [], ◌∷◌, ◌++◌, length, refl, sym, ap, ◌∙◌, subst, inl, inr, ⊎_elim}
+use Rattle.std.proofs.Common.{◌≡◌, ◌⊎◌, ℕ, Bool, true, false, [], ◌∷◌, ◌++◌, length, refl, sym, ap, ◌∙◌, subst, inl, inr, ⊎_elim}
 use Rattle.std.specs.Prelude.{Option, Some, None, is_some, option_to_list, Result, Ok, Err, if◌then◌else◌}
 use Rattle.std.proofs.lemmas.List.{append-nil}
 use Rattle.cqe_base.specs.declared.user.Mark as base
@@ -10,7 +10,7 @@ use Rattle.cqe_base.specs.Reading.{Refusal, reading}
 use Rattle.cqe_base.specs.History.{UserProfile, AnsweredQuery, History, log}
 use Rattle.cqe_base.specs.Censor.{rule}
 use Rattle.cqe_base.specs.Run as run
-use Rattle.cqe_base.specs.Run.{UserState, Ending, want, kept, failed, ask, after_event, after_failure, reply_at, entry_at, reply_to_ask, reply_at_failure, reply_by, entry_added, is_full, is_too_large, standing_open, standing_closed, standing_sealed, marked, no_sentence, history_full, too_large, user_closed, desk_sealed, desk_broken, no_memory}
+use Rattle.cqe_base.specs.Run.{UserState, Ending, want, kept, failed, ask, after_event, after_failure, reply_at, entry_at, reply_to_ask, reply_at_failure, reply_by, entry_added, is_full, is_too_large, standing_open, standing_closed, standing_sealed, marked, history_full, too_large, desk_broken, no_memory}
 use Rattle.user_log.specs.Asked.{IsAnswer}
 use Rattle.user_log.specs.Replies.{reply_of}
 use Rattle.user_log.specs.declared.reply.Reply.{Reply}

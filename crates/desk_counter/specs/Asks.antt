@@ -1,5 +1,5 @@
 -- What an ask answers, and what it adds.
-use Rattle.std.specs.Prelude.{◌≡◌, ◌⊎◌, ℕ, ◌≤◌, true, false, [], ◌∷◌, ◌++◌, length, Option, None, Ok, IsTrue}
+use Rattle.std.specs.Prelude.{◌≡◌, ◌⊎◌, ℕ, ◌≤◌, [], ◌∷◌, ◌++◌, length, None, Ok}
 use Rattle.cqe_base.specs.declared.user.Mark as base
 use Rattle.cqe_base.specs.Schema.{Text}
 use Rattle.cqe_base.specs.Formula.{Formula}

@@ -1,5 +1,5 @@
 -- A counter in one thread's hands.
-use Rattle.std.specs.Prelude.{◌≡◌, ℕ, length, None}
+use Rattle.std.specs.Prelude.{◌≡◌, length, None}
 use Rattle.cqe_base.specs.Run.{UserState}
 use Rattle.turnstile.specs.History.{Entries}
 use Rattle.turnstile.specs.declared.pass.Pass.{Pass}

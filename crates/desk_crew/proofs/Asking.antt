@@ -8,6 +8,7 @@ use Rattle.cqe_base.specs.Facts.{FactSet}
 use Rattle.cqe_base.specs.History.{profile_of}
 use Rattle.cqe_base.specs.Run
 use Rattle.cqe_base.specs.Run.{UserState}
+use Rattle.cqe_base.proofs.Lists.{all_at}
 use Rattle.desk_counter.specs.Lives.{IsAskOf}
 use Rattle.desk_crew.specs.Crew.{seat_user, seat_journal, seat_kept, IsSeatIn, is_named, IsServed, IsToldAt, Tells, nobody, here, further}
 use Rattle.desk_crew.specs.Seats.{DeskSeat}
@@ -60,12 +61,6 @@ module _ {X : Type 0} (p : X → Bool) where
       by : (b : Bool) → cond b (Some (position_or_len p xs)) None ≡ None → b ≡ false
       by false e = refl
       by true e = absurd cc
-
--- a fact of each seat is one of the seat at a place
-pub all_at : {X : Type 0} (P : X → Type 0) (xs : List X) (place : ℕ) (d : X) → place < length xs → AllByRecursion P xs → P (get_or xs place d)
-all_at P [] place d low all = absurd (omega (arith, low))
-all_at P (x ∷ xs) zero d low all = all.0
-all_at P (x ∷ xs) (suc place) d low all = all_at P xs place d (omega (arith, low)) all.1
 
 -- and of the first of the second part of a list
 pub all_second : {X : Type 0} (P : X → Type 0) (xs : List X) (x : X) (ys all : List X) → all ≡ xs ++ x ∷ ys → AllByRecursion P all → P x

@@ -4,17 +4,19 @@ use Rattle.std.specs.Prelude.{Option, ◌||◌, bytes_eq, string_bytes}
 use Rattle.std.specs.List.{AllByRecursion}
 use Rattle.std.specs.Cmp.Lexicographic.{same_text}
 use Rattle.std.proofs.lemmas.List.{take_more, take-append-drop, map-append}
-use Rattle.outside.specs.Shelf.{IsTaken, SameNames, SameOthers}
+use Rattle.outside.proofs.Taken.{taken_reads, taken_images}
+use Rattle.outside.specs.Shelf.{IsTaken, SameNames, SameOthers, bytes_on, image_on}
 use Rattle.cqe_base.specs.Schema.{Text, DatabaseSchema, has_duplicate}
 use Rattle.cqe_base.specs.Facts.{FactSet}
 use Rattle.cqe_base.specs.History.{profile_of}
 use Rattle.cqe_base.specs.Limits.{KeepsLimits}
 use Rattle.cqe_base.specs.declared.user.User.{User}
+use Rattle.cqe_base.proofs.Truths.{or_first, or_second}
 use Rattle.log_journal.specs.Names.{journal_name, JournalsDiffer}
 use Rattle.desk_crew.specs.Crew.{named_user, seat_user, seat_journal, seat_disk, IsServed}
-use Rattle.desk_crew.specs.Shelved.{bytes_on, image_on, is_among, journals, SameBeside, AllOut, AllIn, NoneOut, NoneFell, AreOut, IsBack, AreBack, AreLater, IsSeatOf, AreSeatsOf}
+use Rattle.desk_crew.specs.Shelved.{is_among, journals, SameBeside, AllOut, AllIn, NoneOut, NoneFell, AreOut, IsBack, AreBack, AreLater, IsSeatOf, AreSeatsOf}
 use Rattle.desk_crew.specs.Seats.{DeskSeat}
-use Rattle.desk_crew.proofs.Taken.{left_false, right_false, text_is, taken_reads, taken_images}
+use Rattle.desk_crew.proofs.Taken.{text_is}
 use Rattle.desk_crew.proofs.Shelving.{Parts, parts, among-append, among_none_first, among_none_second, journals-append}
 
 abbrev pub names : List User → List Text
@@ -147,7 +149,7 @@ module _ (directory : Text) where
           ∙ ap (λ l. l ++ map (journal_name directory) (names (drop (i + 1) users))) (map-append (journal_name directory) (names (take i users)) (string_bytes user.name ∷ [])) in
           let both = among_none_first (map (journal_name directory) (names (take i users)) ++ one ∷ []) (map (journal_name directory) (names (drop (i + 1) users))) name (sym (ap (λ ns. is_among ns name) split) ∙ none) in (
             ap (λ ns. is_among ns name) (seat_journals (take i users) seats so_far.are) ∙ among_none_first (map (journal_name directory) (names (take i users))) (one ∷ []) name both,
-            left_false (bytes_eq name one) false (among_none_second (map (journal_name directory) (names (take i users))) (one ∷ []) name both),
+            or_first (bytes_eq name one) false (among_none_second (map (journal_name directory) (names (take i users))) (one ∷ []) name both),
           )
 
       pub next_in : is_out one ≡ false
@@ -174,7 +176,7 @@ module _ (directory : Text) where
             out = λ name. by_out name (bytes_eq name one) refl ∙ sym (ap (λ ns. is_among ns name) names_are ∙ among-append (journals seats) (one ∷ []) name);
             disks = λ name none.
                 let apart = sym (among-append (journals seats) (one ∷ []) name) ∙ sym (ap (λ ns. is_among ns name) names_are) ∙ none in
-                disks name (left_false _ _ (right_false (is_among (journals seats) name) (bytes_eq name one || false) apart)) ∙ so_far.disks name (left_false (is_among (journals seats) name) (bytes_eq name one || false) apart);
+                disks name (or_first _ _ (or_second (is_among (journals seats) name) (bytes_eq name one || false) apart)) ∙ so_far.disks name (or_first (is_among (journals seats) name) (bytes_eq name one || false) apart);
             counts = λ name. counts name ∙ so_far.counts name;
           }
         where

@@ -5,10 +5,11 @@ use Rattle.std.specs.Cmp.Lexicographic.{same_text}
 use Rattle.outside.specs.Shelf.{SameOthers}
 use Rattle.cqe_base.specs.Schema.{Text, DatabaseSchema, has_duplicate}
 use Rattle.cqe_base.specs.Facts.{FactSet}
+use Rattle.cqe_base.proofs.Truths.{or_first, or_second}
 use Rattle.desk_crew.specs.Crew.{seat_journal, seat_disk, IsLeft, IsLeftBy, IsClosed, IsReopened, AreReopened}
 use Rattle.desk_crew.specs.Shelved.{is_among, journals, SameBeside, AllOut, AllIn, AreBack, AreLater}
 use Rattle.desk_crew.specs.Seats.{DeskSeat}
-use Rattle.desk_crew.proofs.Taken.{left_false, right_false, text_is}
+use Rattle.desk_crew.proofs.Taken.{text_is}
 use Rattle.desk_crew.proofs.Shelving.{Parts, parts, among-append, journals-append, back-append, back_on, later-first, later-second, later_on, left_on, among_first, among_second, among_none_first, among_none_second, beside_one}
 
 module _ (schema : DatabaseSchema) (world : FactSet) (header : List ℕ) {D : Type 0} {g h : _} (told shelf_told : Type 0) (reads : D → List ℕ) (image : D → List ℕ → Type 0) (faults : D → ℕ) where
@@ -111,7 +112,7 @@ module _ (schema : DatabaseSchema) (world : FactSet) (header : List ℕ) {D : Ty
     fail_later = (later-second shelf_told reads image faults count0 half.done (seat ∷ rest) all_later).0
 
     here_apart : is_among (journals rest) here ≡ false
-    here_apart = left_false _ _ two.second
+    here_apart = or_first _ _ two.second
 
     module _ (returned : D) (disk1 : Text → Option D) (out1 : Text → Bool) (count1 : Text → ℕ) (one : Text) (named : one ≡ here) (tells : shelf_told → told) (left : IsLeftBy told reads image faults seat.desk returned)
         (held1 : shelf_told → disk1 one ≡ Some returned) (disks1 : SameOthers one disk0 disk1) (in1 : out1 one ≡ false) (outs1 : SameOthers one out0 out1) (counted1 : count1 one ≡ faults returned) (counts1 : SameOthers one count0 count1) where
@@ -119,7 +120,7 @@ module _ (schema : DatabaseSchema) (world : FactSet) (header : List ℕ) {D : Ty
       one_apart = ap (is_among (journals rest)) named ∙ here_apart
 
       pub rest_distinct : has_duplicate (journals rest) ≡ false
-      rest_distinct = right_false _ _ two.second
+      rest_distinct = or_second _ _ two.second
 
       pub rest_out : AllOut (journals rest) out1
       rest_out name among = beside_one one (journals rest) out0 out1 one_apart outs1 name among ∙ out name (among_all name (among_second (journals half.done) (here ∷ journals rest) name (among_rest name among)))
@@ -133,7 +134,7 @@ module _ (schema : DatabaseSchema) (world : FactSet) (header : List ℕ) {D : Ty
         done_apart = ap (is_among (journals half.done)) named ∙ two.apart_back here among_here
 
         done_rest : (name : Text) → is_among (journals half.done) name ≡ true → is_among (journals rest) name ≡ false
-        done_rest name among = right_false _ _ (two.apart name among)
+        done_rest name among = or_second _ _ (two.apart name among)
 
         done_same : {A : Type 0} (f0 f1 f2 : Text → A) → SameOthers one f0 f1 → SameBeside (journals rest) f1 f2 → (name : Text) → is_among (journals half.done) name ≡ true → f2 name ≡ f0 name
         done_same f0 f1 f2 first second name among = second name (done_rest name among) ∙ beside_one one (journals half.done) f0 f1 done_apart first name among
@@ -166,8 +167,8 @@ module _ (schema : DatabaseSchema) (world : FactSet) (header : List ℕ) {D : Ty
               let none_all : is_among (journals half.done ++ (here ∷ journals rest)) name ≡ false = ap (λ ns. is_among ns name) (sym names) ∙ none in
               let none_tail = among_none_second (journals half.done) (here ∷ journals rest) name none_all in
               beside_done f2 f3 third name (among_none_first (journals half.done) (here ∷ journals rest) name none_all)
-              ∙ second name (right_false _ _ none_tail)
-              ∙ first name (ap (bytes_eq name) named ∙ left_false _ _ none_tail)
+              ∙ second name (or_second _ _ none_tail)
+              ∙ first name (ap (bytes_eq name) named ∙ or_first _ _ none_tail)
 
           -- all disks are back
           pub record Failed : Type 0 where

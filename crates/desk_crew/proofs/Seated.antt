@@ -1,6 +1,6 @@
 -- A desk that was just opened, under its counter.
 use Rattle.std.proofs.Common.{◌≡◌, ℕ, ◌*◌, ◌^◌, false, List, length, sym, ap, subst, ◌∙◌}
-use Rattle.std.specs.Prelude.{Option, Some, None, is_some}
+use Rattle.std.specs.Prelude.{Option}
 use Rattle.cqe_base.specs.Schema.{DatabaseSchema}
 use Rattle.cqe_base.specs.Facts.{FactSet}
 use Rattle.cqe_base.specs.History.{AnsweredQuery, History, profile_of}
@@ -12,7 +12,7 @@ use Rattle.user_desk.specs.Desks.{desk_schema, desk_world, desk_user, desk_heade
 use Rattle.user_desk.specs.declared.desk.Desk.{Desk}
 use Rattle.user_desk.specs.declared.standing.DeskError.{DeskError}
 use Rattle.user_desk.specs.declared.standing.Standing.{Standing}
-use Rattle.desk_counter.proofs.Closing.{none_flies}
+use Rattle.desk_counter.proofs.Settling.{none_flies}
 use Rattle.desk_counter.specs.declared.item.Fixed.{Fixed}
 use Rattle.desk_counter.specs.Desks.{fixed_of}
 use Rattle.desk_counter.specs.Items.{flying}

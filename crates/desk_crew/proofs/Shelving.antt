@@ -3,35 +3,23 @@ use Rattle.std.proofs.Common.{◌≡◌, ℕ, ◌≤◌, Bool, true, false, List
 use Rattle.std.specs.Prelude.{Option, Some, ◌||◌, ◌==◌, bytes_eq, slice_index_or, remove}
 use Rattle.std.specs.List.{list_any}
 use Rattle.std.specs.Cmp.Lexicographic.{same_text}
-use Rattle.std.proofs.lemmas.Bool.{eqb-true}
+use Rattle.std.proofs.lemmas.Bool.{eqb-true, or_from, or_left, or_right}
 use Rattle.std.proofs.lemmas.List.{map-append}
 use Rattle.outside.specs.Shelf.{SameOthers}
 use Rattle.cqe_base.specs.Schema.{Text, has_duplicate}
+use Rattle.cqe_base.proofs.Truths.{or_first, or_second}
+use Rattle.cqe_base.proofs.Lists.{or_assoc}
 use Rattle.std.proofs.lemmas.List.Folds.{list_any-append}
 use Rattle.desk_crew.specs.Crew.{seat_journal, seat_disk, seat_broke, IsLeft, IsClosed}
 use Rattle.desk_crew.specs.Shelved.{is_among, journals, SameBeside, AllOut, AllIn, AreBack, AreLater}
 use Rattle.desk_crew.specs.Seats.{DeskSeat}
-use Rattle.desk_crew.proofs.Taken.{left_false, right_false, text_is}
+use Rattle.desk_crew.proofs.Taken.{text_is}
 
 -- ---- names
 
-or_false : (a b : Bool) → a ≡ false → b ≡ false → (a || b) ≡ false
-or_false a b e f = ap (λ x. x || b) e ∙ f
-
-or_left : (a b : Bool) → a ≡ true → (a || b) ≡ true
-or_left a b e = ap (λ x. x || b) e
-
-or_right : (a b : Bool) → b ≡ true → (a || b) ≡ true
-or_right true b e = refl
-or_right false b e = e
-
 pub among-append : (xs ys : List Text) (name : Text) → is_among (xs ++ ys) name ≡ (is_among xs name || is_among ys name)
 among-append [] ys name = refl
-among-append (x ∷ xs) ys name = ap (λ b. bytes_eq name x || b) (among-append xs ys name) ∙ sym (by (bytes_eq name x) (is_among xs name) (is_among ys name))
-  where
-    by : (a b c : Bool) → ((a || b) || c) ≡ (a || (b || c))
-    by true b c = refl
-    by false b c = refl
+among-append (x ∷ xs) ys name = ap (λ b. bytes_eq name x || b) (among-append xs ys name) ∙ sym (or_assoc (bytes_eq name x) (is_among xs name) (is_among ys name))
 
 -- a name of the first part is among the whole
 pub among_first : (xs ys : List Text) (name : Text) → is_among xs name ≡ true → is_among (xs ++ ys) name ≡ true
@@ -41,10 +29,10 @@ pub among_second : (xs ys : List Text) (name : Text) → is_among ys name ≡ tr
 among_second xs ys name is = among-append xs ys name ∙ or_right _ _ is
 
 pub among_none_first : (xs ys : List Text) (name : Text) → is_among (xs ++ ys) name ≡ false → is_among xs name ≡ false
-among_none_first xs ys name none = left_false _ _ (sym (among-append xs ys name) ∙ none)
+among_none_first xs ys name none = or_first _ _ (sym (among-append xs ys name) ∙ none)
 
 pub among_none_second : (xs ys : List Text) (name : Text) → is_among (xs ++ ys) name ≡ false → is_among ys name ≡ false
-among_none_second xs ys name none = right_false _ _ (sym (among-append xs ys name) ∙ none)
+among_none_second xs ys name none = or_second _ _ (sym (among-append xs ys name) ∙ none)
 
 -- the first of a list that isn't empty, which is removed
 pub first_removed : {X : Type 0} (xs : List X) (x : X) (rest : List X) → x ≡ slice_index_or xs 0 x → rest ≡ remove xs 0 → (length xs == 0) ≡ false → xs ≡ x ∷ rest
@@ -83,10 +71,10 @@ apart_turned xs ys apart name is = by (is_among xs name) refl
 pub parts : (xs ys : List Text) → has_duplicate (xs ++ ys) ≡ false → Parts xs ys
 parts [] ys distinct = record { first = refl; second = distinct; apart = λ name is. absurd cc; apart_back = λ name is. refl }
 parts (x ∷ xs) ys distinct =
-    let rest : Parts xs ys = parts xs ys (right_false _ _ distinct) in
-    let none : is_among (xs ++ ys) x ≡ false = left_false _ _ distinct in
+    let rest : Parts xs ys = parts xs ys (or_second _ _ distinct) in
+    let none : is_among (xs ++ ys) x ≡ false = or_first _ _ distinct in
     let apart = apart_cons x xs ys (among_none_second xs ys x none) rest.apart in
-    record { first = or_false _ _ (among_none_first xs ys x none) rest.first; second = rest.second; apart = apart; apart_back = apart_turned (x ∷ xs) ys apart }
+    record { first = or_from _ _ (among_none_first xs ys x none) rest.first; second = rest.second; apart = apart; apart_back = apart_turned (x ∷ xs) ys apart }
 
 pub beside_one : {A : Type 0} (one : Text) (names : List Text) (old new : Text → A) → is_among names one ≡ false → SameOthers one old new → (name : Text) → is_among names name ≡ true → new name ≡ old name
 beside_one one names old new none others name is = others name (by (bytes_eq name one) refl)
@@ -97,7 +85,7 @@ beside_one one names old new none others name is = others name (by (bytes_eq nam
 
 -- what is the same beside names is the same beside more of them
 pub beside_more : {A : Type 0} (one : Text) (names : List Text) (first old new : Text → A) → SameBeside names first old → SameOthers one old new → SameBeside (one ∷ names) first new
-beside_more one names first old new before now name none = now name (left_false _ _ none) ∙ before name (right_false _ _ none)
+beside_more one names first old new before now name none = now name (or_first _ _ none) ∙ before name (or_second _ _ none)
 
 pub beside_joined : {A : Type 0} (xs ys : List Text) (first old new : Text → A) → SameBeside xs first old → SameBeside ys old new → SameBeside (xs ++ ys) first new
 beside_joined xs ys first old new before now name none = now name (among_none_second xs ys name none) ∙ before name (among_none_first xs ys name none)
@@ -206,7 +194,7 @@ module _ {D : Type 0} {g h : _} where
             let names : journals all ≡ journals seats ++ (seat_journal seat ∷ journals given) = ap journals whole ∙ journals-append seats (seat ∷ given) in
             let two : Parts (journals seats) (seat_journal seat ∷ journals given) = parts (journals seats) (seat_journal seat ∷ journals given) (ap has_duplicate (sym names) ∙ distinct) in
             record {
-              apart = left_false _ _ two.second;
+              apart = or_first _ _ two.second;
               among = ap (λ ns. is_among ns (seat_journal seat)) names ∙ among_second (journals seats) (seat_journal seat ∷ journals given) (seat_journal seat) (or_left _ _ (text_is (seat_journal seat)));
               counted = (later-second count0 seats (seat ∷ given) (subst (AreLater faults count0) whole later)).0;
             }

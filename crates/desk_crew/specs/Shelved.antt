@@ -1,7 +1,7 @@
 -- The disks of users on their shelf.
 use Rattle.std.specs.Prelude.{◌≡◌, ℕ, ◌≤◌, Bool, true, false, List, [], ◌∷◌, bytes_eq, Option, Some, None, map, string_bytes}
 use Rattle.std.specs.List.{list_any}
-use Rattle.outside.specs.Shelf.{IsTaken}
+use Rattle.outside.specs.Shelf.{IsTaken, bytes_on, image_on}
 use Rattle.cqe_base.specs.Schema.{Text, DatabaseSchema}
 use Rattle.cqe_base.specs.Facts.{FactSet}
 use Rattle.cqe_base.specs.declared.user.User.{User}
@@ -18,16 +18,6 @@ pub record Journals : Type 1 where
   pub now : Text → ℕ
   pub reads : Text → List ℕ
   pub image : Text → List ℕ → Type 0
-
--- the bytes that a shelf's disk reads; none where there is no disk
-abbrev pub bytes_on : {D : Type 0} → (D → List ℕ) → Option D → List ℕ
-bytes_on reads None = []
-bytes_on reads (Some disk) = reads disk
-
--- what a crash may leave of it
-abbrev pub image_on : {D : Type 0} → (D → List ℕ → Type 0) → Option D → List ℕ → Type 0
-image_on image None bytes = bytes ≡ []
-image_on image (Some disk) bytes = image disk bytes
 
 -- the journals of users in a directory, by what a shelf held as a call began and as it ended
 abbrev pub journals_on : {D : Type 0} → (D → List ℕ) → (D → List ℕ → Type 0) → Text → (Text → Option D) → (Text → Option D) → (Text → ℕ) → (Text → ℕ) → Journals

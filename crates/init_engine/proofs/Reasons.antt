@@ -1,19 +1,15 @@
 -- The reason at a disk that was taken is the reason at what stands under its name.
-use Rattle.std.proofs.Common.{◌≡◌, ◌∙◌, sym, ap, subst, inl, inr, ℕ, ◌≤◌, List, Option, Some, None, arith}
+use Rattle.std.proofs.Common.{◌≡◌, ◌∙◌, sym, subst, inl, inr, ℕ, ◌≤◌, List, Option, Some, None, arith}
+use Rattle.outside.proofs.Rises.{rose_wide}
+use Rattle.outside.proofs.Taken.{taken_reads}
 use Rattle.outside.specs.Faults.{Rose}
 use Rattle.outside.specs.Shelf.{IsTaken}
 use Rattle.log_journal.specs.Opening.{IsRefused, Refuses}
 use Rattle.log_journal.specs.declared.header.OpenError.{OpenError}
 use Rattle.log_journal.specs.declared.header.OpenError.TheVariants.{NotAJournal, OtherPolicy, Damaged, DiskFault, Memory}
-use Rattle.init_engine.specs.Disks.{bytes_held}
 use Rattle.init_engine.specs.Stops.{HasReason, Stays, StaysAt}
 use Rattle.init_engine.specs.declared.end.Stop.{Stop}
 use Rattle.init_engine.specs.declared.end.Stop.TheVariants as stop
-
--- a disk that was taken has the bytes that were held
-pub taken_bytes : {D : Type 0} (reads : D → List ℕ) (image : D → List ℕ → Type 0) (held : Option D) (disk : D) → IsTaken reads image held disk → reads disk ≡ bytes_held reads held
-taken_bytes reads image (Some held) disk is = ap reads is
-taken_bytes reads image None disk is = is.0
 
 -- what stays of a disk that was taken stays of what was held
 module _ {D : Type 0} (reads : D → List ℕ) (image : D → List ℕ → Type 0) (after : D) where
@@ -23,27 +19,22 @@ module _ {D : Type 0} (reads : D → List ℕ) (image : D → List ℕ → Type 
 
   pub held_stays_at : (held : Option D) (disk : D) → IsTaken reads image held disk → (why : Stop) → StaysAt reads image (Some disk) (Some after) why → StaysAt reads image held (Some after) why
   held_stays_at held disk is (stop.Refused why) stays = held_stays held disk is stays
-  held_stays_at held disk is stop.DiskFault stays = λ some. held_stays held disk is (stays (λ none. some (sym (taken_bytes reads image held disk is) ∙ none)))
+  held_stays_at held disk is stop.DiskFault stays = λ some. held_stays held disk is (stays (λ none. some (sym (taken_reads reads image held disk is) ∙ none)))
   held_stays_at held disk is stop.ShelfFault stays = held_stays held disk is stays
   held_stays_at held disk is stop.Memory stays = held_stays held disk is stays
-
--- a count that rose, rose from an earlier one too
-pub rose_longer : (before before' now now' : ℕ) → before' ≤ before → now ≤ now' → Rose before now → Rose before' now'
-rose_longer before before' now now' le le' (inl less) = inl (omega (arith, le, le', less))
-rose_longer before before' now now' le le' (inr full) = inr (omega (arith, le', full))
 
 module _ (told told' : Type 0) (header bytes bytes' : List ℕ) (before before' now now' : ℕ) (gives : told' → told) (same : told' → bytes ≡ bytes') (le : before' ≤ before) (le' : now ≤ now') where
   refused_of : (why : OpenError) → IsRefused told header bytes before now why → IsRefused told' header bytes' before' now' why
   refused_of NotAJournal is = λ t. subst (λ b. Refuses header b NotAJournal) (same t) (is (gives t))
   refused_of OtherPolicy is = λ t. subst (λ b. Refuses header b OtherPolicy) (same t) (is (gives t))
   refused_of (Damaged number) is = λ t. subst (λ b. Refuses header b (Damaged number)) (same t) (is (gives t))
-  refused_of DiskFault is = rose_longer before before' now now' le le' is
+  refused_of DiskFault is = rose_wide before' before now now' le le' is
   refused_of Memory is = tt
 
   pub reason_of : (shelf_before shelf_before' shelf_now shelf_now' : ℕ) → (Rose shelf_before shelf_now → Rose shelf_before' shelf_now') → (why : Stop)
       → HasReason told header bytes before now shelf_before shelf_now why → HasReason told' header bytes' before' now' shelf_before' shelf_now' why
   reason_of sb sb' sn sn' rises (stop.Refused why) is = (λ t none. is.0 (gives t) (same t ∙ none), is.1, refused_of why is.2)
-  reason_of sb sb' sn sn' rises stop.DiskFault is = rose_longer before before' now now' le le' is
+  reason_of sb sb' sn sn' rises stop.DiskFault is = rose_wide before' before now now' le le' is
   reason_of sb sb' sn sn' rises stop.ShelfFault is = rises is
   reason_of sb sb' sn sn' rises stop.Memory is = tt
 

@@ -1,16 +1,17 @@
 -- The users one after the other.
 use Rattle.std.proofs.Common.{◌≡◌, ◌⊎◌, ◌∙◌, sym, ap, subst, refl, inl, inr, ℕ, ◌<◌, ◌≤◌, ◌+◌, List, false, Option, Some, slice_get, bytes_eq, get_or, length, string_bytes, option_map, arith}
 use Rattle.std.proofs.lemmas.Option.{slice_get-map, slice_get_read}
-use Rattle.outside.specs.Shelf.{SameOthers}
+use Rattle.outside.proofs.Rises.{rose_wide}
+use Rattle.outside.specs.Shelf.{SameOthers, bytes_on}
 use Rattle.cqe_base.specs.declared.user.User.{User}
 use Rattle.cqe_base.specs.Schema.{has_duplicate}
 use Rattle.log_journal.specs.Names.{journal_name, JournalsDiffer}
-use Rattle.init_engine.specs.Disks.{names_of, bytes_held, IsReady, Readies}
+use Rattle.init_engine.specs.Disks.{names_of, IsReady, Readies}
 use Rattle.init_engine.specs.Stops.{HasReason, StaysAt}
 use Rattle.init_engine.specs.Ends.{Change, StopsAt, IsEnd, end_of}
 use Rattle.init_engine.specs.declared.end.Stop.{Stop}
 use Rattle.init_engine.specs.declared.end.Stop.TheVariants as stop
-use Rattle.init_engine.proofs.Reasons.{rose_longer, reason_of}
+use Rattle.init_engine.proofs.Reasons.{reason_of}
 use Rattle.init_engine.proofs.Apart.{names_apart, same_some}
 
 module _ {D : Type 0} (reads : D → List ℕ) (image : D → List ℕ → Type 0) (header directory : List ℕ) (names : List (List ℕ)) (once : has_duplicate names ≡ false) (differ : JournalsDiffer) where
@@ -63,21 +64,21 @@ module _ {D : Type 0} (told : Type 0) (reads : D → List ℕ) (image : D → Li
   abbrev journal : List ℕ
   journal = journal_name directory name
 
-  stood : told → bytes_held reads (mid journal) ≡ bytes_held reads (old journal)
-  stood t = ap (bytes_held reads) (not_yet reads image header directory names once differ old mid new k name is (so_far t) others)
+  stood : told → bytes_on reads (mid journal) ≡ bytes_on reads (old journal)
+  stood t = ap (bytes_on reads) (not_yet reads image header directory names once differ old mid new k name is (so_far t) others)
 
-  stops : (why : Stop) → HasReason told header (bytes_held reads (mid journal)) (middle journal) (now journal) shelf_middle shelf_now why
+  stops : (why : Stop) → HasReason told header (bytes_on reads (mid journal)) (middle journal) (now journal) shelf_middle shelf_now why
       → (told → StaysAt reads image (mid journal) (new journal) why) → StopsAt told reads image header directory names change k why
   stops why reason kept = record {
     name = name;
     is = is;
-    reason = reason_of told told header (bytes_held reads (mid journal)) (bytes_held reads (old journal)) (middle journal) (before journal) (now journal) (now journal)
-        (λ t. t) stood (counts journal) (omega arith) shelf_middle shelf_before shelf_now shelf_now (rose_longer shelf_middle shelf_before shelf_now shelf_now later (omega arith)) why reason;
+    reason = reason_of told told header (bytes_on reads (mid journal)) (bytes_on reads (old journal)) (middle journal) (before journal) (now journal) (now journal)
+        (λ t. t) stood (counts journal) (omega arith) shelf_middle shelf_before shelf_now shelf_now (rose_wide shelf_before shelf_middle shelf_now shelf_now later (omega arith)) why reason;
     kept = λ t. subst (λ d. StaysAt reads image d (new journal) why) (not_yet reads image header directory names once differ old mid new k name is (so_far t) others) (kept t);
     ready = λ t. stopped reads image header directory names once differ old mid new k name is (so_far t) others;
   }
 
-  pub ends : (why : Stop) → HasReason told header (bytes_held reads (mid journal)) (middle journal) (now journal) shelf_middle shelf_now why
+  pub ends : (why : Stop) → HasReason told header (bytes_on reads (mid journal)) (middle journal) (now journal) shelf_middle shelf_now why
       → (told → StaysAt reads image (mid journal) (new journal) why) → IsEnd told reads image header directory names change (end_of k why)
   ends (stop.Refused why) reason kept = stops (stop.Refused why) reason kept
   ends stop.DiskFault reason kept = (k, stops stop.DiskFault reason kept)

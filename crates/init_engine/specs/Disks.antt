@@ -1,5 +1,6 @@
 -- What becomes of the disks of users whose journals are made.
-use Rattle.std.specs.Prelude.{◌≡◌, ◌≢◌, ℕ, ◌<◌, List, [], ◌∷◌, ◌++◌, false, bytes_eq, map, string_bytes, slice_get, Option, Some, None}
+use Rattle.std.specs.Prelude.{◌≡◌, ◌≢◌, ℕ, ◌<◌, List, [], ◌∷◌, ◌++◌, false, bytes_eq, map, string_bytes, slice_get, Option, Some}
+use Rattle.outside.specs.Shelf.{bytes_on}
 use Rattle.outside.specs.Disk.{Only}
 use Rattle.cqe_base.specs.declared.user.User.{User}
 use Rattle.log_journal.specs.Records.{Recorded, IsJournal}
@@ -8,16 +9,6 @@ use Rattle.log_journal.specs.Names.{journal_name}
 -- the names of users
 abbrev pub names_of : List User → List (List ℕ)
 names_of users = map (λ user. string_bytes user.name) users
-
--- the bytes of the disk that stands under a name, none where there is no disk
-abbrev pub bytes_held : {D : Type 0} → (D → List ℕ) → Option D → List ℕ
-bytes_held reads None = []
-bytes_held reads (Some disk) = reads disk
-
--- what a crash may leave of it
-abbrev pub image_held : {D : Type 0} → (D → List ℕ → Type 0) → Option D → List ℕ → Type 0
-image_held image None bytes = bytes ≡ []
-image_held image (Some disk) bytes = image disk bytes
 
 module _ {D : Type 0} (reads : D → List ℕ) (image : D → List ℕ → Type 0) (header : List ℕ) where
   -- The disk is a journal with this header, in each image. One that was empty is an empty journal, and another has its bytes.
@@ -31,7 +22,7 @@ module _ {D : Type 0} (reads : D → List ℕ) (image : D → List ℕ → Type 
   pub record IsReady (before after : Option D) : Type 0 where
     pub disk : D
     pub stands : after ≡ Some disk
-    pub made : IsMade (bytes_held reads before) disk
+    pub made : IsMade (bytes_on reads before) disk
 
   -- Of these users the first are ready, and no disk is touched but those of the first of them.
   pub record Readies (directory : List ℕ) (names : List (List ℕ)) (old new : List ℕ → Option D) (ready touched : ℕ) : Type 0 where

@@ -1,7 +1,8 @@
 -- How the making of journals ends.
 use Rattle.std.specs.Prelude.{◌≡◌, ℕ, ◌+◌, List, length, slice_get, Option, Some}
+use Rattle.outside.specs.Shelf.{bytes_on}
 use Rattle.log_journal.specs.Names.{journal_name}
-use Rattle.init_engine.specs.Disks.{bytes_held, Readies}
+use Rattle.init_engine.specs.Disks.{Readies}
 use Rattle.init_engine.specs.Stops.{HasReason, StaysAt}
 use Rattle.init_engine.specs.declared.end.Stop.{Stop}
 use Rattle.init_engine.specs.declared.end.Stop.TheVariants as stop
@@ -22,7 +23,7 @@ module _ {D : Type 0} (told : Type 0) (reads : D → List ℕ) (image : D → Li
   pub record StopsAt (user : ℕ) (why : Stop) : Type 0 where
     pub name : List ℕ
     pub is : slice_get names user ≡ Some name
-    pub reason : HasReason told header (bytes_held reads (change.old (journal_name directory name))) (change.before (journal_name directory name)) (change.now (journal_name directory name)) change.shelf_before change.shelf_now why
+    pub reason : HasReason told header (bytes_on reads (change.old (journal_name directory name))) (change.before (journal_name directory name)) (change.now (journal_name directory name)) change.shelf_before change.shelf_now why
     pub kept : told → StaysAt reads image (change.old (journal_name directory name)) (change.new (journal_name directory name)) why
     pub ready : told → Readies reads image header directory names change.old change.new user (user + 1)
 

@@ -1,10 +1,10 @@
 -- Why one user's journal isn't made.
 use Rattle.std.specs.Prelude.{◌≡◌, ◌≢◌, ℕ, List, [], Option}
+use Rattle.outside.specs.Shelf.{bytes_on, image_on}
 use Rattle.outside.specs.Faults.{Rose}
 use Rattle.log_journal.specs.Opening.{IsRefused}
 use Rattle.log_journal.specs.declared.header.OpenError.{OpenError}
 use Rattle.log_journal.specs.declared.header.OpenError.TheVariants.{Memory}
-use Rattle.init_engine.specs.Disks.{bytes_held, image_held}
 use Rattle.init_engine.specs.declared.end.Stop.{Stop}
 use Rattle.init_engine.specs.declared.end.Stop.TheVariants as stop
 
@@ -18,12 +18,12 @@ HasReason told header bytes before now shelf_before shelf_now stop.Memory = Unit
 module _ {D : Type 0} (reads : D → List ℕ) (image : D → List ℕ → Type 0) where
   -- what stood under a name has its bytes, and a crash leaves nothing new
   pub record Stays (before after : Option D) : Type 0 where
-    pub bytes : bytes_held reads after ≡ bytes_held reads before
-    pub images : (c : List ℕ) → image_held image after c → image_held image before c
+    pub bytes : bytes_on reads after ≡ bytes_on reads before
+    pub images : (c : List ℕ) → image_on image after c → image_on image before c
 
   -- At this stop it stays. Only what had no bytes may have others, where it failed.
   abbrev pub StaysAt : Option D → Option D → Stop → Type 0
-  StaysAt before after stop.DiskFault = bytes_held reads before ≢ [] → Stays before after
+  StaysAt before after stop.DiskFault = bytes_on reads before ≢ [] → Stays before after
   StaysAt before after why = Stays before after
 
 -- why a user is stopped at whose journal isn't opened

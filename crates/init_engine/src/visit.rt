@@ -5,7 +5,8 @@ ghost use Rattle.outside.specs.Faults.{HasCause};
 ghost use Rattle.outside.specs.Shelf.{SameNames, SameOthers};
 ghost use Rattle.log_journal.specs.Opening.{header_bytes};
 ghost use Rattle.log_journal.specs.Names.{journal_name};
-ghost use Rattle.init_engine.specs.Disks.{bytes_held, IsMade, IsReady};
+ghost use Rattle.outside.specs.Shelf.{bytes_on};
+ghost use Rattle.init_engine.specs.Disks.{IsMade, IsReady};
 ghost use Rattle.init_engine.specs.Stops.{HasReason, StaysAt, stop_of};
 
 use crate::end::Stop;
@@ -23,7 +24,7 @@ pub(crate) fn serve<F: Shelf>(
 ) -> Result<(), Stop>
     requires { F.is_out shelf.old (journal_name directory.now name.now) ≡ false }
     ensures ready { F.told → OnOk result (IsReady F.D.reads F.D.image (header_bytes header.now) (F.disk shelf.old (journal_name directory.now name.now)) (F.disk shelf.new (journal_name directory.now name.now))) }
-    ensures reason { IfErr result (HasReason F.told (header_bytes header.now) (bytes_held F.D.reads (F.disk shelf.old (journal_name directory.now name.now)))
+    ensures reason { IfErr result (HasReason F.told (header_bytes header.now) (bytes_on F.D.reads (F.disk shelf.old (journal_name directory.now name.now)))
         (F.disk_faults shelf.old (journal_name directory.now name.now)) (F.disk_faults shelf.new (journal_name directory.now name.now)) (F.faults shelf.old) (F.faults shelf.new)) }
     ensures kept { F.told → IfErr result (StaysAt F.D.reads F.D.image (F.disk shelf.old (journal_name directory.now name.now)) (F.disk shelf.new (journal_name directory.now name.now))) }
     ensures disks { SameOthers (journal_name directory.now name.now) (F.disk shelf.old) (F.disk shelf.new) }
@@ -45,7 +46,7 @@ fn serve_disk<F: Shelf>(
 ) -> Result<(), Stop>
     requires { F.is_out shelf.old journal.now ≡ false }
     ensures ready { F.told → OnOk result (IsReady F.D.reads F.D.image (header_bytes header.now) (F.disk shelf.old journal.now) (F.disk shelf.new journal.now)) }
-    ensures reason { IfErr result (HasReason F.told (header_bytes header.now) (bytes_held F.D.reads (F.disk shelf.old journal.now))
+    ensures reason { IfErr result (HasReason F.told (header_bytes header.now) (bytes_on F.D.reads (F.disk shelf.old journal.now))
         (F.disk_faults shelf.old journal.now) (F.disk_faults shelf.new journal.now) (F.faults shelf.old) (F.faults shelf.new)) }
     ensures kept { F.told → IfErr result (StaysAt F.D.reads F.D.image (F.disk shelf.old journal.now) (F.disk shelf.new journal.now)) }
     ensures disks { SameOthers journal.now (F.disk shelf.old) (F.disk shelf.new) }

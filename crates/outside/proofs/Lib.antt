@@ -2,3 +2,5 @@ pub mod Calls
 pub mod Moments
 pub mod Streams
 pub mod Visits
+pub mod Rises
+pub mod Taken

@@ -10,6 +10,16 @@ SameNames old new = (name : List ℕ) → new name ≡ old name
 abbrev pub SameOthers : {A : Type 0} → List ℕ → (List ℕ → A) → (List ℕ → A) → Type 0
 SameOthers name old new = (other : List ℕ) → bytes_eq other name ≡ false → new other ≡ old other
 
+-- The bytes that a disk reads; none where there is no disk.
+abbrev pub bytes_on : {D : Type 0} → (D → List ℕ) → Option D → List ℕ
+bytes_on reads None = []
+bytes_on reads (Some disk) = reads disk
+
+-- What a crash may leave of it.
+abbrev pub image_on : {D : Type 0} → (D → List ℕ → Type 0) → Option D → List ℕ → Type 0
+image_on image None bytes = bytes ≡ []
+image_on image (Some disk) bytes = image disk bytes
+
 -- The disk that was held, or where none was held, one without bytes.
 abbrev pub IsTaken : {D : Type 0} → (D → List ℕ) → (D → List ℕ → Type 0) → Option D → D → Type 0
 IsTaken reads image (Some held) disk = disk ≡ held

@@ -1,11 +1,10 @@
 -- What steps that are Ok have given.
-use Rattle.std.proofs.Common.{◌≡◌, ℕ, ◌≤◌, Bool, true, false, ◌&&◌, Result, Ok, Err, Option, Some, None, refl, arith}
+use Rattle.std.proofs.Common.{◌≡◌, ℕ, ◌≤◌, Bool, true, false, ◌&&◌, Ok, Err, refl, arith}
 use Rattle.std.specs.Prelude.{if◌then◌else◌, nat_le}
 use Rattle.std.proofs.lemmas.Bool.Decides.{nat_tests}
-use Rattle.toml.specs.Data.{Data}
 use Rattle.policy_files.specs.declared.error.Place.{Place}
 use Rattle.policy_files.specs.declared.error.PolicyError.{PolicyError}
-use Rattle.policy_files.specs.Keys.{Step, ◌>>=◌, there, of_kind, required, within}
+use Rattle.policy_files.specs.Keys.{Step, ◌>>=◌, within}
 
 -- the first step is Ok, and so is what follows it
 pub first_ok : {A B Q : Type 0} (s : Step A) (f : A → Step B) (y : B) → (s >>= f) ≡ Ok y → ((x : A) → s ≡ Ok x → f x ≡ Ok y → Q) → Q

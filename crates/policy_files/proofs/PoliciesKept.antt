@@ -1,7 +1,7 @@
 -- A policy that a tree means is kept.
-use Rattle.std.proofs.Common.{◌≡◌, true, ℕ, ◌+◌, ◌≤◌, List, [], length, Ok, Err, Option, Some, None, refl, subst, ap, ◌∙◌, arith, All, map, ◌<◌}
-use Rattle.std.specs.Prelude.{codes, slice_index_or}
-use Rattle.toml.specs.Data.{Data, get, as_table}
+use Rattle.std.proofs.Common.{◌≡◌, true, ℕ, ◌+◌, ◌≤◌, List, [], length, Ok, Option, Some, None, refl, subst, arith, All, map}
+use Rattle.std.specs.Prelude.{codes}
+use Rattle.toml.specs.Data.{get, as_table}
 use Rattle.std.proofs.lemmas.List.{get_or-map, length-map}
 use Rattle.cqe_base.specs.declared.schema.SchemaError.{SchemaError}
 use Rattle.cqe_base.specs.declared.user.User.{User}

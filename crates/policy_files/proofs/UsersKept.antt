@@ -1,24 +1,23 @@
 -- The users of a policy keep the limits, and their names differ.
-use Rattle.std.proofs.Common.{◌≡◌, ℕ, ◌+◌, ◌≤◌, Bool, true, false, not, ◌&&◌, ◌||◌, List, [], ◌∷◌, ◌++◌, length, length-append, map, Result, Ok, Err, Option, Some, None, refl, sym, ap, ◌∙◌, arith, subst, All, inl, inr, lit≤}
+use Rattle.std.proofs.Common.{◌≡◌, ℕ, ◌+◌, ◌≤◌, true, false, List, [], ◌∷◌, ◌++◌, length, length-append, map, Ok, Err, Option, Some, None, refl, ap, ◌∙◌, arith, subst, All, lit≤}
 use Rattle.std.specs.Prelude.{nat_le, codes, bytes_eq, if◌then◌else◌}
 use Rattle.std.specs.List.{list_all, list_any}
-use Rattle.std.proofs.lemmas.Bool.{cases_Bool, false≢true}
+use Rattle.std.proofs.lemmas.Bool.{or_parts}
 use Rattle.std.proofs.lemmas.Bool.Decides.{nat_tests}
-use Rattle.std.proofs.lemmas.Slice.Eq.{bytes_eq-Decides}
 use Rattle.std.proofs.lemmas.List.{map-append}
 use Rattle.std.proofs.lemmas.List.Elements.{All-push, All-nil}
 use Rattle.std.proofs.lemmas.List.Folds.{list_any-append}
 use Rattle.toml.specs.Data.{Data, get, as_str, as_integer}
 use Rattle.cqe_base.specs.Schema.{Text, DatabaseSchema, contains_text, has_duplicate, is_schema_name}
-use Rattle.cqe_base.specs.Formula.{Formula, is_sentence_of}
-use Rattle.cqe_base.specs.History.{UserProfile, view_size, is_user_of}
+use Rattle.cqe_base.specs.History.{UserProfile, view_size}
 use Rattle.cqe_base.specs.Reading.{ReadingsAreSentences}
-use Rattle.cqe_base.specs.Limits.{KeepsLimits, is_small}
+use Rattle.cqe_base.specs.Limits.{KeepsLimits}
+use Rattle.cqe_base.proofs.Lists.{other_text}
 use Rattle.policy_files.specs.declared.error.Place.{Place}
 use Rattle.policy_files.specs.declared.error.PolicyError.TheVariants.{WrongKind, DuplicateUser, Limit}
 use Rattle.policy_files.specs.Tree.{natural}
 use Rattle.policy_files.specs.Policies.{NamedUser}
-use Rattle.policy_files.specs.Keys.{Step, ◌>>=◌, key_place, only_keys, required, of_kind, within}
+use Rattle.policy_files.specs.Keys.{only_keys, required, of_kind}
 use Rattle.policy_files.specs.Users.{user_place, new_name, name_of, method_of, known_of, secrets_of, fit_budget, budget_of, token_of, with_small_view, user_of, users_behind, names_of}
 use Rattle.policy_files.proofs.OkSteps.{first_ok, unless_ok, when_ok, same_ok, within_ok}
 use Rattle.policy_files.proofs.SentencesKept.{all_more, AreSomeSentences, known_ok, secrets_ok}
@@ -42,26 +41,13 @@ name_ok earlier user value name e =
 
 -- ---- names that differ
 
-neither : (a b : Bool) → (a || b) ≡ false → (a ≡ false) × (b ≡ false)
-neither true b e = absurd (cc)
-neither false b e = (refl, e)
-
-other_way : (a b : Text) → bytes_eq a b ≡ false → bytes_eq b a ≡ false
-other_way a b differ =
-    elim (cases_Bool (bytes_eq b a)) [
-      | inl same ↦
-          let back : bytes_eq a b ≡ true = (bytes_eq-Decides a b).1 (sym ((bytes_eq-Decides b a).0 same)) in
-          absurd (false≢true (sym differ ∙ back))
-      | inr other ↦ other
-    ]
-
 differ_more : (names : List Text) (name : Text) → has_duplicate names ≡ false → contains_text names name ≡ false → has_duplicate (names ++ name ∷ []) ≡ false
 differ_more [] name differ new = refl
 differ_more (first ∷ names) name differ new =
-    let before = neither (contains_text names first) (has_duplicate names) differ in
-    let others = neither (bytes_eq name first) (contains_text names name) new in
+    let before = or_parts (contains_text names first) (has_duplicate names) differ in
+    let others = or_parts (bytes_eq name first) (contains_text names name) new in
     let here : contains_text (names ++ name ∷ []) first ≡ false =
-    list_any-append (bytes_eq first) names (name ∷ []) ∙ rw (before.0, other_way name first others.0) refl in
+    list_any-append (bytes_eq first) names (name ∷ []) ∙ rw (before.0, other_text name first others.0) refl in
     rw (here, differ_more names name before.1 others.1) refl
 
 -- ---- the budget

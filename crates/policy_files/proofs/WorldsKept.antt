@@ -1,21 +1,17 @@
 -- The world of a facts file is one of the schema, with at most 100,000 facts.
-use Rattle.std.proofs.Common.{◌≡◌, ℕ, ◌+◌, ◌≤◌, ◌<◌, Bool, true, false, not, ◌&&◌, ◌||◌, List, [], ◌∷◌, map, Result, Ok, Err, Option, Some, None, Ordering, Less, Equal, Greater, refl, sym, ap, ◌∙◌, arith, subst, inl, inr, nat_cmp}
+use Rattle.std.proofs.Common.{◌≡◌, ℕ, ◌+◌, ◌≤◌, ◌<◌, Bool, true, false, not, ◌&&◌, List, [], ◌∷◌, map, Result, Ok, Err, Option, Some, None, refl, sym, ◌∙◌, arith, subst, inl, inr}
 use Rattle.std.specs.Prelude.{nat_le, if◌then◌else◌, IsUtf8}
 use Rattle.std.specs.FinSet as set
-use Rattle.std.specs.FinSet.{nat_cmp-IsAntisymmetric, slice_cmp-IsAntisymmetric}
-use Rattle.std.specs.Ordering.{eq_by_cmp, is_eq, ordering_then}
-use Rattle.std.specs.Cmp.{IsTotalOrder}
-use Rattle.std.specs.Cmp.Lexicographic.{slice_cmp}
+use Rattle.std.specs.Ordering.{eq_by_cmp}
 use Rattle.std.specs.List.{list_all}
 use Rattle.std.specs.Str.{is_utf8}
 use Rattle.std.proofs.lemmas.Bool.{cases_Bool, and_parts}
 use Rattle.std.proofs.lemmas.Bool.Decides.{nat_tests}
-use Rattle.std.proofs.lemmas.Cmp.{then_total, on_total, nat_cmp_total, nat_list_cmp_total}
-use Rattle.std.proofs.lemmas.Str.{IsUtf8-from_is_utf8, is_utf8-from_IsUtf8}
+use Rattle.std.proofs.lemmas.Str.{is_utf8-from_IsUtf8}
 use Rattle.cqe_base.specs.declared.world.Fact.{Fact}
 use Rattle.cqe_base.specs.declared.text.Symbol.TheVariants.{Open}
 use Rattle.cqe_base.specs.Schema.{DatabaseSchema, Text, is_valid_schema}
-use Rattle.cqe_base.specs.Facts.{FactSet, fact_cmp, fact_of, is_fact_of, IsWorldOf}
+use Rattle.cqe_base.specs.Facts.{FactSet, fact_cmp, fact_of, is_fact_of}
 use Rattle.cqe_base.specs.Truth.{value_of}
 use Rattle.cqe_base.specs.Formula.{Formula, atom, is_sentence_of}
 use Rattle.cqe_base.specs.FactText.{fact_in, fact_read, stated_fact}
@@ -23,33 +19,13 @@ use Rattle.cqe_base.specs.Lines.{TextLine, text_lines, content, is_too_long}
 use Rattle.cqe_base.specs.MachineLaws.{GroundedFactsAreOfSchema}
 use Rattle.cqe_base.specs.Reading.{Refusal, ReadingsAreSentences, reading, is_next}
 use Rattle.cqe_base.specs.Tokens.{tokens}
+use Rattle.cqe_base.proofs.Worlds.{fact_cmp_total, tied_is}
 use Rattle.sentence_text.specs.Laws.{SentencesAreAscii}
 use Rattle.policy_files.specs.declared.error.FactsError.{FactsError}
-use Rattle.policy_files.specs.declared.error.FactsError.TheVariants.{NotAFact, Limit, NotUtf8}
+use Rattle.policy_files.specs.declared.error.FactsError.TheVariants.{Limit, NotUtf8}
 use Rattle.policy_files.specs.Facts.{says_nothing, fact_of_line, with_fact, with_line, with_lines, facts_of, ◌>>=◌}
 use Rattle.policy_files.specs.Laws.{IsSmallWorldOf, FactsAreWorlds}
 use Rattle.policy_files.proofs.Trees.{isnt_utf8}
-
--- ---- the order of facts
-
-fact_order : IsTotalOrder fact_cmp
-fact_order = then_total (on_total (λ f. f.relation) nat_cmp_total) (on_total (λ f. f.columns) nat_list_cmp_total)
-
-by_order : (f g : Fact) (r : Ordering) → nat_cmp f.relation g.relation ≡ r → ordering_then r (slice_cmp nat_cmp f.columns g.columns) ≡ Equal → f ≡ g
-by_order f g Less p q = absurd (cc)
-by_order f g Greater p q = absurd (cc)
-by_order f g Equal p q =
-    let relations : f.relation ≡ g.relation = nat_cmp-IsAntisymmetric f.relation g.relation p in
-    let columns : f.columns ≡ g.columns = slice_cmp-IsAntisymmetric nat_cmp-IsAntisymmetric f.columns g.columns q in
-    λ i. record { relation = relations i; columns = columns i }
-
-is_equal : (r : Ordering) → is_eq r ≡ true → r ≡ Equal
-is_equal Less e = absurd (cc)
-is_equal Equal e = refl
-is_equal Greater e = absurd (cc)
-
-same_fact : (f g : Fact) → eq_by_cmp fact_cmp f g ≡ true → f ≡ g
-same_fact f g e = by_order f g (nat_cmp f.relation g.relation) refl (is_equal (fact_cmp f g) e)
 
 -- ---- a fact that a text states is one of the schema
 
@@ -90,13 +66,13 @@ module _ (grounded : GroundedFactsAreOfSchema) (reads : ReadingsAreSentences) (s
   joins world fact small of_schema room = record {
     of_schema = λ q has.
         elim (cases_Bool (eq_by_cmp fact_cmp q fact)) [
-          | inl same ↦ rw (same_fact q fact same) of_schema
+          | inl same ↦ rw (tied_is q fact same) of_schema
           | inr other ↦
-              let before : set.contains world q ≡ true = rw other at (sym (set.contains-insert fact_order world fact q) ∙ has) in
+              let before : set.contains world q ≡ true = rw other at (sym (set.contains-insert fact_cmp_total world fact q) ∙ has) in
               small.of_schema q before
         ];
     few =
-        let size = set.len-insert fact_order world fact in
+        let size = set.len-insert fact_cmp_total world fact in
         let before : set.len world ≤ 100000 = small.few in
         elim (cases_Bool (set.contains world fact)) [
           | inl old ↦ let size' : set.len (set.insert world fact) ≡ set.len world = rw old at size in omega arith

@@ -1,5 +1,5 @@
 -- The keys of a policy, and how a step refuses one.
-use Rattle.std.specs.Prelude.{ℕ, Bool, true, false, ◌&&◌, nat_le, List, [], ◌∷◌, Option, Some, None, Result, Ok, Err, codes, if◌then◌else◌}
+use Rattle.std.specs.Prelude.{ℕ, ◌&&◌, nat_le, List, [], ◌∷◌, Option, Some, None, Result, Ok, Err, codes, if◌then◌else◌}
 use Rattle.cqe_base.specs.declared.text.TextError.{TextError}
 use Rattle.cqe_base.specs.Schema.{Text}
 use Rattle.toml.specs.Data.{Data}

@@ -1,5 +1,5 @@
 -- The policy that the structs in memory are.
-use Rattle.std.specs.Prelude.{List, map, string_bytes}
+use Rattle.std.specs.Prelude.{map, string_bytes}
 use Rattle.cqe_base.specs.declared.user.User.{User}
 use Rattle.cqe_base.specs.History.{profile_of}
 use Rattle.policy_files.specs.declared.policy.Policy.{Policy}

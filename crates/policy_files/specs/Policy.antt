@@ -1,11 +1,10 @@
 -- What the tree of a TOML document means as a policy, or why it is refused: the first check that fails.
-use Rattle.std.specs.Prelude.{ℕ, ◌==◌, Bool, true, false, List, [], length, Option, Some, None, Result, Ok, Err, codes, if◌then◌else◌}
+use Rattle.std.specs.Prelude.{ℕ, ◌==◌, List, [], length, Option, Some, None, Ok, Err, codes, if◌then◌else◌}
 use Rattle.std.specs.Str.{is_utf8}
 use Rattle.toml.specs.Data.{Data, Members, table, get, as_integer, as_table}
 use Rattle.toml.specs.Parse.{parse_document}
 use Rattle.cqe_base.specs.declared.schema.SchemaError.{SchemaError}
 use Rattle.cqe_base.specs.Schema.{Text, Declaration, DatabaseSchema, schema_refusal, schema_of}
-use Rattle.policy_files.specs.declared.error.PolicyError.{PolicyError}
 use Rattle.policy_files.specs.declared.error.PolicyError.TheVariants.{NotToml, WrongKind, Schema, Version}
 use Rattle.policy_files.specs.Tree.{tables_in, are_string_arrays, declarations, natural}
 use Rattle.policy_files.specs.Policies.{PolicyValue}

@@ -1,5 +1,5 @@
 -- What a user of a policy is, or why he is refused.
-use Rattle.std.specs.Prelude.{ℕ, ◌+◌, Bool, true, false, ◌&&◌, nat_le, nat_lt, List, [], ◌∷◌, ◌++◌, length, map, Option, Some, None, Result, Ok, Err, codes, bytes_eq, if◌then◌else◌, ℤ}
+use Rattle.std.specs.Prelude.{ℕ, ◌+◌, nat_le, nat_lt, List, [], ◌∷◌, ◌++◌, length, map, Option, Some, None, Result, Ok, Err, codes, if◌then◌else◌}
 use Rattle.hex.specs.declared.error.FromHexError.{FromHexError}
 use Rattle.hex.specs.Hex.{decode_sized}
 use Rattle.toml.specs.Data.{Data, get, as_str, as_integer}
@@ -12,7 +12,6 @@ use Rattle.cqe_base.specs.History.{view_size}
 use Rattle.cqe_base.specs.Censor.{method_named}
 use Rattle.cqe_base.specs.Limits.{is_small}
 use Rattle.policy_files.specs.declared.error.Place.{Place}
-use Rattle.policy_files.specs.declared.error.PolicyError.{PolicyError}
 use Rattle.policy_files.specs.declared.error.PolicyError.TheVariants.{MissingKey, WrongKind, Sentence, Limit, DuplicateUser}
 use Rattle.policy_files.specs.Tree.{elements, is_string_array, text_in, natural}
 use Rattle.policy_files.specs.Policies.{NamedUser}

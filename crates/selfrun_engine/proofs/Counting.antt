@@ -1,7 +1,7 @@
 -- The replies that are counted byte by byte are those of the lines.
-use Rattle.std.proofs.Common.{◌≡◌, ◌∙◌, sym, ap, subst, refl, ℕ, zero, suc, ◌+◌, ◌<◌, ◌/◌, ◌%◌, ◌==◌, Bool, true, false, not, ◌&&◌, List, [], ◌∷◌, ◌++◌, fold, Option, Some, None, codes, decimal, if◌then◌else◌, arith, append_assoc}
+use Rattle.std.proofs.Common.{◌≡◌, ◌∙◌, sym, ap, refl, ℕ, zero, suc, ◌+◌, ◌/◌, ◌%◌, ◌==◌, Bool, true, false, not, ◌&&◌, List, [], ◌∷◌, ◌++◌, fold, Some, None, codes, decimal, if◌then◌else◌, arith, append_assoc}
 use Rattle.std.specs.Fmt.{digits, digits_onto, digit_glyph}
-use Rattle.std.specs.List.{list_all, flat_map, range_with_len, AllByRecursion}
+use Rattle.std.specs.List.{list_all, range_with_len, AllByRecursion}
 use Rattle.std.proofs.Math.Nat.{mod-lt}
 use Rattle.std.proofs.lemmas.Bool.{and_parts}
 use Rattle.std.proofs.lemmas.List.Folds.{list_all-append}
@@ -15,6 +15,7 @@ use Rattle.selfrun_engine.specs.Counting.{no_reply, with_first, after_byte, tall
 use Rattle.selfrun_engine.specs.Tallies.{with_reply, with_line, tally_of}
 use Rattle.selfrun_engine.specs.declared.tally.Tally.{Tally}
 use Rattle.selfrun_engine.specs.declared.tally.Counter.{Counter}
+use Rattle.workload.proofs.Lining.{all_at}
 
 -- a byte that ends neither a line nor a word
 abbrev pub is_inside : ℕ → Bool
@@ -33,11 +34,6 @@ IsPlain restart_line = Unit {0}
 
 ten_digits : list_all (λ d. is_inside (digit_glyph false d)) (range_with_len 0 10) ≡ true
 ten_digits = refl
-
-pub all_at : (p : ℕ → Bool) (a n j k : ℕ) → k ≡ a + j → j < n → list_all p (range_with_len a n) ≡ true → p k ≡ true
-all_at p a zero j k is less all = absurd (omega (arith, less))
-all_at p a (suc n) zero k is less all = subst (λ m. p m ≡ true) (omega (arith, is)) (and_parts (p a) (list_all p (range_with_len (a + 1) n)) all).0
-all_at p a (suc n) (suc j) k is less all = all_at p (a + 1) n j k (omega (arith, is)) (omega (arith, less)) (and_parts (p a) (list_all p (range_with_len (a + 1) n)) all).1
 
 one_digit : (n : ℕ) → is_inside (digit_glyph false (n % 10)) ≡ true
 one_digit n = all_at (λ d. is_inside (digit_glyph false d)) 0 10 (n % 10) (n % 10) (omega arith) (mod-lt n {m = 10} (omega arith)) ten_digits

@@ -1,37 +1,27 @@
 -- A batch over empty journals in which nothing failed.
-use Rattle.std.proofs.Common.{◌≡◌, ◌∙◌, sym, ap, subst, refl, inl, inr, ℕ, zero, suc, ◌+◌, ◌<◌, Bool, true, false, ◌||◌, List, [], ◌∷◌, ◌++◌, map, length, Option, Some, None, Result, Ok, is_some, arith, append_assoc, append-nil}
-use Rattle.std.specs.Prelude.{find, cond, bytes_eq, slice_get, if◌then◌else◌}
-use Rattle.std.specs.List.{list_any, flat_map, AllByRecursion}
+use Rattle.std.proofs.Common.{◌≡◌, ◌∙◌, sym, ap, subst, refl, inl, inr, ℕ, ◌+◌, Bool, true, false, List, [], ◌∷◌, ◌++◌, map, Option, Some, None, Result, Ok, is_some, append_assoc, append-nil}
+use Rattle.std.specs.Prelude.{find, bytes_eq, if◌then◌else◌}
+use Rattle.std.specs.List.{list_any, AllByRecursion}
 use Rattle.std.proofs.lemmas.Slice.Eq.{bytes_eq-Decides}
+use Rattle.std.proofs.lemmas.Bool.{or_parts}
 use Rattle.cqe_base.specs.declared.text.ScriptError.{ScriptError}
 use Rattle.cqe_base.specs.Schema.{Text, DatabaseSchema}
 use Rattle.cqe_base.specs.Facts.{FactSet}
 use Rattle.cqe_base.specs.History.{UserProfile, History, AnsweredQuery}
-use Rattle.cqe_base.specs.Run.{Reply, desk_broken, Event, ask, stop, restart, want, kept, failed, UserState, entry_at, reply_at, reply_at_failure, after_event, after_events, opening}
-use Rattle.cqe_base.specs.Transcript.{NamedUser, ScriptEvent, script_ask, script_stop, script_restart, script_opening, Line, reply_line, restart_line, own_event, own_events, state_after, told_after, written_after, lines_after, transcript}
+use Rattle.cqe_base.specs.Run.{Reply, desk_broken, Event, ask, restart, want, kept, failed, UserState, entry_at, reply_at, reply_at_failure, after_event, after_events, opening}
+use Rattle.cqe_base.specs.Transcript.{NamedUser, ScriptEvent, script_ask, script_stop, script_restart, script_opening, reply_line, own_event, own_events, state_after, told_after, lines_after, transcript}
+use Rattle.cqe_base.proofs.Lists.{one_found}
 use Rattle.log_journal.specs.Records.{records}
 use Rattle.user_desk.specs.Entries.{entry_of}
 use Rattle.user_desk.specs.declared.standing.DeskError.{DeskError}
 use Rattle.batch_engine.specs.BatchLines.{BatchItem, asked, restarted, batch_of}
 use Rattle.desk_crew.specs.Shelved.{Journals}
-use Rattle.batch_engine.specs.Batch.{Serves, AreEventsOf, AreRefusals, AppendsAll, is_broken_line, unopened, line_bytes, with_opening}
+use Rattle.batch_engine.specs.Batch.{Serves, AreEventsOf, AreRefusals, AppendsAll, is_broken_line, unopened, with_opening}
 use Rattle.desk_crew.specs.Openings.{IsOpening}
 use Rattle.batch_engine.specs.Lives.{is_refused, AreCaused}
 use Rattle.selfrun_engine.specs.Outputs.{IsKeptOrWant, IsOfUser, IsOutput}
 
 -- ---- lists
-
-other : (a b : Bool) → (a || b) ≡ false → (a ≡ false) × (b ≡ false)
-other true b none = let clash : true ≡ false = none in absurd cc
-other false b none = (refl, none)
-
-one_found : {X : Type 0} (P : X → Type 0) (test : X → Bool) (xs : List X) (x : X) → AllByRecursion P xs → find test xs ≡ Some x → P x × (test x ≡ true)
-one_found P test [] x all is = let clash : None ≡ Some x = is in absurd cc
-one_found P test (y ∷ ys) x all is = by (test y) refl (one_found P test ys x all.1) is
-  where
-    by : (b : Bool) → test y ≡ b → (find test ys ≡ Some x → P x × (test x ≡ true)) → cond b (Some y) (find test ys) ≡ Some x → P x × (test x ≡ true)
-    by true passes further is = let same : y ≡ x = cc in (subst P same all.0, sym (ap test same) ∙ passes)
-    by false passes further is = further is
 
 one_script : (a b : List BatchItem) (read : Result (List BatchItem) ScriptError) → read ≡ Ok a → read ≡ Ok b → a ≡ b
 one_script a b read first second = cc
@@ -95,7 +85,7 @@ module _ (schema : DatabaseSchema) (world : FactSet) where
     kept_from earlier [] items of named all whole = tt
     kept_from earlier (event ∷ events) [] of named all whole = absurd of
     kept_from earlier (script_ask name session text ending ∷ events) (asked one ∷ items) of named all whole =
-        let parts = other _ _ whole in
+        let parts = or_parts _ _ whole in
         let found : find (λ u. bytes_eq u.name name) users ≡ Some named.0.0 = ap (λ n. find (λ u. bytes_eq u.name n) users) of.0.0 ∙ named.0.1 in (
           ask_kept earlier events name session text ending named.0.0 found all parts.0,
           kept_from (earlier ++ script_ask name session text ending ∷ []) events items of.1 named.1 (all_later earlier events (script_ask name session text ending) users all) parts.1,

@@ -1,27 +1,26 @@
 -- The workload, from the making of its journals to the tally of its replies.
-use Rattle.std.proofs.Common.{◌≡◌, ◌∙◌, sym, ap, subst, refl, ℕ, zero, suc, ◌+◌, ◌%◌, ◌<◌, ◌≤◌, Bool, true, false, List, [], ◌∷◌, ◌++◌, map, length, Option, Some, None, Result, Ok, Err, decimal, arith}
+use Rattle.std.proofs.Common.{◌≡◌, ◌∙◌, sym, ap, subst, refl, ℕ, zero, suc, ◌+◌, ◌%◌, ◌<◌, ◌≤◌, Bool, true, false, List, [], ◌∷◌, ◌++◌, map, length, Option, Some, None, Result, Ok, arith}
 use Rattle.std.specs.Prelude.{find, cond, bytes_eq, slice_get, String, string_bytes}
 use Rattle.std.specs.declared.alloc.Global.{Global}
 use Rattle.std.specs.List.{flat_map, list_all, range_with_len, AllByRecursion}
 use Rattle.std.proofs.Math.Nat.{mod-lt}
 use Rattle.std.proofs.lemmas.Slice.Eq.{bytes_eq-Decides}
 use Rattle.std.proofs.lemmas.List.Folds.{flat_map-map}
+use Rattle.outside.specs.Shelf.{bytes_on}
 use Rattle.cqe_base.specs.Schema.{Text, DatabaseSchema, has_duplicate}
 use Rattle.cqe_base.specs.Facts.{FactSet}
-use Rattle.cqe_base.specs.Transcript.{NamedUser, ScriptEvent, script_ask, script_stop, script_restart, script_opening, Line, lines_after, transcript}
+use Rattle.cqe_base.specs.Transcript.{NamedUser, ScriptEvent, script_ask, script_stop, script_restart, script_opening, lines_after, transcript}
 use Rattle.cqe_base.specs.declared.user.User.{User}
 use Rattle.log_journal.specs.Records.{records}
 use Rattle.log_journal.specs.Names.{journal_name}
-use Rattle.init_engine.specs.Disks.{names_of, bytes_held, Readies}
+use Rattle.init_engine.specs.Disks.{names_of, Readies}
 use Rattle.batch_engine.specs.BatchLines.{BatchItem, asked, restarted, batch_of}
 use Rattle.batch_engine.specs.Batch.{AreEventsOf, with_opening}
 use Rattle.desk_crew.specs.Crew.{named_user}
-use Rattle.desk_crew.specs.Shelved.{bytes_on}
 use Rattle.policy_files.specs.declared.error.PolicyError.{PolicyError}
 use Rattle.policy_files.specs.declared.error.FactsError.{FactsError}
 use Rattle.policy_files.specs.Policy.{policy_in}
 use Rattle.policy_files.specs.Facts.{facts_of}
-use Rattle.policy_files.specs.Policies
 use Rattle.policy_files.specs.Policies.{PolicyValue}
 use Rattle.policy_files.specs.Memory.{named_user_of, policy_value_of}
 use Rattle.policy_files.specs.Users
@@ -64,7 +63,7 @@ module _ {D : Type 0} (reads : D → List ℕ) (image : D → List ℕ → Type 
       → AllByRecursion (λ (u : NamedUser). records (bytes_on reads (new (journal_name directory u.name))) ≡ []) (map named_user users)
   all_empty users none ready = by_place (λ name. records (bytes_on reads (new (journal_name directory name))) ≡ []) users (λ i name low at.
       let one = ready.are i name low at in
-      ap (λ d. records (bytes_on reads d)) one.stands ∙ (one.made.empty (ap (bytes_held reads) (none (journal_name directory name)))).1.are)
+      ap (λ d. records (bytes_on reads d)) one.stands ∙ (one.made.empty (ap (bytes_on reads) (none (journal_name directory name)))).1.are)
 
 -- ---- the asks of the script
 

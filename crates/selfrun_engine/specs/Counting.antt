@@ -1,5 +1,5 @@
 -- The replies in lines, counted byte by byte.
-use Rattle.std.specs.Prelude.{ℕ, ◌+◌, ◌==◌, ◌&&◌, ◌||◌, List, fold, if◌then◌else◌}
+use Rattle.std.specs.Prelude.{ℕ, ◌+◌, ◌==◌, ◌&&◌, List, fold, if◌then◌else◌}
 use Rattle.selfrun_engine.specs.declared.tally.Tally.{Tally}
 use Rattle.selfrun_engine.specs.declared.tally.Counter.{Counter}
 

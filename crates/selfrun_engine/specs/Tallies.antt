@@ -1,5 +1,5 @@
 -- How often each reply stands in lines, and the summary that says so.
-use Rattle.std.specs.Prelude.{ℕ, ◌+◌, List, [], ◌∷◌, ◌++◌, fold, Option, Some, None, codes, decimal}
+use Rattle.std.specs.Prelude.{ℕ, ◌+◌, List, [], ◌∷◌, ◌++◌, fold, Option, Some, codes, decimal}
 use Rattle.std.specs.List.{flat_map}
 use Rattle.cqe_base.specs.declared.user.Mark.TheVariants.{Yes, No, Refused, Undecided}
 use Rattle.cqe_base.specs.Schema.{Text}

@@ -6,7 +6,7 @@ use Rattle.cqe_base.specs.Formula.{Formula}
 use Rattle.cqe_base.specs.Schema.{DatabaseSchema, Text}
 use Rattle.cqe_base.specs.Tokens.{end_of_tokens}
 use Rattle.cqe_base.specs.Reading
-use Rattle.cqe_base.specs.Reading.{◌>>=◌, reading, refusal_at_end, unexpected, bad_character}
+use Rattle.cqe_base.specs.Reading.{reading, refusal_at_end}
 use Rattle.cqe_base.specs.Grammar.{IsSentence}
 use Rattle.sentence_text.proofs.GrammarLaws.{complete}
 

@@ -10,7 +10,7 @@ use Rattle.cqe_base.specs.Formula.{Formula, atom, equality, inequality, conjunct
 use Rattle.cqe_base.specs.Schema.{DatabaseSchema, domain_named, relation_named}
 use Rattle.cqe_base.specs.Tokens.{Token, same_symbol}
 use Rattle.cqe_base.specs.Reading
-use Rattle.cqe_base.specs.Reading.{◌>>=◌, Reader, Scope, Level, is_symbol, is_next, chain}
+use Rattle.cqe_base.specs.Reading.{Reader, Scope, Level, is_symbol, is_next, chain}
 use Rattle.cqe_base.specs.Grammar.{Part, unary, both, either, implied, whole, IsSymbol, IsTerm, Columns, no_column, last_column, next_column, MayEndQuantified, IsQuantifier, Begins, is_true, is_false, is_atom, is_equal, is_differs, is_not, in_parentheses, is_forall, is_exists, one_and, more_and, one_or, more_or, no_arrow, one_arrow, no_double_arrow, one_double_arrow}
 use Rattle.sentence_text.proofs.Operands.{ChainGoesOn, chain-done, chain-more, both-begins, either-begins}
 

@@ -1,17 +1,14 @@
 -- The length of a token is that of the longest one.
 use Rattle.std.proofs.Common.{◌≡◌, ℕ, zero, suc, ◌+◌, ◌<◌, ◌≤◌, inl, inr, Bool, true, false, cond, List, [], ◌∷◌, ◌++◌, length, take, drop, refl, sym, subst, arith, length-take, one-add}
-use Rattle.std.specs.Prelude.{◌&&◌, ◌||◌, codes, nat_eq}
+use Rattle.std.specs.Prelude.{◌||◌, codes, nat_eq}
 use Rattle.std.specs.List.{prefix_len, list_all, starts_with}
 use Rattle.std.specs.Char.{is_ascii_alphabetic}
 use Rattle.std.specs.Cmp.Lexicographic.{same_text}
 use Rattle.std.proofs.lemmas.List.{take-append-drop}
+use Rattle.std.proofs.lemmas.Bool.{and_parts}
 use Rattle.cqe_base.specs.Tokens.{begins, mark_length, token_length, marks, IsOneOf, IsTokenText, IsLongestToken}
 use Rattle.cqe_base.specs.Schema.{is_name_byte, is_identifier}
 use Rattle.sentence_text.proofs.TokenLaws.{token_length-ascii, cond_holds, or_holds}
-
-split_and : (a b : Bool) → (a && b) ≡ true → (a ≡ true) × (b ≡ true)
-split_and true b h = (refl, h)
-split_and false b h = absurd (cc)
 
 prefix-all : (xs : List ℕ) → list_all is_name_byte (take (prefix_len is_name_byte xs) xs) ≡ true
 prefix-all [] = refl
@@ -25,7 +22,7 @@ prefix-longest : (k : ℕ) (xs : List ℕ) → k ≤ length xs → list_all is_n
 prefix-longest zero xs le h = omega arith
 prefix-longest (suc k) [] le h = absurd (omega arith)
 prefix-longest (suc k) (x ∷ xs) le h =
-    let s = split_and (is_name_byte x) (list_all is_name_byte (take k xs)) h in
+    let s = and_parts (is_name_byte x) (list_all is_name_byte (take k xs)) h in
     let others = prefix-longest k xs (omega arith) s.1 in
     rw s.0 (omega arith)
 
@@ -72,7 +69,7 @@ unfolding token_length
 name-longest zero text le h = omega arith
 name-longest (suc k) [] le h = absurd (omega arith)
 name-longest (suc k) (b ∷ text) le h =
-    let s = split_and (is_ascii_alphabetic b) (list_all is_name_byte (take k text)) h in
+    let s = and_parts (is_ascii_alphabetic b) (list_all is_name_byte (take k text)) h in
     let others = prefix-longest k text (omega arith) s.1 in
     rw s.0 (omega arith)
 

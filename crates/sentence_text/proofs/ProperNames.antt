@@ -12,6 +12,7 @@ use Rattle.cqe_base.specs.declared.text.Symbol.TheVariants.{Name}
 use Rattle.cqe_base.specs.Schema.{DatabaseSchema, NamedDomain, RelationSchema, Text, is_identifier, is_schema_name, is_valid_schema, schema_names, contains_text, has_duplicate, keywords, printed_variables, domain_named, relation_named, constant_named, constant_in}
 use Rattle.cqe_base.specs.Tokens.{IsOneOf, symbol_of}
 use Rattle.cqe_base.specs.Canonical.{variable_name, domain_name, relation_name, constant_name}
+use Rattle.cqe_base.proofs.Lists.{some_at}
 
 -- the name may stand in a schema
 pub record IsSchemaName (name : List ℕ) : Type 0 where
@@ -44,11 +45,6 @@ other-name a b other = at (bytes_eq a b) refl
     at : (t : Bool) → bytes_eq a b ≡ t → t ≡ false
     at true e = absurd (other (same_text a b (sym e)))
     at false e = refl
-
-some_at : {X : Type 0} (xs : List X) (i : ℕ) → i < length xs → (x : X) × (slice_get xs i ≡ Some x)
-some_at [] i lt = absurd (omega arith)
-some_at (x ∷ xs) zero lt = (x, refl)
-some_at (x ∷ xs) (suc i) lt = some_at xs i (omega arith)
 
 one_of-at : {X : Type 0} (f : X → Text) (xs : List X) (i : ℕ) (x : X) → slice_get xs i ≡ Some x → IsOneOf (f x) (map f xs)
 one_of-at f [] i x e = absurd (cc)

@@ -1,11 +1,12 @@
 -- A canonical form is read back as the sentence that was printed.
-use Rattle.std.proofs.Common.{◌≡◌, ℕ, zero, suc, ◌+◌, ◌<◌, ◌≤◌, inl, inr, Bool, true, false, List, [], ◌∷◌, ◌++◌, length, take, drop, Option, Some, None, refl, sym, ap, subst, ◌∙◌, arith, append_assoc, length-drop, one-add}
-use Rattle.std.specs.Prelude.{◌==◌, ◌&&◌, bytes_eq, codes}
+use Rattle.std.proofs.Common.{◌≡◌, ℕ, zero, suc, ◌+◌, ◌<◌, ◌≤◌, inl, inr, true, false, List, [], ◌∷◌, ◌++◌, length, take, drop, Option, Some, None, refl, sym, ap, subst, ◌∙◌, arith, append_assoc, length-drop, one-add}
+use Rattle.std.specs.Prelude.{◌==◌, bytes_eq, codes}
 use Rattle.std.specs.List.{prefix_len, list_all}
 use Rattle.std.specs.Char.{is_ascii_alphabetic}
 use Rattle.std.proofs.lemmas.Bool.Decides.{nat_tests}
 use Rattle.std.proofs.lemmas.List.{append-nil}
 use Rattle.std.proofs.Math.Seq.{take-append_seam, drop-append_seam}
+use Rattle.std.proofs.lemmas.Bool.{and_parts}
 use Rattle.cqe_base.specs.declared.sentence.Constant.{Constant}
 use Rattle.cqe_base.specs.declared.sentence.Term.{Term}
 use Rattle.cqe_base.specs.declared.sentence.Term.TheVariants as terms
@@ -53,13 +54,9 @@ token-lexes p n x w x' long some front back =
 abbrev EndsName : List ℕ → Type 0
 EndsName x = prefix_len is_name_byte x ≡ 0
 
-split_and : (a b : Bool) → (a && b) ≡ true → (a ≡ true) × (b ≡ true)
-split_and true b h = (refl, h)
-split_and false b h = absurd (cc)
-
 all-prefix : (w x : List ℕ) → list_all is_name_byte w ≡ true → EndsName x → prefix_len is_name_byte (w ++ x) ≡ length w
 all-prefix [] x h ends = ends
-all-prefix (b ∷ w) x h ends = let s = split_and (is_name_byte b) (list_all is_name_byte w) h in rw (s.0, all-prefix w x s.1 ends) (one-add (length w))
+all-prefix (b ∷ w) x h ends = let s = and_parts (is_name_byte b) (list_all is_name_byte w) h in rw (s.0, all-prefix w x s.1 ends) (one-add (length w))
 
 word_length : (b : ℕ) (w x : List ℕ) → is_ascii_alphabetic b ≡ true → prefix_len is_name_byte (w ++ x) ≡ length w → token_length (b ∷ (w ++ x)) ≡ length (b ∷ w)
 unfolding token_length
@@ -68,7 +65,7 @@ word_length b w x letter behind = rw (letter, behind) (one-add (length w))
 word-lexes : (p : ℕ) (w x : List ℕ) → is_identifier w ≡ true → EndsName x → Lexes p (w ++ x) (record { text = w; start = p } ∷ []) (p + length w) x
 word-lexes p [] x h ends = absurd (cc)
 word-lexes p (b ∷ w) x h ends =
-    let s = split_and (is_ascii_alphabetic b) (list_all is_name_byte w) h in
+    let s = and_parts (is_ascii_alphabetic b) (list_all is_name_byte w) h in
     token-lexes p (length (b ∷ w)) (b ∷ (w ++ x)) (b ∷ w) x (word_length b w x s.0 (all-prefix w x s.1 ends)) (omega arith) (take-append_seam (b ∷ w) x) (drop-append_seam (b ∷ w) x)
 
 -- each mark, whatever follows

@@ -3,8 +3,8 @@ use Rattle.std.proofs.Common.{◌≡◌, ◌≢◌, ◌⊎◌, inl, inr, ℕ, �
 use Rattle.std.specs.List.{sum_by, flat_map}
 use Rattle.std.proofs.lemmas.List.Sums.{sum_by-append}
 use Rattle.std.proofs.lemmas.Grind.{flat_map-append}
+use Rattle.outside.proofs.Rises.{rose_wide}
 use Rattle.outside.specs.Faults.{Rose}
-use Rattle.desk_crew.proofs.Taken.{rose_wide}
 use Rattle.serve_engine.specs.Doors.{SomeFailed}
 
 module _ {O : Type 0} where

@@ -5,6 +5,9 @@ use Rattle.std.specs.declared.alloc.Global.{Global}
 use Rattle.std.specs.List.{AllByRecursion, list_any, sum_by}
 use Rattle.std.proofs.lemmas.List.Sums.{sum_by-append}
 use Rattle.std.proofs.lemmas.List.Elements.{All-head, All-tail, All-from_recursion}
+use Rattle.outside.proofs.Rises.{rose_wide}
+use Rattle.outside.proofs.Taken.{taken_reads}
+use Rattle.outside.specs.Shelf.{bytes_on, image_on}
 use Rattle.outside.specs.Visits.{Visit}
 use Rattle.cqe_base.specs.Schema.{Text, DatabaseSchema, is_valid_schema}
 use Rattle.cqe_base.specs.Facts.{FactSet}
@@ -29,8 +32,7 @@ use Rattle.session_core.proofs.Replying.{history_all}
 use Rattle.turnstile.specs.Passes.{turns}
 use Rattle.desk_crew.specs.Crew.{IsFresh, refusal_of, seat_journal, seat_kept, seat_standing, seat_history, seat_disk, seat_broke, seat_state}
 use Rattle.desk_crew.specs.Seats.{DeskSeat}
-use Rattle.desk_crew.specs.Shelved.{Journals, bytes_on, image_on, journals, journals_on, AreLater, IsSeatOf, AreSeatsOf, IsBack, AreBack}
-use Rattle.desk_crew.proofs.Taken.{rose_wide, taken_reads}
+use Rattle.desk_crew.specs.Shelved.{Journals, journals, journals_on, AreLater, IsSeatOf, AreSeatsOf, IsBack, AreBack}
 use Rattle.serve_engine.specs.Served.{Member}
 use Rattle.serve_engine.specs.Doors.{AreServedDoors, SomeFailed, HasOutcome}
 use Rattle.serve_engine.specs.Serving.{HasServed, HaveServed, ServesDoors, EndsAt, IsDone, end_of}

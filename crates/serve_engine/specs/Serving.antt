@@ -4,7 +4,7 @@ use Rattle.std.specs.declared.alloc.Global.{Global}
 use Rattle.std.specs.List.{list_any}
 use Rattle.outside.specs.Faults.{Rose}
 use Rattle.outside.specs.Visits.{Visit}
-use Rattle.cqe_base.specs.Schema.{DatabaseSchema, Text}
+use Rattle.cqe_base.specs.Schema.{DatabaseSchema}
 use Rattle.cqe_base.specs.Facts.{FactSet}
 use Rattle.cqe_base.specs.History.{AnsweredQuery, History, profile_of}
 use Rattle.cqe_base.specs.Censor.{IsLegal, admitted}

@@ -1,15 +1,13 @@
 -- The lines that are heard, one after the other.
-use Rattle.std.proofs.Common.{◌≡◌, ℕ, zero, suc, ◌≤◌, ◌<◌, ◌+◌, Bool, true, false, not, ◌&&◌, List, [], ◌∷◌, ◌++◌, length, take, refl, sym, ap, ◌∙◌, subst, append_assoc, arith}
+use Rattle.std.proofs.Common.{◌≡◌, ℕ, zero, suc, ◌≤◌, ◌<◌, ◌+◌, Bool, true, false, not, ◌&&◌, List, [], ◌∷◌, ◌++◌, length, take, refl, sym, ap, ◌∙◌, append_assoc, arith}
 use Rattle.std.specs.Prelude.{if◌then◌else◌}
 use Rattle.std.specs.List.{list_all}
 use Rattle.std.proofs.lemmas.List.{append-nil, length-append, take_all, take_at}
-use Rattle.cqe_base.specs.Schema.{Text}
-use Rattle.cqe_base.specs.Lines.{TextLine, text_lines, content, is_too_long}
+use Rattle.cqe_base.specs.Lines.{TextLine, text_lines, content}
 use Rattle.line_protocol.specs.Reads.{TakesLine, BeginsTooLong}
 use Rattle.line_protocol.specs.Requests.{LineRequest, login_as, ask_for, quit_session, other_line, request_of}
 use Rattle.session_core.specs.Heard.{HeardLine, heard, overlong, is_quit, goes_on, heard_as, heard_lines, session_lines}
 use Rattle.session_core.specs.Sessions.{Hears}
-use Rattle.session_core.specs.declared.session.Ended.{Ended}
 use Rattle.session_core.specs.declared.session.Ended.TheVariants.{Quit, InputEnd, TooLong, TooMany, ReadFault, WriteFault}
 
 -- These lines were heard of the bytes, the session went on behind each, and these bytes are left.

@@ -1,13 +1,11 @@
 -- Passes at all counters that are split and met, one counter after the other.
-use Rattle.std.proofs.Common.{◌≡◌, ℕ, zero, suc, ◌≤◌, ◌<◌, List, [], ◌∷◌, ◌++◌, length, get_or, refl, sym, ap, ◌∙◌, subst, append_assoc, arith}
-use Rattle.std.specs.Prelude.{slice_set, Result, Ok, Err, IsOk, IfOk, IfErr}
-use Rattle.std.specs.List.{AllByRecursion}
+use Rattle.std.proofs.Common.{◌≡◌, ℕ, zero, suc, ◌<◌, List, [], ◌∷◌, ◌++◌, length, get_or, refl, sym, ap, ◌∙◌, subst, append_assoc, arith}
+use Rattle.std.specs.Prelude.{slice_set, Result, Ok, Err, IsOk, IfErr}
 use Rattle.turnstile.specs.declared.pass.Pass.{Pass}
 use Rattle.desk_counter.specs.declared.item.Item.{Item}
 use Rattle.desk_counter.specs.declared.item.Fixed.{Fixed}
 use Rattle.desk_counter.specs.declared.ticketed_desk.TicketedDesk.{TicketedDesk}
 use Rattle.desk_counter.specs.declared.counter.CounterOf.{CounterOf}
-use Rattle.desk_counter.specs.Counters.{IsPassOf}
 use Rattle.std.proofs.lemmas.List.{length-append}
 use Rattle.session_core.proofs.Passing.{passes_many}
 use Rattle.session_core.specs.Members.{ArePasses, IsSplit, AreSplit, IsMet, AreMet}
@@ -19,12 +17,6 @@ item_behind {X = X} first x behind all d is = ap (λ l. get_or l (length first) 
     there : (first : List X) → get_or (first ++ x ∷ behind) (length first) d ≡ x
     there [] = refl
     there (y ∷ first) = there first
-
--- what holds of all items holds of the one at a place
-pub all_at : {X : Type 0} (P : X → Type 0) (items : List X) (place : ℕ) (d : X) → place < length items → AllByRecursion P items → P (get_or items place d)
-all_at P [] place d low all = absurd (omega (arith, low))
-all_at P (p ∷ items) zero d low all = all.0
-all_at P (p ∷ items) (suc place) d low all = all_at P items place d (omega (arith, low)) all.1
 
 -- a result that refuses only where it can't is one
 pub ok_unless : {T E : Type 0} (result : Result T E) {P : E → Type 0} → IfErr result P → ((e : E) → P e → ⊥) → IsOk result

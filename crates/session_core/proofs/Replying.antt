@@ -1,15 +1,13 @@
 -- The replies to one user, put together.
-use Rattle.std.proofs.Common.{◌≡◌, ℕ, suc, ◌≤◌, ◌+◌, ◌*◌, Bool, true, false, List, [], ◌∷◌, ◌++◌, map, length, refl, sym, ap, ◌∙◌, subst, append_assoc, arith}
-use Rattle.std.specs.Prelude.{Option, Some, None, is_some}
+use Rattle.std.proofs.Common.{◌≡◌, ℕ, ◌≤◌, ◌+◌, Bool, true, false, List, [], ◌∷◌, ◌++◌, map, length, refl, sym, ap, ◌∙◌, subst, append_assoc, arith}
+use Rattle.std.specs.Prelude.{is_some}
 use Rattle.std.proofs.lemmas.List.{append-nil, length-append}
-use Rattle.cqe_base.specs.declared.user.Mark as base
 use Rattle.cqe_base.specs.Schema.{DatabaseSchema, Text}
 use Rattle.cqe_base.specs.Facts.{FactSet}
-use Rattle.cqe_base.specs.Reading.{reading}
 use Rattle.cqe_base.specs.History.{UserProfile, AnsweredQuery, History}
 use Rattle.cqe_base.specs.Censor.{IsLegal}
 use Rattle.cqe_base.specs.Run
-use Rattle.cqe_base.specs.Run.{Standing, reply, standing_open}
+use Rattle.cqe_base.specs.Run.{Standing, reply}
 use Rattle.turnstile.specs.declared.pass.Pass.{Pass}
 use Rattle.turnstile.specs.History.{Entries, IsPrefix}
 use Rattle.turnstile.specs.Passes.{seen, mine, shares, turns}
@@ -20,9 +18,9 @@ use Rattle.user_desk.specs.Standings.{standing_of}
 use Rattle.desk_counter.specs.declared.item.Item.{Item}
 use Rattle.desk_counter.specs.declared.item.Item.TheVariants.{Kept, Broke}
 use Rattle.desk_counter.specs.declared.item.Fixed.{Fixed}
-use Rattle.desk_counter.specs.Items.{history_of, kept_pair, kept_pairs, flying, has_broke}
-use Rattle.desk_counter.specs.Asks.{entry_for, NoMark, Adds, told as adds_told, broke as adds_broke, coded as adds_coded, wanted as adds_wanted, IsServed, Answers, Asked}
-use Rattle.desk_counter.proofs.Asking.{kept_more, kept_broke, flying_broke}
+use Rattle.desk_counter.specs.Items.{history_of, kept_pair, kept_pairs, has_broke}
+use Rattle.desk_counter.specs.Asks.{entry_for, NoMark, Adds, told as adds_told, broke as adds_broke, coded as adds_coded, wanted as adds_wanted, Asked}
+use Rattle.desk_counter.proofs.Asking.{flying_broke}
 use Rattle.session_core.specs.Replied.{IsCode, Replied, nothing, told, coded, append_failed, wanted}
 use Rattle.session_core.specs.Desks.{Asks, AreReplied}
 

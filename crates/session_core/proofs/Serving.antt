@@ -3,7 +3,6 @@ use Rattle.std.proofs.Common.{◌≡◌, ◌⊎◌, inl, inr, ℕ, ◌≤◌, �
 use Rattle.std.specs.Prelude.{Option, None, IfSome, codes}
 use Rattle.std.specs.List.{AllByRecursion}
 use Rattle.std.proofs.lemmas.List.{append-nil, length-append}
-use Rattle.outside.specs.Faults.{Rose}
 use Rattle.outside.specs.Streams.{AppendsPart}
 use Rattle.cqe_base.specs.Schema.{Text}
 use Rattle.cqe_base.specs.Run.{Reply}
@@ -34,11 +33,6 @@ cut_behind before middle after texts text is part = (
   record { front = texts; last = text; split = refl; part = (part.0, part.1, refl) },
   part.2 ∙ ap (λ m. m ++ take part.0 (text ++ codes "\n")) is ∙ append_assoc before (written_lines texts) (take part.0 (text ++ codes "\n")),
 )
-
--- a count that rose behind another moment rose from there
-pub rose_from : {before between after : ℕ} → before ≤ between → Rose between after → Rose before after
-rose_from low (inl rose) = inl (omega (arith, low, rose))
-rose_from low (inr full) = inr full
 
 module _ {D : Type 0} (S K : Type 0) (users : List User) (fixeds : List (Fixed D)) (bytes : List ℕ) (old : List (Pass Item (Fixed D))) (before : List ℕ) where
   -- So many lines were answered, and the session goes on.

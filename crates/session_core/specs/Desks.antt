@@ -1,5 +1,5 @@
 -- What a session does with the passes.
-use Rattle.std.specs.Prelude.{◌≡◌, ℕ, zero, suc, ◌≤◌, ◌+◌, ◌*◌, true, List, [], ◌∷◌, ◌++◌, length, Option, Some, None}
+use Rattle.std.specs.Prelude.{◌≡◌, ℕ, zero, suc, ◌≤◌, ◌+◌, ◌*◌, List, [], ◌∷◌, ◌++◌, length, Option, Some, None}
 use Rattle.cqe_base.specs.Schema.{Text}
 use Rattle.cqe_base.specs.History.{History}
 use Rattle.cqe_base.specs.Censor.{IsLegal}

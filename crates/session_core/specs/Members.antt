@@ -1,5 +1,5 @@
 -- The counters of all users, and the passes at them.
-use Rattle.std.specs.Prelude.{◌≡◌, ℕ, zero, suc, ◌≤◌, ◌*◌, ◌^◌, List, [], ◌∷◌, ◌++◌, map}
+use Rattle.std.specs.Prelude.{◌≡◌, ◌≤◌, ◌^◌, List, [], ◌∷◌, map}
 use Rattle.cqe_base.specs.declared.user.User.{User}
 use Rattle.turnstile.specs.declared.pass.Pass.{Pass}
 use Rattle.turnstile.specs.History.{IsPrefix}

@@ -1,5 +1,6 @@
 -- What a pass that isn't in a turn knows.
-use Rattle.std.proofs.Common.{◌≡◌, ℕ, ◌<◌, ltb, ◌&&◌, Bool, true, false, true≢false, ltb-true, lt-ltb, List, [], ◌∷◌, refl, sym, ap, ◌∙◌}
+use Rattle.std.proofs.Common.{◌≡◌, ℕ, ◌<◌, ltb, ◌&&◌, true, true≢false, ltb-true, lt-ltb, List, [], ◌∷◌, refl, sym, ap, ◌∙◌}
+use Rattle.std.proofs.lemmas.Bool.{and_parts}
 use Rattle.turnstile.specs.declared.view.View.{View}
 use Rattle.turnstile.specs.declared.view.Stage.{Stage}
 use Rattle.turnstile.specs.declared.view.Stage.TheVariants.{Outside, Waiting, Inside}
@@ -12,14 +13,10 @@ outside_of Outside e = refl
 outside_of (Waiting t) e = absurd (true≢false (sym e))
 outside_of (Inside t) e = absurd (true≢false (sym e))
 
-both_true : (a b : Bool) → (a && b) ≡ true → (a ≡ true) × (b ≡ true)
-both_true true b e = (refl, e)
-both_true false b e = absurd (true≢false (sym e))
-
 module _ {I F : Type 0} where
   pub idle_view : (p : Pass I F) (w : View I F) → p.badge.views ≡ w ∷ [] → (w ≡ view_of p) × (w.stage ≡ Outside) × (0 < w.shares) × (p.shares ≡ w.shares)
   idle_view p w e =
-      let t = both_true (is_outside w.stage) (ltb 0 w.shares) (sym (ap is_idle e) ∙ p.idle) in
+      let t = and_parts (is_outside w.stage) (ltb 0 w.shares) (sym (ap is_idle e) ∙ p.idle) in
       (sym (ap view_or_spent e), outside_of w.stage t.0, ltb-true 0 w.shares t.1, p.counted ∙ ap shares_in e)
 
   pub now_idle : (w : View I F) → w.stage ≡ Outside → 0 < w.shares → is_idle (w ∷ []) ≡ true

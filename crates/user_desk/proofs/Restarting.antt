@@ -8,7 +8,7 @@ use Rattle.cqe_base.specs.History.{UserProfile, AnsweredQuery, History}
 use Rattle.cqe_base.specs.Censor.{IsLegal, admitted}
 use Rattle.cqe_base.specs.Limits.{KeepsSizes}
 use Rattle.cqe_base.specs.Run
-use Rattle.cqe_base.specs.Run.{UserState, standing_open, standing_closed, standing_sealed, restart, after_event, opening_standing, entries_found}
+use Rattle.cqe_base.specs.Run.{UserState, standing_open, standing_closed, restart, after_event, opening_standing, entries_found}
 use Rattle.log_journal.specs.Opening.{header_bytes}
 use Rattle.log_journal.specs.declared.header.Header.{Header}
 use Rattle.user_desk.specs.Entries.{StandsFor, StandsWithin}

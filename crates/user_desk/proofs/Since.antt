@@ -1,7 +1,8 @@
 -- What a disk has gone through since a desk was opened on it.
-use Rattle.std.proofs.Common.{◌≡◌, ◌⊎◌, ℕ, ◌<◌, ◌≤◌, Bool, true, false, List, [], ◌∷◌, ◌++◌, length, refl, sym, ap, ◌∙◌, subst, inl, inr, ⊎_elim, arith, length-append}
+use Rattle.std.proofs.Common.{◌≡◌, ◌⊎◌, ℕ, ◌≤◌, Bool, true, false, List, [], ◌∷◌, ◌++◌, length, refl, sym, ap, ◌∙◌, subst, inl, inr, ⊎_elim, arith, length-append}
 use Rattle.std.specs.Prelude.{Option, Some, None, Result, Ok, Err, OnOk, OnErr, option_to_list}
 use Rattle.std.proofs.lemmas.List.{append-nil}
+use Rattle.outside.proofs.Rises.{rose_since}
 use Rattle.outside.specs.Disk.{Elapses}
 use Rattle.outside.specs.Faults.{Rose}
 use Rattle.cqe_base.specs.Schema.{DatabaseSchema}
@@ -19,11 +20,6 @@ use Rattle.user_desk.proofs.Recording.{IsGrowing}
 -- something isn't nothing
 pub some_not_none : {X : Type 0} {x : X} → Some x ≡ None → ⊥
 some_not_none e = cc
-
--- a count that rose later rose
-rose_since : (first before now : ℕ) → first ≤ before → Rose before now → Rose first now
-rose_since first before now le (inl more) = inl (omega (arith, le, more))
-rose_since first before now le (inr full) = inr full
 
 module _ {D : Type 0} (moment : D → ℕ) (since : D → ℕ → List ℕ → Type 0) where
   -- two stretches of time are one

@@ -1,5 +1,5 @@
 -- What is kept of a user, from the empty history and entry by entry.
-use Rattle.std.proofs.Common.{◌≡◌, ◌≤◌, ◌<◌, ℕ, ◌+◌, Bool, true, false, List, [], ◌∷◌, ◌++◌, length, map, refl, sym, ap, ◌∙◌, subst, append_assoc, arith}
+use Rattle.std.proofs.Common.{◌≡◌, ℕ, ◌+◌, Bool, true, false, List, [], ◌∷◌, ◌++◌, length, refl, sym, ap, ◌∙◌, subst, arith}
 use Rattle.std.specs.Prelude.{◌⊎◌, sum_by, Option, Ok, if◌then◌else◌}
 use Rattle.std.proofs.Common.{inl, inr}
 use Rattle.std.proofs.lemmas.Grind.{common_steps}
@@ -9,11 +9,11 @@ use Rattle.cqe_base.specs.Reading.{ReadingsAreSentences}
 use Rattle.cqe_base.specs.Run.{marked, history_full, too_large, reply_by, standing_open, is_full, is_too_large}
 use Rattle.user_log.specs.Asked.{IsAnswer}
 use Rattle.cqe_base.specs.Facts.{FactSet}
-use Rattle.cqe_base.specs.Formula.{Formula, nodes}
+use Rattle.cqe_base.specs.Formula.{Formula}
 use Rattle.cqe_base.specs.Truth.{true_in}
 use Rattle.cqe_base.specs.Entailment.{Signed}
 use Rattle.cqe_base.specs.History.{UserProfile, AnsweredQuery, History, EmptyLogIsKnown, LogsGrow, told_by, log, view_size, known}
-use Rattle.cqe_base.specs.Censor.{IsLegal, AreFindings, FindingsDecide, EmptyHistoryIsLegal, LegalHistoriesGrow, mark_by, rule}
+use Rattle.cqe_base.specs.Censor.{AreFindings, FindingsDecide, EmptyHistoryIsLegal, LegalHistoriesGrow, mark_by, rule}
 use Rattle.cqe_base.specs.Limits.{KeepsLimits, KeepsSizes, KeepsSizesAt}
 use Rattle.user_log.specs.Kept.{IsKept}
 use Rattle.user_log.specs.Nodes.{told_nodes}

@@ -1,5 +1,5 @@
 -- What an ask answers, and what it adds.
-use Rattle.std.specs.Prelude.{◌≡◌, ◌++◌, false, List, [], ◌∷◌, Ok, None, option_to_list, length}
+use Rattle.std.specs.Prelude.{◌≡◌, ◌++◌, false, Ok, None, option_to_list}
 use Rattle.cqe_base.specs.declared.user.Mark.{Mark}
 use Rattle.cqe_base.specs.Schema.{DatabaseSchema, Text}
 use Rattle.cqe_base.specs.Facts.{FactSet}

@@ -1,5 +1,5 @@
 -- What is kept of a user between his asks.
-use Rattle.std.specs.Prelude.{◌≡◌, ℕ, ◌+◌, List, map, sum_by}
+use Rattle.std.specs.Prelude.{◌≡◌, ℕ, List, sum_by}
 use Rattle.cqe_base.specs.Schema.{DatabaseSchema}
 use Rattle.cqe_base.specs.Facts.{FactSet}
 use Rattle.cqe_base.specs.Entailment.{Signed}

@@ -1,6 +1,7 @@
 -- What a worker did so far and what it does then.
-use Rattle.std.proofs.Common.{◌≡◌, ℕ, ◌+◌, ◌<◌, ◌≤◌, cond, Bool, lt-ltb, List, [], ◌∷◌, ◌++◌, length, sum_by, refl, sym, ap, ◌∙◌, arith, length-append, append_assoc, append-nil, inl, inr, Option, Some}
+use Rattle.std.proofs.Common.{◌≡◌, ℕ, ◌+◌, ◌<◌, cond, Bool, lt-ltb, List, [], ◌∷◌, ◌++◌, length, sum_by, refl, sym, ap, ◌∙◌, arith, length-append, append_assoc, append-nil, Option, Some}
 use Rattle.std.specs.List.{AllByRecursion}
+use Rattle.outside.proofs.Rises.{rose_since}
 use Rattle.outside.specs.Faults.{Rose}
 use Rattle.outside.specs.Visits.{Visit}
 use Rattle.worker_pool.specs.declared.worker.Worker.{Worker}
@@ -19,11 +20,6 @@ module _ {X : Type 0} where
   all_still : (P Q : X → Type 0) (xs : List X) → ((x : X) → P x → Q x) → AllByRecursion P xs → AllByRecursion Q xs
   all_still P Q [] still all = tt
   all_still P Q (x ∷ xs) still all = (still x all.0, all_still P Q xs still all.1)
-
--- a count that rose then has risen since before
-rose_later : (a b c : ℕ) → a ≤ b → Rose b c → Rose a c
-rose_later a b c le (inl rose) = inl (omega arith)
-rose_later a b c le (inr full) = inr full
 
 -- a number below the limit counts once more
 pub below_one_more : (limit n : ℕ) (numbers : List ℕ) → n < limit → sum_by (is_below limit) (numbers ++ n ∷ []) ≡ sum_by (is_below limit) numbers + 1
@@ -92,6 +88,6 @@ module _ {J O : Type 0} (door_told numbers_told : Type 0) (given_of left_of ends
         has_run = runs_ended drawn a c (Some end) (runs_more keeps_more drawn drawn [] a b c (sym (append-nil drawn)) first second);
         ended = refl;
         at_limit = λ e. absurd (no_limit e);
-        at_end = λ e. (let t = at_end e in (rose_later (ends_of a.door) (ends_of b.door) (ends_of c.door) ends t.0, t.1));
-        at_failure = λ e. rose_later (faults_of a.door) (faults_of b.door) (faults_of c.door) faults (at_failure e);
+        at_end = λ e. (let t = at_end e in (rose_since (ends_of a.door) (ends_of b.door) (ends_of c.door) ends t.0, t.1));
+        at_failure = λ e. rose_since (faults_of a.door) (faults_of b.door) (faults_of c.door) faults (at_failure e);
       }

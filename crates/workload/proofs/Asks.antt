@@ -1,23 +1,23 @@
 -- The script of a workload reads as its asks.
-use Rattle.std.proofs.Common.{◌≡◌, ◌∙◌, sym, ap, subst, refl, ℕ, zero, suc, ◌+◌, ◌*◌, ◌%◌, ◌/◌, ◌<◌, ◌≤◌, Bool, true, false, not, ◌&&◌, ◌||◌, ◌==◌, List, [], ◌∷◌, ◌++◌, map, length, take, drop, codes, decimal, nat_lt, nat_le, Option, Some, None, Result, Ok, Err, if◌then◌else◌, arith, length-append, append_assoc}
+use Rattle.std.proofs.Common.{◌≡◌, ◌∙◌, sym, ap, refl, ℕ, zero, suc, ◌+◌, ◌*◌, ◌%◌, ◌/◌, ◌<◌, ◌≤◌, Bool, true, false, not, ◌&&◌, ◌||◌, ◌==◌, List, [], ◌∷◌, ◌++◌, map, length, take, drop, codes, decimal, nat_lt, Some, None, Ok, if◌then◌else◌, arith, length-append, append_assoc}
 use Rattle.std.specs.Prelude.{cond}
 use Rattle.std.specs.Fmt.{digits}
 use Rattle.std.specs.List.{list_all, list_any, flat_map, range_with_len, position_or_len, before_first, after_first}
 use Rattle.std.proofs.Math.Nat.{mod-lt}
-use Rattle.std.proofs.lemmas.Bool.{and_parts, false≢true}
+use Rattle.std.proofs.lemmas.Bool.{and_parts}
 use Rattle.std.proofs.lemmas.Bool.Decides.{nat_tests}
-use Rattle.std.proofs.lemmas.Fmt.{length-decimal-le}
 use Rattle.std.proofs.lemmas.List.{map-append}
 use Rattle.std.proofs.lemmas.List.Folds.{list_all-append}
-use Rattle.cqe_base.specs.Schema.{Text, is_schema_name}
+use Rattle.cqe_base.specs.Schema.{Text}
 use Rattle.cqe_base.specs.Tokens.{is_blank}
-use Rattle.cqe_base.specs.Lines.{text_lines, without_return, TextLine}
+use Rattle.cqe_base.specs.Lines.{text_lines, without_return}
 use Rattle.line_protocol.specs.Words.{is_printable}
+use Rattle.line_protocol.proofs.Digits.{byte_digits}
 use Rattle.cqe_base.specs.declared.text.ScriptKind.TheVariants.{TooLong, TooMany}
 use Rattle.script_lines.specs.Scripts.{script_after, then_lines, unless, line_refusal}
 use Rattle.batch_engine.specs.BatchLines.{BatchItem, asked, batch_line, batch_of, with_line, with_said, spoken, worded, named_ask, ask_of, asks, session_number, ask_text}
 use Rattle.workload.specs.Draws.{state_after, drawn}
-use Rattle.workload.specs.Questions.{illness_text, question_text, question_of, question_at, ask_line, script_lines}
+use Rattle.workload.specs.Questions.{question_text, question_of, question_at, ask_line, script_lines}
 use Rattle.workload.specs.Policies.{user_name}
 use Rattle.workload.specs.Scripts.{workload_ask, workload_script}
 use Rattle.workload.specs.declared.question.Question.{Question}
@@ -136,11 +136,8 @@ printable_question (Either person other disease) (a, b, c) =
     (with_number other (codes ", d" ++ (decimal disease ++ codes ")")) (omega (arith, b)) (with_number disease (codes ")") (omega (arith, c)) refl)))
 printable_question (HasNot person disease) (a, c) = with_number person (codes ", d" ++ (decimal disease ++ codes ")")) (omega (arith, a)) (with_number disease (codes ")") (omega (arith, c)) refl)
 
-few_digits : (n : ℕ) → n < 256 → length (decimal n) ≤ 3
-few_digits n less = length-decimal-le 3 n (omega (arith, less)) (omega arith) (omega (arith, less))
-
 longer : (n k : ℕ) (text : Text) → n < 256 → length text ≤ k → length (decimal n ++ text) ≤ 3 + k
-longer n k text less short = let whole = length-append (decimal n) text in let few = few_digits n less in omega (arith, whole, few, short)
+longer n k text less short = let whole = length-append (decimal n) text in let few = byte_digits n less in omega (arith, whole, few, short)
 
 short_question : (question : Question) → IsAbout question → length (question_text question) ≤ 100
 short_question (Drug person) a = let one = longer person 1 (codes ")") (omega (arith, a)) (omega arith) in omega (arith, one)

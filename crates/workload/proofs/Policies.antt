@@ -1,7 +1,7 @@
 -- The tree of a workload's policy means the policy.
-use Rattle.std.proofs.Common.{◌≡◌, ◌∙◌, sym, ap, subst, refl, ℕ, zero, suc, ◌+◌, ◌*◌, ◌<◌, ◌≤◌, ◌^◌, ◌%◌, ◌/◌, ◌==◌, Bool, true, false, ◌&&◌, ◌||◌, List, [], ◌∷◌, ◌++◌, map, length, drop, codes, decimal, nat_le, nat_lt, bytes_eq, Option, Some, None, Result, Ok, Err, if◌then◌else◌, IsUtf8, arith, length-append}
+use Rattle.std.proofs.Common.{◌≡◌, ◌∙◌, sym, ap, subst, refl, ℕ, zero, suc, ◌+◌, ◌*◌, ◌<◌, ◌≤◌, ◌%◌, ◌/◌, ◌==◌, Bool, true, false, ◌&&◌, ◌||◌, List, [], ◌∷◌, ◌++◌, map, length, drop, codes, decimal, nat_le, nat_lt, bytes_eq, Some, None, Result, Ok, Err, if◌then◌else◌, IsUtf8, arith, length-append}
 use Rattle.std.specs.Fmt.{digits}
-use Rattle.std.specs.List.{range_with_len, list_any, list_all}
+use Rattle.std.specs.List.{range_with_len, list_all}
 use Rattle.std.proofs.Math.Nat.{mod-lt}
 use Rattle.std.proofs.lemmas.Bool.{false_from_ne_true}
 use Rattle.std.proofs.lemmas.Bool.Decides.{nat_tests}
@@ -24,7 +24,7 @@ use Rattle.cqe_base.specs.History.{view_size, log, known, told}
 use Rattle.sentence_text.specs.Laws.{CanonicalFormsRead}
 use Rattle.policy_files.specs.declared.error.PolicyError.TheVariants.{NotToml, WrongKind, Limit, DuplicateUser}
 use Rattle.policy_files.specs.Tree.{listed, is_table, tables_in, declarations}
-use Rattle.policy_files.specs.Keys.{Step, ◌>>=◌, key_place, text_place, of_kind, required, within}
+use Rattle.policy_files.specs.Keys.{◌>>=◌, key_place, text_place, of_kind, required, within}
 use Rattle.policy_files.specs.Policies.{NamedUser}
 use Rattle.policy_files.specs.Policy.{policy_of, policy_in, tree_of, schema_in}
 use Rattle.policy_files.specs.Users.{user_of, users_behind, sentence_of, sentences_of, names_of, small_sentence, name_of, method_of, with_small_view, user_place}

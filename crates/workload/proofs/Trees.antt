@@ -1,18 +1,16 @@
 -- Tables beside the trees that they stand for.
-use Rattle.std.proofs.Common.{◌≡◌, ◌∙◌, sym, ap, refl, ℕ, zero, suc, ◌+◌, ◌*◌, ◌≤◌, max, List, [], ◌∷◌, ◌++◌, map, codes, decimal, String, string_bytes, Global, Ordering, Less, Equal, Greater, nat_cmp, arith}
+use Rattle.std.proofs.Common.{◌≡◌, ◌∙◌, sym, ap, refl, ℕ, ◌+◌, ◌*◌, ◌≤◌, max, List, [], ◌∷◌, ◌++◌, map, codes, decimal, String, string_bytes, Global, Ordering, Less, Equal, Greater, arith}
 use Rattle.std.specs.Ordering.{match_ordering}
-use Rattle.std.specs.Cmp.Lexicographic.{slice_cmp}
 use Rattle.std.specs.BTreeMap.{insert_entry}
 use Rattle.std.specs.String.{string_cmp}
 use Rattle.std.specs.List.{range_with_len}
 use Rattle.std.proofs.lemmas.List.{map-append}
-use Rattle.toml.specs.Data.{Data, string, integer, array, table, Items, no_items, item, Members, no_members, member, depth, items_depth, members_depth}
+use Rattle.toml.specs.Data.{string, table, member, items_depth, members_depth}
 use Rattle.toml.specs.View.{view, items_of, members_view}
 use Rattle.toml.specs.declared.value.Value.{Value, String as StringValue}
 use Rattle.toml.proofs.Views.{Entry, view-String}
 use Rattle.cqe_base.specs.Schema.{Text}
 use Rattle.workload.specs.Stated.{numbered}
-use Rattle.workload.specs.Policies.{user_name, secret_person}
 use Rattle.workload.specs.Trees.{user_members, user_tree, root_members, user_trees, insert_member}
 use Rattle.workload.specs.Draws.{drawn}
 use Rattle.workload.proofs.Drawing.{range_to}

@@ -4,14 +4,13 @@ use Rattle.std.specs.Fmt.{digits}
 use Rattle.std.specs.List.{list_all, flat_map, range_with_len, AllByRecursion}
 use Rattle.std.proofs.lemmas.List.FromFn.{length-range_with_len, length-map-range_with_len}
 use Rattle.std.specs.FinSet as set
-use Rattle.std.specs.Cmp.{IsTotalOrder}
-use Rattle.std.proofs.lemmas.Cmp.{then_total, on_total, nat_cmp_total, nat_list_cmp_total}
 use Rattle.std.proofs.lemmas.Str.{is_utf8-from_IsUtf8}
 use Rattle.std.proofs.lemmas.Bool.Decides.{nat_tests}
 use Rattle.cqe_base.specs.declared.world.Fact.{Fact}
 use Rattle.cqe_base.specs.Facts.{FactSet, fact_cmp}
 use Rattle.cqe_base.specs.FactText.{stated_fact}
 use Rattle.cqe_base.specs.Lines.{TextLine, text_lines, is_too_long}
+use Rattle.cqe_base.proofs.Worlds.{fact_cmp_total}
 use Rattle.sentence_text.specs.Laws.{CanonicalFormsRead}
 use Rattle.policy_files.specs.Facts.{says_nothing, with_fact, with_line, with_lines, facts_of, ◌>>=◌}
 use Rattle.policy_files.specs.declared.error.FactsError.TheVariants.{Limit, NotUtf8}
@@ -21,9 +20,6 @@ use Rattle.workload.specs.declared.statement.Statement.{Statement}
 use Rattle.workload.specs.declared.statement.Statement.TheVariants.{Drug, Has}
 use Rattle.workload.proofs.Stating.{IsWithin, states}
 use Rattle.workload.proofs.Lining.{all_at, first_line, no_return, within}
-
-fact_order : IsTotalOrder fact_cmp
-fact_order = then_total (on_total (λ f. f.relation) nat_cmp_total) (on_total (λ f. f.columns) nat_list_cmp_total)
 
 two_digits : list_all (λ n. nat_le (length (decimal n)) 2) (range_with_len 0 40) ≡ true
 unfolding digits
@@ -66,7 +62,7 @@ added : (n : ℕ) (world : FactSet) (fact : Fact) → set.len world < 100000 →
 added n world fact less = ap (λ (t : Bool). if t then Err (Limit n) else Ok (set.insert world fact)) (room (set.len world) (not (set.contains world fact)) less)
 
 one_more : (world : FactSet) (fact : Fact) → set.len (set.insert world fact) ≤ set.len world + 1
-one_more world fact = subst (λ k. k ≤ set.len world + 1) (sym (set.len-insert fact_order world fact)) (by_test (set.contains world fact) (set.len world))
+one_more world fact = subst (λ k. k ≤ set.len world + 1) (sym (set.len-insert fact_cmp_total world fact)) (by_test (set.contains world fact) (set.len world))
   where
     by_test : (t : Bool) (k : ℕ) → cond t k (k + 1) ≤ k + 1
     by_test true k = omega arith

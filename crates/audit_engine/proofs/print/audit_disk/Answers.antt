@@ -1,9 +1,8 @@
 use Rattle.std.proofs.Common.{string_bytes, sym, subst}
 use Rattle.cqe_base.specs.History.{profile_of}
 use Rattle.log_journal.specs.Opening.{header_bytes}
-use Rattle.user_desk.specs.Desks.{desk_standing, desk_history, desk_disk}
+use Rattle.user_desk.specs.Desks.{desk_standing, desk_history}
 use Rattle.user_desk.specs.Causes.{IsStanding}
-use Rattle.audit_engine.specs.Printed.{IsPrinted}
 use Rattle.audit_engine.proofs.Telling.{ends_so}
 use Rattle.audit_engine.proofs.print.audit_disk.Goals as goal
 

@@ -3,9 +3,10 @@ use Rattle.std.proofs.lemmas.List.{get_or_read, take_all}
 use Rattle.cqe_base.specs.Literal.{Literal, HasNoRepeat}
 use Rattle.cqe_base.specs.Machine.{State, start}
 use Rattle.cqe_base.specs.MachineStates.{IsReached}
+use Rattle.cqe_base.proofs.NoRepeats.{no_repeat_at}
 use Rattle.clause_solver.specs.Watching.{IsWatched}
 use Rattle.clause_solver.specs.IndexedStates.{plain_of}
-use Rattle.clause_solver.proofs.Learnt.{given_watched, no_repeat_at}
+use Rattle.clause_solver.proofs.Learnt.{given_watched}
 use Rattle.clause_solver.proofs.run.begin.Goals as goal
 
 pub enter-requires-clause-watched : goal.enter-requires-clause-watched

@@ -1,9 +1,11 @@
-use Rattle.std.proofs.Common.{◌<◌, length, subst, ◌∙◌, ap, string_bytes}
+use Rattle.std.proofs.Common.{◌<◌, inr, length, subst, ◌∙◌, ap, string_bytes}
 use Rattle.std.specs.Prelude.{position}
+use Rattle.outside.proofs.Rises.{rose_since}
 use Rattle.log_journal.specs.Opening.{header_bytes}
 use Rattle.desk_crew.specs.Shelved.{journals_on}
+use Rattle.policy_files.specs.Memory.{named_user_of, policy_value_of}
 use Rattle.cqe_top.specs.Files.{files_say}
-use Rattle.cqe_top.proofs.Auditing.{is_named, audit_over, nobody_over, named_at, looked_over, not_usage, not_read, not_links, write_fault, shelf_fault, rose_longer}
+use Rattle.cqe_top.proofs.Auditing.{is_named, audit_over, nobody_over, one_named, named_at, looked_over, not_usage, not_read, not_links, write_fault, shelf_fault}
 use Rattle.cqe_top.proofs.audit.audit.Goals as goal
 
 pub returns-clause-reaches : goal.returns-clause-reaches
@@ -22,13 +24,18 @@ returns-clause-reaches g c = λ told sink_told.
 
 pub returns-clause-looks : goal.returns-clause-looks
 returns-clause-looks g c = λ told.
-    let policy = c.in-Ok.inputs.policy in
+    let read = c.in-Ok in
+    let policy = read.inputs.policy in
     let name = c.args.name.now in
     let user = c.index-user.result.now in
     let found = c.in-Some.ensures.place ∙ ap (position (is_named name)) c.as_slice.ensures.value in
-    looked_over g.F.D.Disk.reads g.F.D.Disk.image (g.F.Shelf.disk c.args.shelf.now) (g.F.Shelf.disk c.read_files.new.shelf) (g.F.Shelf.disk c.run_audit-end.new.shelf) c.in-Ok.ensures.disks
-    c.args.files.now.journals.now name (string_bytes user.name) (named_at name policy.users.items c.in-Some.place user found (subst (λ users. c.in-Some.place < length users) c.as_slice.ensures.value c.in-Some.ensures.within) c.index-user.ensures)
-    c.run_audit-end.ensures.disks (c.run_audit-end.ensures.bytes told) (c.run_audit-end.ensures.images told)
+    let within = subst (λ users. c.in-Some.place < length users) c.as_slice.ensures.value c.in-Some.ensures.within in
+    inr (
+      (policy_value_of policy, read.inputs.world, header_bytes read.inputs.header, read.ensures.read told, (named_user_of user, one_named name policy.users.items c.in-Some.place user user found c.index-user.ensures within)),
+      looked_over g.F.D.Disk.reads g.F.D.Disk.image (g.F.Shelf.disk c.args.shelf.now) (g.F.Shelf.disk c.read_files.new.shelf) (g.F.Shelf.disk c.run_audit-end.new.shelf) read.ensures.disks
+          c.args.files.now.journals.now name (string_bytes user.name) (named_at name policy.users.items c.in-Some.place user found within c.index-user.ensures)
+          c.run_audit-end.ensures.disks (c.run_audit-end.ensures.bytes told) (c.run_audit-end.ensures.images told),
+    )
 
 pub returns-clause-nobody : goal.returns-clause-nobody
 returns-clause-nobody g c = λ is. absurd (not_usage c.in-Ok.inputs.policy.users.items c.in-Some.place c.run_audit-end.result c.end_of_audit.result c.end_of_audit.ensures is)
@@ -44,7 +51,7 @@ returns-clause-write_cause g c = λ is. c.run_audit-end.ensures.write_cause (wri
 
 pub returns-clause-shelf_cause : goal.returns-clause-shelf_cause
 returns-clause-shelf_cause g c = λ is.
-    rose_longer (g.F.Shelf.faults c.args.shelf.now) (g.F.Shelf.faults c.read_files.new.shelf) (g.F.Shelf.faults c.run_audit-end.new.shelf) c.in-Ok.ensures.later
+    rose_since (g.F.Shelf.faults c.args.shelf.now) (g.F.Shelf.faults c.read_files.new.shelf) (g.F.Shelf.faults c.run_audit-end.new.shelf) c.in-Ok.ensures.later
     (c.run_audit-end.ensures.shelf_cause (shelf_fault c.in-Ok.inputs.policy.users.items c.in-Some.place c.run_audit-end.result c.end_of_audit.result c.end_of_audit.ensures is))
 
 pub returns-in_default-clause-reaches : goal.returns-in_default-clause-reaches

@@ -4,7 +4,8 @@ use Rattle.desk_crew.specs.Shelved.{journals_on}
 use Rattle.command_words.specs.Readings.{reading_of, reading_in, names_of_files, runs_selfrun, runs_serve}
 use Rattle.cqe_top.specs.Files.{files_say}
 use Rattle.cqe_top.specs.Reaches.{TouchesJournals}
-use Rattle.cqe_top.specs.Audited.{AuditReaches}
+use Rattle.cqe_top.specs.Serves.{ListensOver}
+use Rattle.cqe_top.specs.Audited.{AuditReaches, LooksFor}
 use Rattle.cqe_top.proofs.Numbers.{kept}
 use Rattle.cqe_top.proofs.Saying.{by_batch, by_audit, by_serve}
 use Rattle.cqe_top.proofs.command.run.Goals as goal
@@ -75,6 +76,21 @@ returns-in-Ok-Some-Serve-clause-serve_touches g c = λ told policy facts journal
     by_serve (reading_of (map string_bytes c.args.words.now)) files.policy.now files.facts.now files.journals.now policy facts journals server.listen.now address server.workers server.sessions workers sessions
     (λ p f j a n m. TouchesJournals j (files_say (g.F.Shelf.file c.args.shelf.now p) (g.F.Shelf.file c.args.shelf.now f)) (g.F.Shelf.disk c.args.shelf.now) (g.F.Shelf.disk c.serve.new.shelf))
     (ap (option_map reading_in) (sym (c.in-Ok-Some-Serve.field-0-is ∙ ap Some c.in-Ok-Some-Serve.field-0-0-is)) ∙ c.in-Ok-Some-Serve.ensures) is (c.serve.ensures.touches told)
+
+pub returns-in-Ok-Some-Serve-clause-serve_listens : goal.returns-in-Ok-Some-Serve-clause-serve_listens
+returns-in-Ok-Some-Serve-clause-serve_listens g c = λ told policy facts journals address workers sessions is.
+    let server = c.in-Ok-Some-Serve.words in
+    let files = server.files in
+    by_serve (reading_of (map string_bytes c.args.words.now)) files.policy.now files.facts.now files.journals.now policy facts journals server.listen.now address server.workers server.sessions workers sessions
+    (λ p f j a n m. ListensOver g.F.Shelf.told (files_say (g.F.Shelf.file c.args.shelf.now p) (g.F.Shelf.file c.args.shelf.now f)) a n (g.L.Links.listened c.args.links.now) (g.L.Links.listened c.serve.new.links))
+    (ap (option_map reading_in) (sym (c.in-Ok-Some-Serve.field-0-is ∙ ap Some c.in-Ok-Some-Serve.field-0-0-is)) ∙ c.in-Ok-Some-Serve.ensures) is (c.serve.ensures.listens told)
+
+pub returns-in-Ok-Some-Audit-clause-audit_looks : goal.returns-in-Ok-Some-Audit-clause-audit_looks
+returns-in-Ok-Some-Audit-clause-audit_looks g c = λ told policy facts journals user json is.
+    let audit = c.in-Ok-Some-Audit.words in
+    by_audit (reading_of (map string_bytes c.args.words.now)) audit.files.policy.now audit.files.facts.now audit.files.journals.now policy facts journals audit.user.now user audit.json json
+    (λ p f j u s. LooksFor g.F.D.Disk.reads g.F.D.Disk.image j u (files_say (g.F.Shelf.file c.args.shelf.now p) (g.F.Shelf.file c.args.shelf.now f)) (g.F.Shelf.disk c.args.shelf.now) (g.F.Shelf.disk c.audit.new.shelf))
+    (ap (option_map reading_in) (sym (c.in-Ok-Some-Audit.field-0-is ∙ ap Some c.in-Ok-Some-Audit.field-0-0-is)) ∙ c.in-Ok-Some-Audit.ensures) is (c.audit.ensures.looks told)
 
 pub returns-in-Ok-Some-Audit-clause-as_audit : goal.returns-in-Ok-Some-Audit-clause-as_audit
 returns-in-Ok-Some-Audit-clause-as_audit g c = λ told sink_told policy facts journals user json is.

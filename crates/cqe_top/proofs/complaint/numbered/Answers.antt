@@ -1,14 +1,14 @@
 use Rattle.std.proofs.Common.{◌≤◌, length, ap, arith, length-append}
 use Rattle.std.specs.Prelude.{decimal}
-use Rattle.cqe_top.proofs.Digits.{word_length}
 use Rattle.cqe_top.proofs.complaint.numbered.Goals as goal
+use Rattle.line_protocol.proofs.Digits.{word_digits}
 
 pub push_decimal-requires : goal.push_decimal-requires
 push_decimal-requires c =
-    let digits : length (decimal c.args.number) ≤ 10 = word_length c.args.number (omega arith) in
+    let digits : length (decimal c.args.number) ≤ 10 = word_digits c.args.number (omega arith) in
     omega (arith, digits, ap length c.new-line.ensures, c.requires)
 
 pub returns-clause-short : goal.returns-clause-short
 returns-clause-short c =
-    let digits : length (decimal c.args.number) ≤ 10 = word_length c.args.number (omega arith) in
+    let digits : length (decimal c.args.number) ≤ 10 = word_digits c.args.number (omega arith) in
     omega (arith, digits, ap length c.new-line.ensures, c.requires, ap length c.push_decimal.ensures, length-append c.new-line.result (decimal c.args.number))

@@ -8,7 +8,7 @@ use Rattle.cqe_top.specs.Serves.{ServeReaches}
 use Rattle.policy_files.specs.Memory.{policy_value_of}
 use Rattle.cqe_top.proofs.Users.{names_are, batch_names_are}
 use Rattle.cqe_top.proofs.Reaching.{touches_over}
-use Rattle.cqe_top.proofs.Serving.{serve_over}
+use Rattle.cqe_top.proofs.Serving.{serve_over, listens_over}
 use Rattle.cqe_top.proofs.serve.serve.Goals as goal
 
 pub run_serve-end-requires-clause-names : goal.run_serve-end-requires-clause-names
@@ -29,6 +29,14 @@ returns-clause-reaches g c = λ told links_told.
     (files_say (g.F.Shelf.file c.args.shelf.now files.policy.now) (g.F.Shelf.file c.args.shelf.now files.facts.now))
     read.inputs.policy read.inputs.world (header_bytes read.inputs.header) c.as_slice.result.now c.run_serve-end.result
     read.ensures.disks read.ensures.counts (read.ensures.read told) c.as_slice.ensures.value (c.run_serve-end.ensures.ends told links_told))
+
+pub returns-clause-listens : goal.returns-clause-listens
+returns-clause-listens g c = λ told.
+    let words = c.args.words.now in
+    let read = c.in-Ok in
+    listens_over g.F.Shelf.told (files_say (g.F.Shelf.file c.args.shelf.now words.files.policy.now) (g.F.Shelf.file c.args.shelf.now words.files.facts.now))
+    (policy_value_of read.inputs.policy) read.inputs.world (header_bytes read.inputs.header) words.listen.now words.workers (g.L.Links.listened c.args.links.now) (g.L.Links.listened c.run_serve-end.new.links)
+    read.ensures.read (c.run_serve-end.ensures.listens told)
 
 pub returns-clause-touches : goal.returns-clause-touches
 returns-clause-touches g c = λ told.

@@ -2,10 +2,11 @@ use Rattle.std.proofs.Common.{◌≡◌, sym, subst, ap, ◌∙◌}
 use Rattle.std.specs.Prelude.{Some, None, option_map, position}
 use Rattle.std.proofs.lemmas.List.Quantifiers.{position-Some}
 use Rattle.cqe_base.specs.History.{profile_of}
+use Rattle.cqe_base.proofs.Lists.{all_at}
 use Rattle.user_log.specs.Replies.{reply_of}
 use Rattle.desk_crew.specs.Crew.{seat_user, seat_kept, is_named, Tells}
 use Rattle.desk_crew.specs.Seats.{DeskSeat}
-use Rattle.desk_crew.proofs.Asking.{told_nobody, told_seat, all_at}
+use Rattle.desk_crew.proofs.Asking.{told_nobody, told_seat}
 use Rattle.desk_crew.proofs.crew.answer.Goals as goal
 
 pub returns-in_err-place : goal.returns-in_err-place

@@ -1,8 +1,9 @@
 use Rattle.std.proofs.Common.{arith}
 use Rattle.std.proofs.lemmas.Result.{IfErr-weaker}
+use Rattle.outside.proofs.Taken.{taken_reads}
+use Rattle.outside.specs.Shelf.{bytes_on}
 use Rattle.log_journal.specs.Opening.{header_bytes}
-use Rattle.init_engine.specs.Disks.{bytes_held}
-use Rattle.init_engine.proofs.Reasons.{taken_bytes, reason_of, none_rose}
+use Rattle.init_engine.proofs.Reasons.{reason_of, none_rose}
 use Rattle.init_engine.proofs.visit.serve_disk.Goals as goal
 
 pub returns-in-Ok-clause-reason : goal.returns-in-Ok-clause-reason
@@ -14,7 +15,7 @@ returns-in-Ok-clause-reason g c =
     let count = c.in-Ok.ensures.count in
     let back = c.give_disk.ensures.count in
     IfErr-weaker c.make-disk.result.1 _ _
-    (λ why. reason_of disk.told shelf.told (header_bytes c.args.header.now) (disk.reads c.in-Ok.disk) (bytes_held disk.reads held)
+    (λ why. reason_of disk.told shelf.told (header_bytes c.args.header.now) (disk.reads c.in-Ok.disk) (bytes_on disk.reads held)
     (disk.faults c.in-Ok.disk) (shelf.disk_faults c.args.shelf.now journal) (disk.faults c.make-disk.result.0) (shelf.disk_faults c.give_disk.new.self journal)
-    g.met.F.Shelf.tells_disks (λ told. taken_bytes disk.reads disk.image held c.in-Ok.disk (c.in-Ok.ensures.taken told)) (omega (arith, count)) (omega (arith, back))
+    g.met.F.Shelf.tells_disks (λ told. taken_reads disk.reads disk.image held c.in-Ok.disk (c.in-Ok.ensures.taken told)) (omega (arith, count)) (omega (arith, back))
     0 (shelf.faults c.args.shelf.now) 0 (shelf.faults c.give_disk.new.self) none_rose why) c.make-disk.ensures.reason

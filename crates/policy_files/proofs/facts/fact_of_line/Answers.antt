@@ -1,4 +1,4 @@
-use Rattle.std.proofs.Common.{◌≡◌, length, sym, ap, ◌∙◌, arith, subst}
+use Rattle.std.proofs.Common.{length, sym, ap, arith, subst}
 use Rattle.std.specs.Prelude.{IsUtf8}
 use Rattle.policy_files.specs.LinesRead.{line_of}
 use Rattle.policy_files.proofs.WorldsKept.{no_fact}

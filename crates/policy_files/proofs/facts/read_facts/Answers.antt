@@ -1,4 +1,4 @@
-use Rattle.std.proofs.Common.{sym, ◌∙◌, inl, inr}
+use Rattle.std.proofs.Common.{◌∙◌, inr}
 use Rattle.policy_files.proofs.WorldsKept.{file_of_utf8, file_of_others}
 use Rattle.policy_files.proofs.facts.read_facts.Goals as goal
 

@@ -1,4 +1,4 @@
-use Rattle.std.proofs.Common.{◌≡◌, [], refl, ap, ◌∙◌}
+use Rattle.std.proofs.Common.{refl, ap}
 use Rattle.std.specs.Prelude.{Some, None}
 use Rattle.user_log.specs.Replies.{reply_of}
 use Rattle.line_protocol.specs.Replies.{text_of}

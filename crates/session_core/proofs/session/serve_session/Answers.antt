@@ -1,4 +1,5 @@
-use Rattle.std.proofs.Common.{◌≡◌, ◌≤◌, ◌<◌, ◌++◌, length, refl, sym, ap, subst, ◌∙◌, arith}
+use Rattle.std.proofs.Common.{◌++◌, refl, sym, ap, subst, ◌∙◌, arith}
+use Rattle.outside.proofs.Rises.{rose_since}
 use Rattle.line_protocol.specs.Buffer.{unread}
 use Rattle.line_protocol.specs.Replies.{text_of}
 use Rattle.line_protocol.specs.Requests.{request_of}
@@ -7,7 +8,7 @@ use Rattle.session_core.specs.Members.{users_of, fixeds_of, passes_in}
 use Rattle.session_core.specs.Asked.{Replies, IsShort}
 use Rattle.session_core.proofs.Talking.{short_request}
 use Rattle.session_core.proofs.Passing.{passes_kept}
-use Rattle.session_core.proofs.Serving.{nothing_yet, turns_left, ends_input, ends_read, ends_many, ends_long, goes_on_more, ends_quit, ends_cut, rose_from}
+use Rattle.session_core.proofs.Serving.{nothing_yet, turns_left, ends_input, ends_read, ends_many, ends_long, goes_on_more, ends_quit, ends_cut}
 use Rattle.session_core.proofs.session.serve_session.Goals as goal
 
 pub loop-init : goal.loop-init
@@ -33,13 +34,13 @@ returns-in-TooLong-clause-session g c =
     (λ s. (c.in-TooLong.ensures.reads s).0) c.end_too_long.result long.ends long.whole long.part
 
 pub returns-in-TooLong-clause-write_cause : goal.returns-in-TooLong-clause-write_cause
-returns-in-TooLong-clause-write_cause g c = λ is. rose_from c.loop.invariant.sink_later (c.end_too_long.ensures.cause is)
+returns-in-TooLong-clause-write_cause g c = λ is. rose_since _ _ _ c.loop.invariant.sink_later (c.end_too_long.ensures.cause is)
 
 pub returns-in-ReadFault-clause-session : goal.returns-in-ReadFault-clause-session
 returns-in-ReadFault-clause-session g c = ends_read _ _ _ _ _ _ _ _ _ _ _ _ c.loop.invariant.so_far (omega (arith, c.loop-test.true))
 
 pub returns-in-ReadFault-clause-read_cause : goal.returns-in-ReadFault-clause-read_cause
-returns-in-ReadFault-clause-read_cause g c = λ is. rose_from c.loop.invariant.source_later (c.in-ReadFault.ensures.cause refl)
+returns-in-ReadFault-clause-read_cause g c = λ is. rose_since _ _ _ c.loop.invariant.source_later (c.in-ReadFault.ensures.cause refl)
 
 pub reply_to-next-requires-clause-turns : goal.reply_to-next-requires-clause-turns
 reply_to-next-requires-clause-turns g c = turns_left _ _ _ _ _ _ _ _ _ _ _ _ c.loop.invariant.so_far (omega (arith, c.loop-test.true)) c.requires.turns
@@ -56,7 +57,7 @@ returns-in-Err-clause-session g c =
     (subst (λ r. Replies (users_of counters) (fixeds_of counters) c.loop.who r c.reply_to-next.result.0 (text_of c.reply_to-next.result.1) (passes_in c.loop.passes) (passes_in c.reply_to-next.new.passes)) same c.reply_to-next.ensures.replies) c.in-Err.ensures.part
 
 pub returns-in-Err-clause-write_cause : goal.returns-in-Err-clause-write_cause
-returns-in-Err-clause-write_cause g c = λ is. rose_from c.loop.invariant.sink_later (c.in-Err.ensures.cause.failed refl)
+returns-in-Err-clause-write_cause g c = λ is. rose_since _ _ _ c.loop.invariant.sink_later (c.in-Err.ensures.cause.failed refl)
 
 pub returns-then-is_quit-clause-session : goal.returns-then-is_quit-clause-session
 returns-then-is_quit-clause-session g c =

@@ -1,8 +1,7 @@
-use Rattle.std.proofs.Common.{ℕ, List, map, refl, sym, subst, ◌∙◌}
+use Rattle.std.proofs.Common.{ℕ, List, map, sym, subst, ◌∙◌}
 use Rattle.cqe_base.specs.History.{profile_of}
 use Rattle.log_journal.specs.Opening.{header_bytes, recorded, IsRefused}
 use Rattle.log_journal.specs.Records.{IsJournal}
-use Rattle.log_journal.specs.Journal.{disk_of}
 use Rattle.user_log.specs.UserLogs.{kept_history}
 use Rattle.user_desk.specs.Causes.{IsStanding}
 use Rattle.user_desk.specs.Stored.{stored_disk, opened_disk}

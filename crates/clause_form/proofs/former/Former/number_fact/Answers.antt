@@ -1,11 +1,12 @@
 use Rattle.std.proofs.Common.{◌≡◌, ◌+◌, ◌<◌, ◌^◌, ◌++◌, ◌∷◌, [], cond, refl, sym, ap, ◌∙◌, subst}
 use Rattle.cqe_base.specs.Literal.{Positive}
 use Rattle.cqe_base.specs.ClauseForm.{Numbering, NumberedFact}
+use Rattle.cqe_base.proofs.Lists.{all_push}
 use Rattle.clause_form.specs.Forms.{Form}
 use Rattle.clause_form.specs.Inside.{numbered_facts}
 use Rattle.clause_form.specs.Walks.{with_numbering}
 use Rattle.clause_form.proofs.Beginnings.{begins_same, begins_more}
-use Rattle.clause_form.proofs.NumberedEntries.{found_number, found_numbered, found_each, missing_numbered, missing_number, added, each_push}
+use Rattle.clause_form.proofs.NumberedEntries.{found_number, found_numbered, found_each, missing_numbered, missing_number, added}
 use Rattle.clause_form.proofs.former.Former.number_fact.Goals as goal
 
 pub positive-requires : goal.positive-requires
@@ -29,7 +30,7 @@ invariant_of-self-2 c =
     record {
       numbers =
           rw (added c.self.inside.facts c.args.fact.now c.self.inside.variables _ (sym c.in_default.ensures.value) c.in_ok-insert.ensures.entries)
-          (each_push (λ (e : NumberedFact). e.number + 1 < 2 ^ 31) (numbered_facts c.self.inside.facts.entries) _ c.self.invariant.numbers few);
+          (all_push (λ (e : NumberedFact). e.number + 1 < 2 ^ 31) (numbered_facts c.self.inside.facts.entries) _ c.self.invariant.numbers few);
       variables = few;
     }
 

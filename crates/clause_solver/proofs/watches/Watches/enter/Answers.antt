@@ -1,22 +1,17 @@
 use Rattle.std.proofs.Common.{◌≡◌, ◌<◌, ℕ, false, eqb, ◌&&◌, ◌||◌, List, [], ◌∷◌, ◌++◌, length, get_or, set, map, refl, sym, ap, ◌∙◌, subst, arith}
 use Rattle.std.proofs.lemmas.Bool.{eqb-true, eqb-false}
-use Rattle.std.proofs.lemmas.List.{length-map}
 use Rattle.std.proofs.lemmas.List.Elements.{recursion_from_All, All-from_recursion}
 use Rattle.std.proofs.lemmas.List.Sorted.{list_any-IsPermutation, length_permutation, All-permutation}
 use Rattle.cqe_base.specs.Literal.{Literal, Positive, variable_of, same_literal, has_literal, ClauseBelow}
 use Rattle.cqe_base.specs.Machine.{Assigned}
 use Rattle.clause_solver.specs.declared.watches.Pair.{Pair}
-use Rattle.clause_solver.specs.declared.watches.Watches.{Watches}
 use Rattle.clause_solver.specs.Assigning.{code_of}
 use Rattle.clause_solver.specs.Watching.{IsWatched, HaveSameLiterals, has_number}
 use Rattle.clause_solver.specs.WatchesInside.{AreWatches, lists_of, units_of}
-use Rattle.clause_solver.proofs.Looks.{watch_of, same_watching}
+use Rattle.clause_solver.proofs.Looks.{watch_of, same_watching, low_listed}
 use Rattle.clause_solver.proofs.Entering.{watched_same, entered_watched, entered_empty, same_more}
 use Rattle.clause_solver.proofs.watches.Watches.enter.Goals as goal
 use Rattle.clause_solver.proofs.watches.Watches.enter.Goals.{In_ok-push}
-
-low_room : (w : Watches) (k : ℕ) → k < length w.lists.items → k < length (lists_of w)
-low_room w k h = let e = length-map w.lists.items (λ v. v.items) in omega arith
 
 abbrev sorted : In_ok-push → List Literal
 sorted c = c.in_ok-sorted.sorted.items
@@ -83,7 +78,7 @@ returns-clause-watches c =
     (w2.falsified ∙ w1.falsified ∙ u.falsified)
     (entered_watched n t s.sorted (lists_of s) s.pairs.items (units_of s) s.falsified (Positive 0) h (sorted d) (pair d) (low d n b) c.len-number.result (number d n t h)
     (let e = same_size d in omega arith)
-    (low_room s k1 (c.requires.first pos)) (low_room s k2 (c.requires.second pos))
+    (low_listed s k1 (c.requires.first pos)) (low_listed s k2 (c.requires.second pos))
     (units_of c.add_unit.new.self)
     (λ i. u.units i ∙ ap (λ m. has_number (units_of s) i || (eqb m 1 && eqb c.len-number.result i)) (same_size d))
     (watched d t w))

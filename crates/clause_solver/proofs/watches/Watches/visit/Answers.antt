@@ -1,25 +1,22 @@
-use Rattle.std.proofs.Common.{◌≡◌, ◌<◌, ℕ, length, sym, ◌∙◌, subst, arith}
-use Rattle.std.proofs.lemmas.List.{length-map, get_or_read}
+use Rattle.std.proofs.Common.{◌≡◌, sym, ◌∙◌, subst, arith}
+use Rattle.std.proofs.lemmas.List.{get_or_read}
 use Rattle.clause_solver.specs.declared.watches.Pair.{Pair}
-use Rattle.clause_solver.specs.declared.watches.Watches.{Watches}
 use Rattle.clause_solver.specs.Assigning.{code_of}
 use Rattle.clause_solver.specs.Watching.{no_pair}
 use Rattle.clause_solver.specs.WatchesInside.{lists_of, units_of}
 use Rattle.clause_solver.proofs.Visits.{visited_blocker, visited_stale}
 use Rattle.clause_solver.proofs.watches.Watches.visit.Goals as goal
-
-low : (w : Watches) (k : ℕ) → k < length w.lists.items → k < length (lists_of w)
-low w k h = let e = length-map w.lists.items (λ v. v.items) in omega arith
+use Rattle.clause_solver.proofs.Looks.{low_listed}
 
 pub returns-then-is_true-clause-watching : goal.returns-then-is_true-clause-watching
 returns-then-is_true-clause-watching c =
     let s = c.args.self.now in
     λ kept rest h.
-    visited_blocker c.args.assignment.now.variables c.args.assignment.now.trail s.sorted (lists_of s) s.pairs.items (units_of s) s.falsified c.args.literal c.requires.current c.args.clause c.args.blocker (low s (code_of c.args.literal) c.requires.listed) kept rest h (sym c.is_true.ensures ∙ c.if-is_true.true)
+    visited_blocker c.args.assignment.now.variables c.args.assignment.now.trail s.sorted (lists_of s) s.pairs.items (units_of s) s.falsified c.args.literal c.requires.current c.args.clause c.args.blocker (low_listed s (code_of c.args.literal) c.requires.listed) kept rest h (sym c.is_true.ensures ∙ c.if-is_true.true)
 
 pub returns-in-None-clause-watching : goal.returns-in-None-clause-watching
 returns-in-None-clause-watching c =
     let s = c.args.self.now in
     λ kept rest h.
-    visited_stale c.args.assignment.now.variables c.args.assignment.now.trail s.sorted (lists_of s) s.pairs.items (units_of s) s.falsified c.args.literal c.requires.current c.args.clause c.args.blocker (low s (code_of c.args.literal) c.requires.listed) kept rest h
+    visited_stale c.args.assignment.now.variables c.args.assignment.now.trail s.sorted (lists_of s) s.pairs.items (units_of s) s.falsified c.args.literal c.requires.current c.args.clause c.args.blocker (low_listed s (code_of c.args.literal) c.requires.listed) kept rest h
     (subst (λ (p : Pair). (p.first ≡ c.args.literal → ⊥) × (p.second ≡ c.args.literal → ⊥)) (get_or_read s.pairs.items c.args.clause c.index.result.now (let e = c.requires.pairs_room in let w = c.requires.within in omega arith) c.index.ensures no_pair) c.in-None.ensures.none)

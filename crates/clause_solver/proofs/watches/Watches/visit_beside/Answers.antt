@@ -1,23 +1,19 @@
-use Rattle.std.proofs.Common.{◌≡◌, ◌<◌, ℕ, Bool, true, false, List, [], ◌∷◌, ◌++◌, length, get_or, set, map, refl, sym, ap, ◌∙◌, arith}
+use Rattle.std.proofs.Common.{◌≡◌, ◌<◌, Bool, true, false, List, [], ◌∷◌, ◌++◌, length, get_or, set, map, refl, sym, ap, ◌∙◌, arith}
 use Rattle.std.specs.List.{find}
-use Rattle.std.proofs.lemmas.List.{length-map, get_or_read}
+use Rattle.std.proofs.lemmas.List.{get_or_read}
 use Rattle.cqe_base.specs.Literal.{variable_of}
 use Rattle.cqe_base.specs.Machine.{is_false}
 use Rattle.cqe_base.proofs.MachineRules.{each_has}
 use Rattle.clause_solver.specs.declared.watches.Watch.{Watch}
-use Rattle.clause_solver.specs.declared.watches.Watches.{Watches}
 use Rattle.clause_solver.specs.Assigning.{code_of}
 use Rattle.clause_solver.specs.Watching.{IsWatching, AllFalseBut}
 use Rattle.clause_solver.specs.WatchesInside.{lists_of, units_of}
 use Rattle.clause_solver.proofs.Kept.{code_of-below}
 use Rattle.clause_solver.proofs.Learning.{clause_below}
-use Rattle.clause_solver.proofs.Looks.{same_watching}
+use Rattle.clause_solver.proofs.Looks.{same_watching, low_listed}
 use Rattle.clause_solver.proofs.Visits.{next_test, IsNext, found_next, none_next, visited_other, visited_unit, visited_falsified, visited_next}
 use Rattle.clause_solver.proofs.watches.Watches.visit_beside.Goals as goal
-use Rattle.clause_solver.proofs.watches.Watches.visit_beside.Goals.{Then-is_true, In-Some, In-None}
-
-low : (w : Watches) (k : ℕ) → k < length w.lists.items → k < length (lists_of w)
-low w k h = let e = length-map w.lists.items (λ v. v.items) in omega arith
+use Rattle.clause_solver.proofs.watches.Watches.visit_beside.Goals.{In-Some, In-None}
 
 found : (c : In-Some) → IsNext c.args.assignment.now.trail c.args.other (get_or c.args.self.now.sorted c.args.clause []) c.in-Some.next
 found c =
@@ -41,7 +37,7 @@ pub returns-then-is_true-clause-watching : goal.returns-then-is_true-clause-watc
 returns-then-is_true-clause-watching c =
     let s = c.args.self.now in
     λ kept rest h.
-    visited_other c.args.assignment.now.variables c.args.assignment.now.trail s.sorted (lists_of s) s.pairs.items (units_of s) s.falsified c.args.literal c.requires.current c.args.clause c.args.blocker (low s (code_of c.args.literal) c.requires.listed) kept rest h c.args.other c.requires.beside (sym c.is_true.ensures ∙ c.if-is_true.true)
+    visited_other c.args.assignment.now.variables c.args.assignment.now.trail s.sorted (lists_of s) s.pairs.items (units_of s) s.falsified c.args.literal c.requires.current c.args.clause c.args.blocker (low_listed s (code_of c.args.literal) c.requires.listed) kept rest h c.args.other c.requires.beside (sym c.is_true.ensures ∙ c.if-is_true.true)
 
 pub watch-requires : goal.watch-requires
 watch-requires c = room (goal.at.watch-requires c).In-Some
@@ -53,7 +49,7 @@ returns-in_ok-watch-in-Some-clause-watching c =
     let e = c.in_ok-watch-in-Some.ensures in
     λ kept rest h.
     same_watching c.args.assignment.now.variables c.args.assignment.now.trail c.args.literal rest _ _ _ _ _ _ _ _ _ _ e.sorted (ap (λ ls. set ls (code_of c.args.literal) (kept ++ rest)) e.lists) (ap (λ v. v.items) e.pairs) (ap (λ v. v.items) e.units) e.falsified
-    (visited_next c.args.assignment.now.variables c.args.assignment.now.trail s.sorted (lists_of s) s.pairs.items (units_of s) s.falsified c.args.literal c.requires.current c.args.clause c.args.blocker (low s (code_of c.args.literal) c.requires.listed) kept rest h c.args.other c.requires.beside c.in-Some.next (found d) c.requires.false_now (low s (code_of c.in-Some.next) (room d)))
+    (visited_next c.args.assignment.now.variables c.args.assignment.now.trail s.sorted (lists_of s) s.pairs.items (units_of s) s.falsified c.args.literal c.requires.current c.args.clause c.args.blocker (low_listed s (code_of c.args.literal) c.requires.listed) kept rest h c.args.other c.requires.beside c.in-Some.next (found d) c.requires.false_now (low_listed s (code_of c.in-Some.next) (room d)))
 
 pub returns-in_ok-note-in-None-clause-watching : goal.returns-in_ok-note-in-None-clause-watching
 returns-in_ok-note-in-None-clause-watching c = step (is_false c.args.assignment.now.trail c.args.other) refl
@@ -64,10 +60,10 @@ returns-in_ok-note-in-None-clause-watching c = step (is_false c.args.assignment.
         let d = (goal.at.returns-in_ok-note-in-None-clause-watching c).In-None in
         let f = c.in_ok-note-in-None.ensures in
         same_watching c.args.assignment.now.variables c.args.assignment.now.trail c.args.literal rest _ _ _ _ _ _ _ _ _ _ f.sorted (ap (λ ls. set (map (λ v. v.items) ls.items) (code_of c.args.literal) ((kept ++ record { clause = c.args.clause; blocker = c.args.other } ∷ []) ++ rest)) f.lists) (ap (λ v. v.items) f.pairs) (f.caught e).1 (f.caught e).0
-        (visited_falsified c.args.assignment.now.variables c.args.assignment.now.trail s.sorted (lists_of s) s.pairs.items (units_of s) s.falsified c.args.literal c.requires.current c.args.clause c.args.blocker (low s (code_of c.args.literal) c.requires.listed) kept rest h c.args.other c.requires.beside (only d) e)
+        (visited_falsified c.args.assignment.now.variables c.args.assignment.now.trail s.sorted (lists_of s) s.pairs.items (units_of s) s.falsified c.args.literal c.requires.current c.args.clause c.args.blocker (low_listed s (code_of c.args.literal) c.requires.listed) kept rest h c.args.other c.requires.beside (only d) e)
     step false e = λ kept rest h.
         let s = c.args.self.now in
         let d = (goal.at.returns-in_ok-note-in-None-clause-watching c).In-None in
         let f = c.in_ok-note-in-None.ensures in
         same_watching c.args.assignment.now.variables c.args.assignment.now.trail c.args.literal rest _ _ _ _ _ _ _ (units_of c.note.new.self) _ _ f.sorted (ap (λ ls. set (map (λ v. v.items) ls.items) (code_of c.args.literal) ((kept ++ record { clause = c.args.clause; blocker = c.args.other } ∷ []) ++ rest)) f.lists) (ap (λ v. v.items) f.pairs) refl (f.unit e).0
-        (visited_unit c.args.assignment.now.variables c.args.assignment.now.trail s.sorted (lists_of s) s.pairs.items (units_of s) s.falsified c.args.literal c.requires.current c.args.clause c.args.blocker (low s (code_of c.args.literal) c.requires.listed) kept rest h c.args.other c.requires.beside (only d) e (units_of c.note.new.self) (f.unit e).1)
+        (visited_unit c.args.assignment.now.variables c.args.assignment.now.trail s.sorted (lists_of s) s.pairs.items (units_of s) s.falsified c.args.literal c.requires.current c.args.clause c.args.blocker (low_listed s (code_of c.args.literal) c.requires.listed) kept rest h c.args.other c.requires.beside (only d) e (units_of c.note.new.self) (f.unit e).1)

@@ -2,7 +2,7 @@ use Rattle.std.proofs.Common.{ap, sym, ◌∙◌, subst, ◌≡◌}
 use Rattle.cqe_base.specs.Censor.{IsLegal}
 use Rattle.cqe_base.specs.Limits.{KeepsSizes}
 use Rattle.turnstile.specs.declared.view.View.{View}
-use Rattle.turnstile.specs.Passes.{view_of, seen, view_in, mine_before}
+use Rattle.turnstile.specs.Passes.{view_of, seen}
 use Rattle.desk_counter.specs.declared.item.Item.{Item}
 use Rattle.desk_counter.specs.declared.item.Fixed.{Fixed}
 use Rattle.std.specs.Prelude.{◌↔◌, IsTrue}

@@ -1,7 +1,5 @@
 use Rattle.std.proofs.Common.{ap, sym, ◌∙◌, subst, refl, ℕ, List, true, false, ◌≡◌, ◌++◌, ◌∷◌, [], length}
-use Rattle.std.specs.Prelude.{Option, is_some, ◌↔◌, IsTrue}
-use Rattle.cqe_base.specs.History.{AnsweredQuery}
-use Rattle.user_log.specs.declared.reply.Reply.{Reply}
+use Rattle.std.specs.Prelude.{◌↔◌, IsTrue}
 use Rattle.user_log.specs.declared.reply.Reply.TheVariants.{Broken}
 use Rattle.user_desk.specs.Desks.{desk_history, entry_in_flight}
 use Rattle.desk_counter.specs.Items.{pairs_of}

@@ -1,8 +1,8 @@
-use Rattle.std.proofs.Common.{◌≡◌, [], ◌∷◌, ◌++◌, length, get_or, refl, sym, ap, subst, ◌∙◌, append_assoc, append-nil, arith}
+use Rattle.std.proofs.Common.{◌≡◌, [], ◌∷◌, ◌++◌, length, get_or, sym, ap, subst, ◌∙◌, append_assoc, append-nil, arith}
 use Rattle.std.specs.Prelude.{slice_set}
 use Rattle.std.proofs.lemmas.Grind.{common_steps}
 use Rattle.desk_counter.specs.Counters.{IsPassOf}
-use Rattle.session_core.specs.Members.{passes_in, IsMet, AreMet}
+use Rattle.session_core.specs.Members.{passes_in, IsMet}
 use Rattle.session_core.proofs.Passing.{pass_at}
 use Rattle.session_core.proofs.Meeting.{MetFrom, met_none, met_next, met_more}
 use Rattle.session_core.proofs.counters.CountersOf+TicketedDesk+D.meet.Goals as goal

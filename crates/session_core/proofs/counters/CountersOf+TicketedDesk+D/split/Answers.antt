@@ -1,12 +1,13 @@
-use Rattle.std.proofs.Common.{◌≡◌, ◌<◌, ◌≤◌, ◌+◌, [], suc, inr, length, get_or, refl, sym, ap, subst, ◌∙◌, arith}
+use Rattle.std.proofs.Common.{◌≡◌, ◌<◌, ◌≤◌, ◌+◌, [], suc, inr, length, get_or, refl, sym, subst, ◌∙◌, arith}
 use Rattle.std.specs.Prelude.{◌^◌, slice_set, IfOk, OnOk}
 use Rattle.turnstile.specs.Views.{remaining_view, split_off_view}
 use Rattle.turnstile.specs.Passes.{view_of, mine, turns}
 use Rattle.desk_counter.specs.Counters.{IsPassOf}
 use Rattle.session_core.specs.Members.{passes_in, IsSplit, CanSplit}
 use Rattle.session_core.proofs.Passing.{pass_at, passes_many}
-use Rattle.session_core.proofs.Meeting.{SplitBelow, split_here, split_lengths, split_more, split_all, all_at, ok_unless}
+use Rattle.session_core.proofs.Meeting.{SplitBelow, split_here, split_lengths, split_more, split_all, ok_unless}
 use Rattle.session_core.proofs.counters.CountersOf+TicketedDesk+D.split.Goals as goal
+use Rattle.cqe_base.proofs.Lists.{all_at}
 
 pub loop-place-init : goal.loop-place-init
 loop-place-init g c = record { split = (refl, c.in_ok-reserve.ensures.items ∙ c.new-parts.ensures.items); room = omega (arith, c.in_ok-reserve.ensures.ok, c.len.ensures) }
