@@ -1,6 +1,7 @@
 -- The atom of a fact of the schema is a sentence, and the facts of a world are listed once.
-use Rattle.std.proofs.Common.{◌≡◌, ◌≤◌, ℕ, Bool, true, false, ◌||◌, List, [], ◌∷◌, ◌++◌, length, refl, sym, ap, ◌∙◌, arith, append_assoc}
+use Rattle.std.proofs.Common.{◌≡◌, ◌≤◌, ℕ, true, ◌||◌, List, [], ◌∷◌, ◌++◌, length, refl, sym, ap, ◌∙◌, arith, append_assoc}
 use Rattle.std.specs.Prelude.{Some, None, nat_lt, nat_le, nat_eq, unwrap_or}
+use Rattle.std.proofs.Math.Bool.{or-true}
 use Rattle.std.proofs.lemmas.Bool.{and_parts, eq-eqb, leb-true}
 use Rattle.cqe_base.specs.declared.world.Fact.{Fact}
 use Rattle.cqe_base.specs.Schema.{DatabaseSchema, columns_of, domain_size}
@@ -15,10 +16,6 @@ use Rattle.audit_print.specs.Said.{atom_of, constants_in}
 
 fact_cmp_total : IsTotalOrder fact_cmp
 fact_cmp_total = then_total (on_total (λ f. f.relation) nat_cmp_total) (on_total (λ f. f.columns) nat_list_cmp_total)
-
-or_true : (b : Bool) → (b || true) ≡ true
-or_true true = refl
-or_true false = refl
 
 pub few_constants : (domains columns : List ℕ) → length (constants_in domains columns) ≤ length columns
 few_constants [] columns = omega arith
@@ -55,7 +52,7 @@ first_listed schema world facts of_schema is before fact after at =
   where
     any_at : (before : List Fact) → list_any (eq_by_cmp fact_cmp fact) (before ++ fact ∷ after) ≡ true
     any_at [] = ap (λ b. b || list_any (eq_by_cmp fact_cmp fact) after) (ap is_eq (tied_itself fact_cmp_total fact))
-    any_at (other ∷ before) = ap (λ b. eq_by_cmp fact_cmp fact other || b) (any_at before) ∙ or_true (eq_by_cmp fact_cmp fact other)
+    any_at (other ∷ before) = ap (λ b. eq_by_cmp fact_cmp fact other || b) (any_at before) ∙ or-true (eq_by_cmp fact_cmp fact other)
 
 listed_good : (schema : DatabaseSchema) (world : FactSet) (facts : List Fact) → IsWorldOf schema world → set.from_list facts ≡ world → (before after : List Fact) → facts ≡ before ++ after → list_all (is_fact_of schema) after ≡ true
 listed_good schema world facts of_schema is before [] at = refl

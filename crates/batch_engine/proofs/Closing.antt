@@ -13,6 +13,7 @@ use Rattle.cqe_base.specs.Headline.{RunsStayLegal, ScriptsHide}
 use Rattle.cqe_base.specs.Run.{UserState, standing_sealed}
 use Rattle.cqe_base.specs.Transcript.{NamedUser, ScriptEvent, own_events, state_after, TranscriptIsPrivate}
 use Rattle.cqe_base.specs.declared.user.User.{User}
+use Rattle.cqe_base.proofs.Lists.{text_is}
 use Rattle.cqe_base.proofs.Truths.{or_first, or_second}
 use Rattle.user_desk.specs.Causes.{Opens}
 use Rattle.user_desk.specs.Lives.{IsState}
@@ -28,7 +29,6 @@ use Rattle.desk_crew.specs.Crew.{named_user, seat_standing, seat_state, IsLeft, 
 use Rattle.desk_crew.specs.Shelved.{journals_on, IsBack, AreBack}
 use Rattle.desk_crew.specs.Seats.{DeskSeat}
 use Rattle.batch_engine.proofs.Courses.{Course, course_on, Fits, IsRunning}
-use Rattle.desk_crew.proofs.Taken.{text_is}
 use Rattle.batch_engine.proofs.Seating.{names, IsSeated, AreSeated, close_at}
 use Rattle.batch_engine.proofs.Telling.{SoFar, LastLine}
 

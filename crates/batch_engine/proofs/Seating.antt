@@ -12,7 +12,7 @@ use Rattle.cqe_base.specs.Run
 use Rattle.cqe_base.specs.declared.user.User.{User}
 use Rattle.cqe_base.specs.Run.{Reply, Ending, Event, ask, restart, opening, after_events, reply_to_ask}
 use Rattle.cqe_base.specs.Transcript.{NamedUser, ScriptEvent, script_ask, own_event, own_events, told_after}
-use Rattle.cqe_base.proofs.Lists.{other_text}
+use Rattle.cqe_base.proofs.Lists.{other_text, text_is}
 use Rattle.cqe_base.proofs.Truths.{or_first, or_second}
 use Rattle.user_desk.specs.Causes.{Opens, IsStanding}
 use Rattle.user_desk.specs.Lives.{Holds, Restarts, IsState}
@@ -26,7 +26,6 @@ use Rattle.batch_engine.specs.Batch.{unopened}
 use Rattle.desk_crew.specs.Shelved.{IsSeatOf, AreSeatsOf}
 use Rattle.desk_crew.specs.Crew.{named_user, first_refusal, seat_user, seat_name, seat_journal, seat_kept, seat_standing, seat_history, seat_state, seat_disk, IsSeatIn, is_named, IsClosed, IsServed, IsToldAt, IsReopened, AreReopened, Tells, nobody, here, further}
 use Rattle.desk_crew.specs.Seats.{DeskSeat}
-use Rattle.desk_crew.proofs.Taken.{text_is}
 use Rattle.batch_engine.proofs.Courses.{Course, course_on, IsRunning, IsLiving, live, closing, Asked, ask_step, Restarted, IsExclusive, open_step}
 
 -- ---- lists and texts

@@ -2,7 +2,7 @@
 use Rattle.std.proofs.Common.{◌≡◌, ◌<◌, ◌+◌, ℕ, zero, suc, Bool, true, false, cond, not, List, [], ◌∷◌, ◌++◌, map, length, refl, sym, ap, subst, ◌∙◌, arith, length-append, append-nil}
 use Rattle.std.specs.Prelude.{◌||◌, Option, Some, None, nat_lt, nat_le, bytes_eq, unwrap_or, if◌then◌else◌, slice_get, option_map, position}
 use Rattle.std.specs.List.{list_any, list_all, prefix_len}
-use Rattle.std.proofs.lemmas.Bool.{lt-ltb, and_parts, or_parts}
+use Rattle.std.proofs.lemmas.Bool.{lt-ltb, and_parts, or_parts, not-false}
 use Rattle.std.proofs.lemmas.Option.{none-some}
 use Rattle.std.proofs.lemmas.List.{map-append}
 use Rattle.cqe_base.specs.declared.schema.SchemaError.TheVariants.{DuplicateName, UnknownDomain, TooMany, EmptyDomain, BadName}
@@ -55,15 +55,11 @@ module _ (domains more : List Declaration) where
       let each = and_parts (contains_text (map (λ d. d.name) domains) part) (list_all (contains_text (map (λ d. d.name) domains)) parts) known in
       rw (number_kept part each.0, numbers_kept parts each.1)
 
-  unnot : (b : Bool) → not b ≡ false → b ≡ true
-  unnot true e = refl
-  unnot false e = absurd cc
-
   relations_kept : (relations : List Declaration) → list_any (names_unknown_domain domains) relations ≡ false → map (made_relation (domains ++ more)) relations ≡ map (made_relation domains) relations
   relations_kept [] known = refl
   relations_kept (r ∷ relations) known =
       let each = or_parts (names_unknown_domain domains r) (list_any (names_unknown_domain domains) relations) known in
-      let columns = numbers_kept r.parts (unnot (list_all (contains_text (map (λ d. d.name) domains)) r.parts) each.0) in
+      let columns = numbers_kept r.parts (not-false (list_all (contains_text (map (λ d. d.name) domains)) r.parts) each.0) in
       rw (columns, relations_kept relations each.1)
 
 -- ---- the schema of more declarations

@@ -5,6 +5,7 @@ use Rattle.std.specs.List.{position_from, list_all}
 use Rattle.std.specs.Option.{option_or}
 use Rattle.std.proofs.lemmas.List.{get_or-map, length-map}
 use Rattle.std.proofs.lemmas.List.Folds.{list_all-map}
+use Rattle.std.proofs.Math.Bool.{and-true}
 use Rattle.std.proofs.Math.Seq.{drop-cons}
 use Rattle.std.proofs.Math.ListN.{drop_of_length-le}
 use Rattle.std.proofs.lemmas.Iterator.Adapters.{position_from-zero}
@@ -141,10 +142,6 @@ objection_agrees : (schema : DatabaseSchema) (world : FactSet) (user : UserProfi
     → Agrees (objection_of m schema world user.know (known user) user.secrets) (knows_truth_by m schema world (known user) && all_open schema (known user) (guarded_by m user.secrets))
 objection_agrees schema world user Lying =
     subst (Agrees (objection_of Lying schema world user.know (known user) user.secrets)) (sym (and-true _)) (probe_agrees (outcome schema (known user) (disjunction_of user.secrets, true) admission_budget) None)
-  where
-    and-true : (b : Bool) → (b && true) ≡ b
-    and-true true = refl
-    and-true false = refl
 objection_agrees schema world user Refusal = or_agrees _ _ _ _ (truth_agrees schema world user) (secrets_agree schema (known user) 0 user.secrets)
 objection_agrees schema world user Combined = secrets_agree schema (known user) 0 user.secrets
 

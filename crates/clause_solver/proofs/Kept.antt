@@ -5,7 +5,7 @@ use Rattle.std.specs.List.{find, range_with_len}
 use Rattle.std.proofs.lemmas.Bool.{both_ways, cases_eq, cases_lt, false_from_ne_true, true_from_ne_false, or_cases, or_left, or_right, eq-eqb, ne_eqb, and_from, and_left, and_right}
 use Rattle.std.proofs.lemmas.List.{get_or-set_same, get_or-set_other, length-set, get_or_past, get_or-replicate, length-replicate, reverse-append}
 use Rattle.cqe_base.specs.Literal.{Literal, Positive, Negative, variable_of, same_literal}
-use Rattle.cqe_base.specs.Machine.{Assigned, Decided, Because, assigned_literal, is_true, level, level_of, first_unassigned}
+use Rattle.cqe_base.specs.Machine.{Assigned, assigned_literal, is_true, level, level_of, first_unassigned}
 use Rattle.cqe_base.proofs.ClauseTruth.{same_literal-true, same_literal-same}
 use Rattle.clause_solver.specs.Entries.{is_decided}
 use Rattle.clause_solver.specs.Assigning.{is_assigned, place_of, code_of, IsKept, IsFirstZero}
@@ -25,11 +25,6 @@ code_of-below n (Negative v) h = omega arith
 pub level_of-variable : (t : List Assigned) (l : Literal) → level_of t l ≡ level_of t (Positive (variable_of l))
 level_of-variable [] l = refl
 level_of-variable (a ∷ t) l = ap (λ k. cond (eqb (variable_of l) (variable_of (assigned_literal a))) (level (a ∷ t)) k) (level_of-variable t l)
-
-pub level-le-length : (t : List Assigned) → level t ≤ length t
-level-le-length [] = omega arith
-level-le-length (Decided l ∷ t) = let h = level-le-length t in omega arith
-level-le-length (Because i l ∷ t) = let h = level-le-length t in omega arith
 
 -- the variable of a true literal is assigned
 pub true-assigned : (t : List Assigned) (l : Literal) → is_true t l ≡ true → is_assigned t (variable_of l) ≡ true

@@ -4,22 +4,19 @@ use Rattle.std.specs.Prelude.{slice_get, IfSome}
 use Rattle.std.specs.Borrow.{Bor}
 use Rattle.std.specs.Option.{option_copied, is_some}
 use Rattle.std.proofs.lemmas.Option.{slice_get_past}
-use Rattle.std.proofs.lemmas.Bool.Decides.{nat_tests}
 use Rattle.std.proofs.lemmas.Bool.{both_ways, cases_eq, or_cases, or_parts, eq-eqb, ne_eqb, ltb-true, ltb-false}
 use Rattle.std.proofs.lemmas.List.{get_or-reverse, length-reverse}
 use Rattle.cqe_base.specs.Literal.{Literal, Positive, Negative, variable_of, opposite, same_literal, has_literal}
 use Rattle.cqe_base.specs.Machine.{Assigned, assigned_literal, is_false, latest_against}
 use Rattle.cqe_base.proofs.ClauseTruth.{same_literal-true, variable_of-opposite}
+use Rattle.cqe_base.proofs.NoRepeats.{eqb_comm}
 use Rattle.clause_solver.specs.Assigning.{is_assigned, AssignsOnce, place_of, place_against, latest_place}
 use Rattle.clause_solver.proofs.Kept.{true-assigned}
 
-eqb-sym : (v w : ℕ) → eqb v w ≡ eqb w v
-eqb-sym v w = grind (arith, nat_tests)
-
 same_literal-opposite : (l m : Literal) → same_literal (opposite l) m ≡ same_literal (opposite m) l
 same_literal-opposite (Positive v) (Positive w) = refl
-same_literal-opposite (Positive v) (Negative w) = eqb-sym v w
-same_literal-opposite (Negative v) (Positive w) = eqb-sym v w
+same_literal-opposite (Positive v) (Negative w) = eqb_comm v w
+same_literal-opposite (Negative v) (Positive w) = eqb_comm v w
 same_literal-opposite (Negative v) (Negative w) = refl
 
 -- where a literal is false its place is that of its variable

@@ -3,7 +3,7 @@ use Rattle.std.proofs.Common.{◌≡◌, ◌==◌, Bool, true, false, not, ◌&&
 use Rattle.std.specs.Prelude.{Option, Some, None, option_map, option_and_then, is_some, find, bytes_eq, if◌then◌else◌}
 use Rattle.std.specs.List.{list_all, list_any}
 use Rattle.std.proofs.Math.Bool.{and-false}
-use Rattle.std.proofs.lemmas.Bool.{and_parts, or_parts}
+use Rattle.std.proofs.lemmas.Bool.{and_parts, or_parts, not-true}
 use Rattle.std.proofs.lemmas.Slice.Eq.{bytes_eq-Decides}
 use Rattle.clap.specs.Words.{HasKind, Row, Text, Kinds, fault_of, kind_of, subcommand_of}
 use Rattle.clap.specs.declared.error.Error.{Error}
@@ -107,13 +107,9 @@ short_word (a ∷ b ∷ []) e =
     (no_option, rw e refl)
 short_word (a ∷ b ∷ c ∷ rest) e =
     let parts = and_parts (a == 45) (not (b == 45)) e in
-    let second : (b == 45) ≡ false = not_true (b == 45) parts.1 in
+    let second : (b == 45) ≡ false = not-true (b == 45) parts.1 in
     let no_option : ◌≡◌ {A = Option (Text × Option Text)} (option_of (a ∷ b ∷ c ∷ rest)) None = rw (parts.0, second) refl in
     (no_option, rw parts.0 refl)
-  where
-    not_true : (b : Bool) → not b ≡ true → b ≡ false
-    not_true true e = absurd (cc)
-    not_true false e = refl
 
 short_command : (word : Text) → is_short word ≡ true → ◌≡◌ {A = Option CommandRow} (command_of word) None
 short_command [] e = absurd (cc)

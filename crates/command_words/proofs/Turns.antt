@@ -2,6 +2,7 @@
 use Rattle.std.proofs.Common.{◌≡◌, ℕ, ◌==◌, Bool, true, false, not, ◌&&◌, List, [], ◌∷◌, refl, sym, ap, ◌∙◌, subst, eqb-true}
 use Rattle.std.specs.Prelude.{Option, Some, None, option_map, option_and_then, fold, bytes_eq, if◌then◌else◌}
 use Rattle.std.specs.List.{before_first, after_first}
+use Rattle.std.proofs.lemmas.Bool.{not-false}
 use Rattle.std.proofs.lemmas.Slice.Eq.{bytes_eq-Decides}
 use Rattle.clap.specs.Words.{Row, Rule, Shape, Text, Kinds}
 use Rattle.clap.specs.Lexer.{has_byte, long_of, long_of_rest, short_of, short_of_rest, strip_byte}
@@ -78,10 +79,6 @@ other_start a b rest other = record {
   as_value = λ name. rw other refl;
 }
 
-not_false : (b : Bool) → not b ≡ false → b ≡ true
-not_false true e = refl
-not_false false e = absurd (cc)
-
 pub named : (word : Text) → is_short word ≡ false → Named word
 named [] long = plain_word (record { long = refl; short = refl; no_end = refl; names_none = refl; as_value = λ name. refl })
 named (a ∷ []) long = plain_word (one_byte a)
@@ -90,7 +87,7 @@ named (a ∷ b ∷ c ∷ rest) long =
     elim (a == 45) as (λ t. (a == 45) ≡ t → (t && not (b == 45)) ≡ false → Named (a ∷ b ∷ c ∷ rest)) [
       | true ↦ λ first second.
           let a_is = eqb-true a 45 first in
-          let b_is = eqb-true b 45 (not_false (b == 45) second) in
+          let b_is = eqb-true b 45 (not-false (b == 45) second) in
           subst (λ x. Named (x ∷ b ∷ c ∷ rest)) (sym a_is) (subst (λ y. Named (45 ∷ y ∷ c ∷ rest)) (sym b_is) (option_word c rest))
       | false ↦ λ other any. plain_word (other_start a b (c ∷ rest) other)
     ] refl long

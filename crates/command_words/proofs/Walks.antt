@@ -3,7 +3,7 @@ use Rattle.std.proofs.Common.{◌≡◌, ℕ, Bool, true, false, not, ◌&&◌, 
 use Rattle.std.specs.Prelude.{Option, Some, None, is_some, nat_lt, length, unwrap_or, if◌then◌else◌}
 use Rattle.std.specs.List.{list_any}
 use Rattle.std.specs.Option.{option_map_or}
-use Rattle.std.proofs.Math.Bool.{and-false}
+use Rattle.std.proofs.Math.Bool.{and-false, and-true}
 use Rattle.std.proofs.lemmas.Bool.{lt-ltb, or_parts}
 use Rattle.clap.specs.Words.{Row, Rule, Text, Kinds}
 use Rattle.clap.specs.Lexer.{has_byte}
@@ -19,10 +19,6 @@ use Rattle.command_words.proofs.Turns.{IsPlain, Named, plain_word, option_word, 
 pub record Settles (row : CommandRow) (h : Held) (words : List Text) : Type 0 where
   pub passes : passes row (walk_from h) words ≡ (none (settle_fault (rules_for row.options) false h) && passes row (walk_from (settled (rules_for row.options) h)) words)
   pub ends : ends row (walk_from h) words ≡ ends row (walk_from (settled (rules_for row.options) h)) words
-
-and_true : (b : Bool) → (b && true) ≡ b
-and_true true = refl
-and_true false = refl
 
 and_assoc : (a b c : Bool) → ((a && b) && c) ≡ (a && (b && c))
 and_assoc true b c = refl
@@ -215,7 +211,7 @@ value_gives row given name [] is_needed rest known later = record {
 value_gives row given name (b ∷ v) is_needed rest known later =
     let is_there : nat_lt 0 (length (b ∷ v)) ≡ true = lt-ltb 0 (length (b ∷ v)) (omega arith) in
     use_gives row given (record { name = name; value = b ∷ v }) (is_needed, true) rest _ _ known
-    (use_passes row.options name is_needed (b ∷ v) given ∙ ap (λ (t : Bool). not (is_used given name) && t) is_there ∙ and_true (not (is_used given name)))
+    (use_passes row.options name is_needed (b ∷ v) given ∙ ap (λ (t : Bool). not (is_used given name) && t) is_there ∙ and-true (not (is_used given name)))
     (λ fresh. used_behind row.options name is_needed (b ∷ v) given fresh (flag_known row.options name is_needed true known))
     later
 

@@ -1,6 +1,7 @@
 -- The clause form means what its formulas mean.
 use Rattle.std.proofs.Common.{◌≡◌, ℕ, Bool, true, false, cond, not, ◌&&◌, ◌||◌, List, [], ◌∷◌, ◌++◌, map, refl, sym, ap, ◌∙◌, subst}
 use Rattle.std.specs.List.{list_any, list_all}
+use Rattle.std.proofs.Math.Bool.{or-true}
 use Rattle.std.proofs.lemmas.Bool.{or_left, or_right, or_parts, and_parts, both_ways}
 use Rattle.std.proofs.lemmas.List.Folds.{list_any-append, list_all-append}
 use Rattle.cqe_base.specs.declared.world.Fact.{Fact}
@@ -23,12 +24,8 @@ edge_or true l r = refl
 edge_or false true r = refl
 edge_or false false r = refl
 
-or_true : (b : Bool) → true ≡ (b || true)
-or_true true = refl
-or_true false = refl
-
 and_edges_true : (signs : ℕ → Bool) (v : ℕ) (ls : List Literal) → clauses_true signs (map (λ l. distinct_literals (Negative v ∷ l ∷ [])) ls) ≡ (not (signs v) || list_all (literal_true signs) ls)
-and_edges_true signs v [] = or_true (not (signs v))
+and_edges_true signs v [] = sym (or-true (not (signs v)))
 and_edges_true signs v (l ∷ ls) =
     let here = clause_true-distinct signs (Negative v ∷ l ∷ []) in
     let rest = and_edges_true signs v ls in
@@ -36,7 +33,7 @@ and_edges_true signs v (l ∷ ls) =
     both ∙ edge_and (signs v) (literal_true signs l) (list_all (literal_true signs) ls)
 
 or_edges_true : (signs : ℕ → Bool) (v : ℕ) (ls : List Literal) → clauses_true signs (map (λ l. distinct_literals (Positive v ∷ opposite l ∷ [])) ls) ≡ (signs v || not (list_any (literal_true signs) ls))
-or_edges_true signs v [] = or_true (signs v)
+or_edges_true signs v [] = sym (or-true (signs v))
 or_edges_true signs v (l ∷ ls) =
     let here = clause_true-distinct signs (Positive v ∷ opposite l ∷ []) in
     let turned = literal_true-opposite signs l in

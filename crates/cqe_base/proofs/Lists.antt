@@ -35,6 +35,11 @@ pub or_assoc : (a b c : Bool) → ((a || b) || c) ≡ (a || (b || c))
 or_assoc true b c = refl
 or_assoc false b c = refl
 
+-- a text is equal to itself
+pub text_is : (a : Text) → bytes_eq a a ≡ true
+text_is [] = refl
+text_is (x ∷ a) = let rest = text_is a in grind (arith, rest)
+
 -- two texts are compared alike from both sides
 pub other_text : (a b : Text) → bytes_eq a b ≡ false → bytes_eq b a ≡ false
 other_text a b differ = by (bytes_eq b a) refl

@@ -51,7 +51,7 @@ trail_length n t d =
     let le = length-le_from_distinct_below (map (λ a. variable_of (assigned_literal a)) t) n (are_distinct n t d) (all_below n t d) in
     omega arith
 
-level_length : (t : List Assigned) → level t ≤ length t
+pub level_length : (t : List Assigned) → level t ≤ length t
 level_length [] = omega arith
 level_length (Decided l ∷ t) = let h = level_length t in omega arith
 level_length (Because i l ∷ t) = let h = level_length t in omega arith

@@ -7,7 +7,7 @@ use Rattle.cqe_base.specs.Ground.{Ground, Grounds, ground_true, ground_false, gr
 use Rattle.cqe_base.specs.Literal.{Literal, Positive, Negative, opposite, same_literal, has_literal, HasNoRepeat, HaveNoRepeat, union, distinct_literals}
 use Rattle.cqe_base.specs.ClauseForm.{Numbering, numbering_after, literal_of, literals_of, and_clauses, or_clauses, iff_clauses, clauses_of, clauses_of_parts}
 
-eqb_comm : (a b : ℕ) → eqb a b ≡ eqb b a
+pub eqb_comm : (a b : ℕ) → eqb a b ≡ eqb b a
 eqb_comm a b = grind (arith, nat_tests)
 
 same_literal-comm : (l m : Literal) → same_literal l m ≡ same_literal m l

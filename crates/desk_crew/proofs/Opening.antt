@@ -16,7 +16,7 @@ use Rattle.log_journal.specs.Names.{journal_name, JournalsDiffer}
 use Rattle.desk_crew.specs.Crew.{named_user, seat_user, seat_journal, seat_disk, IsServed}
 use Rattle.desk_crew.specs.Shelved.{is_among, journals, SameBeside, AllOut, AllIn, NoneOut, NoneFell, AreOut, IsBack, AreBack, AreLater, IsSeatOf, AreSeatsOf}
 use Rattle.desk_crew.specs.Seats.{DeskSeat}
-use Rattle.desk_crew.proofs.Taken.{text_is}
+use Rattle.cqe_base.proofs.Lists.{text_is}
 use Rattle.desk_crew.proofs.Shelving.{Parts, parts, among-append, among_none_first, among_none_second, journals-append}
 
 abbrev pub names : List User → List Text

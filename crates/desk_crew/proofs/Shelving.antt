@@ -1,19 +1,19 @@
 -- The disks of a batch's users on their shelf: which are out, and which are back.
-use Rattle.std.proofs.Common.{◌≡◌, ℕ, ◌≤◌, Bool, true, false, List, [], ◌∷◌, ◌++◌, length, map, refl, sym, ap, subst, ◌∙◌, append_assoc, append-nil, arith}
+use Rattle.std.proofs.Common.{◌≡◌, ℕ, ◌≤◌, Bool, true, false, List, [], ◌∷◌, ◌++◌, length, refl, sym, ap, subst, ◌∙◌, append_assoc, append-nil, arith}
 use Rattle.std.specs.Prelude.{Option, Some, ◌||◌, ◌==◌, bytes_eq, slice_index_or, remove}
 use Rattle.std.specs.List.{list_any}
 use Rattle.std.specs.Cmp.Lexicographic.{same_text}
+use Rattle.std.proofs.Math.Bool.{or-false}
 use Rattle.std.proofs.lemmas.Bool.{eqb-true, or_from, or_left, or_right}
 use Rattle.std.proofs.lemmas.List.{map-append}
 use Rattle.outside.specs.Shelf.{SameOthers}
 use Rattle.cqe_base.specs.Schema.{Text, has_duplicate}
 use Rattle.cqe_base.proofs.Truths.{or_first, or_second}
-use Rattle.cqe_base.proofs.Lists.{or_assoc}
+use Rattle.cqe_base.proofs.Lists.{or_assoc, text_is}
 use Rattle.std.proofs.lemmas.List.Folds.{list_any-append}
 use Rattle.desk_crew.specs.Crew.{seat_journal, seat_disk, seat_broke, IsLeft, IsClosed}
 use Rattle.desk_crew.specs.Shelved.{is_among, journals, SameBeside, AllOut, AllIn, AreBack, AreLater}
 use Rattle.desk_crew.specs.Seats.{DeskSeat}
-use Rattle.desk_crew.proofs.Taken.{text_is}
 
 -- ---- names
 
@@ -91,10 +91,6 @@ pub beside_joined : {A : Type 0} (xs ys : List Text) (first old new : Text → A
 beside_joined xs ys first old new before now name none = now name (among_none_second xs ys name none) ∙ before name (among_none_first xs ys name none)
 
 -- whether an append failed at one of the seats, by those that are left and by those that were closed
-or_false_last : (a : Bool) → (a || false) ≡ a
-or_false_last true = refl
-or_false_last false = refl
-
 or_moved : (a b c : Bool) → ((a || (b || false)) || c) ≡ (a || (c || b))
 or_moved true b c = refl
 or_moved false true true = refl
@@ -104,7 +100,7 @@ or_moved false false false = refl
 
 module _ {D : Type 0} {g h : _} where
   pub broke_none : (seats : List (DeskSeat D g h)) → list_any seat_broke seats ≡ (list_any seat_broke seats || false)
-  broke_none seats = sym (or_false_last (list_any seat_broke seats))
+  broke_none seats = sym (or-false (list_any seat_broke seats))
 
   pub broke_all : (seats : List (DeskSeat D g h)) (total so_far : Bool) → length seats ≡ 0 → total ≡ (list_any seat_broke seats || so_far) → so_far ≡ total
   broke_all [] total so_far none known = sym known

@@ -1,16 +1,11 @@
--- Tests of texts, images of a shelf on which one disk may have changed, and lists that grow.
-use Rattle.std.proofs.Common.{◌≡◌, ℕ, ◌<◌, ◌+◌, Bool, true, false, List, [], ◌∷◌, ◌++◌, length, take, get_or, map, refl, sym, ap, subst, ◌∙◌, arith}
+-- Images of a shelf on which one disk may have changed, and lists that grow.
+use Rattle.std.proofs.Common.{◌≡◌, ℕ, ◌<◌, ◌+◌, Bool, true, false, List, [], ◌∷◌, ◌++◌, length, take, get_or, map, refl, sym, ap, subst, ◌∙◌}
 use Rattle.std.proofs.lemmas.List.{take_more, map-append}
 use Rattle.std.specs.Prelude.{Option, bytes_eq}
 use Rattle.std.specs.Cmp.Lexicographic.{same_text}
 use Rattle.cqe_base.specs.Schema.{Text}
 use Rattle.outside.specs.Shelf.{SameOthers, image_on}
 use Rattle.desk_crew.specs.Shelved.{NoNewImages}
-
--- a text is equal to itself
-pub text_is : (a : Text) → bytes_eq a a ≡ true
-text_is [] = refl
-text_is (x ∷ a) = let rest = text_is a in grind (arith, rest)
 
 -- where one disk alone may have changed, and has no new image, none has
 pub no_new_images : {D : Type 0} (image : D → List ℕ → Type 0) (journal : Text) (old new : Text → Option D) → SameOthers journal old new

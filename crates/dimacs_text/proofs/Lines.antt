@@ -1,7 +1,8 @@
 -- A file from its first line to its last.
-use Rattle.std.proofs.Common.{◌≡◌, ℕ, List, [], ◌∷◌, ◌++◌, refl, sym, ap, ◌∙◌}
+use Rattle.std.proofs.Common.{◌≡◌, ℕ, List, [], ◌++◌, sym, ap, ◌∙◌}
 use Rattle.std.specs.Prelude.{Result}
 use Rattle.cqe_base.specs.Lines.{text_lines}
+use Rattle.cqe_base.proofs.TextLines.{no_lines}
 use Rattle.dimacs_text.specs.Dimacs.{Problem, Cnf, empty_problem, finish, cnf_after, cnf_in}
 use Rattle.dimacs_text.specs.Reads.{ReadsFile, IsFinished}
 use Rattle.dimacs_text.specs.declared.refusal.Refusal.{Refusal}
@@ -11,14 +12,6 @@ use Rattle.dimacs_text.specs.declared.reading.Reading.TheVariants as reading
 pub file_starts : (p : Problem) (ahead left : List ℕ) → p ≡ empty_problem → ahead ≡ [] → cnf_after 1 p (text_lines (ahead ++ left)) ≡ cnf_in left
 unfolding cnf_in
 file_starts p ahead left is none = ap (λ (q : Problem). cnf_after 1 q (text_lines (ahead ++ left))) is ∙ ap (λ (a : List ℕ). cnf_after 1 empty_problem (text_lines (a ++ left))) none
-
-no_lines : text_lines [] ≡ []
-unfolding text_lines
-no_lines = refl
-
-pub nothing_left : (ahead left : List ℕ) → ahead ++ left ≡ [] → left ≡ []
-nothing_left [] left e = e
-nothing_left (b ∷ ahead) left e = absurd cc
 
 pub file_ends : (number : ℕ) (p : Problem) (before all : List ℕ) → cnf_after number p (text_lines before) ≡ cnf_in all → before ≡ [] → cnf_in all ≡ finish number p p.header
 file_ends number p before all so_far over =

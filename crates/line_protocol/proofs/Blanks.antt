@@ -1,6 +1,6 @@
 -- Texts that are cut at their first blank, and printable bytes.
 use Rattle.std.proofs.Common.{◌≡◌, ℕ, zero, suc, ◌+◌, ◌<◌, ◌≤◌, Bool, true, false, List, [], ◌∷◌, length, take, drop, get_or, refl, sym, ap, ◌∙◌, arith}
-use Rattle.std.specs.Prelude.{Some, None, nat_lt, position, ◌&&◌}
+use Rattle.std.specs.Prelude.{Some, None, nat_lt, position}
 use Rattle.std.specs.List.{position_or_len, list_all, list_any, before_first, after_first}
 use Rattle.std.specs.Str.{IsAscii}
 use Rattle.std.proofs.lemmas.Bool.Decides.{nat_tests}
@@ -8,6 +8,7 @@ use Rattle.std.proofs.lemmas.List.{drop_all, take-append-drop}
 use Rattle.std.proofs.lemmas.List.Folds.{list_all-append, list_any_at}
 use Rattle.std.proofs.lemmas.List.Sums.{fails_before_first, passes_at_first}
 use Rattle.std.proofs.lemmas.List.Quantifiers.{position-Some}
+use Rattle.cqe_base.proofs.Truths.{and_first, and_second}
 use Rattle.line_protocol.specs.Words.{is_printable}
 use Rattle.line_protocol.proofs.Positions.{place_of, past_end}
 
@@ -50,21 +51,13 @@ after_none p xs none =
     drop_all (place + 1) xs (omega arith)
 
 -- each part of printable bytes is printable
-and_left : (a b : Bool) → (a && b) ≡ true → a ≡ true
-and_left true b both = refl
-and_left false b both = both
-
-and_right : (a b : Bool) → (a && b) ≡ true → b ≡ true
-and_right true b both = both
-and_right false b both = cc
-
 pub all_front : (p : ℕ → Bool) (xs : List ℕ) (n : ℕ) → list_all p xs ≡ true → list_all p (take n xs) ≡ true
 all_front p xs n all =
-    and_left (list_all p (take n xs)) (list_all p (drop n xs)) (sym (list_all-append p (take n xs) (drop n xs)) ∙ ap (λ (l : List ℕ). list_all p l) (take-append-drop n xs) ∙ all)
+    and_first (list_all p (take n xs)) (list_all p (drop n xs)) (sym (list_all-append p (take n xs) (drop n xs)) ∙ ap (λ (l : List ℕ). list_all p l) (take-append-drop n xs) ∙ all)
 
 pub all_rest : (p : ℕ → Bool) (xs : List ℕ) (n : ℕ) → list_all p xs ≡ true → list_all p (drop n xs) ≡ true
 all_rest p xs n all =
-    and_right (list_all p (take n xs)) (list_all p (drop n xs)) (sym (list_all-append p (take n xs) (drop n xs)) ∙ ap (λ (l : List ℕ). list_all p l) (take-append-drop n xs) ∙ all)
+    and_second (list_all p (take n xs)) (list_all p (drop n xs)) (sym (list_all-append p (take n xs) (drop n xs)) ∙ ap (λ (l : List ℕ). list_all p l) (take-append-drop n xs) ∙ all)
 
 -- a printable byte is ASCII
 printable_is_ascii : (b : ℕ) → is_printable b ≡ true → b < 128
@@ -72,5 +65,5 @@ printable_is_ascii b printable = grind (arith, nat_tests)
 
 pub printable_are_ascii : (bytes : List ℕ) → list_all is_printable bytes ≡ true → IsAscii bytes
 printable_are_ascii [] all i = omega arith
-printable_are_ascii (b ∷ bytes) all zero = printable_is_ascii b (and_left (is_printable b) (list_all is_printable bytes) all)
-printable_are_ascii (b ∷ bytes) all (suc i) = printable_are_ascii bytes (and_right (is_printable b) (list_all is_printable bytes) all) i
+printable_are_ascii (b ∷ bytes) all zero = printable_is_ascii b (and_first (is_printable b) (list_all is_printable bytes) all)
+printable_are_ascii (b ∷ bytes) all (suc i) = printable_are_ascii bytes (and_second (is_printable b) (list_all is_printable bytes) all) i

@@ -1,44 +1,18 @@
 -- The first line of bytes, by where the first line feed stands.
-use Rattle.std.proofs.Common.{◌≡◌, ◌≢◌, ℕ, zero, suc, ◌+◌, ◌<◌, ◌≤◌, ◌==◌, true, false, List, [], ◌∷◌, ◌++◌, length, take, drop, get_or, refl, sym, ap, ◌∙◌, arith, append_assoc, length-append}
+use Rattle.std.proofs.Common.{◌≡◌, ℕ, ◌+◌, ◌<◌, ◌≤◌, ◌==◌, true, false, List, [], ◌∷◌, ◌++◌, length, take, drop, get_or, refl, sym, ap, ◌∙◌, arith, append_assoc, length-append}
 use Rattle.std.specs.Prelude.{if◌then◌else◌, nat_lt}
+use Rattle.std.proofs.lemmas.Bool.{eq-eqb, ne_eqb}
 use Rattle.std.proofs.lemmas.Bool.Decides.{nat_tests}
 use Rattle.std.proofs.lemmas.List.{append-nil, take_all, drop_all, length-take-le, take-append-drop, get_or_append_left, drop_more}
 use Rattle.cqe_base.specs.Lines.{TextLine, lines_after, text_lines, is_too_long, without_return}
+use Rattle.cqe_base.proofs.TextLines.{lines_after-feed, lines_after-skip}
 use Rattle.line_protocol.specs.Feeds.{HasNoFeedBelow, HasFeedAt}
 use Rattle.line_protocol.specs.Reads.{TakesLine, BeginsTooLong, whole_line}
-
--- what one more byte does
-lines_after-more : (line rest : List ℕ) (b : ℕ) → lines_after line (b ∷ rest) ≡ (if b == 10 then record { bytes = line; ended = true } ∷ lines_after [] rest else lines_after (line ++ b ∷ []) rest)
-lines_after-more [] rest b = refl
-lines_after-more (c ∷ line) rest b = refl
-
--- a byte that is no line feed goes to the line
-lines_after-byte : (line rest : List ℕ) (b : ℕ) → b ≢ 10 → lines_after line (b ∷ rest) ≡ lines_after (line ++ b ∷ []) rest
-lines_after-byte line rest b other =
-    let differs : (b == 10) ≡ false = grind (arith, nat_tests) in
-    lines_after-more line rest b ∙ rw differs refl
-
--- a line feed ends the line
-lines_after-feed : (line rest : List ℕ) (b : ℕ) → b ≡ 10 → lines_after line (b ∷ rest) ≡ record { bytes = line; ended = true } ∷ lines_after [] rest
-lines_after-feed line rest b same =
-    let equal : (b == 10) ≡ true = grind (arith, nat_tests) in
-    lines_after-more line rest b ∙ rw equal refl
-
--- bytes without a line feed go to the line
-lines_after-skip : (line bytes : List ℕ) (n : ℕ) → n ≤ length bytes → HasNoFeedBelow n bytes → lines_after line bytes ≡ lines_after (line ++ take n bytes) (drop n bytes)
-lines_after-skip line bytes zero fits none = rw append-nil refl
-lines_after-skip line [] (suc n) fits none = absurd (omega arith)
-lines_after-skip line (b ∷ bytes) (suc n) fits none =
-    let others : HasNoFeedBelow n bytes = λ k h. none (suc k) (omega arith) in
-    let within : n ≤ length bytes = omega arith in
-    lines_after-byte line bytes b (none 0 (omega arith))
-    ∙ lines_after-skip (line ++ b ∷ []) bytes n within others
-    ∙ ap (λ (l : List ℕ). lines_after l (drop n bytes)) (append_assoc line (b ∷ []) (take n bytes))
 
 -- the lines of bytes without a line feed at their front
 text_lines-skip : (bytes : List ℕ) (n : ℕ) → n ≤ length bytes → HasNoFeedBelow n bytes → text_lines bytes ≡ lines_after (take n bytes) (drop n bytes)
 unfolding text_lines
-text_lines-skip bytes n fits none = lines_after-skip [] bytes n fits none
+text_lines-skip bytes n fits none = lines_after-skip [] bytes n fits (λ k low. ne_eqb (get_or bytes k 0) 10 (none k low))
 
 -- more bytes bring no line feed to the front
 pub no_feed_before : (bytes left : List ℕ) (n : ℕ) → n ≤ length bytes → HasNoFeedBelow n bytes → HasNoFeedBelow n (bytes ++ left)
@@ -94,7 +68,7 @@ takes_first bytes n feed fits =
       lines =
           text_lines-skip bytes n some feed.first
           ∙ ap (λ (l : List ℕ). lines_after (take n bytes) l) split
-          ∙ lines_after-feed (take n bytes) (drop (n + 1) bytes) (get_or bytes n 0) here;
+          ∙ lines_after-feed (take n bytes) (drop (n + 1) bytes) (get_or bytes n 0) (eq-eqb (get_or bytes n 0) 10 here);
       bytes = sym (take-append-drop n bytes) ∙ ap (λ (l : List ℕ). take n bytes ++ l) (split ∙ ap (λ (b : ℕ). b ∷ drop (n + 1) bytes) here) ∙ sym (append_assoc (take n bytes) (10 ∷ []) (drop (n + 1) bytes));
       fits = grind (arith, nat_tests);
       says = refl;

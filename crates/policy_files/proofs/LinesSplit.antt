@@ -1,13 +1,14 @@
 -- The first line of bytes, by where the first line feed stands.
-use Rattle.std.proofs.Common.{◌≡◌, ℕ, zero, suc, ◌+◌, ◌<◌, ◌≤◌, ◌==◌, Bool, true, false, not, List, [], ◌∷◌, ◌++◌, length, take, drop, get_or, Some, None, refl, ap, ◌∙◌, arith, append_assoc, inl, inr}
-use Rattle.std.specs.Prelude.{if◌then◌else◌, nat_lt, position}
+use Rattle.std.proofs.Common.{◌≡◌, ℕ, ◌+◌, ◌<◌, ◌≤◌, ◌==◌, Bool, true, false, not, List, [], ◌∷◌, ◌++◌, length, take, drop, get_or, Some, None, refl, ap, ◌∙◌, arith, inl, inr}
+use Rattle.std.specs.Prelude.{nat_lt, position}
 use Rattle.std.specs.List.{position_or_len}
-use Rattle.std.proofs.lemmas.Bool.{cases_Bool}
+use Rattle.std.proofs.lemmas.Bool.{cases_Bool, not-true}
 use Rattle.std.proofs.lemmas.Bool.Decides.{nat_tests}
 use Rattle.std.proofs.lemmas.List.Sums.{prefix_len_passes}
-use Rattle.std.proofs.lemmas.List.{append-nil, take_all, drop_all, drop_more}
+use Rattle.std.proofs.lemmas.List.{take_all, drop_all, drop_more}
 use Rattle.std.proofs.lemmas.List.Quantifiers.{position-Some}
 use Rattle.cqe_base.specs.Lines.{lines_after, text_lines, without_return}
+use Rattle.cqe_base.proofs.TextLines.{no_lines, lines_after-feed, lines_after-skip}
 
 abbrev pub is_feed : ℕ → Bool
 is_feed b = b == 10
@@ -15,27 +16,6 @@ is_feed b = b == 10
 -- none among the first n bytes
 abbrev HasNoFeedBelow : ℕ → List ℕ → Type 0
 HasNoFeedBelow n bytes = (k : ℕ) → k < n → is_feed (get_or bytes k 0) ≡ false
-
-opposite : (b : Bool) → not b ≡ true → b ≡ false
-opposite true e = absurd (cc)
-opposite false e = refl
-
--- what one more byte does
-more : (line rest : List ℕ) (b : ℕ) → lines_after line (b ∷ rest) ≡ (if b == 10 then record { bytes = line; ended = true } ∷ lines_after [] rest else lines_after (line ++ b ∷ []) rest)
-more [] rest b = refl
-more (c ∷ line) rest b = refl
-
--- bytes without a line feed go to the line
-skip : (line bytes : List ℕ) (n : ℕ) → n ≤ length bytes → HasNoFeedBelow n bytes → lines_after line bytes ≡ lines_after (line ++ take n bytes) (drop n bytes)
-skip line bytes zero fits none = rw append-nil refl
-skip line [] (suc n) fits none = absurd (omega arith)
-skip line (b ∷ bytes) (suc n) fits none =
-    let others : HasNoFeedBelow n bytes = λ k h. none (suc k) (omega arith) in
-    let within : n ≤ length bytes = omega arith in
-    let differs : (b == 10) ≡ false = none 0 (omega arith) in
-    more line bytes b
-    ∙ rw differs (skip (line ++ b ∷ []) bytes n within others
-    ∙ ap (λ (l : List ℕ). lines_after l (drop n bytes)) (append_assoc line (b ∷ []) (take n bytes)))
 
 -- a line that a line feed ends
 pub first_line : (bytes : List ℕ) (n : ℕ) → position is_feed bytes ≡ Some n → text_lines bytes ≡ record { bytes = take n bytes; ended = true } ∷ text_lines (drop (n + 1) bytes)
@@ -45,10 +25,9 @@ first_line bytes n found =
     let within : n < length bytes = at.0 in
     let equal : (get_or bytes n 0 == 10) ≡ true = at.1 in
     let split : drop n bytes ≡ get_or bytes n 0 ∷ drop (n + 1) bytes = drop_more bytes n 0 within in
-    skip [] bytes n (omega arith) at.2
+    lines_after-skip [] bytes n (omega arith) at.2
     ∙ ap (λ (l : List ℕ). lines_after (take n bytes) l) split
-    ∙ more (take n bytes) (drop (n + 1) bytes) (get_or bytes n 0)
-    ∙ rw equal refl
+    ∙ lines_after-feed (take n bytes) (drop (n + 1) bytes) (get_or bytes n 0) equal
 
 -- where none is found there is none
 none_found : (bytes : List ℕ) → position is_feed bytes ≡ None → HasNoFeedBelow (length bytes) bytes
@@ -57,7 +36,7 @@ none_found bytes none k below =
       | inl early ↦ absurd (let some : Some (position_or_len is_feed bytes) ≡ None = rw early at none in cc)
       | inr late ↦
           let all : length bytes ≤ position_or_len is_feed bytes = grind (arith, nat_tests) in
-          opposite (is_feed (get_or bytes k 0)) (prefix_len_passes (λ b. not (is_feed b)) bytes k 0 (omega arith))
+          not-true (is_feed (get_or bytes k 0)) (prefix_len_passes (λ b. not (is_feed b)) bytes k 0 (omega arith))
     ]
 
 -- a rest without a line feed
@@ -68,7 +47,7 @@ last_line (b ∷ bytes) none some =
     let no_feed : HasNoFeedBelow (length (b ∷ bytes)) (b ∷ bytes) = none_found (b ∷ bytes) none in
     let all : take (length bytes) bytes ≡ bytes = take_all (length bytes) bytes (omega arith) in
     let none_left : drop (length bytes) bytes ≡ [] = drop_all (length bytes) bytes (omega arith) in
-    skip [] (b ∷ bytes) (length (b ∷ bytes)) (omega arith) no_feed ∙ rw (all, none_left) refl
+    lines_after-skip [] (b ∷ bytes) (length (b ∷ bytes)) (omega arith) no_feed ∙ rw (all, none_left) refl
 
 -- a carriage return at the end of bytes
 pub without_last : (front : List ℕ) (last : ℕ) → (last == 13) ≡ true → without_return (front ++ last ∷ []) ≡ front
@@ -83,7 +62,6 @@ with_last (b ∷ []) last is = rw is refl
 with_last (b ∷ c ∷ front) last is = ap (λ (l : List ℕ). b ∷ l) (with_last (c ∷ front) last is)
 
 -- no bytes have no lines
-pub no_lines : (bytes : List ℕ) → length bytes ≡ 0 → text_lines bytes ≡ []
-unfolding text_lines
-no_lines [] empty = refl
-no_lines (b ∷ bytes) empty = absurd (omega arith)
+pub none_left : (bytes : List ℕ) → length bytes ≡ 0 → text_lines bytes ≡ []
+none_left [] empty = no_lines
+none_left (b ∷ bytes) empty = absurd (omega arith)

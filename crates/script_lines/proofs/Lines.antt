@@ -1,16 +1,9 @@
 -- A script from its first line to its last.
-use Rattle.std.proofs.Common.{◌≡◌, ℕ, List, [], ◌∷◌, ◌++◌, refl, sym, ap, ◌∙◌}
+use Rattle.std.proofs.Common.{◌≡◌, ℕ, List, [], ◌++◌, sym, ap, ◌∙◌}
 use Rattle.std.specs.Prelude.{Ok}
 use Rattle.cqe_base.specs.Lines.{text_lines}
+use Rattle.cqe_base.proofs.TextLines.{no_lines, nothing_left}
 use Rattle.script_lines.specs.Scripts.{Step, script_after, script_from}
-
-no_lines : text_lines [] ≡ []
-unfolding text_lines
-no_lines = refl
-
-pub nothing_left : (ahead left : List ℕ) → ahead ++ left ≡ [] → left ≡ []
-nothing_left [] left e = e
-nothing_left (b ∷ ahead) left e = absurd cc
 
 module _ {A : Type 0} (step : Step A) where
   pub script_starts : (said : A) (ahead left : List ℕ) → ahead ≡ [] → script_after step 1 said (text_lines (ahead ++ left)) ≡ script_from step said left

@@ -7,7 +7,7 @@ use Rattle.script_lines.specs.Scripts.{is_cut_short}
 use Rattle.script_lines.specs.Read.{RefusesFirst, ReadsLine, IsReadThrough}
 use Rattle.script_lines.specs.declared.reading.NextLine.{NextLine}
 use Rattle.script_lines.specs.declared.reading.NextLine.TheVariants as next
-use Rattle.script_lines.proofs.Lines.{nothing_left}
+use Rattle.cqe_base.proofs.TextLines.{nothing_left}
 
 -- a first line that is refused whatever it says is one of the lines
 pub cut_first : (number : ℕ) (bytes : List ℕ) (kind : ScriptKind) → RefusesFirst number bytes kind → is_cut_short number (text_lines bytes) ≡ true

@@ -3,7 +3,7 @@ use Rattle.std.proofs.Common.{◌≡◌, ◌∙◌, sym, ap, refl, ℕ, zero, su
 use Rattle.std.specs.Fmt.{digits, digits_onto, digit_glyph}
 use Rattle.std.specs.List.{list_all, range_with_len, AllByRecursion}
 use Rattle.std.proofs.Math.Nat.{mod-lt}
-use Rattle.std.proofs.lemmas.Bool.{and_parts}
+use Rattle.std.proofs.lemmas.Bool.{and_parts, not-true}
 use Rattle.std.proofs.lemmas.List.Folds.{list_all-append}
 use Rattle.std.proofs.lemmas.List.Sums.{fold-append}
 use Rattle.cqe_base.specs.declared.user.Mark.TheVariants.{Yes, No, Refused, Undecided}
@@ -67,16 +67,12 @@ decimal_other n = all_other (decimal n) (decimal_inside n)
 abbrev at : ℕ → Tally → Counter
 at blanks tally = record { blanks = blanks; tally = tally }
 
-is_false : (t : Bool) → not t ≡ true → t ≡ false
-is_false true e = let clash : false ≡ true = e in absurd cc
-is_false false e = refl
-
 inside_first : (tally : Tally) (bytes : List ℕ) → list_all is_inside bytes ≡ true → fold after_byte (at 0 tally) bytes ≡ at 0 tally
 inside_first tally [] all = refl
 inside_first tally (b ∷ bytes) all =
     let parts = and_parts (is_inside b) (list_all is_inside bytes) all in
     let two = and_parts (not (b == 10)) (not (b == 32)) parts.0 in
-    ap (λ c. fold after_byte c bytes) (λ i. if is_false (b == 10) two.0 i then at 0 tally else if is_false (b == 32) two.1 i && true then at 1 tally else if is_false (b == 32) two.1 i && false then at 2 tally else at 0 tally)
+    ap (λ c. fold after_byte c bytes) (λ i. if not-true (b == 10) two.0 i then at 0 tally else if not-true (b == 32) two.1 i && true then at 1 tally else if not-true (b == 32) two.1 i && false then at 2 tally else at 0 tally)
     ∙ inside_first tally bytes parts.1
 
 inside_second : (tally : Tally) (bytes : List ℕ) → list_all is_inside bytes ≡ true → fold after_byte (at 1 tally) bytes ≡ at 1 tally
@@ -84,14 +80,14 @@ inside_second tally [] all = refl
 inside_second tally (b ∷ bytes) all =
     let parts = and_parts (is_inside b) (list_all is_inside bytes) all in
     let two = and_parts (not (b == 10)) (not (b == 32)) parts.0 in
-    ap (λ c. fold after_byte c bytes) (λ i. if is_false (b == 10) two.0 i then at 0 tally else if is_false (b == 32) two.1 i && false then at 1 tally else if is_false (b == 32) two.1 i && true then at 2 tally else at 1 tally)
+    ap (λ c. fold after_byte c bytes) (λ i. if not-true (b == 10) two.0 i then at 0 tally else if not-true (b == 32) two.1 i && false then at 1 tally else if not-true (b == 32) two.1 i && true then at 2 tally else at 1 tally)
     ∙ inside_second tally bytes parts.1
 
 behind_reply : (tally : Tally) (bytes : List ℕ) → list_all is_other bytes ≡ true → fold after_byte (at 3 tally) (bytes ++ 10 ∷ []) ≡ at 0 tally
 behind_reply tally [] all = refl
 behind_reply tally (b ∷ bytes) all =
     let parts = and_parts (is_other b) (list_all is_other bytes) all in
-    ap (λ c. fold after_byte c (bytes ++ 10 ∷ [])) ((λ i. if is_false (b == 10) parts.0 i then at 0 tally else if (b == 32) && false then at 1 tally else if (b == 32) && false then at 2 tally else at 3 tally) ∙ never (b == 32))
+    ap (λ c. fold after_byte c (bytes ++ 10 ∷ [])) ((λ i. if not-true (b == 10) parts.0 i then at 0 tally else if (b == 32) && false then at 1 tally else if (b == 32) && false then at 2 tally else at 3 tally) ∙ never (b == 32))
     ∙ behind_reply tally bytes parts.1
   where
     never : (t : Bool) → (if t && false then at 1 tally else if t && false then at 2 tally else at 3 tally) ≡ at 3 tally

@@ -1,24 +1,19 @@
 -- Looking declarations up by their numbers.
 use Rattle.std.proofs.Common.{◌≡◌, ℕ, zero, suc, ◌≤◌, true, List, [], ◌∷◌, map, length, None, refl, arith}
-use Rattle.std.specs.Prelude.{slice_get, option_map, unwrap_or, nat_le, ◌&&◌}
+use Rattle.std.specs.Prelude.{slice_get, option_map, unwrap_or, nat_le}
 use Rattle.std.specs.List.{list_all}
 use Rattle.std.proofs.lemmas.Bool.{leb-true}
 use Rattle.cqe_base.specs.Schema.{DatabaseSchema, RelationSchema, is_valid_schema}
 use Rattle.cqe_base.specs.declared.schema.Relation.{Relation}
 use Rattle.cqe_base.specs.Memory.{relation_schema_of}
 use Rattle.cqe_base.specs.Reading.{column_domains}
+use Rattle.cqe_base.proofs.Truths.{and_first, and_second}
 
 -- what stands at a place of a mapped list
 pub slice_get-map : {X Y : Type 0} (f : X → Y) (xs : List X) (i : ℕ) → slice_get (map f xs) i ≡ option_map f (slice_get xs i)
 slice_get-map f [] i = refl
 slice_get-map f (x ∷ xs) zero = refl
 slice_get-map f (x ∷ xs) (suc i) = slice_get-map f xs i
-
-and_first : (a b : _) → (a && b) ≡ true → a ≡ true
-and_first a b h = grind arith
-
-and_second : (a b : _) → (a && b) ≡ true → b ≡ true
-and_second a b h = grind arith
 
 few_columns : (relations : List RelationSchema) (r : ℕ) → list_all (λ r. nat_le (length r.columns) 6) relations ≡ true
     → length (unwrap_or (option_map (λ relation. relation.columns) (slice_get relations r)) []) ≤ 6

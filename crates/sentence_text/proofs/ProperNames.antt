@@ -1,10 +1,11 @@
 -- In a valid schema each name stands for what has it.
 use Rattle.std.proofs.Common.{◌≡◌, ℕ, zero, suc, ◌+◌, ◌<◌, ◌⊎◌, inl, inr, Bool, true, false, List, [], ◌∷◌, ◌++◌, map, length, Option, Some, None, refl, sym, ap, subst, ◌∙◌, arith, one-add, add-zero, zero-add}
-use Rattle.std.specs.Prelude.{◌==◌, ◌&&◌, ◌||◌, not, nat_eq, nat_lt, bytes_eq, codes, position, slice_get, option_map, option_and_then, unwrap_or, IsSome}
+use Rattle.std.specs.Prelude.{◌||◌, not, nat_eq, nat_lt, bytes_eq, codes, position, slice_get, option_map, option_and_then, unwrap_or, IsSome}
 use Rattle.std.specs.List.{position_or_len, flat_map, list_all, list_any}
 use Rattle.std.specs.Option.{option_or}
 use Rattle.std.specs.Char.{is_ascii_alphabetic}
 use Rattle.std.specs.Cmp.Lexicographic.{same_text}
+use Rattle.std.proofs.lemmas.Bool.{not-true}
 use Rattle.std.proofs.lemmas.Bool.Decides.{nat_tests}
 use Rattle.std.proofs.lemmas.Fmt.{decimal_digit}
 use Rattle.cqe_base.specs.declared.sentence.Constant.{Constant}
@@ -12,7 +13,8 @@ use Rattle.cqe_base.specs.declared.text.Symbol.TheVariants.{Name}
 use Rattle.cqe_base.specs.Schema.{DatabaseSchema, NamedDomain, RelationSchema, Text, is_identifier, is_schema_name, is_valid_schema, schema_names, contains_text, has_duplicate, keywords, printed_variables, domain_named, relation_named, constant_named, constant_in}
 use Rattle.cqe_base.specs.Tokens.{IsOneOf, symbol_of}
 use Rattle.cqe_base.specs.Canonical.{variable_name, domain_name, relation_name, constant_name}
-use Rattle.cqe_base.proofs.Lists.{some_at}
+use Rattle.cqe_base.proofs.Lists.{some_at, text_is}
+use Rattle.cqe_base.proofs.Truths.{and_first, and_second, or_first, or_second}
 
 -- the name may stand in a schema
 pub record IsSchemaName (name : List ℕ) : Type 0 where
@@ -34,10 +36,6 @@ pub record HasProperNames (schema : DatabaseSchema) : Type 0 where
 abbrev pub AreDistinct : List (List ℕ) → Type 0
 AreDistinct [] = Unit {0}
 AreDistinct (name ∷ others) = (IsOneOf name others → ⊥) × AreDistinct others
-
-same-name : (w : Text) → bytes_eq w w ≡ true
-same-name [] = refl
-same-name (b ∷ w) = let t : (b == b) ≡ true = grind (arith, nat_tests) in rw (t, same-name w) refl
 
 other-name : (a b : Text) → (a ≡ b → ⊥) → bytes_eq a b ≡ false
 other-name a b other = at (bytes_eq a b) refl
@@ -61,7 +59,7 @@ first-at : {X : Type 0} (f : X → Text) (xs : List X) (i : ℕ) (x : X) → Are
 first-at f [] i x distinct e = absurd (cc)
 first-at f (y ∷ ys) zero x distinct e =
     let same : x ≡ y = cc in
-    let t : bytes_eq (f y) (f x) ≡ true = subst (λ z. bytes_eq (f y) (f z) ≡ true) (sym same) (same-name (f y)) in
+    let t : bytes_eq (f y) (f x) ≡ true = subst (λ z. bytes_eq (f y) (f z) ≡ true) (sym same) (text_is (f y)) in
     (rw t refl, omega arith)
 first-at f (y ∷ ys) (suc i) x distinct e =
     let there = one_of-at f ys i x e in
@@ -173,24 +171,9 @@ names-are_found schema names = record {
 
 -- ---- what a valid schema says of its names
 
-pub and_first : (a b : Bool) → (a && b) ≡ true → a ≡ true
-and_first a b h = grind arith
-
-pub and_second : (a b : Bool) → (a && b) ≡ true → b ≡ true
-and_second a b h = grind arith
-
-or_first : (a b : Bool) → (a || b) ≡ false → a ≡ false
-or_first a b h = grind arith
-
-or_second : (a b : Bool) → (a || b) ≡ false → b ≡ false
-or_second a b h = grind arith
-
-isnt : (b : Bool) → not b ≡ true → b ≡ false
-isnt b h = grind arith
-
 one_of-any : (name : Text) (names : List Text) → IsOneOf name names → list_any (bytes_eq name) names ≡ true
 one_of-any name [] h = absurd h
-one_of-any name (x ∷ names) (inl e) = subst (λ x. (bytes_eq name x || list_any (bytes_eq name) names) ≡ true) e (rw (same-name name) refl)
+one_of-any name (x ∷ names) (inl e) = subst (λ x. (bytes_eq name x || list_any (bytes_eq name) names) ≡ true) e (rw (text_is name) refl)
 one_of-any name (x ∷ names) (inr h) = at (bytes_eq name x) (one_of-any name names h)
   where
     at : (b : Bool) → list_any (bytes_eq name) names ≡ true → (b || list_any (bytes_eq name) names) ≡ true
@@ -281,14 +264,14 @@ schema-name name h =
     let letters = and_first _ _ (and_first _ _ front) in
     record {
       letters = letters;
-      no_keyword = name-symbol name letters (isnt _ (and_second _ _ front));
-      no_variable = no-variable name (isnt _ (and_second _ _ h));
+      no_keyword = name-symbol name letters (not-true _ (and_second _ _ front));
+      no_variable = no-variable name (not-true _ (and_second _ _ h));
     }
 
 -- each name of a valid schema may stand in one, and stands for what has it
 pub valid-names : (schema : DatabaseSchema) → is_valid_schema schema ≡ true → HasProperNames schema
 valid-names schema valid =
-    let different = distinct (schema_names schema) (isnt _ (and_first _ _ (and_first _ _ (and_first _ _ (and_first _ _ (and_first _ _ valid)))))) in
+    let different = distinct (schema_names schema) (not-true _ (and_first _ _ (and_first _ _ (and_first _ _ (and_first _ _ (and_first _ _ valid)))))) in
     let proper = and_second _ _ valid in
     let ds : List Text = map (λ d. d.name) schema.domains in
     let cs : List Text = flat_map (λ d. d.constants) schema.domains in

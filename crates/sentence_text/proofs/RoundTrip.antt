@@ -18,6 +18,7 @@ use Rattle.cqe_base.specs.Tokens.{Token, tokens_from, end_from, token_length, ma
 use Rattle.cqe_base.specs.Reading.{Scope, TypedTerm, column_domains, variable_named, term_named, or_constant}
 use Rattle.cqe_base.specs.Grammar.{unary, whole, IsSymbol, IsTerm, Columns, no_column, last_column, next_column, MayEndQuantified, IsQuantifier, Begins, is_true, is_false, is_atom, is_equal, is_differs, is_not, in_parentheses, is_forall, is_exists, one_and, more_and, one_or, more_or, no_arrow, one_arrow, no_double_arrow, one_double_arrow, IsSentence}
 use Rattle.cqe_base.specs.Canonical.{variable_name, domain_name, relation_name, constant_name, enclosing_constructs, term_text, terms_text, canonical_within, canonical}
+use Rattle.cqe_base.proofs.Lists.{text_is}
 use Rattle.sentence_text.proofs.ProperNames.{IsSchemaName, HasProperNames, valid-names, variable_name-digit}
 use Rattle.sentence_text.proofs.WellFormed.{IsVariableOf, IsOfDomain, AreOfDomains, IsOfSchema, sentence-of_schema}
 use Rattle.sentence_text.specs.Laws.{CanonicalFormsRead}
@@ -183,10 +184,6 @@ variable_name-letters i lt = subst (λ w. is_identifier w ≡ true) (sym (variab
 variable_name-symbol : (i : ℕ) → i < 8 → symbol_of (variable_name i) ≡ symbols.Name
 variable_name-symbol i lt = subst (λ w. symbol_of w ≡ symbols.Name) (sym (variable_name-digit i (omega arith))) (digit-symbol (49 + i))
 
-same-name : (w : List ℕ) → bytes_eq w w ≡ true
-same-name [] = refl
-same-name (b ∷ w) = let t : (b == b) ≡ true = grind (arith, nat_tests) in rw (t, same-name w) refl
-
 digit-other : (m n : ℕ) → (m ≡ n → ⊥) → bytes_eq (118 ∷ m ∷ []) (118 ∷ n ∷ []) ≡ false
 digit-other m n other = let t : (m == n) ≡ false = grind (arith, nat_tests) in rw t refl
 
@@ -214,7 +211,7 @@ variable-found : (scope : List ℕ) (i d : ℕ) → length scope ≤ 8 → IsVar
 unfolding canonical_scope variable_named
 variable-found [] i d few h = absurd h
 variable-found (e ∷ outer) i d few (inl h) =
-    let same : bytes_eq (variable_name (length outer)) (variable_name i) ≡ true = subst (λ k. bytes_eq (variable_name k) (variable_name i) ≡ true) h.0 (same-name (variable_name i)) in
+    let same : bytes_eq (variable_name (length outer)) (variable_name i) ≡ true = subst (λ k. bytes_eq (variable_name k) (variable_name i) ≡ true) h.0 (text_is (variable_name i)) in
     rw (same, canonical_scope-length outer, h.1, ← h.0) refl
 variable-found (e ∷ outer) i d few (inr h) =
     let below = variable-below outer i d h in

@@ -7,7 +7,8 @@ use Rattle.cqe_base.specs.declared.sentence.Term.TheVariants as terms
 use Rattle.cqe_base.specs.Schema.{DatabaseSchema, NamedDomain, RelationSchema, domain_size, columns_of}
 use Rattle.cqe_base.specs.Formula.{Formula, verum, falsum, atom, equality, inequality, negation, conjunction, disjunction, implication, biconditional, universal, existential, term_domain, is_domain, have_one_domain, have_domains, fit_relation, may_quantify, is_well_formed, is_sentence_of}
 use Rattle.cqe_base.specs.Reading.{column_domains}
-use Rattle.sentence_text.proofs.ProperNames.{IsConstantOf, and_first, and_second}
+use Rattle.cqe_base.proofs.Truths.{and_first, and_second}
+use Rattle.sentence_text.proofs.ProperNames.{IsConstantOf}
 
 -- Here `scope` has the domains of the enclosing quantifiers, the innermost first.
 

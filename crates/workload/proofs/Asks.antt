@@ -3,6 +3,7 @@ use Rattle.std.proofs.Common.{◌≡◌, ◌∙◌, sym, ap, refl, ℕ, zero, su
 use Rattle.std.specs.Prelude.{cond}
 use Rattle.std.specs.Fmt.{digits}
 use Rattle.std.specs.List.{list_all, list_any, flat_map, range_with_len, position_or_len, before_first, after_first}
+use Rattle.std.proofs.Math.Bool.{or-true}
 use Rattle.std.proofs.Math.Nat.{mod-lt}
 use Rattle.std.proofs.lemmas.Bool.{and_parts}
 use Rattle.std.proofs.lemmas.Bool.Decides.{nat_tests}
@@ -11,6 +12,7 @@ use Rattle.std.proofs.lemmas.List.Folds.{list_all-append}
 use Rattle.cqe_base.specs.Schema.{Text}
 use Rattle.cqe_base.specs.Tokens.{is_blank}
 use Rattle.cqe_base.specs.Lines.{text_lines, without_return}
+use Rattle.cqe_base.proofs.TextLines.{no_lines}
 use Rattle.line_protocol.specs.Words.{is_printable}
 use Rattle.line_protocol.proofs.Digits.{byte_digits}
 use Rattle.cqe_base.specs.declared.text.ScriptKind.TheVariants.{TooLong, TooMany}
@@ -74,11 +76,7 @@ module _ (p : ℕ → Bool) where
 
   some : (xs : List ℕ) (b : ℕ) (ys : List ℕ) → p b ≡ true → list_any p (xs ++ b ∷ ys) ≡ true
   some [] b ys is = ap (λ (t : Bool). t || list_any p ys) is
-  some (x ∷ xs) b ys is = ap (λ (t : Bool). p x || t) (some xs b ys is) ∙ last (p x)
-    where
-      last : (t : Bool) → (t || true) ≡ true
-      last true = refl
-      last false = refl
+  some (x ∷ xs) b ys is = ap (λ (t : Bool). p x || t) (some xs b ys is) ∙ or-true (p x)
 
 front : (xs ys : List ℕ) → take (length xs) (xs ++ ys) ≡ xs
 front [] ys = refl
@@ -235,10 +233,6 @@ module _ (seed users : ℕ) (some_user : 0 < users) (few_users : users ≤ 256) 
 
   items_more : (a : ℕ) → items a ++ workload_ask seed users a ∷ [] ≡ items (a + 1)
   items_more a = sym (ap (map (workload_ask seed users)) (range_to a) ∙ map-append (workload_ask seed users) (range_with_len 0 a) (a ∷ []))
-
-  no_lines : text_lines [] ≡ []
-  unfolding text_lines
-  no_lines = refl
 
   lines_read : (a n : ℕ) → a + n ≤ 100000 → script_after with_line (a + 1) (items a) (text_lines (lines a n)) ≡ Ok (items (a + n))
   lines_read a zero few = ap (script_after with_line (a + 1) (items a)) no_lines ∙ ap (λ m. Ok (items m)) (none a)

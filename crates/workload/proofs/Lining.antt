@@ -1,13 +1,14 @@
 -- The lines of a facts file are its statements.
-use Rattle.std.proofs.Common.{◌≡◌, ◌∙◌, sym, ap, subst, refl, ℕ, zero, suc, ◌+◌, ◌*◌, ◌/◌, ◌<◌, Bool, true, false, not, ◌&&◌, ◌==◌, List, [], ◌∷◌, ◌++◌, map, codes, decimal, Some, if◌then◌else◌, arith, append_assoc}
+use Rattle.std.proofs.Common.{◌≡◌, ◌∙◌, sym, ap, subst, refl, ℕ, zero, suc, ◌+◌, ◌*◌, ◌/◌, ◌<◌, Bool, true, not, ◌&&◌, ◌==◌, List, [], ◌∷◌, ◌++◌, map, codes, decimal, Some, arith, append_assoc}
 use Rattle.std.specs.Fmt.{digits}
 use Rattle.std.specs.List.{list_all, flat_map, range_with_len, AllByRecursion}
 use Rattle.std.proofs.Math.Nat.{mod-lt}
-use Rattle.std.proofs.lemmas.Bool.{and_parts, false≢true}
+use Rattle.std.proofs.lemmas.Bool.{and_parts, not-true}
 use Rattle.std.proofs.lemmas.List.{append-nil}
 use Rattle.std.proofs.lemmas.List.Folds.{list_all-append}
 use Rattle.cqe_base.specs.FactText.{stated_fact}
 use Rattle.cqe_base.specs.Lines.{lines_after, text_lines, without_return, content}
+use Rattle.cqe_base.proofs.TextLines.{lines_after-byte}
 use Rattle.sentence_text.specs.Laws.{CanonicalFormsRead}
 use Rattle.workload.specs.Draws.{state_after}
 use Rattle.workload.specs.Statements.{statement_text, facts_text, illness, treatment, illnesses, treatments, statements}
@@ -20,23 +21,12 @@ use Rattle.workload.proofs.Stating.{IsWithin, states}
 abbrev pub is_other : ℕ → Bool
 is_other b = not (b == 10)
 
-no_feed : (b : ℕ) → is_other b ≡ true → (b == 10) ≡ false
-no_feed b = by_test (b == 10)
-  where
-    by_test : (t : Bool) → not t ≡ true → t ≡ false
-    by_test true e = absurd (false≢true e)
-    by_test false e = refl
-
-one_byte : (seen : List ℕ) (b : ℕ) (rest : List ℕ) → (b == 10) ≡ false → lines_after seen (b ∷ rest) ≡ lines_after (seen ++ b ∷ []) rest
-one_byte [] b rest is = ap (λ (t : Bool). if t then record { bytes = []; ended = true } ∷ lines_after [] rest else lines_after (b ∷ []) rest) is
-one_byte (s ∷ seen) b rest is = ap (λ (t : Bool). if t then record { bytes = s ∷ seen; ended = true } ∷ lines_after [] rest else lines_after ((s ∷ seen) ++ b ∷ []) rest) is
-
 pub line_up : (seen bytes rest : List ℕ) → list_all is_other bytes ≡ true → lines_after seen (bytes ++ 10 ∷ rest) ≡ record { bytes = seen ++ bytes; ended = true } ∷ lines_after [] rest
 line_up [] [] rest all = refl
 line_up (s ∷ seen) [] rest all = ap (λ (l : List ℕ). record { bytes = l; ended = true } ∷ lines_after [] rest) (sym (append-nil (s ∷ seen)))
 line_up seen (b ∷ bytes) rest all =
     let parts = and_parts (is_other b) (list_all is_other bytes) all in
-    one_byte seen b (bytes ++ 10 ∷ rest) (no_feed b parts.0) ∙ line_up (seen ++ b ∷ []) bytes rest parts.1
+    lines_after-byte seen (bytes ++ 10 ∷ rest) b (not-true (b == 10) parts.0) ∙ line_up (seen ++ b ∷ []) bytes rest parts.1
     ∙ ap (λ (l : List ℕ). record { bytes = l; ended = true } ∷ lines_after [] rest) (append_assoc seen (b ∷ []) bytes)
 
 pub all_at : (p : ℕ → Bool) (a n j k : ℕ) → k ≡ a + j → j < n → list_all p (range_with_len a n) ≡ true → p k ≡ true

@@ -23,11 +23,12 @@ use Rattle.cqe_base.specs.Reading.{Refusal, reading}
 use Rattle.cqe_base.specs.History.{view_size, log, known, told}
 use Rattle.sentence_text.specs.Laws.{CanonicalFormsRead}
 use Rattle.policy_files.specs.declared.error.PolicyError.TheVariants.{NotToml, WrongKind, Limit, DuplicateUser}
-use Rattle.policy_files.specs.Tree.{listed, is_table, tables_in, declarations}
+use Rattle.policy_files.specs.Tree.{is_table, tables_in, declarations}
 use Rattle.policy_files.specs.Keys.{◌>>=◌, key_place, text_place, of_kind, required, within}
 use Rattle.policy_files.specs.Policies.{NamedUser}
 use Rattle.policy_files.specs.Policy.{policy_of, policy_in, tree_of, schema_in}
 use Rattle.policy_files.specs.Users.{user_of, users_behind, sentence_of, sentences_of, names_of, small_sentence, name_of, method_of, with_small_view, user_place}
+use Rattle.policy_files.proofs.Trees.{listed-items_of}
 use Rattle.workload.specs.Draws.{state_after, drawn}
 use Rattle.workload.specs.Stated.{workload_schema}
 use Rattle.workload.specs.Policies.{user_name, method_at, drug_means_illness, has_first_illness, secret_person, workload_user, workload_policy}
@@ -155,17 +156,13 @@ module _ (law : CanonicalFormsRead) where
 
   -- ---- the document
 
-  listed_back : (trees : List Data) → listed (items_of trees) ≡ trees
-  listed_back [] = refl
-  listed_back (tree ∷ trees) = ap (λ l. tree ∷ l) (listed_back trees)
-
   all_tables : (seed : ℕ) (numbers : List ℕ) → list_all is_table (map (user_tree seed) numbers) ≡ true
   all_tables seed [] = refl
   all_tables seed (number ∷ numbers) = all_tables seed numbers
 
   tables_step : (seed : ℕ) (numbers : List ℕ) → required tables_in (key_place None (codes "users")) (Some (array (items_of (map (user_tree seed) numbers)))) ≡ Ok (map (user_tree seed) numbers)
   tables_step seed numbers =
-      ap (λ trees. of_kind (key_place None (codes "users")) (if list_all is_table trees then Some trees else None)) (listed_back (map (user_tree seed) numbers))
+      ap (λ trees. of_kind (key_place None (codes "users")) (if list_all is_table trees then Some trees else None)) (listed-items_of (map (user_tree seed) numbers))
       ∙ ap (λ (t : Bool). of_kind (key_place None (codes "users")) (if t then Some (map (user_tree seed) numbers) else None)) (all_tables seed numbers)
 
   schema_step : schema_in (declarations domain_members) (declarations relation_members) ≡ Ok workload_schema

@@ -10,6 +10,7 @@ use Rattle.cqe_base.specs.declared.world.Fact.{Fact}
 use Rattle.cqe_base.specs.Facts.{FactSet, fact_cmp}
 use Rattle.cqe_base.specs.FactText.{stated_fact}
 use Rattle.cqe_base.specs.Lines.{TextLine, text_lines, is_too_long}
+use Rattle.cqe_base.proofs.TextLines.{no_lines}
 use Rattle.cqe_base.proofs.Worlds.{fact_cmp_total}
 use Rattle.sentence_text.specs.Laws.{CanonicalFormsRead}
 use Rattle.policy_files.specs.Facts.{says_nothing, with_fact, with_line, with_lines, facts_of, ◌>>=◌}
@@ -67,10 +68,6 @@ one_more world fact = subst (λ k. k ≤ set.len world + 1) (sym (set.len-insert
     by_test : (t : Bool) (k : ℕ) → cond t k (k + 1) ≤ k + 1
     by_test true k = omega arith
     by_test false k = omega arith
-
-no_lines : text_lines [] ≡ []
-unfolding text_lines
-no_lines = refl
 
 lines_read : CanonicalFormsRead → (all : List Statement) → AllByRecursion IsWithin all → (n : ℕ) (world : FactSet) → set.len world + length all ≤ 100000
     → with_lines workload_schema n world (text_lines (facts_text all)) ≡ Ok (with_facts world (map meant_fact all))

@@ -1,5 +1,6 @@
 use Rattle.std.proofs.Common.{refl, arith}
-use Rattle.dimacs_text.proofs.Lines.{file_starts, file_ends, file_read, nothing_left}
+use Rattle.cqe_base.proofs.TextLines.{nothing_left}
+use Rattle.dimacs_text.proofs.Lines.{file_starts, file_ends, file_read}
 use Rattle.dimacs_text.proofs.reading.read_cnf.Goals as goal
 
 pub loop-number-init : goal.loop-number-init

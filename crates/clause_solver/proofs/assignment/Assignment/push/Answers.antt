@@ -5,12 +5,13 @@ use Rattle.cqe_base.specs.Machine.{assigned_literal, level}
 use Rattle.clause_solver.specs.Entries.{is_decided}
 use Rattle.clause_solver.specs.Assigning.{Assigning, is_assigned, code_of}
 use Rattle.clause_solver.proofs.Trails.{level-cons}
-use Rattle.clause_solver.proofs.Kept.{push_kept, level-le-length, reverse_push}
+use Rattle.cqe_base.proofs.MachineBound.{level_length}
+use Rattle.clause_solver.proofs.Kept.{push_kept, reverse_push}
 use Rattle.clause_solver.proofs.assignment.Assignment.push.Goals as goal
 
 pub level_with-decisions-requires : goal.level_with-decisions-requires
 level_with-decisions-requires c =
-    let low = level-le-length (reverse c.self.inside.trail.items) in
+    let low = level_length (reverse c.self.inside.trail.items) in
     let size = length-reverse c.self.inside.trail.items in
     let is = c.self.invariant.level_is in
     let ok = c.self.inside.trail.ok.0 in
