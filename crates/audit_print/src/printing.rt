@@ -26,7 +26,8 @@ pub enum AuditError {
     Memory,
 }
 
-/// Prints the audit of a desk's user, as text or in JSON.
+/// Prints the audit of a desk's user, as text or in JSON. Each search for a world has the budget of an admission. After a
+/// write fault a beginning of it was written, and for want of memory nothing.
 pub fn audit<D: Disk, K: Sink>(
     alloc: Global,
     schema: &Schema,

@@ -1,5 +1,5 @@
 -- What the lines of a batch mean for its users, once their disks are back.
-use Rattle.std.proofs.Common.{◌≡◌, ◌≢◌, inl, inr, ℕ, ◌≤◌, Bool, true, false, List, [], ◌∷◌, ◌++◌, take, map, refl, sym, ap, subst, ◌∙◌, append_assoc}
+use Rattle.std.proofs.Common.{◌≡◌, inl, inr, ℕ, ◌≤◌, Bool, true, false, List, [], ◌∷◌, ◌++◌, take, map, refl, sym, ap, subst, ◌∙◌, append_assoc}
 use Rattle.std.specs.Prelude.{Option, Some, find, bytes_eq, All, if◌then◌else◌}
 use Rattle.std.specs.List.{list_any, AllByRecursion}
 use Rattle.std.proofs.lemmas.List.Elements.{All-head, All-tail}
@@ -10,16 +10,11 @@ use Rattle.cqe_base.specs.History.{profile_of}
 use Rattle.cqe_base.specs.Limits.{KeepsLimits}
 use Rattle.cqe_base.specs.Censor.{EmptyHistoryIsLegal, IsLegal}
 use Rattle.cqe_base.specs.Headline.{RunsStayLegal, ScriptsHide}
-use Rattle.cqe_base.specs.Run.{UserState, standing_sealed}
-use Rattle.cqe_base.specs.Transcript.{NamedUser, ScriptEvent, own_events, state_after, TranscriptIsPrivate}
+use Rattle.cqe_base.specs.Transcript.{NamedUser, ScriptEvent, own_events, TranscriptIsPrivate}
 use Rattle.cqe_base.specs.declared.user.User.{User}
 use Rattle.cqe_base.proofs.Lists.{text_is}
 use Rattle.cqe_base.proofs.Truths.{or_first, or_second}
 use Rattle.user_desk.specs.Causes.{Opens}
-use Rattle.user_desk.specs.Lives.{IsState}
-use Rattle.user_desk.specs.Standings.{is_sealed}
-use Rattle.user_desk.specs.declared.standing.Standing.{Standing}
-use Rattle.user_desk.specs.declared.standing.Standing.TheVariants.{Open, Closed, Sealed}
 use Rattle.log_journal.specs.Names.{journal_name}
 use Rattle.batch_engine.specs.BatchLines.{BatchItem}
 use Rattle.desk_crew.specs.Openings.{OpensNone, IsOpening}
@@ -28,7 +23,7 @@ use Rattle.batch_engine.specs.Batch.{Serves, Answers, AreRefusals, AppendsAll, A
 use Rattle.desk_crew.specs.Crew.{named_user, seat_standing, seat_state, IsLeft, IsClosed}
 use Rattle.desk_crew.specs.Shelved.{journals_on, IsBack, AreBack}
 use Rattle.desk_crew.specs.Seats.{DeskSeat}
-use Rattle.batch_engine.proofs.Courses.{Course, course_on, Fits, IsRunning}
+use Rattle.batch_engine.proofs.Courses.{Course, course_on, Fits, Stays, stays_on, IsRunning}
 use Rattle.batch_engine.proofs.Seating.{names, IsSeated, AreSeated, close_at}
 use Rattle.batch_engine.proofs.Telling.{SoFar, LastLine}
 
@@ -75,22 +70,21 @@ bytes_of reads directory disk name = bytes_on reads (disk (journal_name director
 abbrev pub count_of : Text → (Text → ℕ) → Text → ℕ
 count_of directory count name = count (journal_name directory name)
 
+-- what a crash could leave of it then
+abbrev pub images_of : {D : Type 0} → (D → List ℕ → Type 0) → Text → (Text → Option D) → Text → List ℕ → Type 0
+images_of image directory disk name = image_on image (disk (journal_name directory name))
+
 legal_opening : (schema : DatabaseSchema) (world : FactSet) (header c : List ℕ) (user : NamedUser) → EmptyHistoryIsLegal → IsOpening schema world user.profile header c user.opened → IsLegal schema world user.profile user.opened
 legal_opening schema world header c user empty (inl opens) = opens.legal
 legal_opening schema world header c user empty (inr (none, is)) = subst (IsLegal schema world user.profile) (sym is) (empty schema world user.profile)
 
-served_standing : (standing : Standing) (shows : UserState) (state : UserState) → IsState standing shows state → state.standing ≢ standing_sealed → is_sealed standing ≡ false
-served_standing Open shows state is unsealed = refl
-served_standing (Closed admission) shows state is unsealed = refl
-served_standing (Sealed why) shows state is unsealed = absurd (unsealed is)
-
 module _ (schema : DatabaseSchema) (world : FactSet) (users : List NamedUser) (header directory : List ℕ) {D : Type 0} {g h : _} (T S : Type 0) (s : S) (reads : D → List ℕ) (image : D → List ℕ → Type 0) (faults : D → ℕ) (t : T)
     (read_is_image : (d : D) → T → image d (reads d)) (disk disk' : Text → Option D) (count count' : Text → ℕ) where
   abbrev Seated : NamedUser → List ScriptEvent → DeskSeat D g h → Type 0
-  Seated user script seat = IsSeated schema world header directory T reads image faults t read_is_image (bytes_of reads directory disk) (count_of directory count) user (own_events user.name script) seat
+  Seated user script seat = IsSeated schema world header directory T reads image faults t read_is_image (bytes_of reads directory disk) (count_of directory count) (images_of image directory disk) user (own_events user.name script) seat
 
   abbrev AllSeated : List ScriptEvent → List NamedUser → List (DeskSeat D g h) → Type 0
-  AllSeated script us seats = AreSeated schema world header directory T reads image faults t read_is_image (bytes_of reads directory disk) (count_of directory count) script us seats
+  AllSeated script us seats = AreSeated schema world header directory T reads image faults t read_is_image (bytes_of reads directory disk) (count_of directory count) (images_of image directory disk) script us seats
 
   -- the disk of a user's journal, which is back
   record Back (user : NamedUser) (script : List ScriptEvent) (seat : DeskSeat D g h) : Type 0 where
@@ -98,22 +92,25 @@ module _ (schema : DatabaseSchema) (world : FactSet) (users : List NamedUser) (h
     held : disk' (journal_name directory user.name) ≡ Some now
     closed : D
     left : IsLeft reads image faults closed now
-    running : IsRunning schema world user.profile header (bytes_of reads directory disk user.name) (count_of directory count user.name) user.opened (own_events user.name script) (seat_standing seat) (seat_state seat) (image closed) (reads closed) (faults closed) seat.refusal
-    course : Course schema world user.profile header (bytes_of reads directory disk user.name) (count_of directory count user.name) user.opened (own_events user.name script) (reads now) (count' (journal_name directory user.name)) seat.refusal
+    stays : Stays schema world user.profile header (bytes_of reads directory disk user.name) (count_of directory count user.name) (images_of image directory disk user.name) user.opened (own_events user.name script) (image now) (reads now)
+    running : IsRunning schema world user.profile header (bytes_of reads directory disk user.name) (count_of directory count user.name) (images_of image directory disk user.name) user.opened (own_events user.name script) (seat_standing seat) (seat_state seat) (image closed) (reads closed) (faults closed) seat.refusal
+    course : Course schema world user.profile header (bytes_of reads directory disk user.name) (count_of directory count user.name) (images_of image directory disk user.name) user.opened (own_events user.name script) (reads now) (count' (journal_name directory user.name)) seat.refusal
 
   back : (user : NamedUser) (script : List ScriptEvent) (seat : DeskSeat D g h) → Seated user script seat → IsBack S reads image faults disk' count' seat → Back user script seat
   back user script seat seated is =
       let counted : count' (journal_name directory user.name) ≡ faults is.now = ap count' (sym seated.journal_is) ∙ is.counted in
       let left = is.left in
-      let closed : IsClosed T image faults seat.desk left.closed = record { holds = λ told. left.is_closed.holds s; legal = left.is_closed.legal; idle = left.is_closed.idle; later = left.is_closed.later; cause = left.is_closed.cause; shut = left.is_closed.shut; still = left.is_closed.still } in
-      let running = close_at schema world header directory T reads image faults t read_is_image (bytes_of reads directory disk) (count_of directory count) user (own_events user.name script) seat left.closed seated closed in
+      let closed : IsClosed T image faults seat.desk left.closed = record { holds = λ told. left.is_closed.holds s; legal = left.is_closed.legal; added = left.is_closed.added; idle = left.is_closed.idle; later = left.is_closed.later; cause = left.is_closed.cause; shut = left.is_closed.shut; still = left.is_closed.still } in
+      let running = close_at schema world header directory T reads image faults t read_is_image (bytes_of reads directory disk) (count_of directory count) (images_of image directory disk) user (own_events user.name script) seat left.closed seated closed in
       record {
         now = is.now;
         held = ap disk' (sym seated.journal_is) ∙ is.held s;
         closed = left.closed;
         left = left.left;
         running = running;
-        course = course_on schema world user.profile header (bytes_of reads directory disk user.name) (count_of directory count user.name) user.opened (own_events user.name script) (reads left.closed) (reads is.now) (faults left.closed)
+        stays = stays_on schema world user.profile header (bytes_of reads directory disk user.name) (count_of directory count user.name) (images_of image directory disk user.name) user.opened (own_events user.name script) (image left.closed) (image is.now) (reads left.closed) (reads is.now)
+            left.left.reads_same left.left.images running.stays;
+        course = course_on schema world user.profile header (bytes_of reads directory disk user.name) (count_of directory count user.name) (images_of image directory disk user.name) user.opened (own_events user.name script) (reads left.closed) (reads is.now) (faults left.closed)
             (count' (journal_name directory user.name)) seat.refusal left.left.reads_same (subst (λ n. faults left.closed ≤ n) (sym counted) left.left.later) running.course;
       }
 
@@ -131,16 +128,16 @@ module _ (schema : DatabaseSchema) (world : FactSet) (users : List NamedUser) (h
           caused = at.course.caused;
           refused = λ none. refused_at at none at.course.fits;
           counted = λ opens. counted_at at opens at.course.fits;
-          stands = λ unsealed c here. at.running.images (served_standing (seat_standing seat) (seat_state seat) (state_after schema world user script) seated.living.is_in unsealed) c
-              (at.left.images c (subst (λ o. image_on image o c) at.held here));
+          stands = λ some c here. at.stays.stands some c (subst (λ o. image_on image o c) at.held here);
+          kept = λ idle. (ap (bytes_on reads) at.held ∙ (at.stays.kept idle).0, λ c here. (at.stays.kept idle).1 c (subst (λ o. image_on image o c) at.held here));
         }
       where
-        refused_at : (at : Back user script seat) → OpensNone schema world user.profile header (bytes_of reads directory disk user.name) → Fits schema world user.profile header (bytes_of reads directory disk user.name) (count_of directory count user.name) user.opened (own_events user.name script) (reads at.now) (count' (journal_name directory user.name))
-            → (list_any is_opened (own_events user.name script) ≡ false) × (bytes_on reads (disk' (journal_name directory user.name)) ≡ bytes_of reads directory disk user.name)
+        refused_at : (at : Back user script seat) → OpensNone schema world user.profile header (bytes_of reads directory disk user.name) → Fits schema world user.profile header (bytes_of reads directory disk user.name) (count_of directory count user.name) (images_of image directory disk user.name) user.opened (own_events user.name script) (reads at.now) (count' (journal_name directory user.name))
+            → list_any is_opened (own_events user.name script) ≡ false
         refused_at at none (inl (opens, holds, rose)) = absurd (none user.opened opens)
-        refused_at at none (inr (closed, is_empty, same, never)) = (never, ap (bytes_on reads) at.held ∙ same)
+        refused_at at none (inr (closed, is_empty, same, never)) = never
 
-        counted_at : (at : Back user script seat) → Opens schema world user.profile header user.opened (bytes_of reads directory disk user.name) → Fits schema world user.profile header (bytes_of reads directory disk user.name) (count_of directory count user.name) user.opened (own_events user.name script) (reads at.now) (count' (journal_name directory user.name))
+        counted_at : (at : Back user script seat) → Opens schema world user.profile header user.opened (bytes_of reads directory disk user.name) → Fits schema world user.profile header (bytes_of reads directory disk user.name) (count_of directory count user.name) (images_of image directory disk user.name) user.opened (own_events user.name script) (reads at.now) (count' (journal_name directory user.name))
             → RoseBy (failures (own_events user.name script)) (count_of directory count user.name) (count' (journal_name directory user.name))
         counted_at at opens (inl (was, holds, rose)) = rose
         counted_at at opens (inr (none, is_empty, same, never)) = absurd (none user.opened opens)
@@ -164,9 +161,9 @@ module _ (schema : DatabaseSchema) (world : FactSet) (users : List NamedUser) (h
     module _ (policy : List NamedUser) (of_policy : map unopened users ≡ policy) (distinct : has_duplicate (names users) ≡ false) (limits : AllByRecursion (λ (u : NamedUser). KeepsLimits schema u.profile) users)
         (openings : AllByRecursion (λ (u : NamedUser). IsOpening schema world u.profile header (bytes_of reads directory disk u.name) u.opened) users) (found opened : Text → Bool) where
       abbrev pub Told : List BatchItem → List ℕ → List ℕ → List (DeskSeat D g h) → Bool → Type 0
-      Told items old new seats is_broken = (output : List ℕ) × (new ≡ old ++ output) × SoFar schema world users header directory T reads image faults t read_is_image (bytes_of reads directory disk) (count_of directory count) found opened items output seats is_broken
+      Told items old new seats is_broken = (output : List ℕ) × (new ≡ old ++ output) × SoFar schema world users header directory T reads image faults t read_is_image (bytes_of reads directory disk) (count_of directory count) (images_of image directory disk) found opened items output seats is_broken
 
-      abbrev answers : (items : List BatchItem) (output : List ℕ) (seats : List (DeskSeat D g h)) (is_broken : Bool) → SoFar schema world users header directory T reads image faults t read_is_image (bytes_of reads directory disk) (count_of directory count) found opened items output seats is_broken
+      abbrev answers : (items : List BatchItem) (output : List ℕ) (seats : List (DeskSeat D g h)) (is_broken : Bool) → SoFar schema world users header directory T reads image faults t read_is_image (bytes_of reads directory disk) (count_of directory count) (images_of image directory disk) found opened items output seats is_broken
           → AreBack S reads image faults disk' count' seats → Answers schema world header (journals_on reads image directory disk disk' count count') policy items output
       answers items output seats is_broken so_far is = record {
         users = users;
@@ -192,7 +189,7 @@ module _ (schema : DatabaseSchema) (world : FactSet) (users : List NamedUser) (h
 
       -- the first items were answered, and of the last line a part was written
       pub answered_some : (front back all : List BatchItem) (n : ℕ) (old output line new : List ℕ) (seats : List (DeskSeat D g h))
-          → LastLine schema world users header directory T reads image faults t read_is_image (bytes_of reads directory disk) (count_of directory count) found opened front output line seats
+          → LastLine schema world users header directory T reads image faults t read_is_image (bytes_of reads directory disk) (count_of directory count) (images_of image directory disk) found opened front output line seats
           → AreBack S reads image faults disk' count' seats → new ≡ (old ++ output) ++ take n line → all ≡ front ++ back
           → AppendsSome schema world header (journals_on reads image directory disk disk' count count') policy all old new
       answered_some front back all n old output line new seats told is appended split = record {

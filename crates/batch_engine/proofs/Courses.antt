@@ -1,8 +1,9 @@
 -- One user over asks and openings: what his journal shows of his run.
 use Rattle.std.proofs.Common.{◌≡◌, ◌⊎◌, inl, inr, ℕ, ◌+◌, ◌≤◌, Bool, true, false, List, [], ◌∷◌, ◌++◌, refl, sym, ap, subst, ◌∙◌, append-nil, arith}
-use Rattle.std.specs.Prelude.{Option, Some, None, is_some, ◌||◌, option_to_list, Result, Ok, Err, if◌then◌else◌}
+use Rattle.std.specs.Prelude.{Option, Some, None, is_some, ◌&&◌, ◌||◌, option_to_list, Result, Ok, Err, if◌then◌else◌}
 use Rattle.std.specs.List.{list_any}
-use Rattle.std.proofs.lemmas.Bool.{or_left}
+use Rattle.std.proofs.Math.Bool.{and-true, or-false, or-true}
+use Rattle.std.proofs.lemmas.Bool.{and_left, or_left, or_right}
 use Rattle.outside.specs.Faults.{Rose}
 use Rattle.outside.proofs.Rises.{rose_wide}
 use Rattle.cqe_base.specs.Schema.{DatabaseSchema, Text}
@@ -26,7 +27,7 @@ use Rattle.user_desk.specs.declared.standing.Standing.{Standing}
 use Rattle.user_desk.specs.declared.standing.Standing.TheVariants.{Open, Closed, Sealed}
 use Rattle.desk_crew.specs.Crew.{first_refusal}
 use Rattle.desk_crew.specs.Openings.{OpensNone}
-use Rattle.batch_engine.specs.Lives.{RoseBy, is_opened, is_refused, failures_in, failures, IsCaused, AreCaused, IsRefusal}
+use Rattle.batch_engine.specs.Lives.{RoseBy, is_ask, is_opened, is_refused, failures_in, failures, IsCaused, AreCaused, IsRefusal}
 
 -- ---- counts and lists
 
@@ -46,11 +47,7 @@ failures-push (e ∷ events) event =
     ap (λ n. failures_in e + n) (failures-push events event) ∙ again
 
 pub any-push : {X : Type 0} (test : X → Bool) (xs : List X) (x : X) → list_any test (xs ++ x ∷ []) ≡ (list_any test xs || test x)
-any-push test [] x = by (test x)
-  where
-    by : (b : Bool) → (b || false) ≡ (false || b)
-    by true = refl
-    by false = refl
+any-push test [] x = or-false (test x)
 any-push test (y ∷ xs) x = ap (λ b. test y || b) (any-push test xs x) ∙ sym (or_assoc (test y) (list_any test xs) (test x))
 
 module _ (schema : DatabaseSchema) (world : FactSet) (user : UserProfile) where
@@ -106,7 +103,7 @@ module _ (schema : DatabaseSchema) (world : FactSet) (user : UserProfile) where
   abbrev pub IsExclusive : List ℕ → Type 0
   IsExclusive header = (entries : History) (c : List ℕ) (why : DeskError) → Opens schema world user header entries c → Refuses schema world user header c why → ⊥
 
-  module _ (header bytes : List ℕ) (before : ℕ) where
+  module _ (header bytes : List ℕ) (before : ℕ) (first_image : List ℕ → Type 0) where
     -- the bytes opened a desk with this history, and the journal holds the state that the events made of it, at a count that rose for each failure; or they open none, are still there, and no opening held
     abbrev pub Fits : History → List Event → List ℕ → ℕ → Type 0
     Fits opened events reads now =
@@ -120,12 +117,29 @@ module _ (schema : DatabaseSchema) (world : FactSet) (user : UserProfile) where
       pub fits : Fits opened events reads now
       pub refused : IsRefusal schema world user header bytes before now events refusal
 
+    -- a disk reads as it did first, and has no image that it hadn't
+    abbrev pub IsStill : (List ℕ → Type 0) → List ℕ → Type 0
+    IsStill image reads = (reads ≡ bytes) × ((c : List ℕ) → image c → first_image c)
+
+    -- where an opening held, each image holds the state that the events made; and unless one held and he asked, his disk is as it was
+    pub record Stays (opened : History) (events : List Event) (image : List ℕ → Type 0) (reads : List ℕ) : Type 0 where
+      pub stands : list_any is_opened events ≡ true → (c : List ℕ) → image c → Holds schema world user header (after_events schema world user (opening schema world user opened) events) c
+      pub kept : (list_any is_opened events && list_any is_ask events) ≡ false → IsStill image reads
+
+    -- the same at a disk that an opening left
+    pub stays_on : (opened : History) (events : List Event) (image image' : List ℕ → Type 0) (reads reads' : List ℕ) → reads' ≡ reads → ((c : List ℕ) → image' c → image c) → Stays opened events image reads → Stays opened events image' reads'
+    stays_on opened events image image' reads reads' same fewer stays = record {
+      stands = λ held c at. stays.stands held c (fewer c at);
+      kept = λ idle. (same ∙ (stays.kept idle).0, λ c at. (stays.kept idle).1 c (fewer c at));
+    }
+
     -- his run at a desk
     pub record IsRunning (opened : History) (events : List Event) (standing : Standing) (state : UserState) (image : List ℕ → Type 0) (reads : List ℕ) (now : ℕ) (refusal : Option DeskError) : Type 0 where
       pub is_in : IsState standing state (after_events schema world user (opening schema world user opened) events)
       pub course : Course opened events reads now refusal
       pub shut : OpensNone schema world user header bytes → is_sealed standing ≡ true
-      pub images : is_sealed standing ≡ false → (c : List ℕ) → image c → Holds schema world user header (after_events schema world user (opening schema world user opened) events) c
+      pub held : is_sealed standing ≡ false → list_any is_opened events ≡ true
+      pub stays : Stays opened events image reads
 
     -- ---- what goes on
 
@@ -209,17 +223,20 @@ module _ (schema : DatabaseSchema) (world : FactSet) (user : UserProfile) where
         ⊎ (OpensNone schema world user header bytes × (opened ≡ []) × (reads ≡ bytes) × (list_any is_opened events ≡ false))
 
     -- his run at a desk that stands under a counter, whose disk is known as it was at the desk's opening
-    pub record IsLiving (opened : History) (events : List Event) (standing : Standing) (state : UserState) (reads : List ℕ) (now : ℕ) (refusal : Option DeskError) : Type 0 where
+    pub record IsLiving (opened : History) (events : List Event) (standing : Standing) (state : UserState) (image : List ℕ → Type 0) (reads : List ℕ) (now : ℕ) (refusal : Option DeskError) : Type 0 where
       pub is_in : IsState standing state (after_events schema world user (opening schema world user opened) events)
       pub later : before ≤ now
       pub caused : AreCaused schema world user (opening schema world user opened) events
       pub refused : IsRefusal schema world user header bytes before now events refusal
       pub shut : OpensNone schema world user header bytes → is_sealed standing ≡ true
       pub fits : FitsLiving opened events standing state reads now
+      pub held : is_sealed standing ≡ false → list_any is_opened events ≡ true
+      pub stands : is_sealed standing ≡ true → list_any is_opened events ≡ true → (c : List ℕ) → image c → Holds schema world user header (after_events schema world user (opening schema world user opened) events) c
+      pub kept : (list_any is_opened events && list_any is_ask events) ≡ false → IsStill image reads
 
     -- the desk was just opened
     pub live : (opened : History) (events : List Event) (standing : Standing) (state : UserState) (image : List ℕ → Type 0) (reads : List ℕ) (now : ℕ) (refusal : Option DeskError)
-        → IsRunning opened events standing state image reads now refusal → IsLiving opened events standing state reads now refusal
+        → IsRunning opened events standing state image reads now refusal → IsLiving opened events standing state image reads now refusal
     live opened events standing state image reads now refusal running = record {
       is_in = running.is_in;
       later = running.course.later;
@@ -227,6 +244,9 @@ module _ (schema : DatabaseSchema) (world : FactSet) (user : UserProfile) where
       refused = running.course.refused;
       shut = running.shut;
       fits = by running.course.fits;
+      held = running.held;
+      stands = λ sealed. running.stays.stands;
+      kept = running.stays.kept;
     }
       where
         by : Fits opened events reads now → FitsLiving opened events standing state reads now
@@ -234,11 +254,11 @@ module _ (schema : DatabaseSchema) (world : FactSet) (user : UserProfile) where
         by (inr none) = inr none
 
     -- the desk is closed, and leaves a disk with these images
-    pub closing : (opened : History) (events : List Event) (standing : Standing) (state : UserState) (image : List ℕ → Type 0) (reads reads' : List ℕ) (now later : ℕ) (refusal : Option DeskError)
-        → IsLiving opened events standing state reads now refusal → now ≤ later → (state.broken ≡ true → Rose now later) → (is_sealed standing ≡ true → reads' ≡ reads)
-        → (is_sealed standing ≡ false → (c : List ℕ) → image c → Holds schema world user header state c) → image reads'
-        → IsRunning opened events standing state image reads' later refusal
-    closing opened events standing state image reads reads' now later refusal living on cause same holds here = record {
+    pub closing : (opened : History) (events : List Event) (standing : Standing) (state : UserState) (image image' : List ℕ → Type 0) (reads reads' : List ℕ) (now later : ℕ) (refusal : Option DeskError)
+        → IsLiving opened events standing state image reads now refusal → now ≤ later → (state.broken ≡ true → Rose now later) → ((is_sealed standing ≡ true) ⊎ (list_any is_ask events ≡ false) → (reads' ≡ reads) × ((c : List ℕ) → image' c → image c))
+        → (is_sealed standing ≡ false → (c : List ℕ) → image' c → Holds schema world user header state c) → image' reads'
+        → IsRunning opened events standing state image' reads' later refusal
+    closing opened events standing state image image' reads reads' now later refusal living on cause same holds here = record {
       is_in = living.is_in;
       course = record {
         later = omega (arith, living.later, on);
@@ -247,32 +267,44 @@ module _ (schema : DatabaseSchema) (world : FactSet) (user : UserProfile) where
         refused = refused_later now later on events refusal living.refused;
       };
       shut = living.shut;
-      images = λ served c at. subst (λ s. Holds schema world user header s c) (sym (shown_is standing state _ served living.is_in)) (holds served c at);
+      held = living.held;
+      stays = record { stands = stands_by (is_sealed standing) refl; kept = λ idle. kept_by idle (is_sealed standing) refl };
     }
       where
+        stands_by : (b : Bool) → is_sealed standing ≡ b → list_any is_opened events ≡ true → (c : List ℕ) → image' c → Holds schema world user header (after_events schema world user (opening schema world user opened) events) c
+        stands_by true sealed some c at = living.stands sealed some c ((same (inl sealed)).1 c at)
+        stands_by false served some c at = subst (λ s. Holds schema world user header s c) (sym (shown_is standing state _ served living.is_in)) (holds served c at)
+
+        left_as : (is_sealed standing ≡ true) ⊎ (list_any is_ask events ≡ false) → IsStill image reads → IsStill image' reads'
+        left_as why still = ((same why).0 ∙ still.0, λ c at. still.1 c ((same why).1 c at))
+
+        kept_by : (list_any is_opened events && list_any is_ask events) ≡ false → (b : Bool) → is_sealed standing ≡ b → IsStill image' reads'
+        kept_by idle true sealed = left_as (inl sealed) (living.kept idle)
+        kept_by idle false served = left_as (inr (ap (λ b. b && list_any is_ask events) (sym (living.held served)) ∙ idle)) (living.kept idle)
+
         rises : RoseBut events standing state now → RoseBy (failures events) before later
         rises (all_rose rose) = rose_more (failures events) before now later rose on
         rises (last_flies earlier count rose served broken) = subst (λ n. RoseBy n before later) (sym count) (rose_again earlier before now later rose on (cause broken))
 
         held : (is_sealed standing ≡ true → Holds schema world user header (after_events schema world user (opening schema world user opened) events) reads) → (b : Bool) → is_sealed standing ≡ b
             → Holds schema world user header (after_events schema world user (opening schema world user opened) events) reads'
-        held was true sealed = subst (Holds schema world user header (after_events schema world user (opening schema world user opened) events)) (sym (same sealed)) (was sealed)
+        held was true sealed = subst (Holds schema world user header (after_events schema world user (opening schema world user opened) events)) (sym (same (inl sealed)).0) (was sealed)
         held was false served = subst (λ s. Holds schema world user header s reads') (sym (shown_is standing state _ served living.is_in)) (holds served reads' here)
 
         by : FitsLiving opened events standing state reads now → Fits opened events reads' later
         by (inl (opens, was, rose)) = inl (opens, held was (is_sealed standing) refl, rises rose)
-        by (inr (none, empty, is, never)) = inr (none, empty, same (living.shut none) ∙ is, never)
+        by (inr (none, empty, is, never)) = inr (none, empty, (same (inl (living.shut none))).0 ∙ is, never)
 
     -- an ask of the user at his desk, with some ending
-    pub record Asked (opened : History) (events : List Event) (standing : Standing) (state : UserState) (reads : List ℕ) (now : ℕ) (refusal : Option DeskError) (text : Text) (told : Reply) : Type 0 where
+    pub record Asked (opened : History) (events : List Event) (standing : Standing) (state : UserState) (image : List ℕ → Type 0) (reads : List ℕ) (now : ℕ) (refusal : Option DeskError) (text : Text) (told : Reply) : Type 0 where
       pub ending : Ending
       pub reply : told ≡ reply_to_ask schema world user (after_events schema world user (opening schema world user opened) events) text ending
-      pub living : IsLiving opened (events ++ ask text ending ∷ []) standing state reads now refusal
+      pub living : IsLiving opened (events ++ ask text ending ∷ []) standing state image reads now refusal
 
-    pub ask_step : (opened : History) (events : List Event) (standing : Standing) (old new : UserState) (reads : List ℕ) (now : ℕ) (refusal : Option DeskError) (text : Text) (told : Reply)
-        → IsLiving opened events standing old reads now refusal → ((state : UserState) → IsState standing old state → IsAskOf schema world user (IsState standing new) state text told)
-        → Asked opened events standing new reads now refusal text told
-    ask_step opened events standing old new reads now refusal text told living settles =
+    pub ask_step : (opened : History) (events : List Event) (standing : Standing) (old new : UserState) (image : List ℕ → Type 0) (reads : List ℕ) (now : ℕ) (refusal : Option DeskError) (text : Text) (told : Reply)
+        → IsLiving opened events standing old image reads now refusal → ((state : UserState) → IsState standing old state → IsAskOf schema world user (IsState standing new) state text told)
+        → Asked opened events standing new image reads now refusal text told
+    ask_step opened events standing old new image reads now refusal text told living settles =
         let one = once (IsState standing new) state text told (settles state living.is_in) in
         record {
           ending = one.ending;
@@ -284,6 +316,10 @@ module _ (schema : DatabaseSchema) (world : FactSet) (user : UserProfile) where
             refused = refusal_on now now (omega arith) events (ask text one.ending) (none_refused text one.ending) refusal living.refused;
             shut = living.shut;
             fits = fits_on one.ending one.caused one.after living.fits;
+            held = λ served. any-push is_opened events (ask text one.ending) ∙ or_left (list_any is_opened events) false (living.held served);
+            stands = λ sealed some c at. subst (λ s. Holds schema world user header s c) (sym (pushed one.ending ∙ sealed_still state text one.ending (sealed_is standing old state sealed living.is_in)))
+                (living.stands sealed (sym (unopened one.ending) ∙ some) c at);
+            kept = λ idle. living.kept (never_opened one.ending idle);
           };
         }
       where
@@ -292,6 +328,15 @@ module _ (schema : DatabaseSchema) (world : FactSet) (user : UserProfile) where
 
         pushed : (ending : Ending) → after_events schema world user (opening schema world user opened) (events ++ ask text ending ∷ []) ≡ after_event schema world user state (ask text ending)
         pushed ending = after_events-push schema world user (opening schema world user opened) events (ask text ending)
+
+        unopened : (ending : Ending) → list_any is_opened (events ++ ask text ending ∷ []) ≡ list_any is_opened events
+        unopened ending = any-push is_opened events (ask text ending) ∙ or-false (list_any is_opened events)
+
+        -- behind an ask the disk is promised to be as it was only where no opening held
+        never_opened : (ending : Ending) → (list_any is_opened (events ++ ask text ending ∷ []) && list_any is_ask (events ++ ask text ending ∷ [])) ≡ false → (list_any is_opened events && list_any is_ask events) ≡ false
+        never_opened ending idle =
+            and_left (list_any is_opened events) (list_any is_ask events)
+            (sym (and-true (list_any is_opened events)) ∙ (λ i. sym (unopened ending) i && sym (any-push is_ask events (ask text ending) ∙ or-true (list_any is_ask events)) i) ∙ idle)
 
         -- a desk whose append failed is still so
         broken_still : (ending : Ending) → IsState standing new (after_event schema world user state (ask text ending)) → is_sealed standing ≡ false → old.broken ≡ true → (after_event schema world user state (ask text ending)).broken ≡ state.broken → new.broken ≡ true
@@ -438,11 +483,39 @@ module _ (schema : DatabaseSchema) (world : FactSet) (user : UserProfile) where
         → IsSealedBy schema world user T header reads now later why
     why_sealed T entries standing reads now later why same is = (subst (IsStanding schema world user T header reads entries now later) same is).1
 
+    -- what a disk holds behind an opening that left it so
+    stays_next : (opened : History) (events : List Event) (found opens : Bool) (standing : Standing) (desk_state : UserState) (image : List ℕ → Type 0) (reads : List ℕ) → Stays opened events image reads
+        → (is_sealed standing ≡ true → opens ≡ false) → (is_sealed standing ≡ false → opens ≡ true) → IsState standing desk_state (after_event schema world user (after_events schema world user (opening schema world user opened) events) (restart found opens))
+        → (is_sealed standing ≡ false → (c : List ℕ) → image c → Holds schema world user header desk_state c) → Stays opened (events ++ restart found opens ∷ []) image reads
+    stays_next opened events found opens standing desk_state image reads stays shut held is holds = record {
+      stands = λ some c at. subst (λ s. Holds schema world user header s c) (sym pushed) (stands_by (is_sealed standing) refl some c at);
+      kept = λ idle. stays.kept (idle_before (list_any is_opened events) (list_any is_ask events) opens ((λ i. sym (any-push is_opened events (restart found opens)) i && sym (any-push is_ask events (restart found opens) ∙ or-false (list_any is_ask events)) i) ∙ idle));
+    }
+      where
+        state : UserState
+        state = after_events schema world user (opening schema world user opened) events
+
+        pushed : after_events schema world user (opening schema world user opened) (events ++ restart found opens ∷ []) ≡ after_event schema world user state (restart found opens)
+        pushed = after_events-push schema world user (opening schema world user opened) events (restart found opens)
+
+        idle_before : (some asked more : Bool) → ((some || more) && asked) ≡ false → (some && asked) ≡ false
+        idle_before true asked more idle = idle
+        idle_before false asked more idle = refl
+
+        stands_by : (b : Bool) → is_sealed standing ≡ b → list_any is_opened (events ++ restart found opens ∷ []) ≡ true → (c : List ℕ) → image c → Holds schema world user header (after_event schema world user state (restart found opens)) c
+        stands_by true sealed some c at =
+            subst (λ o. Holds schema world user header (after_event schema world user state (restart found o)) c) (sym (shut sealed))
+            (refused_holds state found c (stays.stands (sym (or-false (list_any is_opened events)) ∙ ap (λ b. list_any is_opened events || b) (sym (shut sealed)) ∙ sym (any-push is_opened events (restart found opens)) ∙ some) c at))
+        stands_by false served some c at = subst (λ s. Holds schema world user header s c) (sym (shown_is standing desk_state _ served is)) (holds served c at)
+
+    held_next : (events : List Event) (found opens : Bool) (standing : Standing) → (is_sealed standing ≡ false → opens ≡ true) → is_sealed standing ≡ false → list_any is_opened (events ++ restart found opens ∷ []) ≡ true
+    held_next events found opens standing held served = any-push is_opened events (restart found opens) ∙ or_right (list_any is_opened events) opens (held served)
+
     pub open_step : IsExclusive header → (T : Type 0) → T → (opened : History) (events : List Event) (reads : List ℕ) (now later : ℕ) (refusal : Option DeskError) (entries : History) (pending : Option AnsweredQuery) (standing : Standing)
         (image : List ℕ → Type 0)
-        → Course opened events reads now refusal → Known T entries pending standing image reads now later
+        → Course opened events reads now refusal → Stays opened events image reads → Known T entries pending standing image reads now later
         → Restarted opened events standing (shown entries (standing_of standing) pending) image reads later (first_refusal refusal standing)
-    open_step exclusive T t opened events reads now later refusal entries pending standing image course known = by course.fits
+    open_step exclusive T t opened events reads now later refusal entries pending standing image course stays known = by course.fits
       where
         state : UserState
         state = after_events schema world user (opening schema world user opened) events
@@ -480,7 +553,9 @@ module _ (schema : DatabaseSchema) (world : FactSet) (user : UserProfile) where
                       (λ why same. faulty exclusive _ reads was.opens T t now now later course.later (omega arith) known.on why (why_sealed T entries standing reads now later why same known.standing_is)) refusal course.refused;
                 };
                 shut = λ none. absurd (none opened opens);
-                images = λ served c at. subst (λ s. Holds schema world user header s c) (sym (pushed ∙ shown_is standing desk_state next served again.after)) (known.holds served c at);
+                held = held_next events again.found again.opened standing (opens_held standing (standing_of standing) entries pending state again.found again.opened refl again.after);
+                stays = stays_next opened events again.found again.opened standing desk_state image reads stays (opens_shut standing desk_state state again.found again.opened again.after)
+                    (opens_held standing (standing_of standing) entries pending state again.found again.opened refl again.after) again.after known.holds;
               };
             }
         by (inr (none, empty, same, never)) =
@@ -500,7 +575,8 @@ module _ (schema : DatabaseSchema) (world : FactSet) (user : UserProfile) where
                       (λ why is. shown_by T t reads same now later course.later known.on why (why_sealed T entries standing reads now later why is known.standing_is)) refusal course.refused;
                 };
                 shut = λ n. sealed;
-                images = λ served c at. let e : true ≡ false = sym sealed ∙ served in absurd cc;
+                held = λ served. let e : true ≡ false = sym sealed ∙ served in absurd cc;
+                stays = stays_next opened events false false standing desk_state image reads stays (λ s. refl) (λ served. let e : true ≡ false = sym sealed ∙ served in absurd cc) (in_seal standing sealed) known.holds;
               };
             }
           where

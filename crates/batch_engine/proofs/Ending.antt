@@ -15,15 +15,15 @@ use Rattle.cqe_base.specs.declared.user.User.{User}
 use Rattle.user_desk.specs.Causes.{Opens}
 use Rattle.batch_engine.specs.BatchLines.{BatchItem, with_line, batch_of}
 use Rattle.desk_crew.specs.Openings.{OpensNone, IsOpening}
-use Rattle.batch_engine.specs.Batch.{AppendsAll, AppendsSome, unopened}
+use Rattle.batch_engine.specs.Batch.{AppendsAll, AppendsSome, AppendsTo, unopened}
 use Rattle.desk_crew.specs.Crew.{named_user}
 use Rattle.desk_crew.specs.Shelved.{journals_on, AreBack, AreSeatsOf}
-use Rattle.batch_engine.specs.Steps.{Runs, nothing, more, RunsAll, RunsSome, IsLastLine}
+use Rattle.batch_engine.specs.Steps.{Runs, nothing, more, RunsAll, RunsSome, RunsTo, IsLastLine}
 use Rattle.desk_crew.specs.Seats.{DeskSeat}
 use Rattle.batch_engine.proofs.Courses.{IsExclusive}
 use Rattle.batch_engine.proofs.Seating.{names, AreSeated, AreBegun, begin_all, Chosen, choose}
 use Rattle.batch_engine.proofs.Telling.{SoFar, so_far_first, so_far_more, LastLine, no_last, last_carried}
-use Rattle.batch_engine.proofs.Closing.{bytes_of, count_of, names_unopened, limits_named, answered_all, answered_some}
+use Rattle.batch_engine.proofs.Closing.{bytes_of, count_of, images_of, names_unopened, limits_named, answered_all, answered_some}
 
 -- what is read from a batch without items is the batch of the bytes
 pub batch_begins : (start : List BatchItem) (bytes : List ℕ) → start ≡ [] → script_from with_line start bytes ≡ batch_of bytes
@@ -50,15 +50,15 @@ module _ (schema : DatabaseSchema) (world : FactSet) (header directory : List �
     differ : has_duplicate (names named) ≡ false
     found : Text → Bool
     opened : Text → Bool
-    seated : AreSeated schema world header directory T reads image faults t read_is_image (bytes_of reads directory disk) (count_of directory count) (script_opening found opened ∷ []) named seats
+    seated : AreSeated schema world header directory T reads image faults t read_is_image (bytes_of reads directory disk) (count_of directory count) (images_of image directory disk) (script_opening found opened ∷ []) named seats
 
   start : Start
   start =
-      let begun : AreBegun schema world header directory T reads image faults t read_is_image (bytes_of reads directory disk) (count_of directory count) exclusive S s disk count (λ n. refl) (λ n. refl) decided users seats =
-      begin_all schema world header directory T reads image faults t read_is_image (bytes_of reads directory disk) (count_of directory count) exclusive S s disk count (λ n. refl) (λ n. refl) decided users seats seats_are in
+      let begun : AreBegun schema world header directory T reads image faults t read_is_image (bytes_of reads directory disk) (count_of directory count) (images_of image directory disk) exclusive S s disk count (λ n. refl) (λ n. refl) (λ n c at. at) decided users seats =
+      begin_all schema world header directory T reads image faults t read_is_image (bytes_of reads directory disk) (count_of directory count) (images_of image directory disk) exclusive S s disk count (λ n. refl) (λ n. refl) (λ n c at. at) decided users seats seats_are in
       let differ : has_duplicate (names begun.begun) ≡ false = ap has_duplicate (sym (names_unopened begun.begun) ∙ ap names begun.of_policy) ∙ distinct in
-      let chosen : Chosen schema world header directory T reads image faults t read_is_image (bytes_of reads directory disk) (count_of directory count) script_opening (λ name f o. refl) [] begun.begun seats =
-      choose schema world header directory T reads image faults t read_is_image (bytes_of reads directory disk) (count_of directory count) script_opening (λ name f o. refl) [] begun.begun seats differ begun.choices in
+      let chosen : Chosen schema world header directory T reads image faults t read_is_image (bytes_of reads directory disk) (count_of directory count) (images_of image directory disk) script_opening (λ name f o. refl) [] begun.begun seats =
+      choose schema world header directory T reads image faults t read_is_image (bytes_of reads directory disk) (count_of directory count) (images_of image directory disk) script_opening (λ name f o. refl) [] begun.begun seats differ begun.choices in
       record {
         named = begun.begun;
         of_policy = begun.of_policy;
@@ -70,11 +70,11 @@ module _ (schema : DatabaseSchema) (world : FactSet) (header directory : List �
       }
 
   so_far_run : (st : Start) (items : List BatchItem) (new : List (DeskSeat D g h)) (output : List ℕ) (is_broken : Bool) → Runs schema world header T reads image faults items seats output new is_broken
-      → SoFar schema world st.named header directory T reads image faults t read_is_image (bytes_of reads directory disk) (count_of directory count) st.found st.opened items output new is_broken
+      → SoFar schema world st.named header directory T reads image faults t read_is_image (bytes_of reads directory disk) (count_of directory count) (images_of image directory disk) st.found st.opened items output new is_broken
   so_far_run st items new output is_broken (nothing same) =
-      so_far_first schema world st.named header directory T reads image faults t read_is_image (bytes_of reads directory disk) (count_of directory count) st.found st.opened seats st.seated
+      so_far_first schema world st.named header directory T reads image faults t read_is_image (bytes_of reads directory disk) (count_of directory count) (images_of image directory disk) st.found st.opened seats st.seated
   so_far_run st items new output is_broken (more first old mid last before line was says item runs carried) =
-      so_far_more schema world st.named header directory T reads image faults t read_is_image (bytes_of reads directory disk) (count_of directory count) st.found st.opened exclusive st.differ first before mid last was says item line
+      so_far_more schema world st.named header directory T reads image faults t read_is_image (bytes_of reads directory disk) (count_of directory count) (images_of image directory disk) st.found st.opened exclusive st.differ first before mid last was says item line
       (so_far_run st first mid before was runs) carried
 
   -- all items were answered
@@ -85,15 +85,22 @@ module _ (schema : DatabaseSchema) (world : FactSet) (header directory : List �
       answered_all schema world st.named header directory T S s reads image faults t read_is_image disk disk' count count' empty runs_legal hide alone valid (map named_user users) st.of_policy st.differ
       (limits_named schema users st.named st.of_policy limits) st.openings st.found st.opened items before after new is_broken (all.output, all.appended w, so_far_run st items new all.output is_broken all.runs) back
 
+  -- the items before a restart were
+  pub finish_to : (wrote : Type 0) → wrote → (items : List BatchItem) (new : List (DeskSeat D g h)) (before after : List ℕ) → RunsTo schema world header T reads image faults wrote items seats new before after
+      → AreBack S reads image faults disk' count' new → AppendsTo schema world header (journals_on reads image directory disk disk' count count') (map named_user users) items before after
+  finish_to wrote w items new before after to back =
+      let all = finish_all wrote w to.front new to.is_broken before after to.all back in
+      record { front = to.front; rest = to.rest; split = to.split; written = all.written; appended = all.appended; answers = all.answers }
+
   last_run : (st : Start) (front : List BatchItem) (new : List (DeskSeat D g h)) (output line : List ℕ) (is_broken : Bool) → Runs schema world header T reads image faults front seats (output ++ line) new is_broken
       → (line ≡ []) ⊎ IsLastLine schema world header T reads image faults front seats new output line
-      → LastLine schema world st.named header directory T reads image faults t read_is_image (bytes_of reads directory disk) (count_of directory count) st.found st.opened front output line new
+      → LastLine schema world st.named header directory T reads image faults t read_is_image (bytes_of reads directory disk) (count_of directory count) (images_of image directory disk) st.found st.opened front output line new
   last_run st front new output line is_broken runs (inl none) =
-      no_last schema world st.named header directory T reads image faults t read_is_image (bytes_of reads directory disk) (count_of directory count) st.found st.opened front output line new is_broken none
+      no_last schema world st.named header directory T reads image faults t read_is_image (bytes_of reads directory disk) (count_of directory count) (images_of image directory disk) st.found st.opened front output line new is_broken none
       (so_far_run st front new (output ++ line) is_broken runs)
   last_run st front new output line is_broken runs (inr last) =
-      subst (λ items. LastLine schema world st.named header directory T reads image faults t read_is_image (bytes_of reads directory disk) (count_of directory count) st.found st.opened items output line new) (sym last.split)
-      (last_carried schema world st.named header directory T reads image faults t read_is_image (bytes_of reads directory disk) (count_of directory count) st.found st.opened exclusive st.differ last.first output last.mid new last.was_broken last.says_broken last.item line
+      subst (λ items. LastLine schema world st.named header directory T reads image faults t read_is_image (bytes_of reads directory disk) (count_of directory count) (images_of image directory disk) st.found st.opened items output line new) (sym last.split)
+      (last_carried schema world st.named header directory T reads image faults t read_is_image (bytes_of reads directory disk) (count_of directory count) (images_of image directory disk) st.found st.opened exclusive st.differ last.first output last.mid new last.was_broken last.says_broken last.item line
       (so_far_run st last.first last.mid output last.was_broken last.runs) last.carried)
 
   -- the first items were

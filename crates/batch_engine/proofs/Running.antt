@@ -1,5 +1,5 @@
 -- The items of a batch, carried out one after the other: what stays of the seats.
-use Rattle.std.proofs.Common.{◌≡◌, inl, inr, ℕ, zero, suc, ◌≤◌, ◌<◌, ◌+◌, Bool, true, false, List, [], ◌∷◌, ◌++◌, length, take, drop, get_or, map, refl, sym, ap, subst, ◌∙◌, append-nil, append_assoc, arith}
+use Rattle.std.proofs.Common.{◌≡◌, inr, ℕ, zero, suc, ◌≤◌, ◌<◌, ◌+◌, Bool, true, false, List, [], ◌∷◌, ◌++◌, length, take, drop, get_or, map, refl, sym, ap, subst, ◌∙◌, append-nil, append_assoc, arith}
 use Rattle.std.specs.Prelude.{Option, ◌||◌}
 use Rattle.std.specs.List.{list_all, AllByRecursion}
 use Rattle.std.proofs.lemmas.List.{take-append-drop, map-append}
@@ -17,7 +17,7 @@ use Rattle.desk_counter.specs.declared.item.Fixed.{Fixed}
 use Rattle.desk_crew.specs.Crew.{seat_user, seat_journal, seat_disk, IsServed, AreReopened, Tells, nobody, here, further}
 use Rattle.desk_crew.specs.Shelved.{journals, AreLater}
 use Rattle.outside.specs.Streams.{AppendsPart}
-use Rattle.batch_engine.specs.Steps.{Carries, Runs, nothing, more, RunsAll, RunsSome}
+use Rattle.batch_engine.specs.Steps.{Carries, Runs, nothing, more, RunsAll, RunsSome, RunsTo}
 use Rattle.desk_crew.specs.Seats.{DeskSeat}
 use Rattle.batch_engine.specs.declared.batch.BatchItem as memory
 
@@ -131,19 +131,15 @@ module _ (schema : DatabaseSchema) (world : FactSet) (header : List ℕ) {D : Ty
     runs = subst (λ b. Runs schema world header told reads image faults (items ++ item ∷ []) old (so_far.output ++ line) new b) (sym joined) (more items old mid new so_far.output line is_broken says item so_far.runs carried);
   }
 
-  -- memory was wanting at the next item
-  pub runs_stopped : (wrote : Type 0) (items front back : List BatchItem) (old new : List (DeskSeat D g h)) (is_broken : Bool) (before after : List ℕ) → items ≡ front ++ back
-      → RunsAll schema world header told reads image faults wrote front old new is_broken before after → RunsSome schema world header told reads image faults wrote items old new before after
-  runs_stopped wrote items front back old new is_broken before after split so_far = record {
+  -- memory was wanting at the next item, a restart
+  pub runs_stopped : (wrote : Type 0) (items front rest : List BatchItem) (item : BatchItem) (old new : List (DeskSeat D g h)) (is_broken : Bool) (before after : List ℕ) → items ≡ (front ++ item ∷ []) ++ rest → item ≡ restarted
+      → RunsAll schema world header told reads image faults wrote front old new is_broken before after → RunsTo schema world header told reads image faults wrote items old new before after
+  runs_stopped wrote items front rest item old new is_broken before after split is so_far = record {
     front = front;
-    back = back;
-    split = split;
-    output = so_far.output;
-    line = [];
+    rest = rest;
+    split = split ∙ append_assoc front (item ∷ []) rest ∙ ap (λ i. front ++ i ∷ rest) is;
     is_broken = is_broken;
-    runs = subst (λ o. Runs schema world header told reads image faults front old o new is_broken) (sym (append-nil so_far.output)) so_far.runs;
-    last = inl refl;
-    appended = λ w. (0, so_far.appended w ∙ sym (append-nil (before ++ so_far.output)));
+    all = so_far;
   }
 
   -- of the line of the next item a part was written

@@ -3,8 +3,9 @@ use Rattle.std.proofs.Common.{◌≡◌, ◌⊎◌, inl, inr, ℕ, Bool, true, f
 use Rattle.std.specs.Prelude.{Option, Some, None, find, bytes_eq, if◌then◌else◌, string_bytes}
 use Rattle.std.specs.List.{list_any, flat_map, AllByRecursion}
 use Rattle.std.specs.Cmp.Lexicographic.{same_text}
-use Rattle.outside.proofs.Taken.{taken_reads}
-use Rattle.outside.specs.Shelf.{bytes_on}
+use Rattle.std.proofs.Math.Bool.{or-true}
+use Rattle.outside.proofs.Taken.{taken_reads, taken_images}
+use Rattle.outside.specs.Shelf.{bytes_on, image_on}
 use Rattle.cqe_base.specs.Schema.{Text, DatabaseSchema, has_duplicate}
 use Rattle.cqe_base.specs.Facts.{FactSet}
 use Rattle.cqe_base.specs.History.{UserProfile, History, profile_of}
@@ -16,6 +17,7 @@ use Rattle.cqe_base.proofs.Lists.{other_text, text_is}
 use Rattle.cqe_base.proofs.Truths.{or_first, or_second}
 use Rattle.user_desk.specs.Causes.{Opens, IsStanding}
 use Rattle.user_desk.specs.Lives.{Holds, Restarts, IsState}
+use Rattle.user_desk.specs.Standings.{is_sealed}
 use Rattle.desk_counter.specs.declared.item.Fixed.{Fixed}
 use Rattle.desk_counter.specs.Items.{flying}
 use Rattle.desk_counter.specs.Lives.{IsAskOf}
@@ -23,10 +25,11 @@ use Rattle.desk_counter.specs.Sole.{pairs_of_sole}
 use Rattle.log_journal.specs.Names.{journal_name}
 use Rattle.desk_crew.specs.Openings.{OpensNone, IsOpening}
 use Rattle.batch_engine.specs.Batch.{unopened}
+use Rattle.batch_engine.specs.Lives.{is_ask}
 use Rattle.desk_crew.specs.Shelved.{IsSeatOf, AreSeatsOf}
-use Rattle.desk_crew.specs.Crew.{named_user, first_refusal, seat_user, seat_name, seat_journal, seat_kept, seat_standing, seat_history, seat_state, seat_disk, IsSeatIn, is_named, IsClosed, IsServed, IsToldAt, IsReopened, AreReopened, Tells, nobody, here, further}
+use Rattle.desk_crew.specs.Crew.{named_user, first_refusal, seat_user, seat_name, seat_journal, seat_kept, seat_standing, seat_history, seat_state, seat_disk, IsSeatIn, IsFresh, is_named, IsClosed, IsServed, IsToldAt, IsReopened, AreReopened, Tells, nobody, here, further}
 use Rattle.desk_crew.specs.Seats.{DeskSeat}
-use Rattle.batch_engine.proofs.Courses.{Course, course_on, IsRunning, IsLiving, live, closing, Asked, ask_step, Restarted, IsExclusive, open_step}
+use Rattle.batch_engine.proofs.Courses.{any-push, Course, course_on, stays_on, IsRunning, IsLiving, live, closing, Asked, ask_step, Restarted, IsExclusive, open_step}
 
 -- ---- lists and texts
 
@@ -51,9 +54,9 @@ module _ (event : (Text → Bool) → (Text → Bool) → ScriptEvent) (own : (n
       ∙ ap (λ b. own_events name script ++ restart b (opens name) ∷ []) is_found ∙ ap (λ b. own_events name script ++ restart f b ∷ []) is_open
 
 -- the course of a user whose journal wasn't opened yet
-module _ (schema : DatabaseSchema) (world : FactSet) (header : List ℕ) (bytes : Text → List ℕ) (before : Text → ℕ) where
+module _ (schema : DatabaseSchema) (world : FactSet) (header : List ℕ) (bytes : Text → List ℕ) (before : Text → ℕ) (images : Text → List ℕ → Type 0) where
   first_course : (user : UserProfile) (name : Text) (opened : History) (now : ℕ) (c : List ℕ) → now ≡ before name → c ≡ bytes name → IsOpening schema world user header (bytes name) opened
-      → Course schema world user header (bytes name) (before name) opened [] c now None
+      → Course schema world user header (bytes name) (before name) (images name) opened [] c now None
   first_course user name opened now c counted same (inl opens) = record {
     later = omega (arith, counted);
     caused = tt;
@@ -63,14 +66,15 @@ module _ (schema : DatabaseSchema) (world : FactSet) (header : List ℕ) (bytes 
   first_course user name opened now c counted same (inr (none, empty)) = record { later = omega (arith, counted); caused = tt; fits = inr (none, empty, same, refl); refused = refl }
 
 module _ (schema : DatabaseSchema) (world : FactSet) (header directory : List ℕ) {D : Type 0} {g h : _} (T : Type 0) (reads : D → List ℕ) (image : D → List ℕ → Type 0) (faults : D → ℕ) (t : T) (read_is_image : (d : D) → T → image d (reads d))
-    (bytes : Text → List ℕ) (before : Text → ℕ) where
+    (bytes : Text → List ℕ) (before : Text → ℕ) (images : Text → List ℕ → Type 0) where
   -- a user sits at his desk behind these events of his
   pub record IsSeated (user : NamedUser) (events : List Event) (seat : DeskSeat D g h) : Type 0 where
     pub name_is : seat_name seat ≡ user.name
     pub profile_is : profile_of (seat_user seat) ≡ user.profile
     pub journal_is : seat_journal seat ≡ journal_name directory user.name
     pub served : IsServed schema world header seat
-    pub living : IsLiving schema world user.profile header (bytes user.name) (before user.name) user.opened events (seat_standing seat) (seat_state seat) (reads (seat_disk seat)) (faults (seat_disk seat)) seat.refusal
+    pub living : IsLiving schema world user.profile header (bytes user.name) (before user.name) (images user.name) user.opened events (seat_standing seat) (seat_state seat) (image (seat_disk seat)) (reads (seat_disk seat)) (faults (seat_disk seat)) seat.refusal
+    pub fresh : list_any is_ask events ≡ false → IsFresh seat
 
   -- all do, behind the events of a script
   abbrev pub AreSeated : List ScriptEvent → List NamedUser → List (DeskSeat D g h) → Type 0
@@ -89,8 +93,8 @@ module _ (schema : DatabaseSchema) (world : FactSet) (header directory : List �
   ask_at user events old new text told seated answer =
       let kept = answer.kept_is in
       let profile : profile_of (seat_user old) ≡ user.profile = seated.profile_is in
-      let asked : Asked schema world user.profile header (bytes user.name) (before user.name) user.opened events (seat_standing old) (seat_state new) (reads (seat_disk old)) (faults (seat_disk old)) old.refusal text told =
-      ask_step schema world user.profile header (bytes user.name) (before user.name) user.opened events (seat_standing old) (seat_state old) (seat_state new) (reads (seat_disk old)) (faults (seat_disk old)) old.refusal text told seated.living
+      let asked : Asked schema world user.profile header (bytes user.name) (before user.name) (images user.name) user.opened events (seat_standing old) (seat_state new) (image (seat_disk old)) (reads (seat_disk old)) (faults (seat_disk old)) old.refusal text told =
+      ask_step schema world user.profile header (bytes user.name) (before user.name) (images user.name) user.opened events (seat_standing old) (seat_state old) (seat_state new) (image (seat_disk old)) (reads (seat_disk old)) (faults (seat_disk old)) old.refusal text told seated.living
       (λ state is. subst (λ (f : Fixed D). IsAskOf schema world user.profile (IsState f.standing (seat_state new)) state text told) kept
       (subst (λ p. IsAskOf schema world p (IsSeatIn new) state text told) profile (answer.settled state is))) in
       record {
@@ -106,8 +110,9 @@ module _ (schema : DatabaseSchema) (world : FactSet) (header directory : List �
             header_is = ap (λ (f : Fixed D). f.header) kept ∙ seated.served.header_is;
             user_is = ap (λ (f : Fixed D). f.user) kept ∙ seated.served.user_is ∙ ap profile_of (sym answer.user_is);
           };
-          living = subst (λ r. IsLiving schema world user.profile header (bytes user.name) (before user.name) user.opened (events ++ ask text asked.ending ∷ []) (seat_standing new) (seat_state new) (reads (seat_disk new)) (faults (seat_disk new)) r) (sym answer.refusal_is)
-              (subst (λ (f : Fixed D). IsLiving schema world user.profile header (bytes user.name) (before user.name) user.opened (events ++ ask text asked.ending ∷ []) f.standing (seat_state new) (reads f.disk) (faults f.disk) old.refusal) (sym kept) asked.living);
+          living = subst (λ r. IsLiving schema world user.profile header (bytes user.name) (before user.name) (images user.name) user.opened (events ++ ask text asked.ending ∷ []) (seat_standing new) (seat_state new) (image (seat_disk new)) (reads (seat_disk new)) (faults (seat_disk new)) r) (sym answer.refusal_is)
+              (subst (λ (f : Fixed D). IsLiving schema world user.profile header (bytes user.name) (before user.name) (images user.name) user.opened (events ++ ask text asked.ending ∷ []) f.standing (seat_state new) (image f.disk) (reads f.disk) (faults f.disk) old.refusal) (sym kept) asked.living);
+          fresh = λ none. let e : true ≡ false = sym (any-push is_ask events (ask text asked.ending) ∙ or-true (list_any is_ask events)) ∙ none in absurd cc;
         };
       }
 
@@ -170,16 +175,23 @@ module _ (schema : DatabaseSchema) (world : FactSet) (header directory : List �
 
   -- a desk was closed, and left this disk
   pub close_at : (user : NamedUser) (events : List Event) (seat : DeskSeat D g h) (disk : D) → IsSeated user events seat → IsClosed T image faults seat.desk disk
-      → IsRunning schema world user.profile header (bytes user.name) (before user.name) user.opened events (seat_standing seat) (seat_state seat) (image disk) (reads disk) (faults disk) seat.refusal
+      → IsRunning schema world user.profile header (bytes user.name) (before user.name) (images user.name) user.opened events (seat_standing seat) (seat_state seat) (image disk) (reads disk) (faults disk) seat.refusal
   close_at user events seat disk seated closed =
-      closing schema world user.profile header (bytes user.name) (before user.name) user.opened events (seat_standing seat) (seat_state seat) (image disk) (reads (seat_disk seat)) (reads disk) (faults (seat_disk seat)) (faults disk) seat.refusal
-      seated.living closed.later closed.cause (λ sealed. ap reads (closed.shut sealed))
+      closing schema world user.profile header (bytes user.name) (before user.name) (images user.name) user.opened events (seat_standing seat) (seat_state seat) (image (seat_disk seat)) (image disk) (reads (seat_disk seat)) (reads disk) (faults (seat_disk seat)) (faults disk) seat.refusal
+      seated.living closed.later closed.cause (λ why. left_as (by why))
       (λ served c at.
       subst (λ s. Holds s world user.profile header (seat_state seat) c) seated.served.schema_is
       (subst (λ w. Holds (seat_kept seat).schema w user.profile header (seat_state seat) c) seated.served.world_is
       (subst (λ p. Holds (seat_kept seat).schema (seat_kept seat).world p header (seat_state seat) c) (seated.served.user_is ∙ seated.profile_is)
       (subst (λ h. Holds (seat_kept seat).schema (seat_kept seat).world (seat_kept seat).user h (seat_state seat) c) seated.served.header_is (closed.holds t served c at)))))
       (read_is_image disk t)
+    where
+      by : (is_sealed (seat_standing seat) ≡ true) ⊎ (list_any is_ask events ≡ false) → disk ≡ seat_disk seat
+      by (inl sealed) = closed.shut sealed
+      by (inr none) = closed.still (seated.fresh none)
+
+      left_as : disk ≡ seat_disk seat → (reads disk ≡ reads (seat_disk seat)) × ((c : List ℕ) → image disk c → image (seat_disk seat) c)
+      left_as same = (ap reads same, λ c at. subst (λ d. image d c) same at)
 
   -- ---- openings
 
@@ -239,10 +251,11 @@ module _ (schema : DatabaseSchema) (world : FactSet) (header directory : List �
         let opened = again.opened in
         let closed = again.closed in
         let running = close_at user events old closed seated again.is_closed in
-        let step : Restarted schema world user.profile header (bytes user.name) (before user.name) user.opened events (seat_standing new) (seat_state new) (image (seat_disk new)) (reads (seat_disk new)) (faults (seat_disk new)) (first_refusal old.refusal (seat_standing new)) =
-        open_step schema world user.profile header (bytes user.name) (before user.name) (exclusive user.profile) T t user.opened events (reads (seat_disk new)) (faults closed) (faults (seat_disk new)) old.refusal
+        let step : Restarted schema world user.profile header (bytes user.name) (before user.name) (images user.name) user.opened events (seat_standing new) (seat_state new) (image (seat_disk new)) (reads (seat_disk new)) (faults (seat_disk new)) (first_refusal old.refusal (seat_standing new)) =
+        open_step schema world user.profile header (bytes user.name) (before user.name) (images user.name) (exclusive user.profile) T t user.opened events (reads (seat_disk new)) (faults closed) (faults (seat_disk new)) old.refusal
         (seat_history new) (flying (pairs_of_sole new.desk)) (seat_standing new) (image (seat_disk new))
-        (course_on schema world user.profile header (bytes user.name) (before user.name) user.opened events (reads closed) (reads (seat_disk new)) (faults closed) (faults closed) old.refusal again.left.reads_same (omega arith) running.course)
+        (course_on schema world user.profile header (bytes user.name) (before user.name) (images user.name) user.opened events (reads closed) (reads (seat_disk new)) (faults closed) (faults closed) old.refusal again.left.reads_same (omega arith) running.course)
+        (stays_on schema world user.profile header (bytes user.name) (before user.name) (images user.name) user.opened events (image closed) (image (seat_disk new)) (reads closed) (reads (seat_disk new)) again.left.reads_same again.left.images running.stays)
         (record {
           standing_is = subst (λ r. IsStanding schema world user.profile T header r (seat_history new) (faults closed) (faults (seat_disk new)) (seat_standing new)) (sym again.left.reads_same)
               (subst (λ p. IsStanding schema world p T header (reads closed) (seat_history new) (faults closed) (faults (seat_disk new)) (seat_standing new)) profile opened.standing);
@@ -259,8 +272,9 @@ module _ (schema : DatabaseSchema) (world : FactSet) (header directory : List �
             profile_is = profile;
             journal_is = again.journal_is ∙ seated.journal_is;
             served = opened.served;
-            living = subst (IsLiving schema world user.profile header (bytes user.name) (before user.name) user.opened (events ++ restart step.found step.opens ∷ []) (seat_standing new) (seat_state new) (reads (seat_disk new)) (faults (seat_disk new))) (sym opened.refusal)
-                (live schema world user.profile header (bytes user.name) (before user.name) user.opened (events ++ restart step.found step.opens ∷ []) (seat_standing new) (seat_state new) (image (seat_disk new)) (reads (seat_disk new)) (faults (seat_disk new)) (first_refusal old.refusal (seat_standing new)) step.running);
+            living = subst (IsLiving schema world user.profile header (bytes user.name) (before user.name) (images user.name) user.opened (events ++ restart step.found step.opens ∷ []) (seat_standing new) (seat_state new) (image (seat_disk new)) (reads (seat_disk new)) (faults (seat_disk new))) (sym opened.refusal)
+                (live schema world user.profile header (bytes user.name) (before user.name) (images user.name) user.opened (events ++ restart step.found step.opens ∷ []) (seat_standing new) (seat_state new) (image (seat_disk new)) (reads (seat_disk new)) (faults (seat_disk new)) (first_refusal old.refusal (seat_standing new)) step.running);
+            fresh = λ none. opened.fresh;
           },
         )
 
@@ -276,7 +290,7 @@ module _ (schema : DatabaseSchema) (world : FactSet) (header directory : List �
 
     -- ---- the first opening
 
-    module _ (S : Type 0) (s : S) (disk : Text → Option D) (count : Text → ℕ) (bytes_are : (name : Text) → bytes name ≡ bytes_on reads (disk (journal_name directory name))) (counts_are : (name : Text) → before name ≡ count (journal_name directory name)) where
+    module _ (S : Type 0) (s : S) (disk : Text → Option D) (count : Text → ℕ) (bytes_are : (name : Text) → bytes name ≡ bytes_on reads (disk (journal_name directory name))) (counts_are : (name : Text) → before name ≡ count (journal_name directory name)) (images_are : (name : Text) (c : List ℕ) → image_on image (disk (journal_name directory name)) c → images name c) where
       -- a user with the history with which his journal is opened
       pub record Begun (user : User) (seat : DeskSeat D g h) : Type 0 where
         pub opened : History
@@ -292,10 +306,14 @@ module _ (schema : DatabaseSchema) (world : FactSet) (header directory : List �
           let same : reads (seat_disk seat) ≡ reads is.taken = is.left.reads_same in
           let read : reads (seat_disk seat) ≡ bytes name = same ∙ taken_reads reads image (disk (seat_journal seat)) is.taken (is.from s) ∙ ap (λ j. bytes_on reads (disk j)) is.journal_is ∙ sym (bytes_are name) in
           let counted : faults is.taken ≡ before name = is.counted ∙ ap count is.journal_is ∙ sym (counts_are name) in
-          let step : Restarted schema world (profile_of user) header (bytes name) (before name) opened [] (seat_standing seat) (seat_state seat) (image (seat_disk seat)) (reads (seat_disk seat)) (faults (seat_disk seat)) (first_refusal None (seat_standing seat)) =
-          open_step schema world (profile_of user) header (bytes name) (before name) (exclusive (profile_of user)) T t opened [] (reads (seat_disk seat)) (faults is.taken) (faults (seat_disk seat)) None
+          let step : Restarted schema world (profile_of user) header (bytes name) (before name) (images name) opened [] (seat_standing seat) (seat_state seat) (image (seat_disk seat)) (reads (seat_disk seat)) (faults (seat_disk seat)) (first_refusal None (seat_standing seat)) =
+          open_step schema world (profile_of user) header (bytes name) (before name) (images name) (exclusive (profile_of user)) T t opened [] (reads (seat_disk seat)) (faults is.taken) (faults (seat_disk seat)) None
           (seat_history seat) (flying (pairs_of_sole seat.desk)) (seat_standing seat) (image (seat_disk seat))
-          (first_course schema world header bytes before (profile_of user) name opened (faults is.taken) (reads (seat_disk seat)) counted read opening)
+          (first_course schema world header bytes before images (profile_of user) name opened (faults is.taken) (reads (seat_disk seat)) counted read opening)
+          (record {
+            stands = λ held. let e : false ≡ true = held in absurd cc;
+            kept = λ idle. (read, λ c at. images_are name c (subst (λ j. image_on image (disk j) c) is.journal_is (taken_images reads image (disk (seat_journal seat)) is.taken c (is.from s) (is.left.images c at))));
+          })
           (record {
             standing_is = subst (λ r. IsStanding schema world (profile_of user) T header r (seat_history seat) (faults is.taken) (faults (seat_disk seat)) (seat_standing seat)) (sym same)
                 (subst (λ p. IsStanding schema world p T header (reads is.taken) (seat_history seat) (faults is.taken) (faults (seat_disk seat)) (seat_standing seat)) profile from.standing);
@@ -316,8 +334,9 @@ module _ (schema : DatabaseSchema) (world : FactSet) (header directory : List �
                 profile_is = profile;
                 journal_is = is.journal_is;
                 served = from.served;
-                living = subst (IsLiving schema world (profile_of user) header (bytes name) (before name) opened ([] ++ restart step.found step.opens ∷ []) (seat_standing seat) (seat_state seat) (reads (seat_disk seat)) (faults (seat_disk seat))) (sym from.refusal)
-                    (live schema world (profile_of user) header (bytes name) (before name) opened ([] ++ restart step.found step.opens ∷ []) (seat_standing seat) (seat_state seat) (image (seat_disk seat)) (reads (seat_disk seat)) (faults (seat_disk seat)) (first_refusal None (seat_standing seat)) step.running);
+                living = subst (IsLiving schema world (profile_of user) header (bytes name) (before name) (images name) opened ([] ++ restart step.found step.opens ∷ []) (seat_standing seat) (seat_state seat) (image (seat_disk seat)) (reads (seat_disk seat)) (faults (seat_disk seat))) (sym from.refusal)
+                    (live schema world (profile_of user) header (bytes name) (before name) (images name) opened ([] ++ restart step.found step.opens ∷ []) (seat_standing seat) (seat_state seat) (image (seat_disk seat)) (reads (seat_disk seat)) (faults (seat_disk seat)) (first_refusal None (seat_standing seat)) step.running);
+                fresh = λ none. from.fresh;
               },
             );
           }

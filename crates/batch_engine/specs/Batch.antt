@@ -1,19 +1,19 @@
 -- What a batch writes, and what its lines mean for each of its users.
-use Rattle.std.specs.Prelude.{◌≡◌, ◌≢◌, ◌⊎◌, ◌≤◌, ℕ, Bool, true, false, List, [], ◌∷◌, ◌++◌, length, take, map, Option, Some, Ok, Err}
+use Rattle.std.specs.Prelude.{◌≡◌, ◌⊎◌, ◌&&◌, ◌≤◌, ℕ, Bool, true, false, List, [], ◌∷◌, ◌++◌, length, take, map, Option, Some, Ok, Err}
 use Rattle.std.specs.List.{flat_map, list_any, AllByRecursion}
 use Rattle.cqe_base.specs.Schema.{Text, DatabaseSchema}
 use Rattle.cqe_base.specs.Facts.{FactSet}
 use Rattle.cqe_base.specs.Censor.{IsLegal, admitted}
 use Rattle.cqe_base.specs.Headline.{HidesInScript}
-use Rattle.cqe_base.specs.Run.{standing_sealed, desk_broken, opening, replies, final_history}
+use Rattle.cqe_base.specs.Run.{desk_broken, opening, replies, final_history}
 use Rattle.cqe_base.specs.Transcript.{NamedUser, ScriptEvent, script_ask, script_restart, script_opening, Line, reply_line, own_events, own_replies, state_after, transcript, line_text}
 use Rattle.user_desk.specs.Causes.{Opens}
 use Rattle.user_desk.specs.Lives.{Holds}
 use Rattle.user_desk.specs.declared.standing.DeskError.{DeskError}
-use Rattle.desk_crew.specs.Shelved.{Journals, AreKept}
+use Rattle.desk_crew.specs.Shelved.{Journals, IsKept, AreKept}
 use Rattle.batch_engine.specs.BatchLines.{BatchItem, asked, restarted, batch_of}
 use Rattle.desk_crew.specs.Openings.{OpensNone, IsOpening}
-use Rattle.batch_engine.specs.Lives.{RoseBy, is_opened, failures, AreCaused, IsRefusal}
+use Rattle.batch_engine.specs.Lives.{RoseBy, is_ask, is_opened, failures, AreCaused, IsRefusal}
 use Rattle.batch_engine.specs.declared.run.BatchEnd.{BatchEnd}
 use Rattle.batch_engine.specs.declared.run.BatchEnd.TheVariants.{Done, Script as Refused, ReadFault, WriteFault, ShelfFault, Memory}
 
@@ -58,12 +58,14 @@ module _ (schema : DatabaseSchema) (world : FactSet) (header : List ℕ) (journa
     pub hides : admitted schema world user.profile ≡ true → HidesInScript schema users user events world
     -- an append failed only where an entry was to be added, and a restart found only one that was in flight
     pub caused : AreCaused schema world user.profile (opening schema world user.profile user.opened) (own_events user.name events)
-    -- bytes that open no desk are refused at each opening and stay; of others each refusal and each append that failed raised the count
-    pub refused : OpensNone schema world user.profile header (journals.bytes user.name) → (list_any is_opened (own_events user.name events) ≡ false) × (journals.reads user.name ≡ journals.bytes user.name)
+    -- bytes that open no desk are refused at each opening; of others each refusal and each append that failed raised the count
+    pub refused : OpensNone schema world user.profile header (journals.bytes user.name) → list_any is_opened (own_events user.name events) ≡ false
     pub counted : Opens schema world user.profile header user.opened (journals.bytes user.name) → RoseBy (failures (own_events user.name events)) (journals.before user.name) (journals.now user.name)
-    -- and unless his last opening was refused, each crash leaves his history, or this and the entry in flight
-    pub stands : (state_after schema world user events).standing ≢ standing_sealed → (c : List ℕ) → journals.image user.name c
+    -- where an opening held, each crash leaves his history, or this and the entry in flight
+    pub stands : list_any is_opened (own_events user.name events) ≡ true → (c : List ℕ) → journals.image user.name c
         → Holds schema world user.profile header (state_after schema world user events) c
+    -- and unless one held and he asked, his journal is as it was
+    pub kept : (list_any is_opened (own_events user.name events) && list_any is_ask (own_events user.name events)) ≡ false → IsKept journals user.name
 
   -- what was written answers these items: it is the lines of the transcript of a script in which all journals are opened, each ask has some ending, and each restart finds and opens what it may
   pub record Answers (policy : List NamedUser) (items : List BatchItem) (written : List ℕ) : Type 0 where
@@ -106,9 +108,22 @@ module _ (schema : DatabaseSchema) (world : FactSet) (header : List ℕ) (journa
       pub answers : Answers policy front (line_bytes (whole ++ last))
       pub lines : transcript schema world answers.users (with_opening answers.found answers.opened answers.events) ≡ whole ++ last
 
-    -- the bytes are a batch, and its first items were answered so
+    -- what was appended answers the items before a restart, and no more
+    pub record AppendsTo (items : List BatchItem) (old new : List ℕ) : Type 0 where
+      pub front : List BatchItem
+      pub rest : List BatchItem
+      pub split : items ≡ front ++ restarted ∷ rest
+      pub written : List ℕ
+      pub appended : new ≡ old ++ written
+      pub answers : Answers policy front written
+
+    -- the bytes are a batch, and its first items were answered so, the last line maybe in part
     abbrev pub Breaks : List ℕ → List ℕ → List ℕ → Type 0
     Breaks bytes old new = (items : List BatchItem) × (batch_of bytes ≡ Ok items) × AppendsSome items old new
+
+    -- the bytes are a batch, and its items before a restart were answered so
+    abbrev pub Stops : List ℕ → List ℕ → List ℕ → Type 0
+    Stops bytes old new = (items : List BatchItem) × (batch_of bytes ≡ Ok items) × AppendsTo items old new
 
     -- nothing was written, and all journals are as they were
     abbrev pub LeavesAll : List ℕ → List ℕ → Type 0
@@ -121,7 +136,7 @@ module _ (schema : DatabaseSchema) (world : FactSet) (header : List ℕ) (journa
     Ends ReadFault before after old new = LeavesAll old new
     Ends WriteFault before after old new = Breaks before old new
     Ends ShelfFault before after old new = LeavesAll old new
-    Ends Memory before after old new = LeavesAll old new ⊎ Breaks before old new
+    Ends Memory before after old new = LeavesAll old new ⊎ Stops before old new
 
 -- the end of a batch whose journals weren't opened
 abbrev pub IsUnopened : BatchEnd → Type 0

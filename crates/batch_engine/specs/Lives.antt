@@ -12,6 +12,12 @@ use Rattle.user_desk.specs.declared.standing.DeskError.{DeskError}
 abbrev pub RoseBy : ℕ → ℕ → ℕ → Type 0
 RoseBy n before now = (before + n ≤ now) ⊎ (2 ^ 64 ≤ now + 1)
 
+-- whether an event is an ask
+abbrev pub is_ask : Event → Bool
+is_ask (ask text ending) = true
+is_ask (stop text) = true
+is_ask (restart found opened) = false
+
 -- whether an event is an opening of the journal that held
 abbrev pub is_opened : Event → Bool
 is_opened (restart found opened) = opened

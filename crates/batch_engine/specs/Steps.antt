@@ -60,11 +60,19 @@ module _ (schema : DatabaseSchema) (world : FactSet) (header : List ℕ) {D : Ty
     pub last : (line ≡ []) ⊎ IsLastLine front old new output line
     pub appended : wrote → (n : ℕ) × (after ≡ (before ++ output) ++ take n line)
 
+  -- the items before a restart were carried out and their lines appended, and no more
+  pub record RunsTo {g h : _} (wrote : Type 0) (items : List BatchItem) (old new : List (DeskSeat D g h)) (before after : List ℕ) : Type 0 where
+    pub front : List BatchItem
+    pub rest : List BatchItem
+    pub split : items ≡ front ++ restarted ∷ rest
+    pub is_broken : Bool
+    pub all : RunsAll wrote front old new is_broken before after
+
   -- How items were answered; where memory was wanting, the disks are back as the seats left them.
   abbrev pub IsAnswered : {g h : _} → Type 0 → (List (DeskSeat D g h) → Type 0) → List BatchItem → List (DeskSeat D g h) → List ℕ → List ℕ → DeskAnswered D g h → Type 0
   IsAnswered wrote are_back items old before after (All new is_broken) = RunsAll wrote items old new.items is_broken before after
   IsAnswered wrote are_back items old before after (Cut new) = RunsSome wrote items old new.items before after
-  IsAnswered {g} {h} wrote are_back items old before after Memory = (new : List (DeskSeat D g h)) × RunsSome wrote items old new before after × are_back new
+  IsAnswered {g} {h} wrote are_back items old before after Memory = (new : List (DeskSeat D g h)) × RunsTo wrote items old new before after × are_back new
 
 -- the seats are still there
 abbrev pub HasSeats : {D : Type 0} {g h : _} → DeskAnswered D g h → Type 0

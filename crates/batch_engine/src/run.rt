@@ -12,6 +12,7 @@ ghost use Rattle.log_journal.specs.Names.{journal_name};
 ghost use Rattle.user_log.specs.Replies.{reply_of};
 ghost use Rattle.batch_engine.specs.Said.{is_short_ask, is_short_item};
 ghost use Rattle.batch_engine.specs.Batches.{named_ask, item_in};
+ghost use Rattle.batch_engine.specs.BatchLines.{restarted};
 ghost use Rattle.desk_crew.specs.Crew.{named_user, seat_user, IsServed};
 ghost use Rattle.desk_crew.specs.Shelved.{journals, journals_on, AllOut, AllIn, NoneOut, NoneFell, AreLater, AreBack, SameBeside};
 ghost use Rattle.batch_engine.specs.BatchOf.{items_of};
@@ -126,6 +127,7 @@ fn carry_out<'w, R: Wait, G: Gate, F: Shelf>(
     ensures untouched { OnSome result (shelf.new ≡ shelf.old) }
     ensures back { IfNone result (AreBack F.told F.D.reads F.D.image F.D.faults (F.disk shelf.new) (F.disk_faults shelf.new) seats.entry.items) }
     ensures inside { IfNone result (AllIn (journals seats.entry.items) (F.is_out shelf.new)) }
+    ensures restart { IfNone result (item_in item.now ≡ restarted) }
     ensures others_out { SameBeside (journals seats.entry.items) (F.is_out shelf.old) (F.is_out shelf.new) }
     ensures counts { SameBeside (journals seats.entry.items) (F.disk_faults shelf.old) (F.disk_faults shelf.new) }
     ensures disks { SameBeside (journals seats.entry.items) (F.disk shelf.old) (F.disk shelf.new) }

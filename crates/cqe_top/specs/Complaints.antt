@@ -1,5 +1,5 @@
 -- What is said where a command didn't do all that it does.
-use Rattle.std.specs.Prelude.{◌≡◌, ◌⊎◌, ℕ, List, [], ◌∷◌, ◌++◌, Option, Some, None, codes, decimal, string_bytes}
+use Rattle.std.specs.Prelude.{ℕ, List, [], ◌∷◌, ◌++◌, Option, Some, None, codes, decimal, string_bytes}
 use Rattle.cqe_base.specs.Schema.{Text}
 use Rattle.cqe_base.specs.declared.text.ScriptKind.{ScriptKind}
 use Rattle.cqe_base.specs.declared.text.ScriptKind.TheVariants as kinds
@@ -18,7 +18,6 @@ use Rattle.policy_files.specs.declared.error.PolicyError.{PolicyError}
 use Rattle.policy_files.specs.declared.error.PolicyError.TheVariants as policy_errors
 use Rattle.policy_files.specs.declared.error.FactsError.{FactsError}
 use Rattle.policy_files.specs.declared.error.FactsError.TheVariants as facts_errors
-use Rattle.outside.specs.Streams.{AppendsPart}
 use Rattle.cqe_top.specs.declared.end.CommandEnd.{CommandEnd}
 use Rattle.cqe_top.specs.declared.end.CommandEnd.TheVariants.{Done, Usage, Missing, ShelfFault, Policy, Facts, Script, ReadFault, WriteFault, Journal, Journals, DiskFault, LinksFault, Memory}
 
@@ -149,7 +148,3 @@ complaint_of (Journals users refusals) = journal_lines users.items refusals.item
 complaint_of DiskFault = codes "cqe: disk fault\n"
 complaint_of LinksFault = codes "cqe: links fault\n"
 complaint_of Memory = codes "cqe: out of memory\n"
-
--- a text was appended, or a part of it where the sink failed
-abbrev pub Gives : List ℕ → List ℕ → List ℕ → Type 0 → Type 0
-Gives text old new failed = (new ≡ old ++ text) ⊎ (failed × AppendsPart old new text)

@@ -47,10 +47,10 @@ files_say (Some bytes) facts = with_policy bytes (policy_in bytes) facts
 abbrev pub Say : FilesSay → (PolicyValue → FactSet → List ℕ → Type 0) → Type 0
 Say files P = (policy : PolicyValue) × (world : FactSet) × (header : List ℕ) × (files ≡ both policy world header) × P policy world header
 
--- a user of a policy as he begins a batch, with no entries
+-- a user of a policy before his journal is opened, with no entries
 abbrev pub new_user : Policies.NamedUser → NamedUser
 new_user user = record { name = user.name; profile = user.profile; opened = [] }
 
--- the users of a policy as they begin a batch
+-- the users of a policy before their journals are opened
 abbrev pub new_users : PolicyValue → List NamedUser
 new_users policy = map new_user policy.users

@@ -87,6 +87,10 @@ module _ (journals : Journals) (before after old new : List ℕ) where
   abbrev pub Breaks : PolicyValue → FactSet → List ℕ → Type 0
   Breaks policy world header = batch.Breaks policy.schema world header journals (new_users policy) before old new
 
+  -- the items before a restart were, each with its whole line
+  abbrev pub Stops : PolicyValue → FactSet → List ℕ → Type 0
+  Stops policy world header = batch.Stops policy.schema world header journals (new_users policy) before old new
+
   -- nothing was written, and all journals are as they were
   abbrev pub LeavesAll : Type 0
   LeavesAll = (new ≡ old) × AreKept journals
@@ -109,7 +113,7 @@ module _ (journals : Journals) (before after old new : List ℕ) where
       Say files (λ policy world header. (has_refusal refusals.items ≡ true) × (init.names_of users.items ≡ names_of policy.users) × (is_broken : Bool) × Completes refusals.items is_broken policy world header)
   BatchReaches policy_name facts_name files DiskFault =
       Say files (λ policy world header. (refusals : List (Option DeskError)) × (has_refusal refusals ≡ false) × Completes refusals true policy world header)
-  BatchReaches policy_name facts_name files Memory = LeavesAll ⊎ Say files Breaks
+  BatchReaches policy_name facts_name files Memory = LeavesAll ⊎ Say files Stops
   BatchReaches policy_name facts_name files ShelfFault = LeavesAll
   BatchReaches policy_name facts_name files Usage = ⊥
   BatchReaches policy_name facts_name files (Journal name why) = ⊥

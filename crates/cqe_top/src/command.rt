@@ -1,5 +1,6 @@
-// The top call.
-ghost use Rattle.std.specs.Prelude.{◌≡◌, ◌≤◌, ◌<◌, ◌+◌, ◌⊎◌, List, ℕ, Bool, IsOk, IsErr};
+//! The call that does all: words to a command, the command to its end, the end to a complaint and a status.
+ghost use Rattle.std.specs.Prelude.{◌≡◌, ◌≤◌, ◌+◌, ◌⊎◌, List, ℕ, Bool, IsOk, IsErr};
+ghost use Rattle.outside.specs.Streams.{AppendsUnless};
 ghost use Rattle.outside.specs.Faults.{Rose};
 ghost use Rattle.case_engine.specs.Script.{script_of};
 ghost use Rattle.batch_engine.specs.BatchLines.{batch_of};
@@ -14,7 +15,7 @@ ghost use Rattle.cqe_top.specs.Reaches.{CaseReaches, InitReaches, BatchReaches, 
 ghost use Rattle.cqe_top.specs.Audited.{AuditReaches, AuditsNobody, CanBeAudited, LooksFor};
 ghost use Rattle.cqe_top.specs.Selfruns.{SelfrunReaches};
 ghost use Rattle.cqe_top.specs.Serves.{ServeReaches, ListenAt, ListensOver, IsComplete};
-ghost use Rattle.cqe_top.specs.Complaints.{complaint_of, Gives};
+ghost use Rattle.cqe_top.specs.Complaints.{complaint_of};
 
 use crate::audit::audit;
 use crate::complaint::complain;
@@ -83,7 +84,7 @@ where
         (λ end. F.told → L.told → (policy facts journals address : List ℕ) (workers sessions : ℕ) → IsServe words.now policy facts journals address workers sessions
         → ServeReaches (journals_on F.D.reads F.D.image journals (F.disk shelf.old) (F.disk shelf.new) (F.disk_faults shelf.old) (F.disk_faults shelf.new))
         (L.given links.old) (L.given links.new) (L.back links.old) (L.back links.new) policy facts (files_say (F.file shelf.old policy) (F.file shelf.old facts)) end)
-        (λ end. E.told → Gives (complaint_of end) (E.written complaints.old) (E.written complaints.new) (Rose (E.faults complaints.old) (E.faults complaints.new))) }
+        (λ end. E.told → AppendsUnless (complaint_of end) (E.written complaints.old) (E.written complaints.new) (Rose (E.faults complaints.old) (E.faults complaints.new))) }
 
     // Words without a reading, and the audit of a user whom the policy doesn't have, alone have the status of usage, and then
     // nothing is written; such words are all that is looked at.
@@ -129,7 +130,7 @@ where
     // A server ends where no connection is at hand, or where those that were given in this call and the workers together are
     // more than the greatest number of sessions, which are never exceeded. All its doors are back.
     ensures serve_ends { L.told → (policy facts journals address : List ℕ) (workers sessions : ℕ) → IsServe words.now policy facts journals address workers sessions → IsComplete result
-        → (L.at_hand links.new ≡ 0) ⊎ (L.given links.old + sessions < L.given links.new + workers) }
+        → (L.at_hand links.new ≡ 0) ⊎ (L.given links.old + sessions + L.ended links.old ≤ L.given links.new + L.ended links.new) }
     ensures serve_limited { L.told → (policy facts journals address : List ℕ) (workers sessions : ℕ) → IsServe words.now policy facts journals address workers sessions → L.given links.new ≤ L.given links.old + sessions }
     ensures doors { L.out links.new ≡ L.out links.old }
 
@@ -234,7 +235,7 @@ where
     ensures serve_heard { L.told → (policy facts journals address : List ℕ) (workers sessions : ℕ) → IsServe words.now policy facts journals address workers sessions → IsComplete (status_of result)
         → ListenAt address workers (L.listened links.old) (L.listened links.new) }
     ensures serve_ends { L.told → (policy facts journals address : List ℕ) (workers sessions : ℕ) → IsServe words.now policy facts journals address workers sessions → IsComplete (status_of result)
-        → (L.at_hand links.new ≡ 0) ⊎ (L.given links.old + sessions < L.given links.new + workers) }
+        → (L.at_hand links.new ≡ 0) ⊎ (L.given links.old + sessions + L.ended links.old ≤ L.given links.new + L.ended links.new) }
     ensures serve_limited { L.told → (policy facts journals address : List ℕ) (workers sessions : ℕ) → IsServe words.now policy facts journals address workers sessions → L.given links.new ≤ L.given links.old + sessions }
     ensures doors { L.out links.new ≡ L.out links.old }
     ensures read_cause { result ≡ CommandEnd.ReadFault → Rose (S.faults source.old) (S.faults source.new) }

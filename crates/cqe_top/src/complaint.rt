@@ -2,8 +2,8 @@
 ghost use Rattle.std.specs.Prelude.{◌≡◌, ◌≤◌, ◌++◌, length, codes, decimal, OnOk, OnErr};
 ghost use Rattle.cqe_base.specs.Transcript.{mark_text};
 ghost use Rattle.outside.specs.Faults.{Rose, HasCause};
-ghost use Rattle.outside.specs.Streams.{AppendsPart};
-ghost use Rattle.cqe_top.specs.Complaints.{complaint_of, kind_number, schema_number, place_complaint, script_complaint, policy_complaint, facts_complaint, user_text, index_text, cause_text, opening_cause, journal_cause, journal_line, refusal_line, journal_lines, Gives};
+ghost use Rattle.outside.specs.Streams.{AppendsUnless, AppendsPart};
+ghost use Rattle.cqe_top.specs.Complaints.{complaint_of, kind_number, schema_number, place_complaint, script_complaint, policy_complaint, facts_complaint, user_text, index_text, cause_text, opening_cause, journal_cause, journal_line, refusal_line, journal_lines};
 
 use crate::end::CommandEnd;
 use cqe_base::schema::SchemaError;
@@ -17,7 +17,7 @@ use user_desk::DeskError;
 
 /// Gives the complaint of an end to a sink. Where that fails nobody is left to be told.
 pub(crate) fn complain<E: Sink>(complaints: &mut E, end: &CommandEnd<'_>)
-    ensures given { E.told → Gives (complaint_of end.now) (E.written complaints.old) (E.written complaints.new) (Rose (E.faults complaints.old) (E.faults complaints.new)) }
+    ensures given { E.told → AppendsUnless (complaint_of end.now) (E.written complaints.old) (E.written complaints.new) (Rose (E.faults complaints.old) (E.faults complaints.new)) }
     ensures later { E.faults complaints.old ≤ E.faults complaints.new }
 {
     let _given = give(complaints, end);

@@ -1,5 +1,5 @@
 // The command `serve`.
-ghost use Rattle.std.specs.Prelude.{◌≡◌, ◌≤◌, ◌<◌, ◌+◌, ◌⊎◌, ◌^◌, List, ℕ};
+ghost use Rattle.std.specs.Prelude.{◌≡◌, ◌≤◌, ◌+◌, ◌⊎◌, ◌^◌, List, ℕ};
 ghost use Rattle.outside.specs.Faults.{Rose};
 ghost use Rattle.desk_crew.specs.Shelved.{journals_on, NoneOut, NoneFell};
 ghost use Rattle.cqe_top.specs.declared.end.CommandEnd.{CommandEnd};
@@ -38,7 +38,7 @@ where
         → ServeReaches (journals_on F.D.reads F.D.image words.now.files.journals.now (F.disk shelf.old) (F.disk shelf.new) (F.disk_faults shelf.old) (F.disk_faults shelf.new))
         (L.given links.old) (L.given links.new) (L.back links.old) (L.back links.new) words.now.files.policy.now words.now.files.facts.now
         (files_say (F.file shelf.old words.now.files.policy.now) (F.file shelf.old words.now.files.facts.now)) result }
-    ensures ends { L.told → IsComplete (status_of result) → (L.at_hand links.new ≡ 0) ⊎ (L.given links.old + words.now.sessions < L.given links.new + words.now.workers) }
+    ensures ends { L.told → IsComplete (status_of result) → (L.at_hand links.new ≡ 0) ⊎ (L.given links.old + words.now.sessions + L.ended links.old ≤ L.given links.new + L.ended links.new) }
     ensures listens { L.told
         → ListensOver F.told (files_say (F.file shelf.old words.now.files.policy.now) (F.file shelf.old words.now.files.facts.now)) words.now.listen.now words.now.workers (L.listened links.old) (L.listened links.new) }
     ensures heard { L.told → IsComplete (status_of result) → ListenAt words.now.listen.now words.now.workers (L.listened links.old) (L.listened links.new) }

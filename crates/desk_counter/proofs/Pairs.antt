@@ -1,5 +1,5 @@
 -- The pairs of a desk, and what a settled text adds to them.
-use Rattle.std.proofs.Common.{◌≡◌, ℕ, true, false, List, [], ◌∷◌, ◌++◌, map, length, zip, refl, sym, ap, ◌∙◌, subst, arith}
+use Rattle.std.proofs.Common.{◌≡◌, ℕ, true, false, List, [], ◌∷◌, ◌++◌, map, length, zip, refl, sym, ap, ◌∙◌, subst, append_assoc, arith}
 use Rattle.std.specs.Prelude.{Option, Some, None, is_some, option_to_list}
 use Rattle.std.proofs.lemmas.List.{append-nil}
 use Rattle.cqe_base.specs.declared.user.Mark as base
@@ -16,11 +16,23 @@ use Rattle.user_desk.specs.Lives.{shown}
 use Rattle.desk_counter.specs.declared.item.Item.{Item}
 use Rattle.desk_counter.specs.declared.item.Item.TheVariants.{Kept, Broke}
 use Rattle.desk_counter.specs.declared.item.Fixed.{Fixed}
-use Rattle.desk_counter.specs.Items.{history_of, flying, pairs_of, BrokeIsLast}
+use Rattle.desk_counter.specs.Items.{history_of, kept_pair, kept_pairs, flying, pairs_of, BrokeIsLast}
 use Rattle.desk_counter.specs.Desks.{state_shown}
 use Rattle.desk_counter.specs.Asks.{entry_for, NoMark, Adds, told, broke, coded, wanted, IsServed, Answers}
 use Rattle.desk_counter.proofs.Settling.{Changes}
 use Rattle.desk_counter.proofs.Settling as settling
+
+kept_all : (xs ys : Entries Item) → kept_pairs (xs ++ ys) ≡ kept_pairs xs ++ kept_pairs ys
+kept_all [] ys = refl
+kept_all (x ∷ xs) ys = ap (λ ps. kept_pair x.0 x.1 ++ ps) (kept_all xs ys) ∙ sym (append_assoc (kept_pair x.0 x.1) (kept_pairs xs) (kept_pairs ys))
+
+second_all : (xs ys : Entries AnsweredQuery) → map (λ (p : ℕ × AnsweredQuery). p.1) (xs ++ ys) ≡ map (λ p. p.1) xs ++ map (λ p. p.1) ys
+second_all [] ys = refl
+second_all (x ∷ xs) ys = ap (λ h. x.1 ∷ h) (second_all xs ys)
+
+-- the history of pairs and further ones
+pub history_all : (xs ys : Entries Item) → history_of (xs ++ ys) ≡ history_of xs ++ history_of ys
+history_all xs ys = ap (λ ps. map (λ (p : ℕ × AnsweredQuery). p.1) ps) (kept_all xs ys) ∙ second_all (kept_pairs xs) (kept_pairs ys)
 
 -- the entries of the journal among the pairs
 pub history_pairs : (tickets : List ℕ) (entries : History) (ticket : ℕ) (in_flight : Option AnsweredQuery) → length tickets ≡ length entries → history_of (pairs_of tickets entries ticket in_flight) ≡ entries

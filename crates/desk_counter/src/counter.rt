@@ -47,7 +47,7 @@ impl<'w, D: Disk> CounterOf<'w, TicketedDesk<'w, D>> {
     ghost use Rattle.desk_counter.specs.Items.{history_of, flying, has_broke, BrokeIsLast};
     ghost use Rattle.desk_counter.specs.Desks.{fixed_of, state_shown};
     ghost use Rattle.desk_counter.specs.Asks.{NoMark, Asked, IsReply, TellsMark, AddsNone};
-    ghost use Rattle.desk_counter.specs.Counters.{kept_by, IsPassOf};
+    ghost use Rattle.desk_counter.specs.Counters.{kept_by, first_history, IsPassOf};
 
     /// Puts a desk under a counter. The pass has all 65 shares and 65 * 2^57 turns, and has seen the desk's entries, with
     /// ticket 0. For want of memory the desk comes back.
@@ -57,6 +57,7 @@ impl<'w, D: Disk> CounterOf<'w, TicketedDesk<'w, D>> {
     ) -> Result<(Counter<'w, D>, DeskPass<D>), Desk<'w, D>>
         ensures pass { IfOk result (λ c. IsPassOf c.1 c.0) }
         ensures kept { IfOk result (λ c. kept_by c.0 ≡ fixed_of desk.entry) }
+        ensures first { IfOk result (λ c. first_history c.0 ≡ desk_history desk.entry) }
         ensures history { IfOk result (λ c. history_of (seen c.1) ≡ desk_history desk.entry) }
         ensures in_flight { IfOk result (λ c. flying (seen c.1) ≡ entry_in_flight desk.entry) }
         ensures opening { IfOk result (λ c. IsOpening (seen c.1)) }
@@ -113,7 +114,7 @@ impl<'w, D: Disk> CounterOf<'w, TicketedDesk<'w, D>> {
     }
 
     /// Asks a text, in one turn: waits for it, settles the text by the entries of all asks before, and leaves. The gate is
-    /// passed once the text was examined, still in the turn, and once the turn has ended. A later version may use two turns.
+    /// passed once the text was examined, still in the turn, and once the turn has ended.
     pub fn ask<R: Wait, G: Gate>(
         &self,
         rt: &R,
@@ -164,6 +165,7 @@ impl<'w, D: Disk> CounterOf<'w, TicketedDesk<'w, D>> {
         ensures history { desk_history result ≡ history_of (seen pass) }
         ensures in_flight { entry_in_flight result ≡ flying (seen pass) }
         ensures mine { turn_entries (seen pass) ≡ mine pass }
+        ensures added { history_of (seen pass) ≡ first_history self.entry ++ history_of (mine pass) }
         ensures drew { DrewEachOnce (view_of pass) }
 
         // What was seen is a legal history within the limits, and each crash leaves just that; where an append failed, that

@@ -1,6 +1,6 @@
 //! A counter in one thread's hands.
 ghost use Rattle.std.specs.Prelude.{◌≡◌, ◌≤◌, ◌*◌, length, Some, IfOk, IfErr};
-ghost use Rattle.turnstile.specs.Passes.{IsOf, IsReady, first_value, fixed, shares, turns};
+ghost use Rattle.turnstile.specs.Passes.{IsOf, IsReady, first_value, fixed, mine, shares, turns};
 
 use crate::counter::{Counter, CounterOf, DeskPass};
 use crate::ticketed_desk::{Owned, TicketedDesk};
@@ -31,7 +31,7 @@ pub struct SoleOf<'w, V: Owned> {
 pub type SoleCounter<'w, D> = SoleOf<'w, TicketedDesk<'w, D>>;
 
 impl<'w, D: Disk> SoleOf<'w, TicketedDesk<'w, D>> {
-    ghost use Rattle.std.specs.Prelude.{true, false, List, ℕ, ◌^◌, [], None};
+    ghost use Rattle.std.specs.Prelude.{true, false, List, ℕ, ◌^◌, ◌++◌, [], None};
     ghost use Rattle.outside.specs.Faults.{Rose};
     ghost use Rattle.cqe_base.specs.Run.{UserState};
     ghost use Rattle.user_log.specs.Replies.{reply_of};
@@ -42,14 +42,16 @@ impl<'w, D: Disk> SoleOf<'w, TicketedDesk<'w, D>> {
     ghost use Rattle.desk_counter.specs.Items.{history_of, flying, has_broke};
     ghost use Rattle.desk_counter.specs.Desks.{fixed_of};
     ghost use Rattle.desk_counter.specs.Lives.{IsAskOf};
-    ghost use Rattle.desk_counter.specs.Counters.{IsPassOf};
+    ghost use Rattle.desk_counter.specs.Counters.{first_history, IsPassOf};
     ghost use Rattle.desk_counter.specs.Sole.{counter_in, pass_in, kept_in, pairs_of_sole, sole_state, IsSoleIn, IsUntouched};
 
     /// Puts a desk under a counter. For want of memory the desk comes back.
     pub fn new(alloc: Global, desk: Desk<'w, D>) -> Result<SoleCounter<'w, D>, Desk<'w, D>>
         ensures kept { IfOk result (λ sole. kept_in sole ≡ fixed_of desk.entry) }
+        ensures first { IfOk result (λ sole. first_history (counter_in sole) ≡ desk_history desk.entry) }
         ensures history { IfOk result (λ sole. history_of (pairs_of_sole sole) ≡ desk_history desk.entry) }
         ensures in_flight { IfOk result (λ sole. flying (pairs_of_sole sole) ≡ entry_in_flight desk.entry) }
+        ensures mine { IfOk result (λ sole. mine (pass_in sole) ≡ []) }
         ensures turns { IfOk result (λ sole. turns (pass_in sole) ≡ 65 * 2 ^ 57) }
         ensures err { IfErr result (λ same. same ≡ desk.entry) }
     {
@@ -111,6 +113,9 @@ impl<'w, D: Disk> SoleOf<'w, TicketedDesk<'w, D>> {
         ensures kept { fixed_of result ≡ kept_in self.entry }
         ensures history { desk_history result ≡ history_of (pairs_of_sole self.entry) }
         ensures in_flight { entry_in_flight result ≡ flying (pairs_of_sole self.entry) }
+
+        // Its history is what it was put under the counter with, and then what its pass has of its own.
+        ensures added { history_of (pairs_of_sole self.entry) ≡ first_history (counter_in self.entry) ++ history_of (mine (pass_in self.entry)) }
 
         // Its history is legal, and only a user who is served has any; and what became of its disk since the opening.
         ensures legal { IsLegal (kept_in self.entry).schema (kept_in self.entry).world (kept_in self.entry).user (history_of (pairs_of_sole self.entry)) }

@@ -59,7 +59,7 @@ module _ (schema : DatabaseSchema) (world : FactSet) (header : List ℕ) {D : Ty
 
   -- what a closed desk shows where the shelf tells its disks
   closed_told : (shelf_told → told) → (seat : DeskSeat D g h) (disk : D) → IsClosed told image faults seat.desk disk → IsClosed shelf_told image faults seat.desk disk
-  closed_told tells seat disk closed = record { holds = λ t. closed.holds (tells t); legal = closed.legal; idle = closed.idle; later = closed.later; cause = closed.cause; shut = closed.shut; still = closed.still }
+  closed_told tells seat disk closed = record { holds = λ t. closed.holds (tells t); legal = closed.legal; added = closed.added; idle = closed.idle; later = closed.later; cause = closed.cause; shut = closed.shut; still = closed.still }
 
   -- where the disks of reopened seats are back, those of the seats before are
   back_before : (shelf_told → told) → (disk : Text → Option D) (count : Text → ℕ) (olds news : List (DeskSeat D g h)) → AreReopened schema world header told reads image faults olds news → AreBack shelf_told reads image faults disk count news → AreBack shelf_told reads image faults disk count olds

@@ -1,5 +1,5 @@
 -- A desk that was just opened, under its counter.
-use Rattle.std.proofs.Common.{◌≡◌, ℕ, ◌*◌, ◌^◌, false, List, length, sym, ap, subst, ◌∙◌}
+use Rattle.std.proofs.Common.{◌≡◌, ℕ, ◌*◌, ◌^◌, false, List, [], length, sym, ap, subst, ◌∙◌}
 use Rattle.std.specs.Prelude.{Option}
 use Rattle.cqe_base.specs.Schema.{DatabaseSchema}
 use Rattle.cqe_base.specs.Facts.{FactSet}
@@ -16,13 +16,14 @@ use Rattle.desk_counter.proofs.Settling.{none_flies}
 use Rattle.desk_counter.specs.declared.item.Fixed.{Fixed}
 use Rattle.desk_counter.specs.Desks.{fixed_of}
 use Rattle.desk_counter.specs.Items.{flying}
-use Rattle.turnstile.specs.Passes.{turns}
-use Rattle.desk_counter.specs.Sole.{pass_in, pairs_of_sole}
+use Rattle.turnstile.specs.Passes.{mine, turns}
+use Rattle.desk_counter.specs.Counters.{first_history}
+use Rattle.desk_counter.specs.Sole.{counter_in, pass_in, pairs_of_sole}
 use Rattle.desk_crew.specs.Crew.{first_refusal, seat_user, seat_kept, seat_standing, seat_history, seat_state, seat_disk, IsOpenedFrom}
 use Rattle.desk_crew.specs.Seats.{DeskSeat}
 
 module _ {D : Type 0} {g h : _} (schema : DatabaseSchema) (world : FactSet) (header : List ℕ) (told : Type 0) (reads : D → List ℕ) (image : D → List ℕ → Type 0) (faults : D → ℕ) (desk : Desk D g) (seat : DeskSeat D g h)
-    (kept : seat_kept seat ≡ fixed_of desk) (entries : seat_history seat ≡ desk_history desk) (flies : flying (pairs_of_sole seat.desk) ≡ entry_in_flight desk) (all_turns : turns (pass_in seat.desk) ≡ 65 * 2 ^ 57) where
+    (kept : seat_kept seat ≡ fixed_of desk) (entries : seat_history seat ≡ desk_history desk) (flies : flying (pairs_of_sole seat.desk) ≡ entry_in_flight desk) (first : first_history (counter_in seat.desk) ≡ desk_history desk) (none_own : mine (pass_in seat.desk) ≡ []) (all_turns : turns (pass_in seat.desk) ≡ 65 * 2 ^ 57) where
   standing_is : seat_standing seat ≡ desk_standing desk
   standing_is = ap (λ (f : Fixed D). f.standing) kept
 
@@ -61,6 +62,8 @@ module _ {D : Type 0} {g h : _} (schema : DatabaseSchema) (world : FactSet) (hea
           none = flies ∙ none_flies (entry_in_flight desk) whole;
         };
         opening_is = ap (λ (f : Fixed D). f.opening) kept ∙ opening ∙ sym entries;
+        first_is = first ∙ sym entries;
+        mine_is = none_own;
         turns_are = all_turns;
         holds = λ t served c here.
             subst (λ s. Holds s world (profile_of (seat_user seat)) header (seat_state seat) c) schema_is

@@ -1,5 +1,5 @@
 -- The users of a batch at their desks, and their disks.
-use Rattle.std.specs.Prelude.{◌≡◌, ℕ, ◌≤◌, ◌*◌, ◌^◌, Bool, true, false, List, [], ◌∷◌, bytes_eq, Option, Some, None, Result, Ok, Err, string_bytes}
+use Rattle.std.specs.Prelude.{◌≡◌, ℕ, ◌≤◌, ◌*◌, ◌^◌, Bool, true, false, List, [], ◌∷◌, ◌++◌, bytes_eq, Option, Some, None, Result, Ok, Err, string_bytes}
 use Rattle.outside.specs.Faults.{Rose}
 use Rattle.cqe_base.specs.Schema.{Text, DatabaseSchema}
 use Rattle.cqe_base.specs.Facts.{FactSet}
@@ -17,8 +17,9 @@ use Rattle.user_desk.specs.declared.standing.Standing.TheVariants.{Open, Closed,
 use Rattle.desk_counter.specs.declared.item.Fixed.{Fixed}
 use Rattle.desk_counter.specs.Lives.{IsAskOf}
 use Rattle.desk_counter.specs.Items.{history_of, flying, has_broke}
-use Rattle.turnstile.specs.Passes.{turns}
-use Rattle.desk_counter.specs.Sole.{pass_in, kept_in, pairs_of_sole, sole_state, IsSoleIn, IsUntouched}
+use Rattle.turnstile.specs.Passes.{mine, turns}
+use Rattle.desk_counter.specs.Counters.{first_history}
+use Rattle.desk_counter.specs.Sole.{counter_in, pass_in, kept_in, pairs_of_sole, sole_state, IsSoleIn, IsUntouched}
 use Rattle.desk_counter.specs.declared.sole.SoleOf.{SoleOf}
 use Rattle.desk_counter.specs.declared.ticketed_desk.TicketedDesk.{TicketedDesk}
 use Rattle.desk_counter.specs.declared.item.Item.{Item}
@@ -105,12 +106,14 @@ pub record IsLeft {D : Type 0} (reads : D → List ℕ) (image : D → List ℕ 
   pub later : faults old ≤ faults new
 
 -- A desk leaves this disk as it is closed: unless its journal was refused, each image holds the state that the desk showed,
--- whose history is legal; only of a user who is served has it any; the count rose where an append failed; and where nothing
--- was appended the disk is as it was at the opening.
+-- whose history is legal, and is what was put under the counter and then what the pass has of its own; only of a user who
+-- is served has it any; the count rose where an append failed; and where nothing was appended the disk is as it was at the
+-- opening.
 pub record IsClosed {D : Type 0} {g h : _} (told : Type 0) (image : D → List ℕ → Type 0) (faults : D → ℕ) (desk : SoleOf (TicketedDesk D g) Item (Fixed D) h) (disk : D) : Type 0 where
   pub holds : told → is_sealed (kept_in desk).standing ≡ false → (c : List ℕ) → image disk c
       → Holds (kept_in desk).schema (kept_in desk).world (kept_in desk).user (kept_in desk).header (sole_state desk) c
   pub legal : IsLegal (kept_in desk).schema (kept_in desk).world (kept_in desk).user (history_of (pairs_of_sole desk))
+  pub added : history_of (pairs_of_sole desk) ≡ first_history (counter_in desk) ++ history_of (mine (pass_in desk))
   pub idle : is_open (kept_in desk).standing ≡ false → (history_of (pairs_of_sole desk) ≡ []) × (flying (pairs_of_sole desk) ≡ None)
   pub later : faults (kept_in desk).disk ≤ faults disk
   pub cause : (sole_state desk).broken ≡ true → Rose (faults (kept_in desk).disk) (faults disk)
@@ -160,7 +163,9 @@ module _ (schema : DatabaseSchema) (world : FactSet) (header : List ℕ) where
       pub refusal : seat.refusal ≡ first_refusal before (seat_standing seat)
       pub fresh : IsFresh seat
       pub opening_is : (seat_kept seat).opening ≡ seat_history seat
-      -- its pass has all turns
+      -- what was put under its counter is that history, and its pass has all turns and nothing of its own
+      pub first_is : first_history (counter_in seat.desk) ≡ seat_history seat
+      pub mine_is : mine (pass_in seat.desk) ≡ []
       pub turns_are : turns (pass_in seat.desk) ≡ 65 * 2 ^ 57
       -- each image of its disk holds the state that its desk shows, unless its journal was refused
       pub holds : told → is_sealed (seat_standing seat) ≡ false → (c : List ℕ) → image (seat_disk seat) c → Holds schema world (profile_of (seat_user seat)) header (seat_state seat) c

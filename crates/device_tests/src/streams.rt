@@ -166,6 +166,8 @@ impl Sink for UntoldStream {
 
     ghost written = { λ stream. [] };
 
+    ghost answers = { λ stream. [] };
+
     ghost faults = { λ stream. stream.faults };
 
     fn give(&mut self, bytes: &[u8]) -> Result<usize, Failed> {

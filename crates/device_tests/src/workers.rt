@@ -1,5 +1,6 @@
 ghost use Rattle.std.specs.Prelude.{◌≡◌, ◌≤◌, ◌+◌, true, All, None, length, vec_capacity, IfOk};
 ghost use Rattle.std.proofs.Common.{refl, ◌∙◌};
+ghost use Rattle.std.proofs.lemmas.List.Elements.{All-nil};
 
 use outside::{
     Connection, Links, MemoryDoor, MemoryLinks, MemorySink, MemorySource, Plan, Sink, Source,
@@ -29,7 +30,9 @@ impl<S: Source, K: Sink> Job<S, K> for Greeter {
 
     ghost numbers = { λ job. job.numbers.items };
 
-    ghost stands = { λ job visit. visit.source_whole ≡ true };
+    ghost stands = { λ first job visits. All (λ visit. visit.source_whole ≡ true) visits };
+
+    ghost stands_none = { λ job. All-nil (λ visit. visit.source_whole ≡ true) };
 
     ghost keeps = { λ before after. vec_capacity after.numbers ≡ vec_capacity before.numbers };
 

@@ -1,5 +1,5 @@
 -- How the program ends, and what it has written then.
-use Rattle.std.specs.Prelude.{◌≡◌, ◌⊎◌, ℕ, List, [], ◌++◌, Option, Some, None, Ok, Err, codes, decimal}
+use Rattle.std.specs.Prelude.{◌≡◌, ℕ, List, [], ◌++◌, Option, Some, None, Ok, Err, codes, decimal}
 use Rattle.cqe_base.specs.Machine.{End as MachineEnd, Model, Refuted as MachineRefuted, end_within_budget}
 use Rattle.outside.specs.Streams.{AppendsPart}
 use Rattle.dimacs_text.specs.Dimacs.{Cnf, cnf_in}
@@ -84,7 +84,3 @@ complaint_of (Refused refusal) = refusal_text refusal
 complaint_of ReadFault = codes "dimacs: read fault\n"
 complaint_of WriteFault = codes "dimacs: write fault\n"
 complaint_of Memory = codes "dimacs: out of memory\n"
-
--- a text was appended, or a part of it where the sink failed
-abbrev pub Gives : List ℕ → List ℕ → List ℕ → Type 0 → Type 0
-Gives text old new failed = (new ≡ old ++ text) ⊎ (failed × AppendsPart old new text)

@@ -1,8 +1,9 @@
 //! The clauses of a source are searched, and the answer is written to a sink.
 ghost use Rattle.std.specs.Prelude.{◌≡◌, ◌≤◌, IfOk, string_bytes};
+ghost use Rattle.outside.specs.Streams.{AppendsUnless};
 ghost use Rattle.outside.specs.Faults.{Rose};
 ghost use Rattle.clause_solver.specs.PlainStates.{found_of};
-ghost use Rattle.dimacs_text.specs.Ends.{end_of, answer_text, verdict_of, Ends, complaint_of, Gives};
+ghost use Rattle.dimacs_text.specs.Ends.{end_of, answer_text, verdict_of, Ends, complaint_of};
 
 use crate::cnf::Cnf;
 use crate::ending::{Ending, Verdict, complain};
@@ -20,7 +21,7 @@ pub fn answer_input<S: Source, K: Sink, E: Sink>(
     complaints: &mut E,
 ) -> Ending
     ensures ends { S.told → K.told → Ends result (S.left source.old) (S.left source.new) (K.written sink.old) (K.written sink.new) }
-    ensures complaint { E.told → Gives (complaint_of result) (E.written complaints.old) (E.written complaints.new) (Rose (E.faults complaints.old) (E.faults complaints.new)) }
+    ensures complaint { E.told → AppendsUnless (complaint_of result) (E.written complaints.old) (E.written complaints.new) (Rose (E.faults complaints.old) (E.faults complaints.new)) }
     ensures read_cause { result ≡ Ending.ReadFault → Rose (S.faults source.old) (S.faults source.new) }
     ensures write_cause { result ≡ Ending.WriteFault → Rose (K.faults sink.old) (K.faults sink.new) }
     ensures held { S.held source.new ≡ S.held source.old }

@@ -1,7 +1,8 @@
 //! How the program ends, and what it says then.
 ghost use Rattle.std.specs.Prelude.{◌≡◌, ◌≤◌, ◌++◌, codes, decimal};
+ghost use Rattle.outside.specs.Streams.{AppendsUnless};
 ghost use Rattle.outside.specs.Faults.{Rose};
-ghost use Rattle.dimacs_text.specs.Ends.{status_of, kind_number, refusal_text, complaint_of, Gives};
+ghost use Rattle.dimacs_text.specs.Ends.{status_of, kind_number, refusal_text, complaint_of};
 
 use crate::refusal::{Kind, Refusal};
 use line_protocol::LineText;
@@ -50,7 +51,7 @@ impl Ending {
 
 /// Gives what is said of an ending to a sink. Where that fails nobody is left to be told.
 pub(crate) fn complain<E: Sink>(complaints: &mut E, ending: Ending)
-    ensures given { E.told → Gives (complaint_of ending) (E.written complaints.old) (E.written complaints.new) (Rose (E.faults complaints.old) (E.faults complaints.new)) }
+    ensures given { E.told → AppendsUnless (complaint_of ending) (E.written complaints.old) (E.written complaints.new) (Rose (E.faults complaints.old) (E.faults complaints.new)) }
     ensures later { E.faults complaints.old ≤ E.faults complaints.new }
 {
     let text = complaint_of(ending);

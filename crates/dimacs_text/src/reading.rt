@@ -1,4 +1,7 @@
 //! A file is read from its source line by line, to its end or to the first line that is refused.
+//!
+//! It isn't a script of `script_lines`: it has ten times the lines, kinds of refusals of its own and something to say at
+//! its end, and it isn't read behind a refusal.
 ghost use Rattle.std.specs.Prelude.{◌≡◌, ◌≤◌, IsTrue};
 ghost use Rattle.outside.specs.Faults.{Rose};
 ghost use Rattle.line_protocol.specs.Buffer.{unread};

@@ -51,7 +51,7 @@ pub fn printable_text(bytes: &[u8]) -> &str
     }
 }
 
-/// The number of one to ten digits.
+/// The number that one to ten ASCII digits write, leading zeros included, and none for any other word.
 pub fn number_in(word: &[u8]) -> Option<u64>
     ensures { result ≡ number_in word.now }
 {

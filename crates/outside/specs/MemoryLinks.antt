@@ -1,7 +1,7 @@
 -- What links in memory show.
 use Rattle.std.specs.Prelude.{ℕ, ◌+◌, List, [], ◌∷◌, ◌++◌, length, map, string_bytes}
 use Rattle.std.specs.List.{sum_by}
-use Rattle.outside.specs.Visits.{Visit, Place, place_of}
+use Rattle.outside.specs.Visits.{Visit, Place, place_of, one_if_any}
 use Rattle.outside.specs.MemoryDoors.{visits_of}
 use Rattle.outside.specs.declared.memory_door.DoorBack.{DoorBack}
 use Rattle.outside.specs.declared.memory_links.Listened.{Listened}
@@ -35,6 +35,10 @@ links_out links = links.out
 -- places in memory, by their addresses' bytes
 abbrev pub places_of : List Listened → List Place
 places_of places = map (λ place. place_of (string_bytes place.address) place.doors) places
+
+-- how many of the doors that are back had answered that no further connection comes
+abbrev pub links_ended : MemoryLinks → ℕ
+links_ended links = sum_by (λ door. one_if_any door.ends) links.doors_back.items
 
 -- where they listened
 abbrev pub links_listened : MemoryLinks → List Place

@@ -1,5 +1,5 @@
 -- What a door gives and gets back.
-use Rattle.std.specs.Prelude.{ℕ, Bool, List, Option, Some, None, Result, Ok, Err, ◌==◌}
+use Rattle.std.specs.Prelude.{ℕ, Bool, List, Option, Some, None, Result, Ok, Err, ◌==◌, if◌then◌else◌}
 
 -- A finished connection: all bytes that came in, what was written, and of each end whether its count of faults is 0.
 pub record Visit : Type 0 where
@@ -21,6 +21,10 @@ place_of address doors = record { address = address; doors = doors }
 abbrev pub visit_of : List ℕ → List ℕ → ℕ → ℕ → Visit
 visit_of held written source_faults sink_faults =
     record { held = held; written = written; source_whole = source_faults == 0; sink_whole = sink_faults == 0 }
+
+-- one where a count isn't 0, else none
+abbrev pub one_if_any : ℕ → ℕ
+one_if_any count = if count == 0 then 0 else 1
 
 -- how many connections came with this answer: one or none
 abbrev pub came : {T E : Type 0} → Result (Option T) E → ℕ

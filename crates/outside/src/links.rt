@@ -2,7 +2,7 @@
 ghost use Rattle.std.specs.Prelude.{◌≡◌, ◌≢◌, ◌⊎◌, ◌<◌, ◌≤◌, ◌+◌, ◌-◌, ◌++◌, ◌∷◌, [], List, ℕ, Option, Some, None, All, length, IfOk, OnOk, OnErr, IsErrOf};
 ghost use Rattle.std.specs.List.{sum_by};
 ghost use Rattle.outside.specs.Faults.{Rose, HasCause};
-ghost use Rattle.outside.specs.Visits.{Visit, Place, place_of, visit_of, came, IfCame, UnlessCame, OnEnd, UnlessEnd};
+ghost use Rattle.outside.specs.Visits.{Visit, Place, place_of, visit_of, one_if_any, came, IfCame, UnlessCame, OnEnd, UnlessEnd};
 
 use crate::{Failed, Sink, Source};
 use std::alloc::Global;
@@ -57,6 +57,9 @@ pub trait Door {
         ensures whole { IfCame result (λ source sink. (Self.Src.faults source ≡ 0) × (Self.Snk.faults sink ≡ 0)) }
         ensures untaken { IfCame result (λ source sink. Self.Src.told → Self.Src.left source ≡ Self.Src.held source) }
         ensures unwritten { IfCame result (λ source sink. Self.Snk.told → Self.Snk.written sink ≡ []) }
+
+        // Its answers go to the client whose bytes come.
+        ensures client { told → IfCame result (λ source sink. Self.Snk.answers sink ≡ Self.Src.held source) }
         ensures none_left { told → OnEnd result (left self.old ≡ 0) }
         ensures end { OnEnd result (Rose (ends self.old) (ends self.new)) }
         ensures no_end { UnlessEnd result (ends self.new ≡ ends self.old) }
@@ -65,7 +68,10 @@ pub trait Door {
 
     /// Takes both ends of the last connection back. It takes no memory.
     fn done(&mut self, source: Self::Src, sink: Self::Snk)
-        requires { told → last self.old ≡ Some (Self.Src.held source) }
+        requires last { told → last self.old ≡ Some (Self.Src.held source) }
+
+        // What was written went to the client who asked.
+        requires client { told → Self.Snk.answers sink ≡ Self.Src.held source }
         ensures back { told → back self.new ≡ back self.old ++ visit_of (Self.Src.held source) (Self.Snk.written sink) (Self.Src.faults source) (Self.Snk.faults sink) ∷ [] }
         ensures none { told → last self.new ≡ None }
         ensures given { told → given self.new ≡ given self.old }
@@ -100,6 +106,9 @@ pub trait Links {
     /// How many doors aren't back.
     ghost out: { Self → ℕ };
 
+    /// How many of the doors that are back had answered that no further connection will come.
+    ghost ended: { Self → ℕ };
+
     /// Where they listened, in order, where clauses are told.
     ghost listened: { Self → List Place };
 
@@ -116,6 +125,7 @@ pub trait Links {
         ensures count { IfOk result (λ opened. length opened.items ≡ doors) }
         ensures whole { IfOk result (λ opened. All (λ door. Self.D.faults door ≡ 0) opened.items) }
         ensures fresh { told → IfOk result (λ opened. All (λ door. (Self.D.given door ≡ 0) × (Self.D.back door ≡ [])) opened.items) }
+        ensures unended { IfOk result (λ opened. All (λ door. Self.D.ends door ≡ 0) opened.items) }
 
         // The connections at hand are spread over the doors.
         ensures spread { told → IfOk result (λ opened. sum_by Self.D.left opened.items + at_hand self.new ≡ at_hand self.old) }
@@ -123,6 +133,7 @@ pub trait Links {
         ensures kept { told → OnErr result (at_hand self.new ≡ at_hand self.old) }
         ensures out { OnOk result (out self.new ≡ out self.old + doors) }
         ensures none_out { OnErr result (out self.new ≡ out self.old) }
+        ensures ended { ended self.new ≡ ended self.old }
         ensures listened { told → OnOk result (listened self.new ≡ listened self.old ++ place_of address.now doors ∷ []) }
         ensures unheard { told → OnErr result (listened self.new ≡ listened self.old) }
         ensures given { told → given self.new ≡ given self.old }
@@ -135,6 +146,7 @@ pub trait Links {
     fn take_back(&mut self, door: Self::D)
         requires { 0 < out self.old }
         ensures out { out self.old ≡ out self.new + 1 }
+        ensures ended { ended self.new ≡ ended self.old + one_if_any (Self.D.ends door) }
         ensures given { told → given self.new ≡ given self.old + Self.D.given door }
         ensures left { told → left self.new ≡ left self.old - Self.D.given door }
         ensures at_hand { told → at_hand self.new ≡ at_hand self.old + Self.D.left door }

@@ -1,6 +1,6 @@
 // A door in memory.
 ghost use Rattle.std.specs.Prelude.{◌≡◌, ◌≤◌, ◌<◌, ◌+◌, ◌^◌, [], length, map, None, option_to_list, vec_capacity, IfOk};
-ghost use Rattle.outside.specs.MemoryStreams.{source_held, source_left, source_faults, sink_written, sink_faults};
+ghost use Rattle.outside.specs.MemoryStreams.{source_held, source_left, source_faults, sink_written, sink_answers, sink_faults};
 
 use crate::{Door, Failed, MemorySink, MemorySource, Plan};
 use std::alloc::{AllocError, Global};
@@ -13,14 +13,17 @@ pub struct Connection {
     sink: MemorySink,
     ghost whole: { (source_faults source ≡ 0) × (sink_faults sink ≡ 0) },
     ghost untouched: { (source_left source ≡ source_held source) × (sink_written sink ≡ []) },
+    ghost client: { sink_answers sink ≡ source_held source },
 }
 
 impl Connection {
-    /// A connection of two ends of which nothing was taken or written yet.
+    /// A connection of two ends of which nothing was taken or written yet. From here on the sink is the one that answers
+    /// the client of this source.
     pub fn new(source: MemorySource, sink: MemorySink) -> Self
         requires whole { (source_faults source ≡ 0) × (sink_faults sink ≡ 0) }
         requires untouched { (source_left source ≡ source_held source) × (sink_written sink ≡ []) }
     {
+        let sink = sink.answering(&source);
         Connection { source, sink }
     }
 }
@@ -37,6 +40,7 @@ pub struct Finished {
 pub struct DoorBack {
     pub(crate) finished: Vec<Finished>,
     pub(crate) given: usize,
+    pub(crate) ends: u64,
 }
 
 impl DoorBack {
@@ -54,6 +58,13 @@ impl DoorBack {
         ensures { result ≡ self.now.given }
     {
         self.given
+    }
+
+    /// How often it answered that no further connection comes.
+    pub fn ends(&self) -> u64
+        ensures { result ≡ self.now.ends }
+    {
+        self.ends
     }
 }
 
@@ -82,6 +93,7 @@ impl MemoryDoor {
         ensures given { IfOk result (λ door. door_given door ≡ 0) }
         ensures left { IfOk result (λ door. door_left door ≡ length connections.items) }
         ensures back { IfOk result (λ door. door_back door ≡ []) }
+        ensures unended { IfOk result (λ door. door_ends door ≡ 0) }
         ensures faultless { IfOk result (λ door. door_faults door ≡ 0) }
     {
         Self::with_plan(alloc, connections, Plan::Never)
@@ -96,6 +108,7 @@ impl MemoryDoor {
         ensures given { IfOk result (λ door. door_given door ≡ 0) }
         ensures left { IfOk result (λ door. door_left door ≡ length connections.items) }
         ensures back { IfOk result (λ door. door_back door ≡ []) }
+        ensures unended { IfOk result (λ door. door_ends door ≡ 0) }
         ensures faultless { IfOk result (λ door. door_faults door ≡ 0) }
     {
         let finished = Vec::with_capacity(alloc, connections.len())?;
@@ -109,6 +122,7 @@ impl MemoryDoor {
         ensures given { door_given result ≡ 0 }
         ensures left { door_left result ≡ length connections.items }
         ensures back { door_back result ≡ [] }
+        ensures unended { door_ends result ≡ 0 }
         ensures faultless { door_faults result ≡ 0 }
     {
         let mut waiting = connections;
@@ -138,6 +152,7 @@ impl MemoryDoor {
         ensures waiting { length result.0.items ≡ door_left self }
         ensures back { visits_of result.1 ≡ door_back self }
         ensures given { result.1.given ≡ door_given self }
+        ensures ends { result.1.ends ≡ door_ends self }
     {
         let MemoryDoor {
             waiting,
@@ -146,10 +161,15 @@ impl MemoryDoor {
             given,
             plan: _,
             calls: _,
-            ends: _,
+            ends,
             faults: _,
         } = self;
-        (waiting, DoorBack { finished, given })
+        let back = DoorBack {
+            finished,
+            given,
+            ends,
+        };
+        (waiting, back)
     }
 
     /// How many connections it has still to give.

@@ -1,8 +1,8 @@
 // Links in memory.
 ghost use Rattle.std.specs.Prelude.{◌≡◌, ◌≤◌, ◌<◌, ◌+◌, ◌-◌, ◌++◌, ◌∷◌, [], All, length, vec_len, vec_capacity, IfOk, OnOk, OnErr};
 ghost use Rattle.std.specs.List.{sum_by};
-ghost use Rattle.outside.specs.Visits.{place_of};
-ghost use Rattle.outside.specs.MemoryDoors.{door_given, door_left, door_back, door_faults};
+ghost use Rattle.outside.specs.Visits.{place_of, one_if_any};
+ghost use Rattle.outside.specs.MemoryDoors.{door_given, door_left, door_back, door_ends, door_faults};
 
 use crate::{Connection, DoorBack, Finished, Links, LinksError, MemoryDoor, Plan};
 use std::alloc::{AllocError, Global};
@@ -35,7 +35,7 @@ pub struct MemoryLinks {
 }
 
 impl MemoryLinks {
-    ghost use Rattle.outside.specs.MemoryLinks.{visits_among, links_given, links_left, links_at_hand, links_back, links_out, links_listened, places_of, links_faults};
+    ghost use Rattle.outside.specs.MemoryLinks.{visits_among, links_given, links_left, links_at_hand, links_back, links_out, links_ended, links_listened, places_of, links_faults};
 
     /// Links with these connections, the first of them first, that never fail, nor do their doors.
     pub fn new(alloc: Global, connections: Vec<Connection>) -> Self
@@ -44,6 +44,7 @@ impl MemoryLinks {
         ensures given { links_given result ≡ 0 }
         ensures back { links_back result ≡ [] }
         ensures out { links_out result ≡ 0 }
+        ensures ended { links_ended result ≡ 0 }
         ensures listened { links_listened result ≡ [] }
         ensures faultless { links_faults result ≡ 0 }
     {
@@ -63,6 +64,7 @@ impl MemoryLinks {
         ensures given { links_given result ≡ 0 }
         ensures back { links_back result ≡ [] }
         ensures out { links_out result ≡ 0 }
+        ensures ended { links_ended result ≡ 0 }
         ensures listened { links_listened result ≡ [] }
         ensures faultless { links_faults result ≡ 0 }
     {
@@ -89,6 +91,7 @@ impl MemoryLinks {
     pub fn doors_back(&self) -> &[DoorBack]
         ensures back { visits_among result.now ≡ links_back self.now }
         ensures given { sum_by (λ door. door.given) result.now ≡ links_given self.now }
+        ensures ended { sum_by (λ door. one_if_any door.ends) result.now ≡ links_ended self.now }
     {
         &self.doors_back
     }
@@ -124,11 +127,13 @@ impl MemoryLinks {
         ensures count { IfOk result (λ opened. length opened.items ≡ doors) }
         ensures whole { IfOk result (λ opened. All (λ door. door_faults door ≡ 0) opened.items) }
         ensures fresh { IfOk result (λ opened. All (λ door. (door_given door ≡ 0) × (door_back door ≡ [])) opened.items) }
+        ensures unended { IfOk result (λ opened. All (λ door. door_ends door ≡ 0) opened.items) }
         ensures spread { IfOk result (λ opened. sum_by door_left opened.items + links_at_hand self.new ≡ links_at_hand self.old) }
         ensures all { 0 < doors → OnOk result (links_at_hand self.new ≡ 0) }
         ensures kept { OnErr result (links_at_hand self.new ≡ links_at_hand self.old) }
         ensures out { OnOk result (links_out self.new ≡ links_out self.old + doors) }
         ensures none_out { OnErr result (links_out self.new ≡ links_out self.old) }
+        ensures ended { links_ended self.new ≡ links_ended self.old }
         ensures given { links_given self.new ≡ links_given self.old }
         ensures left { links_left self.new ≡ links_left self.old }
         ensures back { links_back self.new ≡ links_back self.old }
@@ -159,7 +164,7 @@ impl MemoryLinks {
 }
 
 impl Links for MemoryLinks {
-    ghost use Rattle.outside.specs.MemoryLinks.{links_given, links_left, links_at_hand, links_back, links_out, links_listened, links_faults};
+    ghost use Rattle.outside.specs.MemoryLinks.{links_given, links_left, links_at_hand, links_back, links_out, links_ended, links_listened, links_faults};
 
     type D = MemoryDoor;
 
@@ -174,6 +179,8 @@ impl Links for MemoryLinks {
     ghost back = { links_back };
 
     ghost out = { links_out };
+
+    ghost ended = { links_ended };
 
     ghost listened = { links_listened };
 
@@ -280,6 +287,7 @@ impl Room {
         ensures count { door_left result ≡ count }
         ensures given { door_given result ≡ 0 }
         ensures back { door_back result ≡ [] }
+        ensures ends { door_ends result ≡ 0 }
         ensures faults { door_faults result ≡ 0 }
     {
         let Room {
@@ -318,6 +326,7 @@ fn spread(
     ensures count { length opened.new.items ≡ length rooms.items }
     ensures whole { All (λ door. door_faults door ≡ 0) opened.new.items }
     ensures fresh { All (λ door. (door_given door ≡ 0) × (door_back door ≡ [])) opened.new.items }
+    ensures unended { All (λ door. door_ends door ≡ 0) opened.new.items }
     ensures spread { sum_by door_left opened.new.items + length waiting.new.items ≡ length waiting.old.items }
     ensures all { 0 < length rooms.items → length waiting.new.items ≡ 0 }
 {

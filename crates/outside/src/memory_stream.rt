@@ -6,6 +6,7 @@ ghost use Rattle.std.proofs.Common.{sym};
 
 use crate::{Failed, Pieces, Plan, Sink, Source};
 use std::alloc::Global;
+use std::snapshot::Snapshot;
 
 /// A source that gives bytes from memory.
 #[derive(Drop)]
@@ -107,6 +108,7 @@ impl Source for MemorySource {
 #[derive(Drop)]
 pub struct MemorySink {
     bytes: Vec<u8>,
+    client: Option<Snapshot<MemorySource>>,
     pieces: Pieces,
     plan: Plan,
     calls: u64,
@@ -114,7 +116,7 @@ pub struct MemorySink {
 }
 
 impl MemorySink {
-    ghost use Rattle.outside.specs.MemoryStreams.{sink_written, sink_faults};
+    ghost use Rattle.outside.specs.MemoryStreams.{source_held, sink_written, sink_answers, sink_faults};
 
     /// An empty sink that fails for want of memory alone.
     pub fn new(alloc: Global) -> Self
@@ -131,6 +133,7 @@ impl MemorySink {
     {
         MemorySink {
             bytes: Vec::new(alloc),
+            client: None,
             pieces,
             plan,
             calls: 0,
@@ -152,8 +155,20 @@ impl MemorySink {
         self.faults
     }
 
+    /// The same sink, as the one that answers the client at the other end of this source.
+    pub(crate) fn answering(self, source: &MemorySource) -> Self
+        ensures written { sink_written result ≡ sink_written self }
+        ensures answers { sink_answers result ≡ source_held source.now }
+        ensures faults { sink_faults result ≡ sink_faults self }
+    {
+        let mut sink = self;
+        sink.client = Some(Snapshot::of(source));
+        sink
+    }
+
     fn fault(&mut self)
         ensures bytes { sink_written self.new ≡ sink_written self.old }
+        ensures answers { sink_answers self.new ≡ sink_answers self.old }
         ensures faults { Rose (sink_faults self.old) (sink_faults self.new) }
         ensures later { sink_faults self.old ≤ sink_faults self.new }
     {
@@ -162,11 +177,13 @@ impl MemorySink {
 }
 
 impl Sink for MemorySink {
-    ghost use Rattle.outside.specs.MemoryStreams.{sink_written, sink_faults};
+    ghost use Rattle.outside.specs.MemoryStreams.{sink_written, sink_answers, sink_faults};
 
     ghost told = { Unit {0} };
 
     ghost written = { sink_written };
+
+    ghost answers = { sink_answers };
 
     ghost faults = { sink_faults };
 

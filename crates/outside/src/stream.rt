@@ -42,6 +42,9 @@ pub trait Sink {
     /// All bytes that were appended, where clauses are told.
     ghost written: { Self → List ℕ };
 
+    /// The bytes of the client whom it answers, as the source at the other end holds them, where clauses are told.
+    ghost answers: { Self → List ℕ };
+
     /// The count of faults, which doesn't fall.
     ghost faults: { Self → ℕ };
 
@@ -51,5 +54,6 @@ pub trait Sink {
         ensures appended { told → IfOk result (λ n. written self.new ≡ written self.old ++ take n bytes.now) }
         ensures nothing { told → OnErr result (written self.new ≡ written self.old) }
         ensures stuck { IfOk result (λ n. n ≡ 0 → 0 < length bytes.now → Rose (faults self.old) (faults self.new)) }
+        ensures answers { answers self.new ≡ answers self.old }
         ensures cause { HasCause (faults self.old) (faults self.new) result };
 }

@@ -11,6 +11,7 @@ use std::convert::AsSlice;
 pub fn write_all<K: Sink>(sink: &mut K, bytes: &[u8]) -> Result<(), Failed>
     ensures all { K.told → OnOk result (K.written sink.new ≡ K.written sink.old ++ bytes.now) }
     ensures part { K.told → OnErr result (AppendsPart (K.written sink.old) (K.written sink.new) bytes.now) }
+    ensures answers { K.answers sink.new ≡ K.answers sink.old }
     ensures cause { HasCause (K.faults sink.old) (K.faults sink.new) result }
 {
     let mut rest = bytes;
@@ -29,6 +30,7 @@ pub fn write_all<K: Sink>(sink: &mut K, bytes: &[u8]) -> Result<(), Failed>
 pub fn write_parts<K: Sink, P: AsSlice<u8>>(sink: &mut K, parts: &[P]) -> Result<(), Failed>
     ensures all { K.told → OnOk result (K.written sink.new ≡ K.written sink.old ++ flat_map P.items parts.now) }
     ensures part { K.told → OnErr result (AppendsPart (K.written sink.old) (K.written sink.new) (flat_map P.items parts.now)) }
+    ensures answers { K.answers sink.new ≡ K.answers sink.old }
     ensures cause { HasCause (K.faults sink.old) (K.faults sink.new) result }
 {
     for part in parts {

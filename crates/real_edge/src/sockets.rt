@@ -145,6 +145,8 @@ where
 
     ghost out = { links_out };
 
+    ghost ended = { λ links. 0 };
+
     ghost listened = { λ links. [] };
 
     ghost faults = { links_faults };

@@ -83,6 +83,8 @@ impl<W: Write> Sink for StreamSink<W> {
 
     ghost written = { λ sink. [] };
 
+    ghost answers = { λ sink. [] };
+
     ghost faults = { λ sink. sink.faults };
 
     fn give(&mut self, bytes: &[u8]) -> Result<usize, Failed> {

@@ -1,28 +1,31 @@
 -- Seats that are taken apart and put together, and what was served at them.
-use Rattle.std.proofs.Common.{◌≡◌, ℕ, ◌*◌, ◌^◌, ◌≤◌, List, [], ◌∷◌, ◌++◌, map, refl, sym, ap, ◌∙◌, subst, append-nil, arith}
+use Rattle.std.proofs.Common.{◌≡◌, ℕ, zero, suc, ◌*◌, ◌^◌, ◌≤◌, List, [], ◌∷◌, ◌++◌, map, sum_by, refl, sym, ap, ◌∙◌, subst, append-nil, arith}
 use Rattle.std.specs.Prelude.{All, string_bytes}
 use Rattle.std.specs.List.{AllByRecursion, AllZip}
 use Rattle.std.proofs.lemmas.List.Elements.{All-head, All-tail}
 use Rattle.cqe_base.specs.Schema.{DatabaseSchema}
 use Rattle.cqe_base.specs.Facts.{FactSet}
+use Rattle.cqe_base.specs.History.{AnsweredQuery}
 use Rattle.cqe_base.specs.declared.user.User.{User}
 use Rattle.outside.specs.Visits.{Visit}
 use Rattle.turnstile.specs.declared.pass.Pass.{Pass}
 use Rattle.turnstile.specs.History.{IsPrefix}
-use Rattle.turnstile.specs.Passes.{seen, shares, turns}
+use Rattle.turnstile.specs.Passes.{seen, mine, shares, turns}
 use Rattle.desk_counter.specs.declared.item.Item.{Item}
 use Rattle.desk_counter.specs.declared.item.Fixed.{Fixed}
 use Rattle.desk_counter.specs.declared.counter.CounterOf.{CounterOf}
 use Rattle.desk_counter.specs.declared.ticketed_desk.TicketedDesk.{TicketedDesk}
-use Rattle.desk_counter.specs.Counters.{kept_by, IsPassOf}
+use Rattle.desk_counter.specs.Counters.{kept_by, first_history, IsPassOf}
+use Rattle.desk_counter.specs.Items.{history_of}
 use Rattle.desk_crew.specs.Crew.{IsFresh}
 use Rattle.desk_crew.specs.Seats.{DeskSeat}
 use Rattle.session_core.specs.Members.{ArePasses}
 use Rattle.serve_engine.specs.declared.sharing.Keeper.{Keeper}
 use Rattle.serve_engine.specs.Doors.{AreServedDoors}
-use Rattle.serve_engine.specs.Members.{members_of, AreIn, HaveSeenOpenings}
-use Rattle.serve_engine.specs.Served.{Member, Served}
+use Rattle.serve_engine.specs.Members.{members_of, AreIn, HaveSeenOpenings, own_weight}
+use Rattle.serve_engine.specs.Served.{Member, SessionMarks, Served}
 use Rattle.serve_engine.specs.Sharing.{keeper_of, seat_counter, seat_pass, seat_member, AreSeatsOn, AreAllIn, IsServedAt}
+use Rattle.serve_engine.proofs.Standing.{zip_still}
 
 -- two lists that are the same begin alike, and so do their rests
 first_same : {X : Type 0} (x y : X) (xs ys : List X) → x ∷ xs ≡ y ∷ ys → (x ≡ y) × (xs ≡ ys)
@@ -31,37 +34,39 @@ first_same x y xs ys same = (cc, cc)
 -- ---- doors
 
 module _ {O : Type 0} (told : Type 0) (given_of left_of faults_of : O → ℕ) (back_of : O → List Visit) where
-  all_stand : (stands stands' : Visit → Type 0) → ((visit : Visit) → stands visit → stands' visit) → (visits : List Visit) → AllByRecursion stands visits → AllByRecursion stands' visits
-  all_stand stands stands' still [] all = tt
-  all_stand stands stands' still (v ∷ visits) all = (still v all.0, all_stand stands stands' still visits all.1)
-
   -- connections that stand in one way and so in another
-  pub served_still : (stands stands' : Visit → Type 0) → ((visit : Visit) → stands visit → stands' visit) → (total : ℕ) (doors others : List O)
-      → AreServedDoors told given_of left_of faults_of back_of stands total doors others → AreServedDoors told given_of left_of faults_of back_of stands' total doors others
-  served_still stands stands' still total [] [] is = is
-  served_still stands stands' still total (d ∷ doors) (e ∷ others) is =
-      let door = is.3 in (
+  pub served_still : (stands stands' : Visit → SessionMarks → Type 0) → ((visit : Visit) (marks : SessionMarks) → stands visit marks → stands' visit marks) → (total : ℕ) (marks : told → List SessionMarks) (doors others : List O)
+      → AreServedDoors told given_of left_of faults_of back_of stands total marks doors others → AreServedDoors told given_of left_of faults_of back_of stands' total marks doors others
+  served_still stands stands' still total marks [] [] is = is
+  served_still stands stands' still total marks (d ∷ doors) (e ∷ others) is =
+      let door = is.6 in (
         is.0,
         is.1,
         is.2,
+        is.3,
+        is.4,
+        is.5,
         record {
           given = door.given;
           left = door.left;
-          back = λ t. let visits = door.back t in record { visits = visits.visits; behind = visits.behind; many = visits.many; stand = all_stand stands stands' still visits.visits visits.stand };
+          back = λ t. let visits = door.back t in record { visits = visits.visits; behind = visits.behind; many = visits.many; stand = zip_still stands stands' still visits.visits (is.3 t) visits.stand };
           faults = door.faults;
         },
-        served_still stands stands' still is.1 doors others is.4,
+        served_still stands stands' still is.1 is.4 doors others is.7,
       )
-  served_still stands stands' still total [] (e ∷ others) is = absurd is
-  served_still stands stands' still total (d ∷ doors) [] is = absurd is
+  served_still stands stands' still total marks [] (e ∷ others) is = absurd is
+  served_still stands stands' still total marks (d ∷ doors) [] is = absurd is
 
   -- doors that gave nothing
-  pub none_served : (stands : Visit → Type 0) (doors : List O) → AreServedDoors told given_of left_of faults_of back_of stands 0 doors doors
-  none_served stands [] = refl
+  pub none_served : (stands : Visit → SessionMarks → Type 0) (doors : List O) → AreServedDoors told given_of left_of faults_of back_of stands 0 (λ t. []) doors doors
+  none_served stands [] = (refl, λ t. refl)
   none_served stands (d ∷ doors) = (
     0,
     0,
     refl,
+    λ t. [],
+    λ t. [],
+    λ t. refl,
     record {
       given = λ t. omega arith;
       left = λ t. omega arith;
@@ -100,6 +105,12 @@ module _ {D : Type 0} {g h : _} where
       let this = (All-head IsFresh seat seats all).count in
       (omega (arith, this), apart_opened seats (All-tail IsFresh seat seats all))
 
+  -- and nothing of their own
+  pub apart_own : (seats : List (DeskSeat D g h)) → All (λ seat. mine (seat_pass seat) ≡ []) seats → (weight : AnsweredQuery → ℕ) (place : ℕ) → own_weight weight place (map seat_pass seats) ≡ 0
+  apart_own [] all weight place = refl
+  apart_own (seat ∷ seats) all weight zero = ap (λ ps. sum_by weight (history_of ps)) (All-head (λ (s : DeskSeat D g h). mine (seat_pass s) ≡ []) seat seats all)
+  apart_own (seat ∷ seats) all weight (suc place) = apart_own seats (All-tail (λ (s : DeskSeat D g h). mine (seat_pass s) ≡ []) seat seats all) weight place
+
   -- seats that were put together of the same, by passes that have seen more
   pub seats_on : (olds news : List (DeskSeat D g h)) → map keeper_of news ≡ map keeper_of olds → map seat_counter news ≡ map seat_counter olds
       → AllZip (λ earlier later. IsPrefix (seen earlier) (seen later)) (map seat_pass olds) (map seat_pass news) → AreSeatsOn olds news
@@ -112,6 +123,7 @@ module _ {D : Type 0} {g h : _} where
           journal_is = ap (λ (k : Keeper). string_bytes k.journal) keeper.0;
           refusal_is = ap (λ (k : Keeper). k.refusal) keeper.0;
           kept_is = ap kept_by counter.0;
+          first_is = ap first_history counter.0;
           on = on.0;
         },
         seats_on olds news keeper.1 counter.1 on.1,
@@ -122,7 +134,7 @@ module _ {D : Type 0} {g h : _} where
   -- seats as they were
   pub seats_same : (seats : List (DeskSeat D g h)) → AreSeatsOn seats seats
   seats_same [] = tt
-  seats_same (seat ∷ seats) = (record { user_is = refl; journal_is = refl; refusal_is = refl; kept_is = refl; on = ([], sym (append-nil (seen (seat_pass seat)))) }, seats_same seats)
+  seats_same (seat ∷ seats) = (record { user_is = refl; journal_is = refl; refusal_is = refl; kept_is = refl; first_is = refl; on = ([], sym (append-nil (seen (seat_pass seat)))) }, seats_same seats)
 
   members_are : (seats : List (DeskSeat D g h)) → members_of (map kept_by (map seat_counter seats)) (map seat_pass seats) ≡ map seat_member seats
   members_are [] = refl
@@ -133,8 +145,8 @@ module _ {D : Type 0} {g h : _} where
   all_in schema world (seat ∷ seats) is = ((is.0, is.1), all_in schema world seats is.2)
 
   -- what was served by the desks' passes was served at the seats
-  pub served_at : (users : List User) (seats : List (DeskSeat D g h)) (fixeds : List (Fixed D)) (passes : List (Pass Item (Fixed D))) → fixeds ≡ map kept_by (map seat_counter seats) → passes ≡ map seat_pass seats → (visit : Visit)
-      → ((schema : DatabaseSchema) (world : FactSet) → AreIn schema world fixeds → Served schema world users (members_of fixeds passes) visit) → IsServedAt users seats visit
-  served_at users seats fixeds passes fixed_is pass_is visit served schema world within =
-      subst (λ ms. Served schema world users ms visit) (ap (λ fs. members_of fs passes) fixed_is ∙ ap (members_of (map kept_by (map seat_counter seats))) pass_is ∙ members_are seats)
+  pub served_at : (users : List User) (seats : List (DeskSeat D g h)) (fixeds : List (Fixed D)) (passes : List (Pass Item (Fixed D))) → fixeds ≡ map kept_by (map seat_counter seats) → passes ≡ map seat_pass seats → (visit : Visit) (marks : SessionMarks)
+      → ((schema : DatabaseSchema) (world : FactSet) → AreIn schema world fixeds → Served schema world users (members_of fixeds passes) visit marks) → IsServedAt users seats visit marks
+  served_at users seats fixeds passes fixed_is pass_is visit marks served schema world within =
+      subst (λ ms. Served schema world users ms visit marks) (ap (λ fs. members_of fs passes) fixed_is ∙ ap (members_of (map kept_by (map seat_counter seats))) pass_is ∙ members_are seats)
       (served schema world (subst (AreIn schema world) (sym fixed_is) (all_in schema world seats within)))

@@ -1,7 +1,7 @@
 -- The connections of links, by those of the doors that they opened and took back.
-use Rattle.std.proofs.Common.{◌≡◌, ◌⊎◌, inl, inr, ℕ, ◌+◌, ◌<◌, Bool, List, [], ◌∷◌, ◌++◌, length, refl, sym, ap, subst, ◌∙◌, append-nil, arith, length-append}
+use Rattle.std.proofs.Common.{◌≡◌, ◌⊎◌, inl, inr, ℕ, ◌+◌, ◌≤◌, Bool, List, [], ◌∷◌, ◌++◌, length, refl, sym, ap, subst, ◌∙◌, append-nil, arith, length-append}
 use Rattle.std.specs.Prelude.{Option, All}
-use Rattle.std.specs.List.{AllByRecursion, sum_by, flat_map}
+use Rattle.std.specs.List.{AllZip, sum_by, flat_map}
 use Rattle.std.proofs.lemmas.List.Sums.{sum_by-append}
 use Rattle.std.proofs.lemmas.List.Elements.{All-head, All-tail}
 use Rattle.cqe_base.specs.Schema.{DatabaseSchema}
@@ -11,14 +11,11 @@ use Rattle.outside.specs.Visits.{Visit}
 use Rattle.user_desk.specs.declared.standing.DeskError.{DeskError}
 use Rattle.desk_crew.specs.Shelved.{Journals}
 use Rattle.serve_engine.specs.Doors.{AreServedDoors}
-use Rattle.serve_engine.specs.Served.{Served}
+use Rattle.serve_engine.specs.Served.{SessionMarks, Served}
 use Rattle.serve_engine.specs.Serving.{Serves, ServesNobody, ServesNone, ServesDoors, ServesNoDoor, Ends, EndsAt}
+use Rattle.serve_engine.proofs.Standing.{zip_both}
 use Rattle.serve_engine.specs.declared.run.ServeEnd.{ServeEnd}
 use Rattle.serve_engine.specs.declared.run.ServeEnd.TheVariants.{Done, LinksFault, ShelfFault, Memory}
-
-both_stand : (stands : Visit → Type 0) (xs ys : List Visit) → AllByRecursion stands xs → AllByRecursion stands ys → AllByRecursion stands (xs ++ ys)
-both_stand stands [] ys first second = second
-both_stand stands (x ∷ xs) ys first second = (first.0, both_stand stands xs ys first.1 second)
 
 -- where each counts nothing, all do
 pub sum_none : {X : Type 0} (f : X → ℕ) (xs : List X) → All (λ x. f x ≡ 0) xs → sum_by f xs ≡ 0
@@ -30,8 +27,8 @@ sum_none f (x ∷ xs) none =
     omega (arith, rest, this, both)
 
 -- at the end no connection is at hand, or the greatest number was reached
-pub at_end : {O : Type 0} (left_of : O → ℕ) (others : List O) {at_hand : ℕ} (at_hand' : ℕ) → at_hand ≡ 0 → at_hand' ≡ at_hand + sum_by left_of others → (a b : ℕ) → {c d : ℕ} → (c < d → a < b)
-    → All (λ door. left_of door ≡ 0) others ⊎ (c < d) → (at_hand' ≡ 0) ⊎ (a < b)
+pub at_end : {O : Type 0} (left_of : O → ℕ) (others : List O) {at_hand : ℕ} (at_hand' : ℕ) → at_hand ≡ 0 → at_hand' ≡ at_hand + sum_by left_of others → (a b : ℕ) → {c d : ℕ} → (c ≤ d → a ≤ b)
+    → All (λ door. left_of door ≡ 0) others ⊎ (c ≤ d) → (at_hand' ≡ 0) ⊎ (a ≤ b)
 at_end left_of others at_hand' none is a b more (inl empty) = let nothing = sum_none left_of others empty in inl (omega (arith, none, is, nothing))
 at_end left_of others at_hand' none is a b more (inr most) = inr (more most)
 
@@ -53,21 +50,21 @@ module _ {O : Type 0} (given_of : O → ℕ) (back_of : O → List Visit) where
   new_back (d ∷ doors) new =
       ap (λ l. l ++ flat_map back_of doors) (All-head (λ door. (given_of door ≡ 0) × (back_of door ≡ [])) d doors new).1 ∙ new_back doors (All-tail (λ door. (given_of door ≡ 0) × (back_of door ≡ [])) d doors new)
 
-  module _ (told : Type 0) (t : told) (left_of faults_of : O → ℕ) (stands : Visit → Type 0) where
-    -- what doors that had given nothing have back: one visit for each connection that they gave, which stands so
-    record Have (total : ℕ) (others : List O) : Type 0 where
+  module _ (told : Type 0) (t : told) (left_of faults_of : O → ℕ) (stands : Visit → SessionMarks → Type 0) where
+    -- what doors that had given nothing have back: one visit for each connection that they gave, which stands so with its marks
+    record Have (total : ℕ) (marks : told → List SessionMarks) (others : List O) : Type 0 where
       many : length (flat_map back_of others) ≡ total
-      stand : AllByRecursion stands (flat_map back_of others)
+      stand : AllZip stands (flat_map back_of others) (marks t)
       gave : sum_by given_of others ≡ total
 
-    have : (total : ℕ) (doors others : List O) → AreNew doors → AreServedDoors told given_of left_of faults_of back_of stands total doors others → Have total others
-    have total [] [] new is = record { many = sym is; stand = tt; gave = sym is }
-    have total (d ∷ doors) (e ∷ others) new is =
-        let rest : Have is.1 others = have is.1 doors others (All-tail (λ door. (given_of door ≡ 0) × (back_of door ≡ [])) d doors new) is.4 in
+    have : (total : ℕ) (marks : told → List SessionMarks) (doors others : List O) → AreNew doors → AreServedDoors told given_of left_of faults_of back_of stands total marks doors others → Have total marks others
+    have total marks [] [] new is = record { many = sym is.0; stand = subst (AllZip stands []) (sym (is.1 t)) tt; gave = sym is.0 }
+    have total marks (d ∷ doors) (e ∷ others) new is =
+        let rest : Have is.1 is.4 others = have is.1 is.4 doors others (All-tail (λ door. (given_of door ≡ 0) × (back_of door ≡ [])) d doors new) is.7 in
         let fresh = All-head (λ door. (given_of door ≡ 0) × (back_of door ≡ [])) d doors new in
-        let visits = is.3.back t in
+        let visits = is.6.back t in
         let behind : back_of e ≡ visits.visits = visits.behind ∙ ap (λ l. l ++ visits.visits) fresh.1 in
-        let here = is.3.given t in
+        let here = is.6.given t in
         let none = fresh.0 in
         let both = is.2 in
         let count = visits.many in
@@ -78,25 +75,28 @@ module _ {O : Type 0} (given_of : O → ℕ) (back_of : O → List Visit) where
         let first = sum_by-append given_of (e ∷ []) others in
         record {
           many = omega (arith, both, count, long, all, more);
-          stand = both_stand stands (back_of e) (flat_map back_of others) (subst (AllByRecursion stands) (sym behind) visits.stand) rest.stand;
+          stand = subst (AllZip stands (back_of e ++ flat_map back_of others)) (sym (is.5 t))
+              (zip_both stands (back_of e) (flat_map back_of others) (is.3 t) (is.4 t) (subst (λ vs. AllZip stands vs (is.3 t)) (sym behind) visits.stand) rest.stand);
           gave = omega (arith, here, none, both, gave, first);
         }
-    have total [] (e ∷ others) new is = absurd is
-    have total (d ∷ doors) [] new is = absurd is
+    have total marks [] (e ∷ others) new is = absurd is
+    have total marks (d ∷ doors) [] new is = absurd is
 
 module _ (schema : DatabaseSchema) (world : FactSet) (header : List ℕ) (journals : Journals) (users : List User) {O : Type 0} (told : Type 0) (t : told) (given_of left_of faults_of : O → ℕ) (back_of : O → List Visit)
     (doors others : List O) (new : AreNew given_of back_of doors) (given given' : ℕ) (back back' : List Visit) (gave : given' ≡ given + sum_by given_of others) (came : back' ≡ back ++ flat_map back_of others) where
   serves_all : (refusals : List (Option DeskError)) (is_broken : Bool) → ServesDoors schema world header journals users told given_of left_of faults_of back_of doors others refusals is_broken
       → Serves schema world header journals users given given' back back' refusals is_broken
   serves_all refusals is_broken serves =
-      let has : Have given_of back_of told t left_of faults_of (Served schema world users serves.members) serves.total others = have given_of back_of told t left_of faults_of (Served schema world users serves.members) serves.total doors others new serves.served in
+      let has : Have given_of back_of told t left_of faults_of (Served schema world users serves.members) serves.total serves.marks others = have given_of back_of told t left_of faults_of (Served schema world users serves.members) serves.total serves.marks doors others new serves.served in
       record {
         members = serves.members;
         each_user = serves.each_user;
         broken_is = serves.broken_is;
         count = serves.total;
         given_is = gave ∙ ap (λ n. given + n) has.gave;
+        told = serves.marks t;
         visits = record { visits = flat_map back_of others; behind = came; many = has.many; stand = has.stand };
+        all_told = serves.all_told t;
       }
 
   serves_nobody : ServesNoDoor schema world header journals users told given_of left_of faults_of back_of doors others → ServesNobody journals given given' back back'

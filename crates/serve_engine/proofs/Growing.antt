@@ -11,7 +11,7 @@ use Rattle.cqe_base.specs.Run.{Standing, Reply}
 use Rattle.cqe_base.specs.declared.user.User.{User}
 use Rattle.session_core.specs.Replied.{Replied, nothing}
 use Rattle.session_core.proofs.Replying.{replied_then}
-use Rattle.serve_engine.specs.Served.{Member, IsLater, RepliedAt, here, further, RepliedTo, Served}
+use Rattle.serve_engine.specs.Served.{Member, SessionMarks, IsLater, RepliedAt, here, further, RepliedTo, Served}
 
 module _ (schema : DatabaseSchema) (world : FactSet) where
   -- replies by a history are replies by a longer one
@@ -34,25 +34,24 @@ module _ (schema : DatabaseSchema) (world : FactSet) where
       (subst (λ h. Replied schema world before.profile before.standing h after.broke (length after.opening) false asks entries) (sym later.further.1)
       (subst (λ o. Replied schema world before.profile before.standing (before.history ++ later.further.0) after.broke (length o) false asks entries) (sym later.opening) longer)))
 
-  at_later : {place : ℕ} {before : List Member} {asks : List (Text × Reply)} (after : List Member) → AllZip IsLater before after → RepliedAt schema world place before asks → RepliedAt schema world place after asks
-  at_later [] all (here entries chain) = absurd all
+  at_later : {place : ℕ} {before : List Member} {asks : List (Text × Reply)} {entries : History} (after : List Member) → AllZip IsLater before after → RepliedAt schema world place before asks entries → RepliedAt schema world place after asks entries
+  at_later [] all (here chain) = absurd all
   at_later [] all (further deep) = absurd all
-  at_later (m ∷ after) all (here {member = member} entries chain) = here entries (replied_later member m all.0 chain)
+  at_later (m ∷ after) all (here {member = member} chain) = here (replied_later member m all.0 chain)
   at_later (m ∷ after) all (further deep) = further (at_later after all.1 deep)
 
-  to_later : (who : Option ℕ) (asks : List (Text × Reply)) (before after : List Member) → AllZip IsLater before after → RepliedTo schema world who before asks → RepliedTo schema world who after asks
-  to_later None asks before after all replied = replied
-  to_later (Some place) asks before after all replied = at_later after all replied
+  to_later : (who : Option ℕ) (asks : List (Text × Reply)) (entries : History) (before after : List Member) → AllZip IsLater before after → RepliedTo schema world who before asks entries → RepliedTo schema world who after asks entries
+  to_later None asks entries before after all replied = replied
+  to_later (Some place) asks entries before after all replied = at_later after all replied
 
   -- A connection that was served stays so while histories grow and appends fail.
-  pub served_later : (users : List User) (before after : List Member) (visit : Visit) → AllZip IsLater before after → Served schema world users before visit → Served schema world users after visit
-  served_later users before after visit all served = record {
+  pub served_later : (users : List User) (before after : List Member) (visit : Visit) (marks : SessionMarks) → AllZip IsLater before after → Served schema world users before visit marks → Served schema world users after visit marks
+  served_later users before after visit marks all served = record {
     lines = served.lines;
-    who = served.who;
     asks = served.asks;
     texts = served.texts;
     talks = served.talks;
-    replied = to_later served.who served.asks before after all served.replied;
+    replied = to_later marks.who served.asks marks.entries before after all served.replied;
     heard = served.heard;
     all_heard = served.all_heard;
     wrote = served.wrote;

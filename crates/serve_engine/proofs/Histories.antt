@@ -1,17 +1,17 @@
 -- Each user's one history, from the opening of his journal to the disk that is back.
-use Rattle.std.proofs.Common.{◌≡◌, ◌⊎◌, inl, inr, ℕ, suc, ◌+◌, ◌*◌, ◌^◌, ◌<◌, ◌≤◌, Bool, true, false, List, [], ◌∷◌, ◌++◌, length, map, refl, sym, ap, subst, ◌∙◌, arith}
-use Rattle.std.specs.Prelude.{Option, Some, Vec, ◌||◌, string_bytes, All}
+use Rattle.std.proofs.Common.{◌≡◌, ◌⊎◌, inl, inr, ℕ, suc, ◌+◌, ◌*◌, ◌^◌, ◌≤◌, Bool, true, false, List, [], ◌∷◌, ◌++◌, length, map, refl, sym, ap, subst, ◌∙◌, arith}
+use Rattle.std.specs.Prelude.{Option, Some, None, Vec, is_some, ◌||◌, string_bytes, All}
 use Rattle.std.specs.declared.alloc.Global.{Global}
 use Rattle.std.specs.List.{AllByRecursion, list_any, sum_by}
 use Rattle.std.proofs.lemmas.List.Sums.{sum_by-append}
 use Rattle.std.proofs.lemmas.List.Elements.{All-head, All-tail, All-from_recursion}
 use Rattle.outside.proofs.Rises.{rose_wide}
-use Rattle.outside.proofs.Taken.{taken_reads}
+use Rattle.outside.proofs.Taken.{taken_reads, taken_images}
 use Rattle.outside.specs.Shelf.{bytes_on, image_on}
-use Rattle.outside.specs.Visits.{Visit}
+use Rattle.outside.specs.Visits.{Visit, one_if_any}
 use Rattle.cqe_base.specs.Schema.{Text, DatabaseSchema, is_valid_schema}
 use Rattle.cqe_base.specs.Facts.{FactSet}
-use Rattle.cqe_base.specs.History.{UserProfile, History, is_user_of, profile_of}
+use Rattle.cqe_base.specs.History.{UserProfile, AnsweredQuery, History, is_user_of, profile_of}
 use Rattle.cqe_base.specs.Censor.{IsLegal}
 use Rattle.cqe_base.specs.Hiding.{LegalHistoriesHide}
 use Rattle.cqe_base.specs.Limits.{KeepsLimits}
@@ -28,18 +28,21 @@ use Rattle.user_desk.specs.declared.standing.Standing.TheVariants.{Open, Closed,
 use Rattle.desk_counter.specs.declared.item.Fixed.{Fixed}
 use Rattle.desk_counter.specs.Items.{history_of, flying}
 use Rattle.desk_counter.specs.Sole.{pairs_of_sole}
-use Rattle.session_core.proofs.Replying.{history_all}
-use Rattle.turnstile.specs.Passes.{turns}
-use Rattle.desk_crew.specs.Crew.{IsFresh, refusal_of, seat_journal, seat_kept, seat_standing, seat_history, seat_disk, seat_broke, seat_state}
+use Rattle.desk_counter.proofs.Pairs.{history_all}
+use Rattle.turnstile.specs.Passes.{mine, turns}
+use Rattle.desk_counter.specs.Counters.{first_history}
+use Rattle.desk_crew.specs.Crew.{IsFresh, IsClosed, refusal_of, seat_journal, seat_kept, seat_standing, seat_history, seat_disk, seat_broke, seat_state}
 use Rattle.desk_crew.specs.Seats.{DeskSeat}
 use Rattle.desk_crew.specs.Shelved.{Journals, journals, journals_on, AreLater, IsSeatOf, AreSeatsOf, IsBack, AreBack}
-use Rattle.serve_engine.specs.Served.{Member}
+use Rattle.serve_engine.specs.Served.{Member, SessionMarks}
+use Rattle.serve_engine.specs.Members.{OwnMore, own_weight}
 use Rattle.serve_engine.specs.Doors.{AreServedDoors, SomeFailed, HasOutcome}
-use Rattle.serve_engine.specs.Serving.{HasServed, HaveServed, ServesDoors, EndsAt, IsDone, end_of}
+use Rattle.serve_engine.specs.Serving.{HasServed, HaveServed, AreAllTold, ServesDoors, EndsAt, IsDone, end_of}
 use Rattle.serve_engine.specs.declared.serving.Outcome.{Outcome}
 use Rattle.serve_engine.specs.declared.serving.Outcome.TheVariants as outcome
 use Rattle.serve_engine.specs.declared.run.ServeEnd.TheVariants.{LinksFault}
-use Rattle.serve_engine.specs.Sharing.{seat_pass, seat_member, IsSeatOn, AreSeatsOn, AreAllIn}
+use Rattle.serve_engine.proofs.Owning.{told_weight}
+use Rattle.serve_engine.specs.Sharing.{seat_counter, seat_pass, seat_member, IsSeatOn, AreSeatsOn, AreAllIn}
 
 shut_closed : (standing : Standing) → is_sealed standing ≡ true → is_open standing ≡ false
 shut_closed Open sealed = absurd cc
@@ -72,6 +75,15 @@ module _ (schema : DatabaseSchema) (world : FactSet) (header directory : List �
 
   abbrev Back : DeskSeat D g h → Type 0
   Back seat = IsBack S reads image faults disk' count' seat
+
+  -- a desk whose journal was refused, or at which nothing was appended, leaves the disk of its opening
+  left_alone : (seat : DeskSeat D g h) (after : D) → IsClosed S image faults seat.desk after → (is_sealed (seat_standing seat) ≡ true) ⊎ ((seat_history seat ≡ (seat_kept seat).opening) × (seat_broke seat ≡ false)) → after ≡ (seat_kept seat).disk
+  left_alone seat after closed (inl sealed) = closed.shut sealed
+  left_alone seat after closed (inr (same, unbroken)) = closed.still (record { count = ap length same; none = none_flies (flying (pairs_of_sole seat.desk)) unbroken })
+    where
+      none_flies : (in_flight : Option AnsweredQuery) → is_some in_flight ≡ false → in_flight ≡ None
+      none_flies None none = refl
+      none_flies (Some entry) none = absurd cc
 
   module _ (valid : is_valid_schema schema ≡ true) (hide : LegalHistoriesHide) where
     -- one user
@@ -122,9 +134,11 @@ module _ (schema : DatabaseSchema) (world : FactSet) (header directory : List �
           broke_is = refl;
           reads = λ served. subst (λ o. Holds schema world (seat_kept new).user header (seat_state new) (bytes_on reads o)) (sym held) (holds served (reads back.now) (left.images (reads back.now) (read_is_image back.now t)));
           stands = λ served c here. holds served c (left.images c (subst (λ o. image_on image o c) held here));
-          refused = λ sealed. (
-            (closed.idle (shut_closed standing sealed)).0,
-            ap (bytes_on reads) held ∙ left.reads_same ∙ ap reads (closed.shut sealed) ∙ ap (λ (f : Fixed D). reads f.disk) kept ∙ opened.left.reads_same ∙ read_was,
+          refused = λ sealed. (closed.idle (shut_closed standing sealed)).0;
+          kept = λ why. (
+            ap (bytes_on reads) held ∙ left.reads_same ∙ ap reads (left_alone new back.left.closed closed why) ∙ ap (λ (f : Fixed D). reads f.disk) kept ∙ opened.left.reads_same ∙ read_was,
+            λ c here. subst (λ n. image_on image (disk n) c) opened.journal_is (taken_images reads image (disk (seat_journal old)) opened.taken c (opened.from s)
+                (opened.left.images c (subst (λ (f : Fixed D). image f.disk c) kept (subst (λ d. image d c) (left_alone new back.left.closed closed why) (left.images c (subst (λ o. image_on image o c) held here)))))),
           );
           failed = λ broke. rose_wide (count name) (faults (seat_kept new).disk) (faults back.left.closed) (count' name) (omega (arith, before, begins, disks)) (omega (arith, ends, counted)) (closed.cause broke);
         }
@@ -141,6 +155,38 @@ module _ (schema : DatabaseSchema) (world : FactSet) (header directory : List �
     have_served (user ∷ users) [] news limits opened on back = absurd opened
     have_served [] [] (new ∷ news) limits opened on back = absurd on
     have_served (user ∷ users) (old ∷ olds) [] limits opened on back = absurd on
+
+  module _ (told : List SessionMarks) where
+    -- what the passes at seats have of their own was told from a place on
+    abbrev OwnFrom : ℕ → List (DeskSeat D g h) → Type 0
+    OwnFrom place seats = (weight : AnsweredQuery → ℕ) (k : ℕ) → own_weight weight k (map seat_pass seats) ≡ told_weight weight (place + k) told
+
+    -- as they do from the first place on, where they had nothing as the seats were opened
+    pub own_from : (olds news : List (DeskSeat D g h)) → ((weight : AnsweredQuery → ℕ) (k : ℕ) → own_weight weight k (map seat_pass olds) ≡ 0) → OwnMore (map seat_pass olds) (map seat_pass news) told → OwnFrom 0 news
+    own_from olds news none more weight k =
+        let before = none weight k in
+        let after = more weight k in
+        let same = ap (λ n. told_weight weight n told) (let e : 0 + k ≡ k = omega arith in e) in
+        omega (arith, before, after, same)
+
+    -- so behind each user's opening history there is what he was told
+    pub all_told : (place : ℕ) (users : List User) (olds news : List (DeskSeat D g h)) → AreSeatsOf S reads image faults T schema world header directory disk count users olds → AreSeatsOn olds news → AreBack S reads image faults disk' count' news
+        → OwnFrom place news → AreAllTold place (map seat_member news) told
+    all_told place [] [] [] opened on back own = tt
+    all_told place (user ∷ users) (old ∷ olds) (new ∷ news) opened on back own =
+        let added : seat_history new ≡ first_history (seat_counter new) ++ history_of (mine (seat_pass new)) = back.0.left.is_closed.added in
+        let opening : first_history (seat_counter new) ≡ (seat_kept new).opening = on.0.first_is ∙ opened.0.opened.first_is ∙ sym opened.0.opened.opening_is ∙ ap (λ (f : Fixed D). f.opening) (sym on.0.kept_is) in (
+          λ weight.
+              (let whole = ap (sum_by weight) added ∙ sum_by-append weight (first_history (seat_counter new)) (history_of (mine (seat_pass new))) in
+              let first = ap (sum_by weight) opening in
+              let here = own weight 0 ∙ ap (λ k. told_weight weight k told) (let e : place + 0 ≡ place = omega arith in e) in
+              omega (arith, whole, first, here)),
+          all_told (suc place) users olds news opened.1 on.1 back.1 (λ weight k. own weight (suc k) ∙ ap (λ n. told_weight weight n told) (let e : place + suc k ≡ suc place + k = omega arith in e)),
+        )
+    all_told place [] (old ∷ olds) news opened on back own = absurd opened
+    all_told place (user ∷ users) [] news opened on back own = absurd opened
+    all_told place [] [] (new ∷ news) opened on back own = absurd on
+    all_told place (user ∷ users) (old ∷ olds) [] opened on back own = absurd on
 
   -- all desks are in the one world
   pub all_in_world : (users : List User) (olds news : List (DeskSeat D g h)) → AreSeatsOf S reads image faults T schema world header directory disk count users olds → AreSeatsOn olds news → AreAllIn schema world news
@@ -180,71 +226,69 @@ module _ {D : Type 0} {g h : _} where
 
 -- ---- ends
 
-module _ {O : Type 0} (told : Type 0) (given_of left_of faults_of : O → ℕ) (back_of : O → List Visit) (stands : Visit → Type 0) where
+module _ {O : Type 0} (told : Type 0) (given_of left_of faults_of : O → ℕ) (back_of : O → List Visit) (stands : Visit → SessionMarks → Type 0) where
   -- as many doors come back
-  pub doors_many : (total : ℕ) (doors others : List O) → AreServedDoors told given_of left_of faults_of back_of stands total doors others → length others ≡ length doors
-  doors_many total [] [] is = refl
-  doors_many total (d ∷ doors) (e ∷ others) is = ap suc (doors_many is.1 doors others is.4)
-  doors_many total [] (e ∷ others) is = absurd is
-  doors_many total (d ∷ doors) [] is = absurd is
+  pub doors_many : (total : ℕ) (marks : told → List SessionMarks) (doors others : List O) → AreServedDoors told given_of left_of faults_of back_of stands total marks doors others → length others ≡ length doors
+  doors_many total marks [] [] is = refl
+  doors_many total marks (d ∷ doors) (e ∷ others) is = ap suc (doors_many is.1 is.4 doors others is.7)
+  doors_many total marks [] (e ∷ others) is = absurd is
+  doors_many total marks (d ∷ doors) [] is = absurd is
 
   -- together they have given so many more
-  pub doors_gave : told → (total : ℕ) (doors others : List O) → AreServedDoors told given_of left_of faults_of back_of stands total doors others → sum_by given_of others ≡ sum_by given_of doors + total
-  doors_gave t total [] [] is = omega (arith, is)
-  doors_gave t total (d ∷ doors) (e ∷ others) is =
-      let rest = doors_gave t is.1 doors others is.4 in
-      let here = is.3.given t in
+  pub doors_gave : told → (total : ℕ) (marks : told → List SessionMarks) (doors others : List O) → AreServedDoors told given_of left_of faults_of back_of stands total marks doors others → sum_by given_of others ≡ sum_by given_of doors + total
+  doors_gave t total marks [] [] is = let none = is.0 in omega (arith, none)
+  doors_gave t total marks (d ∷ doors) (e ∷ others) is =
+      let rest = doors_gave t is.1 is.4 doors others is.7 in
+      let here = is.6.given t in
       let both = is.2 in
       let first = sum_by-append given_of (d ∷ []) doors in
       let second = sum_by-append given_of (e ∷ []) others in
       omega (arith, rest, here, both, first, second)
-  doors_gave t total [] (e ∷ others) is = absurd is
-  doors_gave t total (d ∷ doors) [] is = absurd is
+  doors_gave t total marks [] (e ∷ others) is = absurd is
+  doors_gave t total marks (d ∷ doors) [] is = absurd is
 
   -- where serving came to its end, no door has a connection left, or the limit was reached
-  pub ended_at : told → (limit total : ℕ) (doors others : List O) (went : Outcome) (refusals : Vec (Option DeskError) Global) (is_broken : Bool) → AreServedDoors told given_of left_of faults_of back_of stands total doors others
-      → HasOutcome told left_of faults_of limit went total others → IsDone (end_of went refusals is_broken) → All (λ door. left_of door ≡ 0) others ⊎ (sum_by given_of doors + limit < sum_by given_of others + length others)
-  ended_at t limit total doors others outcome.Served refusals is_broken served has done = by (has t)
+  pub ended_at : told → (ends_of : O → ℕ) (limit total : ℕ) (marks : told → List SessionMarks) (doors others : List O) (went : Outcome) (refusals : Vec (Option DeskError) Global) (is_broken : Bool) → AreServedDoors told given_of left_of faults_of back_of stands total marks doors others
+      → HasOutcome told left_of ends_of faults_of limit went total others → IsDone (end_of went refusals is_broken)
+      → All (λ door. left_of door ≡ 0) others ⊎ (sum_by given_of doors + limit ≤ sum_by given_of others + sum_by (λ door. one_if_any (ends_of door)) others)
+  ended_at t ends_of limit total marks doors others outcome.Served refusals is_broken served has done = by (has t)
     where
-      by : All (λ door. left_of door ≡ 0) others ⊎ (limit < total + length others) → All (λ door. left_of door ≡ 0) others ⊎ (sum_by given_of doors + limit < sum_by given_of others + length others)
+      by : All (λ door. left_of door ≡ 0) others ⊎ (limit ≤ total + sum_by (λ door. one_if_any (ends_of door)) others)
+          → All (λ door. left_of door ≡ 0) others ⊎ (sum_by given_of doors + limit ≤ sum_by given_of others + sum_by (λ door. one_if_any (ends_of door)) others)
       by (inl none) = inl none
-      by (inr most) = let gave = doors_gave t total doors others served in inr (omega (arith, most, gave))
-  ended_at t limit total doors others outcome.LinksFailed refusals is_broken served has done = absurd done
-  ended_at t limit total doors others outcome.Memory refusals is_broken served has done = absurd done
+      by (inr most) = let gave = doors_gave t total marks doors others served in inr (omega (arith, most, gave))
+  ended_at t ends_of limit total marks doors others outcome.LinksFailed refusals is_broken served has done = absurd done
+  ended_at t ends_of limit total marks doors others outcome.Memory refusals is_broken served has done = absurd done
 
-  pub failed_at : (limit total : ℕ) (others : List O) (went : Outcome) (refusals : Vec (Option DeskError) Global) (is_broken : Bool) → HasOutcome told left_of faults_of limit went total others → end_of went refusals is_broken ≡ LinksFault
+  pub failed_at : (ends_of : O → ℕ) (limit total : ℕ) (others : List O) (went : Outcome) (refusals : Vec (Option DeskError) Global) (is_broken : Bool) → HasOutcome told left_of ends_of faults_of limit went total others → end_of went refusals is_broken ≡ LinksFault
       → SomeFailed faults_of others
-  failed_at limit total others outcome.Served refusals is_broken has is = absurd cc
-  failed_at limit total others outcome.LinksFailed refusals is_broken has is = has
-  failed_at limit total others outcome.Memory refusals is_broken has is = absurd cc
+  failed_at ends_of limit total others outcome.Served refusals is_broken has is = absurd cc
+  failed_at ends_of limit total others outcome.LinksFailed refusals is_broken has is = has
+  failed_at ends_of limit total others outcome.Memory refusals is_broken has is = absurd cc
 
 module _ (schema : DatabaseSchema) (world : FactSet) (header : List ℕ) (journals : Journals) (users : List User) {O : Type 0} (told : Type 0) (given_of left_of faults_of : O → ℕ) (back_of : O → List Visit) (doors doors' : List O) where
   -- each end of desks that were opened
-  pub ends_at : (went : Outcome) (refusals : Vec (Option DeskError) Global) (is_broken : Bool) (serves : ServesDoors schema world header journals users told given_of left_of faults_of back_of doors doors' refusals.items is_broken) (limit : ℕ)
-      → HasOutcome told left_of faults_of limit went serves.total doors' → EndsAt schema world header journals users told given_of left_of faults_of back_of doors doors' (end_of went refusals is_broken)
-  ends_at outcome.Served refusals is_broken serves limit has = serves
-  ends_at outcome.LinksFailed refusals is_broken serves limit has = inr (refusals.items, is_broken, serves)
-  ends_at outcome.Memory refusals is_broken serves limit has = inr (refusals.items, is_broken, serves, has)
+  pub ends_at : (ends_of : O → ℕ) (went : Outcome) (refusals : Vec (Option DeskError) Global) (is_broken : Bool) (serves : ServesDoors schema world header journals users told given_of left_of faults_of back_of doors doors' refusals.items is_broken) (limit : ℕ)
+      → HasOutcome told left_of ends_of faults_of limit went serves.total doors' → EndsAt schema world header journals users told given_of left_of faults_of back_of doors doors' (end_of went refusals is_broken)
+  ends_at ends_of outcome.Served refusals is_broken serves limit has = serves
+  ends_at ends_of outcome.LinksFailed refusals is_broken serves limit has = inr (refusals.items, is_broken, serves)
+  ends_at ends_of outcome.Memory refusals is_broken serves limit has = inr (refusals.items, is_broken, serves, has)
 
 module _ {D : Type 0} {g h : _} (told disk_told : Type 0) (reads : D → List ℕ) (image : D → List ℕ → Type 0) (faults : D → ℕ) (schema : DatabaseSchema) (world : FactSet) (header directory : List ℕ) (disk : Text → Option D) (count : Text → ℕ) where
-  -- seats that were just opened
-  seat_by_seat : (users : List User) (seats : List (DeskSeat D g h)) → AreSeatsOf told reads image faults disk_told schema world header directory disk count users seats
-      → AllByRecursion (λ (seat : DeskSeat D g h). IsFresh seat × (turns (seat_pass seat) ≡ 65 * 2 ^ 57)) seats
-  seat_by_seat [] [] opened = tt
-  seat_by_seat (user ∷ users) (seat ∷ seats) opened = ((opened.0.opened.fresh, opened.0.opened.turns_are), seat_by_seat users seats opened.1)
-  seat_by_seat [] (seat ∷ seats) opened = absurd opened
-  seat_by_seat (user ∷ users) [] opened = absurd opened
-
-  all_fresh : (seats : List (DeskSeat D g h)) → AllByRecursion (λ (seat : DeskSeat D g h). IsFresh seat × (turns (seat_pass seat) ≡ 65 * 2 ^ 57)) seats → AllByRecursion IsFresh seats
-  all_fresh [] all = tt
-  all_fresh (seat ∷ seats) all = (all.0.0, all_fresh seats all.1)
-
-  all_turns : (seats : List (DeskSeat D g h)) → AllByRecursion (λ (seat : DeskSeat D g h). IsFresh seat × (turns (seat_pass seat) ≡ 65 * 2 ^ 57)) seats → AllByRecursion (λ (seat : DeskSeat D g h). turns (seat_pass seat) ≡ 65 * 2 ^ 57) seats
-  all_turns [] all = tt
-  all_turns (seat ∷ seats) all = (all.0.1, all_turns seats all.1)
+  -- what holds of each seat that was just opened holds of all
+  each : (P : DeskSeat D g h → Type 0) → ((user : User) (seat : DeskSeat D g h) → IsSeatOf told reads image faults disk_told schema world header directory disk count user seat → P seat) → (users : List User) (seats : List (DeskSeat D g h))
+      → AreSeatsOf told reads image faults disk_told schema world header directory disk count users seats → AllByRecursion P seats
+  each P holds [] [] opened = tt
+  each P holds (user ∷ users) (seat ∷ seats) opened = (holds user seat opened.0, each P holds users seats opened.1)
+  each P holds [] (seat ∷ seats) opened = absurd opened
+  each P holds (user ∷ users) [] opened = absurd opened
 
   pub seats_fresh : (users : List User) (seats : List (DeskSeat D g h)) → AreSeatsOf told reads image faults disk_told schema world header directory disk count users seats → All IsFresh seats
-  seats_fresh users seats opened = All-from_recursion IsFresh seats (all_fresh seats (seat_by_seat users seats opened))
+  seats_fresh users seats opened = All-from_recursion IsFresh seats (each IsFresh (λ user seat is. is.opened.fresh) users seats opened)
 
   pub seats_turns : (users : List User) (seats : List (DeskSeat D g h)) → AreSeatsOf told reads image faults disk_told schema world header directory disk count users seats → All (λ (seat : DeskSeat D g h). turns (seat_pass seat) ≡ 65 * 2 ^ 57) seats
-  seats_turns users seats opened = All-from_recursion (λ (seat : DeskSeat D g h). turns (seat_pass seat) ≡ 65 * 2 ^ 57) seats (all_turns seats (seat_by_seat users seats opened))
+  seats_turns users seats opened =
+      All-from_recursion (λ (seat : DeskSeat D g h). turns (seat_pass seat) ≡ 65 * 2 ^ 57) seats (each (λ (seat : DeskSeat D g h). turns (seat_pass seat) ≡ 65 * 2 ^ 57) (λ user seat is. is.opened.turns_are) users seats opened)
+
+  pub seats_own : (users : List User) (seats : List (DeskSeat D g h)) → AreSeatsOf told reads image faults disk_told schema world header directory disk count users seats → All (λ (seat : DeskSeat D g h). mine (seat_pass seat) ≡ []) seats
+  seats_own users seats opened = All-from_recursion (λ (seat : DeskSeat D g h). mine (seat_pass seat) ≡ []) seats (each (λ (seat : DeskSeat D g h). mine (seat_pass seat) ≡ []) (λ user seat is. is.opened.mine_is) users seats opened)

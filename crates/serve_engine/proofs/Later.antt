@@ -17,10 +17,12 @@ use Rattle.desk_counter.specs.Items.{history_of, has_broke}
 use Rattle.session_core.specs.Replied.{Replied}
 use Rattle.session_core.specs.Desks.{AsksAt, AsksOf}
 use Rattle.session_core.specs.Desks as desks
-use Rattle.session_core.proofs.Replying.{from_earlier, history_all, broke_on}
+use Rattle.session_core.proofs.Replying.{from_earlier, broke_on}
+use Rattle.desk_counter.proofs.Pairs.{history_all}
 use Rattle.serve_engine.specs.Served.{IsLater, RepliedAt, here, further, RepliedTo}
 use Rattle.serve_engine.specs.Members.{members_of, AreIn, HaveSeenOpenings, IsPassLater, room_in}
 use Rattle.serve_engine.specs.Keeping.{same_passes}
+use Rattle.serve_engine.proofs.Owning.{entries_at, entries_of}
 
 -- ---- turns
 
@@ -115,18 +117,18 @@ module _ {D : Type 0} where
   -- ---- replies
 
   module _ (schema : DatabaseSchema) (world : FactSet) where
-    at_replied : {place : ℕ} {fixeds : List (Fixed D)} {old new : List (Pass Item (Fixed D))} {asks : List (Text × Reply)} → AreIn schema world fixeds → HaveSeenOpenings fixeds old → AsksAt place fixeds old new asks
-        → RepliedAt schema world place (members_of fixeds new) asks
+    at_replied : {place : ℕ} {fixeds : List (Fixed D)} {old new : List (Pass Item (Fixed D))} {asks : List (Text × Reply)} → AreIn schema world fixeds → HaveSeenOpenings fixeds old → (is : AsksAt place fixeds old new asks)
+        → RepliedAt schema world place (members_of fixeds new) asks (entries_at is)
     at_replied within openings (desks.here {fixed = f} {old = p} {new = q} {asks = asks} is) =
         let never : false ≡ true → has_broke (seen p) ≡ true = λ e. absurd cc in
-        here is.entries
+        here
         (subst (λ s. Replied s world f.user (standing_of f.standing) (history_of (seen q)) (has_broke (seen q)) (length f.opening) false asks is.entries) within.0.0
         (subst (λ w. Replied f.schema w f.user (standing_of f.standing) (history_of (seen q)) (has_broke (seen q)) (length f.opening) false asks is.entries) within.0.1
         (from_earlier f.schema f.world f.user (standing_of f.standing) (history_of (seen q)) (has_broke (seen q)) openings.0 never is.replied)))
     at_replied within openings (desks.further deep) = further (at_replied within.1 openings.1 deep)
 
     -- what was asked was replied to by the history of who asked
-    pub of_replied : (who : Option ℕ) (fixeds : List (Fixed D)) (old new : List (Pass Item (Fixed D))) (asks : List (Text × Reply)) → AreIn schema world fixeds → HaveSeenOpenings fixeds old → AsksOf who fixeds old new asks
-        → RepliedTo schema world who (members_of fixeds new) asks
-    of_replied None fixeds old new asks within openings is = is.1
+    pub of_replied : (who : Option ℕ) (fixeds : List (Fixed D)) (old new : List (Pass Item (Fixed D))) (asks : List (Text × Reply)) → AreIn schema world fixeds → HaveSeenOpenings fixeds old → (is : AsksOf who fixeds old new asks)
+        → RepliedTo schema world who (members_of fixeds new) asks (entries_of who fixeds old new asks is)
+    of_replied None fixeds old new asks within openings is = (is.1, refl)
     of_replied (Some place) fixeds old new asks within openings is = at_replied within openings is

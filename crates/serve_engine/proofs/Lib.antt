@@ -2,6 +2,8 @@ pub mod Crossing
 pub mod Growing
 pub mod Holding
 pub mod Later
+pub mod Owning
+pub mod Standing
 pub mod Visiting
 pub mod Reading
 pub mod Meeting

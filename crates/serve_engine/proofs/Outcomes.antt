@@ -1,14 +1,14 @@
 -- What workers did at their doors, and how they served together.
-use Rattle.std.proofs.Common.{◌≡◌, ◌≤◌, ◌≢◌, ◌⊎◌, inl, inr, ℕ, ◌+◌, ◌<◌, ◌||◌, Bool, true, false, List, [], ◌∷◌, length, map, All, sum_by, refl, sym, ◌∙◌, subst, arith}
+use Rattle.std.proofs.Common.{◌≡◌, ◌≤◌, ◌≢◌, ◌⊎◌, inl, inr, ℕ, ◌+◌, ◌==◌, ◌||◌, Bool, true, false, List, [], ◌∷◌, ◌++◌, length, map, All, sum_by, refl, sym, ◌∙◌, subst, arith, eqb-true}
 use Rattle.std.specs.Prelude.{Option, Some, None, IsSome, if◌then◌else◌}
 use Rattle.std.specs.List.{AllByRecursion, AllZip, list_any}
-use Rattle.std.proofs.lemmas.List.{length-map}
-use Rattle.std.proofs.lemmas.List.Sums.{sum_by-cons}
-use Rattle.std.proofs.lemmas.List.Elements.{All-from_recursion, All-weaker, recursion_from_All, length_all_zip}
+use Rattle.std.proofs.lemmas.List.Sums.{sum_by-cons, sum_by-append}
+use Rattle.std.proofs.lemmas.List.Elements.{All-from_recursion, recursion_from_All, length_all_zip}
 use Rattle.outside.specs.Faults.{Rose}
-use Rattle.outside.specs.Visits.{Visit}
+use Rattle.outside.specs.Visits.{Visit, one_if_any}
 use Rattle.cqe_base.specs.Schema.{DatabaseSchema}
 use Rattle.cqe_base.specs.Facts.{FactSet}
+use Rattle.cqe_base.specs.History.{AnsweredQuery}
 use Rattle.turnstile.specs.declared.pass.Pass.{Pass}
 use Rattle.desk_counter.specs.declared.item.Item.{Item}
 use Rattle.desk_counter.specs.declared.item.Fixed.{Fixed}
@@ -19,16 +19,20 @@ use Rattle.session_core.specs.Members.{users_of, fixeds_of, passes_in}
 use Rattle.worker_pool.specs.declared.worker.Worker.{Worker}
 use Rattle.worker_pool.specs.declared.worker.WorkerEnd.{WorkerEnd}
 use Rattle.worker_pool.specs.declared.worker.WorkerEnd.TheVariants.{LinksEnded, LimitReached, LinksFailed as LinksHaveFailed}
-use Rattle.worker_pool.specs.Workers.{IsServed}
+use Rattle.worker_pool.specs.Workers.{IsServed, lost}
+use Rattle.worker_pool.proofs.Serving.{none_isnt}
 use Rattle.serve_engine.specs.declared.job.SessionJobOf.{SessionJobOf}
 use Rattle.serve_engine.specs.declared.serving.Outcome.{Outcome}
 use Rattle.serve_engine.specs.declared.serving.Outcome.TheVariants.{Served, LinksFailed}
 use Rattle.serve_engine.specs.Jobs.{job_counters, job_passes, job_runs}
-use Rattle.serve_engine.specs.Members.{AreIn, IsServedBy, IsPassLater, ArePassesLater, members_of, room_in}
+use Rattle.serve_engine.specs.Served.{SessionMarks, entries_told}
+use Rattle.serve_engine.specs.Members.{AreIn, IsServedBy, AreServedBy, IsPassLater, ArePassesLater, OwnMore, members_of, own_weight, room_in}
 use Rattle.serve_engine.specs.Doors.{IsServedDoor, AreServedDoors, SomeFailed, HasOutcome, has_failed, outcome_of}
 use Rattle.serve_engine.specs.Passing.{AreOn, IsFresh, IsBack}
 use Rattle.serve_engine.proofs.Growing.{served_later}
 use Rattle.serve_engine.proofs.Later.{members_later}
+use Rattle.serve_engine.proofs.Owning.{told_weight}
+use Rattle.serve_engine.proofs.Standing.{zip_still}
 use Rattle.serve_engine.proofs.Meeting.{AllHave}
 
 module _ {D : Type 0} where
@@ -41,12 +45,13 @@ module _ {D : Type 0} where
 
   module _ {g h : _} (counters : CountersOf (TicketedDesk D g) Item (Fixed D) h) where
     -- what was served by some passes is served by those that have seen more
-    stay : (at : CountersOf (TicketedDesk D g) Item (Fixed D) h) (passes final : Passes D) (visits : List Visit) → at ≡ counters → AreOn passes final → AllByRecursion (IsServedBy at passes) visits → AllByRecursion (IsServedBy counters final) visits
-    stay at passes final visits same on stand =
-        let still = λ (visit : Visit) (stood : IsServedBy at passes visit) (schema : DatabaseSchema) (world : FactSet) (within : AreIn schema world (fixeds_of counters)).
-        served_later schema world (users_of counters) (members_of (fixeds_of counters) (passes_in passes)) (members_of (fixeds_of counters) (passes_in final)) visit
-        (members_later (fixeds_of counters) (passes_in passes) (passes_in final) on) (subst (λ c. IsServedBy c passes visit) same stood schema world within) in
-        recursion_from_All (IsServedBy counters final) visits (All-weaker (IsServedBy at passes) (IsServedBy counters final) still visits (All-from_recursion (IsServedBy at passes) visits stand))
+    stay : (at : CountersOf (TicketedDesk D g) Item (Fixed D) h) (passes final : Passes D) (visits : List Visit) (marks : List SessionMarks) → at ≡ counters → AreOn passes final
+        → AllZip (IsServedBy at passes) visits marks → AllZip (IsServedBy counters final) visits marks
+    stay at passes final visits marks same on stand =
+        let still = λ (visit : Visit) (mark : SessionMarks) (stood : IsServedBy at passes visit mark) (schema : DatabaseSchema) (world : FactSet) (within : AreIn schema world (fixeds_of counters)).
+        served_later schema world (users_of counters) (members_of (fixeds_of counters) (passes_in passes)) (members_of (fixeds_of counters) (passes_in final)) visit mark
+        (members_later (fixeds_of counters) (passes_in passes) (passes_in final) on) (subst (λ c. IsServedBy c passes visit mark) same stood schema world within) in
+        zip_still (IsServedBy at passes) (IsServedBy counters final) still visits marks stand
 
 module _ {O : Type 0} (told : Type 0) (left_of faults_of : O → ℕ) where
   -- Workers that ended: where links of one failed, a door has; else no door has a connection left, or one came to the limit.
@@ -63,24 +68,53 @@ module _ {O : Type 0} (told : Type 0) (left_of faults_of : O → ℕ) where
   at_most at_limit true door doors limit others = inr others
   at_most at_limit false door doors limit others = inr limit
 
--- none isn't some
-none_isnt : (end : Option WorkerEnd) → end ≡ None → IsSome end → ⊥
-none_isnt None is some = absurd cc
-none_isnt (Some end) is some = absurd cc
-
 -- a count that rose isn't 0
 rose : (n m : ℕ) → n ≡ 0 → Rose n m → m ≢ 0
 rose n m none (inl more) = λ e. omega (arith, none, more, e)
 rose n m none (inr most) = λ e. omega (arith, most, e)
 
+-- a count that isn't 0 counts once
+once : (n : ℕ) → n ≢ 0 → 1 ≤ one_if_any n
+once n some = by_test (n == 0) (λ e. some (eqb-true n 0 e))
+  where
+    by_test : (b : Bool) → (b ≡ true → ⊥) → 1 ≤ (if b then 0 else 1)
+    by_test true other = absurd (other refl)
+    by_test false other = omega arith
+
+-- where not one of two is true, neither is
+neither : (a b : Bool) → a || b ≡ false → (a ≡ false) × (b ≡ false)
+neither true b is = absurd cc
+neither false b is = (refl, is)
+
 module _ {D G O : Type 0} {g h : _} (told : Type 0) (given_of left_of ends_of faults_of : O → ℕ) (back_of : O → List Visit) where
   -- a worker before he served and after he ended
   abbrev pub Was : Worker (SessionJobOf (TicketedDesk D g) D G h) O → Worker (SessionJobOf (TicketedDesk D g) D G h) O → Type 0
-  Was = IsServed told given_of left_of ends_of faults_of back_of (λ job. room_in (passes_in (job_passes job))) job_runs (λ job visit. IsServedBy (job_counters job) (job_passes job) visit)
+  Was = IsServed told given_of left_of ends_of faults_of back_of (λ job. room_in (passes_in (job_passes job))) job_runs (λ first job visits. AreServedBy (job_counters job) (job_passes first) (job_passes job) visits)
       (λ before after. (job_counters after ≡ job_counters before) × ArePassesLater (job_passes before) (job_passes after))
 
   pub as_long : (before after : List (Worker (SessionJobOf (TicketedDesk D g) D G h) O)) → AllZip Was before after → length before ≡ length after
   as_long before after was = length_all_zip Was before after was
+
+  -- the marks of all their connections
+  abbrev all_told : told → (before after : List (Worker (SessionJobOf (TicketedDesk D g) D G h) O)) → AllZip Was before after → List SessionMarks
+  all_told t [] [] was = []
+  all_told t (b ∷ before) (a ∷ after) was = (was.0.back t).stand.told ++ all_told t before after was.1
+  all_told t [] (a ∷ after) was = []
+  all_told t (b ∷ before) [] was = []
+
+  -- are what the passes of workers have of their own that hadn't begun
+  all_own : (counters : CountersOf (TicketedDesk D g) Item (Fixed D) h) (first : Passes D) (t : told) (weight : AnsweredQuery → ℕ) (place : ℕ) (before after : List (Worker (SessionJobOf (TicketedDesk D g) D G h) O)) → AllByRecursion (IsFresh counters first) before
+      → (was : AllZip Was before after) → sum_by (λ worker. own_weight weight place (passes_in (job_passes worker.job))) after ≡ told_weight weight place (all_told t before after was)
+  all_own counters first t weight place [] [] fresh was = refl
+  all_own counters first t weight place (b ∷ before) (a ∷ after) fresh was =
+      let none = fresh.0.parts.none_own weight place in
+      let here = (was.0.back t).stand.own weight place in
+      let rest = all_own counters first t weight place before after fresh.1 was.1 in
+      let one = sum_by-cons (λ (worker : Worker (SessionJobOf (TicketedDesk D g) D G h) O). own_weight weight place (passes_in (job_passes worker.job))) a after in
+      let both = sum_by-append (λ marks. sum_by weight (entries_told place marks)) (was.0.back t).stand.told (all_told t before after was.1) in
+      omega (arith, none, here, rest, one, both)
+  all_own counters first t weight place [] (a ∷ after) fresh was = absurd was
+  all_own counters first t weight place (b ∷ before) [] fresh was = absurd was
 
   module _ (counters : CountersOf (TicketedDesk D g) Item (Fixed D) h) where
     -- ---- the jobs
@@ -100,8 +134,8 @@ module _ {D G O : Type 0} {g h : _} (told : Type 0) (given_of left_of ends_of fa
 
     -- ---- the doors
 
-    one_served : (first final : Passes D) (before after : Worker (SessionJobOf (TicketedDesk D g) D G h) O) → IsFresh counters first before → AreOn (job_passes after.job) final → Was before after
-        → IsServedDoor told given_of left_of faults_of back_of (IsServedBy counters final) (job_runs after.job) before.door after.door
+    one_served : (first final : Passes D) (before after : Worker (SessionJobOf (TicketedDesk D g) D G h) O) → IsFresh counters first before → AreOn (job_passes after.job) final → (was : Was before after)
+        → IsServedDoor told given_of left_of faults_of back_of (IsServedBy counters final) (job_runs after.job) (λ t. (was.back t).stand.told) before.door after.door
     one_served first final before after fresh on was = record {
       given = was.given;
       left = was.left;
@@ -109,20 +143,23 @@ module _ {D G O : Type 0} {g h : _} (told : Type 0) (given_of left_of ends_of fa
         visits = v.visits;
         behind = v.behind;
         many = v.many;
-        stand = stay counters (job_counters after.job) (job_passes after.job) final v.visits (was.keeps.0 ∙ fresh.counters_are) on v.stand;
+        stand = stay counters (job_counters after.job) (job_passes after.job) final v.visits v.stand.told (was.keeps.0 ∙ fresh.counters_are) on v.stand.each;
       };
       faults = was.faults;
     }
 
     -- the doors' connections are served by the passes that are joined in the end
     pub all_served : (first final : Passes D) (before after : List (Worker (SessionJobOf (TicketedDesk D g) D G h) O)) → AllByRecursion (IsFresh counters first) before
-        → AllByRecursion (λ worker. AreOn (job_passes worker.job) final) after → AllZip Was before after
-        → AreServedDoors told given_of left_of faults_of back_of (IsServedBy counters final) (sum_by (λ worker. job_runs worker.job) after) (map (λ worker. worker.door) before) (map (λ worker. worker.door) after)
-    all_served first final [] [] fresh on was = refl
+        → AllByRecursion (λ worker. AreOn (job_passes worker.job) final) after → (was : AllZip Was before after)
+        → AreServedDoors told given_of left_of faults_of back_of (IsServedBy counters final) (sum_by (λ worker. job_runs worker.job) after) (λ t. all_told t before after was) (map (λ worker. worker.door) before) (map (λ worker. worker.door) after)
+    all_served first final [] [] fresh on was = (refl, λ t. refl)
     all_served first final (b ∷ before) (a ∷ after) fresh on was = (
       job_runs a.job,
       sum_by (λ worker. job_runs worker.job) after,
       sum_by-cons (λ (worker : Worker (SessionJobOf (TicketedDesk D g) D G h) O). job_runs worker.job) a after,
+      λ t. (was.0.back t).stand.told,
+      λ t. all_told t before after was.1,
+      λ t. refl,
       one_served first final b a fresh.0 on.0 was.0,
       all_served first final before after fresh.1 on.1 was.1,
     )
@@ -153,43 +190,69 @@ module _ {D G O : Type 0} {g h : _} (told : Type 0) (given_of left_of ends_of fa
   have_ended at_limit [] (a ∷ after) whole reached was = absurd was
   have_ended at_limit (b ∷ before) [] whole reached was = absurd was
 
-  -- how the workers served together
-  pub has_outcome : (limit : ℕ) (before after : List (Worker (SessionJobOf (TicketedDesk D g) D G h) O)) → AllByRecursion (λ worker. faults_of worker.door ≡ 0) before
-      → AllByRecursion (λ worker. worker.ended ≡ Some LimitReached → limit < sum_by (λ other. job_runs other.job) after + length after) after → AllZip Was before after
-      → HasOutcome told left_of faults_of limit (outcome_of after) (sum_by (λ worker. job_runs worker.job) after) (map (λ worker. worker.door) after)
-  has_outcome limit before after whole reached was =
-      of_any (list_any (λ worker. has_failed worker.ended) after) (have_ended (limit < sum_by (λ other. job_runs other.job) after + length after) before after whole reached was)
+  -- where no links failed, each number that was lost was drawn at a door that answered that no further connection comes
+  lost_at_ends : (before after : List (Worker (SessionJobOf (TicketedDesk D g) D G h) O)) → AllByRecursion (λ worker. ends_of worker.door ≡ 0) before → AllZip Was before after
+      → list_any (λ worker. has_failed worker.ended) after ≡ false → sum_by (λ worker. lost worker.ended) after ≤ sum_by (λ door. one_if_any (ends_of door)) (map (λ worker. worker.door) after)
+  lost_at_ends [] [] unended was none = omega arith
+  lost_at_ends (b ∷ before) (a ∷ after) unended was none =
+      let two = neither (has_failed a.ended) (list_any (λ worker. has_failed worker.ended) after) none in
+      let here = by_end a.ended refl in
+      let others = lost_at_ends before after unended.1 was.1 two.1 in
+      let first = sum_by-cons (λ (worker : Worker (SessionJobOf (TicketedDesk D g) D G h) O). lost worker.ended) a after in
+      let second = sum_by-cons (λ (door : O). one_if_any (ends_of door)) a.door (map (λ worker. worker.door) after) in
+      omega (arith, here two.0, others, first, second)
     where
-      doors : List O
-      doors = map (λ worker. worker.door) after
+      by_end : (end : Option WorkerEnd) → a.ended ≡ end → has_failed end ≡ false → lost end ≤ one_if_any (ends_of a.door)
+      by_end None is whole = omega arith
+      by_end (Some LinksEnded) is whole = once (ends_of a.door) (rose (ends_of b.door) (ends_of a.door) unended.0 (was.0.at_end is).0)
+      by_end (Some LimitReached) is whole = omega arith
+      by_end (Some LinksHaveFailed) is whole = absurd cc
+  lost_at_ends [] (a ∷ after) unended was none = absurd was
+  lost_at_ends (b ∷ before) [] unended was none = absurd was
 
-      many : length doors ≡ length after
-      many = length-map after (λ worker. worker.door)
-
-      of_any : (any : Bool) → Ended told left_of faults_of (limit < sum_by (λ other. job_runs other.job) after + length after) any (map (λ worker. worker.door) after)
-          → HasOutcome told left_of faults_of limit (if any then LinksFailed else Served) (sum_by (λ worker. job_runs worker.job) after) (map (λ worker. worker.door) after)
-      of_any true failed = failed
-      of_any false (inl all) = λ t. inl (All-from_recursion (λ door. left_of door ≡ 0) (map (λ worker. worker.door) after) (all t))
-      of_any false (inr most) = λ t. inr (omega (arith, most, many))
+  -- how the workers served together
+  pub has_outcome : (limit : ℕ) (before after : List (Worker (SessionJobOf (TicketedDesk D g) D G h) O)) → AllByRecursion (λ worker. faults_of worker.door ≡ 0) before → AllByRecursion (λ worker. ends_of worker.door ≡ 0) before
+      → AllByRecursion (λ worker. worker.ended ≡ Some LimitReached → limit ≤ sum_by (λ other. job_runs other.job) after + sum_by (λ other. lost other.ended) after) after → AllZip Was before after
+      → HasOutcome told left_of ends_of faults_of limit (outcome_of after) (sum_by (λ worker. job_runs worker.job) after) (map (λ worker. worker.door) after)
+  has_outcome limit before after whole unended reached was =
+      of_any (list_any (λ worker. has_failed worker.ended) after) refl (have_ended (limit ≤ sum_by (λ other. job_runs other.job) after + sum_by (λ other. lost other.ended) after) before after whole reached was)
+    where
+      of_any : (any : Bool) → list_any (λ worker. has_failed worker.ended) after ≡ any
+          → Ended told left_of faults_of (limit ≤ sum_by (λ other. job_runs other.job) after + sum_by (λ other. lost other.ended) after) any (map (λ worker. worker.door) after)
+          → HasOutcome told left_of ends_of faults_of limit (if any then LinksFailed else Served) (sum_by (λ worker. job_runs worker.job) after) (map (λ worker. worker.door) after)
+      of_any true is failed = failed
+      of_any false is (inl all) = λ t. inl (All-from_recursion (λ door. left_of door ≡ 0) (map (λ worker. worker.door) after) (all t))
+      of_any false is (inr most) = λ t. let ends = lost_at_ends before after unended was is in inr (omega (arith, most, ends))
 
   -- all that is said of doors whose workers served them
   pub served_together : (counters : CountersOf (TicketedDesk D g) Item (Fixed D) h) (first final : Passes D) (limit : ℕ) (outcome : Outcome) (doors others : List O) (before after : List (Worker (SessionJobOf (TicketedDesk D g) D G h) O))
-      → map (λ worker. worker.door) before ≡ doors → others ≡ map (λ worker. worker.door) after → outcome ≡ outcome_of after → All (λ door. faults_of door ≡ 0) doors
+      → map (λ worker. worker.door) before ≡ doors → others ≡ map (λ worker. worker.door) after → outcome ≡ outcome_of after → All (λ door. faults_of door ≡ 0) doors → All (λ door. ends_of door ≡ 0) doors
       → All (IsFresh counters first) before → All (λ worker. AreOn (job_passes worker.job) final) after
-      → All (λ worker. worker.ended ≡ Some LimitReached → limit < sum_by (λ other. job_runs other.job) after + length after) after → AllZip Was before after → sum_by (λ other. job_runs other.job) after ≤ limit
-      → (total : ℕ) × AreServedDoors told given_of left_of faults_of back_of (IsServedBy counters final) total doors others × HasOutcome told left_of faults_of limit outcome total others × (total ≤ limit)
-  served_together counters first final limit outcome doors others before after doors_are others_are outcome_is whole fresh on reached was below =
+      → All (λ worker. worker.ended ≡ Some LimitReached → limit ≤ sum_by (λ other. job_runs other.job) after + sum_by (λ other. lost other.ended) after) after → AllZip Was before after → sum_by (λ other. job_runs other.job) after ≤ limit
+      → ((weight : AnsweredQuery → ℕ) (place : ℕ) → own_weight weight place (passes_in final) ≡ own_weight weight place (passes_in first) + sum_by (λ worker. own_weight weight place (passes_in (job_passes worker.job))) after)
+      → (total : ℕ) × (marks : told → List SessionMarks) × AreServedDoors told given_of left_of faults_of back_of (IsServedBy counters final) total marks doors others × HasOutcome told left_of ends_of faults_of limit outcome total others × (total ≤ limit)
+      × ((t : told) → OwnMore (passes_in first) (passes_in final) (marks t))
+  served_together counters first final limit outcome doors others before after doors_are others_are outcome_is whole unended fresh on reached was below own =
       let total = sum_by (λ (worker : Worker (SessionJobOf (TicketedDesk D g) D G h) O). job_runs worker.job) after in
+      let marks : told → List SessionMarks = λ t. all_told t before after was in
       let served = all_served counters first final before after (recursion_from_All (IsFresh counters first) before fresh) (recursion_from_All (λ worker. AreOn (job_passes worker.job) final) after on) was in
-      let ended = has_outcome limit before after (by_door before (recursion_from_All (λ door. faults_of door ≡ 0) (map (λ worker. worker.door) before) (subst (All (λ door. faults_of door ≡ 0)) (sym doors_are) whole)))
-      (recursion_from_All (λ worker. worker.ended ≡ Some LimitReached → limit < sum_by (λ other. job_runs other.job) after + length after) after reached) was in (
+      let ended = has_outcome limit before after (by_door faults_of whole) (by_door ends_of unended)
+      (recursion_from_All (λ worker. worker.ended ≡ Some LimitReached → limit ≤ sum_by (λ other. job_runs other.job) after + sum_by (λ other. lost other.ended) after) after reached) was in (
         total,
-        subst (λ ds. AreServedDoors told given_of left_of faults_of back_of (IsServedBy counters final) total ds others) doors_are
-            (subst (λ ds. AreServedDoors told given_of left_of faults_of back_of (IsServedBy counters final) total (map (λ worker. worker.door) before) ds) (sym others_are) served),
-        subst (λ o. HasOutcome told left_of faults_of limit o total others) (sym outcome_is) (subst (λ ds. HasOutcome told left_of faults_of limit (outcome_of after) total ds) (sym others_are) ended),
+        marks,
+        subst (λ ds. AreServedDoors told given_of left_of faults_of back_of (IsServedBy counters final) total marks ds others) doors_are
+            (subst (λ ds. AreServedDoors told given_of left_of faults_of back_of (IsServedBy counters final) total marks (map (λ worker. worker.door) before) ds) (sym others_are) served),
+        subst (λ o. HasOutcome told left_of ends_of faults_of limit o total others) (sym outcome_is) (subst (λ ds. HasOutcome told left_of ends_of faults_of limit (outcome_of after) total ds) (sym others_are) ended),
         below,
+        λ t weight place.
+            let all = own weight place in
+            let here = all_own counters first t weight place before after (recursion_from_All (IsFresh counters first) before fresh) was in
+            omega (arith, all, here),
       )
     where
-      by_door : (crew : List (Worker (SessionJobOf (TicketedDesk D g) D G h) O)) → AllByRecursion (λ door. faults_of door ≡ 0) (map (λ worker. worker.door) crew) → AllByRecursion (λ worker. faults_of worker.door ≡ 0) crew
-      by_door [] all = tt
-      by_door (w ∷ crew) all = (all.0, by_door crew all.1)
+      at_workers : (f : O → ℕ) (crew : List (Worker (SessionJobOf (TicketedDesk D g) D G h) O)) → AllByRecursion (λ door. f door ≡ 0) (map (λ worker. worker.door) crew) → AllByRecursion (λ worker. f worker.door ≡ 0) crew
+      at_workers f [] all = tt
+      at_workers f (w ∷ crew) all = (all.0, at_workers f crew all.1)
+
+      by_door : (f : O → ℕ) → All (λ door. f door ≡ 0) doors → AllByRecursion (λ worker. f worker.door ≡ 0) before
+      by_door f all = at_workers f before (recursion_from_All (λ door. f door ≡ 0) (map (λ worker. worker.door) before) (subst (All (λ door. f door ≡ 0)) (sym doors_are) all))

@@ -20,6 +20,7 @@ use Rattle.worker_pool.specs.Jobs.{IsUntouched}
 use Rattle.serve_engine.specs.Served.{Served}
 use Rattle.serve_engine.specs.Members.{members_of, AreIn, HaveSeenOpenings}
 use Rattle.serve_engine.proofs.Later.{of_replied}
+use Rattle.serve_engine.proofs.Owning.{marks_of}
 
 -- a count that is 0 didn't rise
 not_risen : (before now : ℕ) → (now == 0) ≡ true → Rose before now → ⊥
@@ -64,15 +65,14 @@ all_written WriteFault after texts no_write writes = absurd (no_write refl)
 
 -- A session over ends that were untouched is a connection that was served by the users as their passes are then.
 pub session_served : {D : Type 0} (S K : Type 0) (users : List User) (fixeds : List (Fixed D)) (ended : Ended) (held held' left : List ℕ) (old new : List (Pass Item (Fixed D))) (before after : List ℕ) (sources sinks sources' sinks' : ℕ)
-    → Session S K users fixeds ended left old new before after → IsUntouched S K held left before sources sinks → held' ≡ held
+    → (session : Session S K users fixeds ended left old new before after) → IsUntouched S K held left before sources sinks → held' ≡ held
     → (ended ≡ ReadFault → Rose sources sources') → (ended ≡ WriteFault → Rose sinks sinks')
-    → (schema : DatabaseSchema) (world : FactSet) → AreIn schema world fixeds → HaveSeenOpenings fixeds old → Served schema world users (members_of fixeds new) (visit_of held' after sources' sinks')
+    → (schema : DatabaseSchema) (world : FactSet) → AreIn schema world fixeds → HaveSeenOpenings fixeds old → Served schema world users (members_of fixeds new) (visit_of held' after sources' sinks') (marks_of session.who fixeds old new session.asks session.desks)
 session_served {D} S K users fixeds ended held held' left old new before after sources sinks sources' sinks' session untouched same read_cause write_cause schema world within openings =
     let hears = subst (λ b. Hears ended b session.lines) (untouched.untaken ∙ sym same) (session.hears untouched.told.0) in
     let writes = subst (λ b. Writes ended b after session.texts) untouched.unwritten (session.writes untouched.told.1) in
     record {
       lines = session.lines;
-      who = session.who;
       asks = session.asks;
       texts = session.texts;
       talks = session.talks;

@@ -1,13 +1,20 @@
--- What sessions keep of passes, no session keeps, and what several keep.
+-- What sessions keep of passes: what none keeps, what several keep, and what stands before the first.
 use Rattle.std.specs.Prelude.{List, [], ◌∷◌, ◌++◌, refl}
-use Rattle.std.proofs.Common.{sym, ap, ◌∙◌, append_assoc}
+use Rattle.std.proofs.Common.{sym, ap, ◌∙◌, append_assoc, arith}
 use Rattle.std.proofs.lemmas.List.{append-nil}
 use Rattle.std.specs.List.{AllZip}
 use Rattle.turnstile.specs.declared.pass.Pass.{Pass}
 use Rattle.turnstile.specs.Passes.{seen}
 use Rattle.desk_counter.specs.declared.item.Item.{Item}
 use Rattle.desk_counter.specs.declared.item.Fixed.{Fixed}
-use Rattle.serve_engine.specs.Members.{IsPassLater}
+use Rattle.desk_counter.specs.declared.ticketed_desk.TicketedDesk.{TicketedDesk}
+use Rattle.session_core.specs.declared.counters.CountersOf.{CountersOf}
+use Rattle.session_core.specs.declared.counters.Passes.{Passes}
+use Rattle.serve_engine.specs.Members.{IsPassLater, AreServedBy}
+
+-- no connection was served, and the passes have no more of their own
+pub nothing_served : {D : Type 0} {g h : _} (counters : CountersOf (TicketedDesk D g) Item (Fixed D) h) (passes : Passes D) → AreServedBy counters passes passes []
+nothing_served counters passes = record { told = []; each = tt; own = λ weight place. omega arith }
 
 module _ {D : Type 0} where
   pub same_passes : (passes : List (Pass Item (Fixed D))) → AllZip IsPassLater passes passes

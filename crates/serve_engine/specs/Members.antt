@@ -1,12 +1,13 @@
 -- The users at their desks, as the passes of one worker know them.
-use Rattle.std.specs.Prelude.{◌≡◌, ℕ, ◌/◌, ◌^◌, ◌≤◌, min, List, [], ◌∷◌, length}
+use Rattle.std.specs.Prelude.{◌≡◌, ℕ, zero, suc, ◌+◌, ◌/◌, ◌^◌, ◌≤◌, min, List, [], ◌∷◌, length, sum_by}
 use Rattle.std.specs.List.{AllByRecursion, AllZip}
 use Rattle.outside.specs.Visits.{Visit}
 use Rattle.cqe_base.specs.Schema.{DatabaseSchema}
 use Rattle.cqe_base.specs.Facts.{FactSet}
+use Rattle.cqe_base.specs.History.{AnsweredQuery}
 use Rattle.turnstile.specs.declared.pass.Pass.{Pass}
 use Rattle.turnstile.specs.History.{IsPrefix}
-use Rattle.turnstile.specs.Passes.{seen, shares, turns}
+use Rattle.turnstile.specs.Passes.{seen, mine, shares, turns}
 use Rattle.user_desk.specs.Standings.{standing_of}
 use Rattle.desk_counter.specs.declared.item.Item.{Item}
 use Rattle.desk_counter.specs.declared.item.Fixed.{Fixed}
@@ -15,7 +16,7 @@ use Rattle.desk_counter.specs.Items.{history_of, has_broke}
 use Rattle.session_core.specs.declared.counters.CountersOf.{CountersOf}
 use Rattle.session_core.specs.declared.counters.Passes.{Passes}
 use Rattle.session_core.specs.Members.{users_of, fixeds_of, passes_in}
-use Rattle.serve_engine.specs.Served.{Member, Served}
+use Rattle.serve_engine.specs.Served.{Member, SessionMarks, entries_told, Served}
 
 module _ {D : Type 0} where
   -- the user of a desk, by what a pass has seen of its entries
@@ -56,9 +57,25 @@ module _ {D : Type 0} where
   abbrev pub ArePassesLater : Passes D → Passes D → Type 0
   ArePassesLater before after = AllZip IsPassLater (passes_in before) (passes_in after)
 
+  -- what the entries weigh that the pass at this place has of its own
+  abbrev pub own_weight : (AnsweredQuery → ℕ) → ℕ → List (Pass Item (Fixed D)) → ℕ
+  own_weight weight place [] = 0
+  own_weight weight zero (pass ∷ passes) = sum_by weight (history_of (mine pass))
+  own_weight weight (suc place) (pass ∷ passes) = own_weight weight place passes
+
+  -- However entries are weighed, each pass has more of its own what the marks weigh that were told to the user at its place.
+  abbrev pub OwnMore : List (Pass Item (Fixed D)) → List (Pass Item (Fixed D)) → List SessionMarks → Type 0
+  OwnMore before after told = (weight : AnsweredQuery → ℕ) (place : ℕ) → own_weight weight place after ≡ own_weight weight place before + sum_by (λ marks. sum_by weight (entries_told place marks)) told
+
 module _ {D : Type 0} {g h : _} where
   -- A finished connection is served by the users of these desks, as the passes know them, wherever all desks are in one
   -- world.
-  abbrev pub IsServedBy : CountersOf (TicketedDesk D g) Item (Fixed D) h → Passes D → Visit → Type 0
-  IsServedBy counters passes visit = (schema : DatabaseSchema) (world : FactSet) → AreIn schema world (fixeds_of counters)
-      → Served schema world (users_of counters) (members_of (fixeds_of counters) (passes_in passes)) visit
+  abbrev pub IsServedBy : CountersOf (TicketedDesk D g) Item (Fixed D) h → Passes D → Visit → SessionMarks → Type 0
+  IsServedBy counters passes visit marks = (schema : DatabaseSchema) (world : FactSet) → AreIn schema world (fixeds_of counters)
+      → Served schema world (users_of counters) (members_of (fixeds_of counters) (passes_in passes)) visit marks
+
+  -- Finished connections are served so, and what the passes have more of their own was told in them.
+  pub record AreServedBy (counters : CountersOf (TicketedDesk D g) Item (Fixed D) h) (before passes : Passes D) (visits : List Visit) : Type 0 where
+    pub told : List SessionMarks
+    pub each : AllZip (IsServedBy counters passes) visits told
+    pub own : OwnMore (passes_in before) (passes_in passes) told

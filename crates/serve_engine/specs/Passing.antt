@@ -1,6 +1,7 @@
 -- Passes that are split off for workers, and meet again.
 use Rattle.std.specs.Prelude.{◌≡◌, ℕ, ◌^◌, ◌≤◌, None}
 use Rattle.std.specs.List.{AllByRecursion, AllZip}
+use Rattle.cqe_base.specs.History.{AnsweredQuery}
 use Rattle.turnstile.specs.History.{IsPrefix}
 use Rattle.turnstile.specs.Passes.{seen, shares, turns}
 use Rattle.desk_counter.specs.declared.item.Item.{Item}
@@ -11,6 +12,7 @@ use Rattle.session_core.specs.declared.counters.Passes.{Passes}
 use Rattle.session_core.specs.Members.{passes_in}
 use Rattle.worker_pool.specs.declared.worker.Worker.{Worker}
 use Rattle.serve_engine.specs.declared.job.SessionJobOf.{SessionJobOf}
+use Rattle.serve_engine.specs.Members.{own_weight}
 use Rattle.serve_engine.specs.Jobs.{job_counters, job_passes, job_runs}
 
 module _ {D : Type 0} where
@@ -26,11 +28,20 @@ module _ {D : Type 0} where
   abbrev pub AreOn : Passes D → Passes D → Type 0
   AreOn before after = AllZip (λ earlier later. IsPrefix (seen earlier) (seen later)) (passes_in before) (passes_in after)
 
+  -- what each has of its own weighs the same
+  abbrev pub OwnAlike : Passes D → Passes D → Type 0
+  OwnAlike before after = (weight : AnsweredQuery → ℕ) (place : ℕ) → own_weight weight place (passes_in after) ≡ own_weight weight place (passes_in before)
+
+  -- none has entries of its own
+  abbrev pub NoneOwn : Passes D → Type 0
+  NoneOwn passes = (weight : AnsweredQuery → ℕ) (place : ℕ) → own_weight weight place (passes_in passes) ≡ 0
+
   -- passes for one worker, which were split off from these
   pub record AreParts (before part : Passes D) : Type 0 where
     pub shares_are : HaveShares 1 part
     pub turns_are : HaveTurns (2 ^ 57) part
     pub on : AreOn before part
+    pub none_own : NoneOwn part
 
 module _ {D G O : Type 0} {g h : _} where
   -- a worker's job is at these counters, with such passes, and it hasn't begun

@@ -1,7 +1,7 @@
 -- What serving connections means for the users and for the connections.
-use Rattle.std.specs.Prelude.{◌≡◌, ◌⊎◌, ℕ, ◌+◌, Bool, true, false, List, [], ◌∷◌, ◌++◌, Option, Vec, is_some, string_bytes}
+use Rattle.std.specs.Prelude.{◌≡◌, ◌⊎◌, ℕ, suc, ◌+◌, Bool, true, false, List, [], ◌∷◌, ◌++◌, sum_by, Option, Vec, is_some, string_bytes}
 use Rattle.std.specs.declared.alloc.Global.{Global}
-use Rattle.std.specs.List.{list_any}
+use Rattle.std.specs.List.{AllZip, list_any}
 use Rattle.outside.specs.Faults.{Rose}
 use Rattle.outside.specs.Visits.{Visit}
 use Rattle.cqe_base.specs.Schema.{DatabaseSchema}
@@ -16,10 +16,10 @@ use Rattle.user_desk.specs.Standings.{standing_of, is_sealed}
 use Rattle.user_desk.specs.declared.standing.DeskError.{DeskError}
 use Rattle.user_desk.specs.declared.standing.Standing.{Standing}
 use Rattle.desk_crew.specs.Crew.{refusal_of}
-use Rattle.desk_crew.specs.Shelved.{Journals, AreKept}
+use Rattle.desk_crew.specs.Shelved.{Journals, IsKept, AreKept}
 use Rattle.worker_pool.specs.Workers.{HasVisits}
 use Rattle.serve_engine.specs.Doors.{AreServedDoors}
-use Rattle.serve_engine.specs.Served.{Member, Served}
+use Rattle.serve_engine.specs.Served.{Member, SessionMarks, entries_told, Served}
 use Rattle.serve_engine.specs.declared.serving.Outcome.{Outcome}
 use Rattle.serve_engine.specs.declared.serving.Outcome.TheVariants as outcome
 use Rattle.serve_engine.specs.declared.run.ServeEnd.{ServeEnd}
@@ -30,6 +30,14 @@ pub record ServesNobody (journals : Journals) (given given' : ℕ) (back back' :
   pub given_same : given' ≡ given
   pub back_same : back' ≡ back
   pub kept : AreKept journals
+
+-- Of each user, from this place on: however entries are weighed, his history weighs what it did at the opening, and what
+-- the entries of the marks weigh that connections told him. So behind the opening each of these stands once, and no other.
+abbrev pub AreAllTold : ℕ → List Member → List SessionMarks → Type 0
+AreAllTold place [] told = Unit {0}
+AreAllTold place (member ∷ members) told =
+    ((weight : AnsweredQuery → ℕ) → sum_by weight member.history ≡ sum_by weight member.opening + sum_by (λ marks. sum_by weight (entries_told place marks)) told)
+    × AreAllTold (suc place) members told
 
 module _ (schema : DatabaseSchema) (world : FactSet) (header : List ℕ) (journals : Journals) where
   -- A user over all connections: how his journal was opened, what his one history is, and how his disk came back.
@@ -49,8 +57,9 @@ module _ (schema : DatabaseSchema) (world : FactSet) (header : List ℕ) (journa
     pub broke_is : member.broke ≡ is_some in_flight
     pub reads : is_sealed standing ≡ false → Holds schema world member.profile header (shown member.history member.standing in_flight) (journals.reads (string_bytes user.name))
     pub stands : is_sealed standing ≡ false → (c : List ℕ) → journals.image (string_bytes user.name) c → Holds schema world member.profile header (shown member.history member.standing in_flight) c
-    -- where it was refused he has no entries, and its bytes stay
-    pub refused : is_sealed standing ≡ true → (member.history ≡ []) × (journals.reads (string_bytes user.name) ≡ journals.bytes (string_bytes user.name))
+    -- where it was refused he has no entries; and where it was, or nothing was appended, it is as it was
+    pub refused : is_sealed standing ≡ true → member.history ≡ []
+    pub kept : (is_sealed standing ≡ true) ⊎ ((member.history ≡ member.opening) × (member.broke ≡ false)) → IsKept journals (string_bytes user.name)
     -- an append failed only where the count of his disk's faults rose
     pub failed : member.broke ≡ true → Rose (journals.before (string_bytes user.name)) (journals.now (string_bytes user.name))
 
@@ -61,14 +70,17 @@ module _ (schema : DatabaseSchema) (world : FactSet) (header : List ℕ) (journa
   HaveServed users members refusals = ⊥
 
   module _ (users : List User) (given given' : ℕ) (back back' : List Visit) where
-    -- Connections were served: each that was given is back, and is served by the users' histories as they are in the end.
+    -- Connections were served: each that was given is back, and is served by the users' histories as they are in the end; and
+    -- these have nothing behind their openings but what the connections told.
     pub record Serves (refusals : List (Option DeskError)) (is_broken : Bool) : Type 0 where
       pub members : List Member
       pub each_user : HaveServed users members refusals
       pub broken_is : is_broken ≡ list_any (λ member. member.broke) members
       pub count : ℕ
       pub given_is : given' ≡ given + count
-      pub visits : HasVisits (Served schema world users members) count back back'
+      pub told : List SessionMarks
+      pub visits : HasVisits (λ visits. AllZip (Served schema world users members) visits told) count back back'
+      pub all_told : AreAllTold 0 members told
 
     -- no connection was served: no journal was opened, or all were and are closed again
     abbrev pub ServesNone : Type 0
@@ -89,7 +101,9 @@ module _ (schema : DatabaseSchema) (world : FactSet) (header : List ℕ) (journa
       pub each_user : HaveServed users members refusals
       pub broken_is : is_broken ≡ list_any (λ member. member.broke) members
       pub total : ℕ
-      pub served : AreServedDoors told given_of left_of faults_of back_of (Served schema world users members) total doors doors'
+      pub marks : told → List SessionMarks
+      pub served : AreServedDoors told given_of left_of faults_of back_of (Served schema world users members) total marks doors doors'
+      pub all_told : (t : told) → AreAllTold 0 members (marks t)
 
     -- the doors are as they were, and so are all journals
     pub record ServesNoDoor : Type 0 where

@@ -11,11 +11,12 @@ use Rattle.desk_counter.specs.declared.item.Item.{Item}
 use Rattle.desk_counter.specs.declared.item.Fixed.{Fixed}
 use Rattle.desk_counter.specs.declared.counter.CounterOf.{CounterOf}
 use Rattle.desk_counter.specs.declared.ticketed_desk.TicketedDesk.{TicketedDesk}
+use Rattle.desk_counter.specs.Counters.{first_history}
 use Rattle.desk_counter.specs.Sole.{counter_in, pass_in, pairs_of_sole}
 use Rattle.desk_crew.specs.Crew.{seat_user, seat_journal, seat_kept, seat_history, seat_broke}
 use Rattle.desk_crew.specs.Seats.{DeskSeat}
 use Rattle.serve_engine.specs.declared.sharing.Keeper.{Keeper}
-use Rattle.serve_engine.specs.Served.{Member, Served}
+use Rattle.serve_engine.specs.Served.{Member, SessionMarks, Served}
 
 module _ {D : Type 0} {g h : _} where
   -- what is kept of a seat
@@ -46,6 +47,7 @@ module _ {D : Type 0} {g h : _} where
     pub journal_is : seat_journal after ≡ seat_journal before
     pub refusal_is : after.refusal ≡ before.refusal
     pub kept_is : seat_kept after ≡ seat_kept before
+    pub first_is : first_history (seat_counter after) ≡ first_history (seat_counter before)
     pub on : IsPrefix (pairs_of_sole before.desk) (pairs_of_sole after.desk)
 
   -- all seats
@@ -60,5 +62,5 @@ module _ {D : Type 0} {g h : _} where
   AreAllIn schema world (seat ∷ seats) = ((seat_kept seat).schema ≡ schema) × ((seat_kept seat).world ≡ world) × AreAllIn schema world seats
 
   -- A finished connection is served by the users at these seats, wherever all desks are in one world.
-  abbrev pub IsServedAt : List User → List (DeskSeat D g h) → Visit → Type 0
-  IsServedAt users seats visit = (schema : DatabaseSchema) (world : FactSet) → AreAllIn schema world seats → Served schema world users (map seat_member seats) visit
+  abbrev pub IsServedAt : List User → List (DeskSeat D g h) → Visit → SessionMarks → Type 0
+  IsServedAt users seats visit marks = (schema : DatabaseSchema) (world : FactSet) → AreAllIn schema world seats → Served schema world users (map seat_member seats) visit marks

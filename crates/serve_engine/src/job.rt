@@ -67,9 +67,9 @@ impl<'a, 'w, D: Disk, G: Gate, Src: Source, Snk: Sink> Job<Src, Snk>
     ghost use Rattle.std.specs.Prelude.{[]};
     ghost use Rattle.std.proofs.Common.{refl, ◌∙◌};
     ghost use Rattle.session_core.specs.Members.{passes_in};
-    ghost use Rattle.serve_engine.specs.Members.{IsServedBy, ArePassesLater, room_in};
+    ghost use Rattle.serve_engine.specs.Members.{AreServedBy, ArePassesLater, room_in};
     ghost use Rattle.serve_engine.specs.Jobs.{job_counters, job_passes, job_runs};
-    ghost use Rattle.serve_engine.specs.Keeping.{same_passes, later_passes};
+    ghost use Rattle.serve_engine.specs.Keeping.{nothing_served, same_passes, later_passes};
 
     ghost told = { ⊥ };
 
@@ -79,7 +79,9 @@ impl<'a, 'w, D: Disk, G: Gate, Src: Source, Snk: Sink> Job<Src, Snk>
 
     ghost numbers = { λ job. [] };
 
-    ghost stands = { λ job visit. IsServedBy (job_counters job) (job_passes job) visit };
+    ghost stands = { λ first job visits. AreServedBy (job_counters job) (job_passes first) (job_passes job) visits };
+
+    ghost stands_none = { λ job. nothing_served (job_counters job) (job_passes job) };
 
     ghost keeps = { λ before after. (job_counters after ≡ job_counters before) × ArePassesLater (job_passes before) (job_passes after) };
 

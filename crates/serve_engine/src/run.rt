@@ -1,8 +1,8 @@
 //! Serving from the first listening to the last journal that is back.
-ghost use Rattle.std.specs.Prelude.{◌≡◌, ◌⊎◌, ◌≤◌, ◌<◌, ◌+◌, ◌++◌, ◌∷◌, ◌^◌, [], false, All, length, map, sum_by};
+ghost use Rattle.std.specs.Prelude.{◌≡◌, ◌⊎◌, ◌≤◌, ◌+◌, ◌++◌, ◌∷◌, ◌^◌, [], false, All, length, map, sum_by};
 ghost use Rattle.std.specs.List.{flat_map};
 ghost use Rattle.outside.specs.Faults.{Rose};
-ghost use Rattle.outside.specs.Visits.{place_of};
+ghost use Rattle.outside.specs.Visits.{place_of, one_if_any};
 ghost use Rattle.cqe_base.specs.Schema.{has_duplicate};
 ghost use Rattle.cqe_base.specs.History.{profile_of};
 ghost use Rattle.cqe_base.specs.Limits.{KeepsLimits};
@@ -84,8 +84,9 @@ where
     // There are no more of them than the greatest number.
     ensures limited { L.told → L.given links.new ≤ L.given links.old + listening.entry.sessions }
 
-    // It comes to its end where no connection is left, or these and the workers together are more than the greatest number.
-    ensures ended { L.told → IsDone result → (L.at_hand links.new ≡ 0) ⊎ (L.given links.old + listening.entry.sessions < L.given links.new + listening.entry.workers) }
+    // It comes to its end where no connection is left, or these reach the greatest number, together with the doors that
+    // answered that no further one comes.
+    ensures ended { L.told → IsDone result → (L.at_hand links.new ≡ 0) ⊎ (L.given links.old + listening.entry.sessions + L.ended links.old ≤ L.given links.new + L.ended links.new) }
 
     // No disk but the users' journals is touched, and all are back.
     ensures disks { SameBeside (map (journal_name registry.now.directory.now) (map (λ user. user.name) (map named_user registry.now.users.now))) (F.disk shelf.old) (F.disk shelf.new) }
@@ -127,10 +128,11 @@ where
     requires few { length doors.items ≤ 64 }
     requires limit { limit ≤ 2 ^ 30 }
     requires whole { All (λ door. O.faults door ≡ 0) doors.items }
+    requires unended { All (λ door. O.ends door ≡ 0) doors.items }
     ensures ends { F.told → O.told → EndsAt registry.now.schema.now registry.now.world.now (header_bytes registry.now.header.now)
         (journals_on F.D.reads F.D.image registry.now.directory.now (F.disk shelf.old) (F.disk shelf.new) (F.disk_faults shelf.old) (F.disk_faults shelf.new))
         registry.now.users.now O.told O.given O.left O.faults O.back doors.items result.1.items result.0 }
-    ensures ended { O.told → IsDone result.0 → All (λ door. O.left door ≡ 0) result.1.items ⊎ (sum_by O.given doors.items + limit < sum_by O.given result.1.items + length result.1.items) }
+    ensures ended { O.told → IsDone result.0 → All (λ door. O.left door ≡ 0) result.1.items ⊎ (sum_by O.given doors.items + limit ≤ sum_by O.given result.1.items + sum_by (λ door. one_if_any (O.ends door)) result.1.items) }
     ensures limited { O.told → sum_by O.given result.1.items ≤ sum_by O.given doors.items + limit }
     ensures failed { result.0 ≡ ServeEnd.LinksFault → SomeFailed O.faults result.1.items }
     ensures doors { length result.1.items ≡ length doors.items }
@@ -175,6 +177,7 @@ fn take_back_all<L: Links>(links: &mut L, doors: Vec<L::D>)
     requires { length doors.items ≤ L.out links.old }
     ensures out { L.out links.old ≡ L.out links.new + length doors.items }
     ensures given { L.told → L.given links.new ≡ L.given links.old + sum_by L.D.given doors.items }
+    ensures ended { L.ended links.new ≡ L.ended links.old + sum_by (λ door. one_if_any (L.D.ends door)) doors.items }
     ensures at_hand { L.told → L.at_hand links.new ≡ L.at_hand links.old + sum_by L.D.left doors.items }
     ensures back { L.told → L.back links.new ≡ L.back links.old ++ flat_map L.D.back doors.items }
     ensures listened { L.told → L.listened links.new ≡ L.listened links.old }

@@ -1,10 +1,12 @@
 //! Connections that are served at counters, side by side.
-ghost use Rattle.std.specs.Prelude.{◌≡◌, ◌≤◌, ◌+◌, ◌*◌, ◌^◌, ℕ, [], All, length, map, vec_capacity, None, IfSome, IfNone};
+ghost use Rattle.std.specs.Prelude.{◌≡◌, ◌≤◌, ◌+◌, ◌*◌, ◌^◌, ℕ, List, [], All, length, map, sum_by, vec_capacity, None, IfSome, IfNone};
+ghost use Rattle.cqe_base.specs.History.{AnsweredQuery};
 ghost use Rattle.session_core.specs.Members.{ArePassesOf, users_of, fixeds_of, passes_in};
 ghost use Rattle.serve_engine.specs.Doors.{AreServedDoors, HasOutcome, has_failed, outcome_of};
 ghost use Rattle.serve_engine.specs.Jobs.{job_counters, job_passes};
-ghost use Rattle.serve_engine.specs.Members.{HaveSeenOpenings, IsServedBy};
-ghost use Rattle.serve_engine.specs.Passing.{HaveShares, HaveTurns, AreOn, AreParts, IsFresh, IsBack};
+ghost use Rattle.serve_engine.specs.Served.{SessionMarks};
+ghost use Rattle.serve_engine.specs.Members.{HaveSeenOpenings, IsServedBy, OwnMore, own_weight};
+ghost use Rattle.serve_engine.specs.Passing.{HaveShares, HaveTurns, AreOn, OwnAlike, NoneOwn, AreParts, IsFresh, IsBack};
 
 use crate::job::SessionJob;
 use desk_crew::room_for;
@@ -35,9 +37,11 @@ fn join_all<D: Disk>(counters: &Counters<'_, D>, passes: &mut Passes<D>, parts: 
     requires those { All (λ part. ArePassesOf part counters.now) parts.items }
     requires shares { All (HaveShares 1) parts.items }
     requires rest { (n : ℕ) × HaveShares n passes.old × (n + length parts.items ≡ 65) }
+    requires none { All NoneOwn parts.items }
     ensures these { ArePassesOf passes.new counters.now }
     ensures on { AreOn passes.old passes.new }
     ensures shares { HaveShares 65 passes.new }
+    ensures own { OwnAlike passes.old passes.new }
 {
     for part in parts {
         counters.meet(passes, part);
@@ -62,6 +66,7 @@ fn split_all<D: Disk>(
     ensures parts { IfSome result (λ parts. All (AreParts passes.old) parts.items) }
     ensures rest { IfSome result (λ parts. (n : ℕ) × HaveShares n passes.new × (n + count ≡ 65)) }
     ensures none { IfNone result (HaveShares 65 passes.new) }
+    ensures own { OwnAlike passes.old passes.new }
 {
     let mut parts = room_for(alloc, count).ok()?;
     for _ in 0..count {
@@ -124,6 +129,8 @@ fn dismiss<'a, 'w, D: Disk, G: Gate, O: Door + Drop>(
     ensures on { AreOn passes.old passes.new }
     ensures all_on { All (λ worker. AreOn (job_passes worker.job) passes.new) crew.entry.items }
     ensures shares { HaveShares 65 passes.new }
+    ensures own { (weight : AnsweredQuery → ℕ) (place : ℕ) → own_weight weight place (passes_in passes.new)
+        ≡ own_weight weight place (passes_in passes.old) + sum_by (λ worker. own_weight weight place (passes_in (job_passes worker.job))) crew.entry.items }
 {
     let mut doors = room;
     for worker in crew {
@@ -179,11 +186,12 @@ pub(crate) fn serve_doors<
     requires few { length doors.items ≤ 64 }
     requires limit { limit ≤ 2 ^ 30 }
     requires whole { All (λ door. O.faults door ≡ 0) doors.items }
+    requires unended { All (λ door. O.ends door ≡ 0) doors.items }
     ensures these { ArePassesOf passes.new counters.now }
     ensures on { AreOn passes.old passes.new }
     ensures shares { HaveShares 65 passes.new }
-    ensures served { (total : ℕ) × AreServedDoors O.told O.given O.left O.faults O.back (IsServedBy counters.now passes.new) total doors.items result.1.items
-        × HasOutcome O.told O.left O.faults limit result.0 total result.1.items × (total ≤ limit) }
+    ensures served { (total : ℕ) × (marks : O.told → List SessionMarks) × AreServedDoors O.told O.given O.left O.faults O.back (IsServedBy counters.now passes.new) total marks doors.items result.1.items
+        × HasOutcome O.told O.left O.ends O.faults limit result.0 total result.1.items × (total ≤ limit) × ((t : O.told) → OwnMore (passes_in passes.old) (passes_in passes.new) (marks t)) }
 {
     let count = doors.len();
     let (Ok(crew_room), Ok(room)) = (room_for(alloc, count), room_for(alloc, count)) else {

@@ -1,10 +1,12 @@
 //! Seats whose counters threads share for a while.
-ghost use Rattle.std.specs.Prelude.{◌≡◌, ◌≤◌, ◌*◌, ◌^◌, ℕ, [], All, length, map, vec_capacity, IfOk};
+ghost use Rattle.std.specs.Prelude.{◌≡◌, ◌≤◌, ◌*◌, ◌^◌, ℕ, List, [], All, length, map, vec_capacity, IfOk};
 ghost use Rattle.std.specs.List.{AllByRecursion};
 ghost use Rattle.turnstile.specs.Passes.{shares, turns};
 ghost use Rattle.desk_crew.specs.Crew.{seat_user, IsFresh};
 ghost use Rattle.session_core.specs.Members.{ArePasses};
 ghost use Rattle.serve_engine.specs.Doors.{AreServedDoors, HasOutcome};
+ghost use Rattle.serve_engine.specs.Served.{SessionMarks};
+ghost use Rattle.serve_engine.specs.Members.{OwnMore};
 ghost use Rattle.serve_engine.specs.Sharing.{keeper_of, seat_counter, seat_pass, AreSeatsOn, IsServedAt};
 
 use crate::serving::{Outcome, serve_doors};
@@ -117,9 +119,10 @@ pub(crate) fn serve_seats<
     requires few { length doors.items ≤ 64 }
     requires limit { limit ≤ 2 ^ 30 }
     requires whole { All (λ door. O.faults door ≡ 0) doors.items }
+    requires unended { All (λ door. O.ends door ≡ 0) doors.items }
     ensures on { AreSeatsOn seats.entry.items result.1.items }
-    ensures served { (total : ℕ) × AreServedDoors O.told O.given O.left O.faults O.back (IsServedAt users.now result.1.items) total doors.items result.2.items
-        × HasOutcome O.told O.left O.faults limit result.0 total result.2.items × (total ≤ limit) }
+    ensures served { (total : ℕ) × (marks : O.told → List SessionMarks) × AreServedDoors O.told O.given O.left O.faults O.back (IsServedAt users.now result.1.items) total marks doors.items result.2.items
+        × HasOutcome O.told O.left O.ends O.faults limit result.0 total result.2.items × (total ≤ limit) × ((t : O.told) → OwnMore (map seat_pass seats.entry.items) (map seat_pass result.1.items) (marks t)) }
 {
     let count = seats.len();
     let (Ok(rooms), Ok(room)) = (rooms_for(alloc, count), room_for(alloc, count)) else {

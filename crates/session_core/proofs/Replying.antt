@@ -1,10 +1,10 @@
 -- The replies to one user, put together.
-use Rattle.std.proofs.Common.{◌≡◌, ℕ, ◌≤◌, ◌+◌, Bool, true, false, List, [], ◌∷◌, ◌++◌, map, length, refl, sym, ap, ◌∙◌, subst, append_assoc, arith}
+use Rattle.std.proofs.Common.{◌≡◌, ℕ, ◌≤◌, ◌+◌, Bool, true, false, List, [], ◌∷◌, ◌++◌, length, refl, sym, ap, ◌∙◌, subst, append_assoc, arith}
 use Rattle.std.specs.Prelude.{is_some}
 use Rattle.std.proofs.lemmas.List.{append-nil, length-append}
 use Rattle.cqe_base.specs.Schema.{DatabaseSchema, Text}
 use Rattle.cqe_base.specs.Facts.{FactSet}
-use Rattle.cqe_base.specs.History.{UserProfile, AnsweredQuery, History}
+use Rattle.cqe_base.specs.History.{UserProfile, History}
 use Rattle.cqe_base.specs.Censor.{IsLegal}
 use Rattle.cqe_base.specs.Run
 use Rattle.cqe_base.specs.Run.{Standing, reply}
@@ -18,9 +18,10 @@ use Rattle.user_desk.specs.Standings.{standing_of}
 use Rattle.desk_counter.specs.declared.item.Item.{Item}
 use Rattle.desk_counter.specs.declared.item.Item.TheVariants.{Kept, Broke}
 use Rattle.desk_counter.specs.declared.item.Fixed.{Fixed}
-use Rattle.desk_counter.specs.Items.{history_of, kept_pair, kept_pairs, has_broke}
+use Rattle.desk_counter.specs.Items.{history_of, has_broke}
 use Rattle.desk_counter.specs.Asks.{entry_for, NoMark, Adds, told as adds_told, broke as adds_broke, coded as adds_coded, wanted as adds_wanted, Asked}
 use Rattle.desk_counter.proofs.Asking.{flying_broke}
+use Rattle.desk_counter.proofs.Pairs.{history_all}
 use Rattle.session_core.specs.Replied.{IsCode, Replied, nothing, told, coded, append_failed, wanted}
 use Rattle.session_core.specs.Desks.{Asks, AreReplied}
 
@@ -50,18 +51,6 @@ module _ (schema : DatabaseSchema) (world : FactSet) (user : UserProfile) (stand
   replied_then first more broke broke' on (wanted rest) last = wanted (replied_then first more broke broke' on rest last)
 
 -- ---- pairs
-
-kept_all : (xs ys : Entries Item) → kept_pairs (xs ++ ys) ≡ kept_pairs xs ++ kept_pairs ys
-kept_all [] ys = refl
-kept_all (x ∷ xs) ys = ap (λ ps. kept_pair x.0 x.1 ++ ps) (kept_all xs ys) ∙ sym (append_assoc (kept_pair x.0 x.1) (kept_pairs xs) (kept_pairs ys))
-
-second_all : (xs ys : Entries AnsweredQuery) → map (λ (p : ℕ × AnsweredQuery). p.1) (xs ++ ys) ≡ map (λ p. p.1) xs ++ map (λ p. p.1) ys
-second_all [] ys = refl
-second_all (x ∷ xs) ys = ap (λ h. x.1 ∷ h) (second_all xs ys)
-
--- the history of pairs and further ones
-pub history_all : (xs ys : Entries Item) → history_of (xs ++ ys) ≡ history_of xs ++ history_of ys
-history_all xs ys = ap (λ ps. map (λ (p : ℕ × AnsweredQuery). p.1) ps) (kept_all xs ys) ∙ second_all (kept_pairs xs) (kept_pairs ys)
 
 -- an append that failed among pairs failed among these and further ones
 pub broke_on : (xs ys : Entries Item) → has_broke xs ≡ true → has_broke (xs ++ ys) ≡ true

@@ -2,7 +2,7 @@
 use Rattle.std.specs.Prelude.{◌≡◌, ◌≤◌, ◌^◌, List, [], ◌∷◌, map}
 use Rattle.cqe_base.specs.declared.user.User.{User}
 use Rattle.turnstile.specs.declared.pass.Pass.{Pass}
-use Rattle.turnstile.specs.History.{IsPrefix}
+use Rattle.turnstile.specs.History.{IsPrefix, Interleaves}
 use Rattle.turnstile.specs.Views.{remaining_view, split_off_view, view_of_both}
 use Rattle.turnstile.specs.Passes.{view_of, seen, mine, shares, turns}
 use Rattle.desk_counter.specs.declared.item.Item.{Item}
@@ -55,12 +55,14 @@ module _ {D : Type 0} {g h : _} where
   AreSplit (counter ∷ counters) (old ∷ olds) (new ∷ news) (part ∷ parts) = IsSplit counter old new part × AreSplit counters olds news parts
   AreSplit counters olds news parts = ⊥
 
-  -- Two passes met: each had seen a beginning of what both have seen.
+  -- Two passes met: each had seen a beginning of what both have seen, and the pairs of the new one's own are those of both,
+  -- put together with each in its order.
   pub record IsMet (counter : CounterOf (TicketedDesk D g) Item (Fixed D) h) (old other new : Pass Item (Fixed D)) : Type 0 where
     pub pass_is : IsPassOf new counter
     pub view : view_of new ≡ view_of_both (view_of old) (view_of other)
     pub this : IsPrefix (seen old) (seen new)
     pub that : IsPrefix (seen other) (seen new)
+    pub mine_is : Interleaves (mine old) (mine other) (mine new)
 
   -- all did
   abbrev pub AreMet : List (CounterOf (TicketedDesk D g) Item (Fixed D) h) → List (Pass Item (Fixed D)) → List (Pass Item (Fixed D)) → List (Pass Item (Fixed D)) → Type 0

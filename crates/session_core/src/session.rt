@@ -153,6 +153,7 @@ pub fn serve_session<R: Wait, D: Disk, S: Source, K: Sink, G: Gate>(
     ensures passes { ArePassesOf passes.new counters.now }
     ensures session { Session S.told K.told (users_of counters.now) (fixeds_of counters.now) result (S.left source.old) (passes_in passes.old) (passes_in passes.new) (K.written sink.old) (K.written sink.new) }
     ensures held { S.held source.new ≡ S.held source.old }
+    ensures answers { K.answers sink.new ≡ K.answers sink.old }
     ensures source_later { S.faults source.old ≤ S.faults source.new }
     ensures sink_later { K.faults sink.old ≤ K.faults sink.new }
     ensures read_cause { result ≡ Ended.ReadFault → Rose (S.faults source.old) (S.faults source.new) }
@@ -186,6 +187,7 @@ fn end_too_long<K: Sink>(sink: &mut K) -> Ended
     ensures ends { (result ≡ Ended.TooLong) ⊎ (result ≡ Ended.WriteFault) }
     ensures whole { result ≡ Ended.TooLong → K.told → K.written sink.new ≡ K.written sink.old ++ (text_of (Reply.Code 26) ++ codes "\n") }
     ensures part { result ≡ Ended.WriteFault → K.told → AppendsPart (K.written sink.old) (K.written sink.new) (text_of (Reply.Code 26) ++ codes "\n") }
+    ensures answers { K.answers sink.new ≡ K.answers sink.old }
     ensures later { K.faults sink.old ≤ K.faults sink.new }
     ensures cause { result ≡ Ended.WriteFault → Rose (K.faults sink.old) (K.faults sink.new) }
 {

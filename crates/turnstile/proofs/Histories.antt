@@ -119,6 +119,16 @@ module _ {I : Type 0} where
       let b : entries_with ts (e ∷ es) ≡ e ∷ entries_with ts es = ap (λ (b : Bool). cond (not b) (e ∷ entries_with ts es) (entries_with ts es)) (ne_eqb (count_of e.0 ts) 0 (λ w. omega arith)) in
       a ∙ (ap (λ (l : Entries I). e ∷ l) rest ∙ sym b))
 
+  -- a turn's pair is among those that turns added
+  pub turned_more : (es : Entries I) (n : ℕ) (x : I) → 0 < n → turn_entries (es ++ (n, x) ∷ []) ≡ turn_entries es ++ (n, x) ∷ []
+  turned_more es n x pos = filter-append (λ (e : ℕ × I). not (eqb e.0 0)) es ((n, x) ∷ []) ∙ ap (λ (b : Bool). turn_entries es ++ cond (not b) ((n, x) ∷ []) []) (ne_eqb n 0 (λ z. omega arith))
+
+  -- none is where every ticket is 0
+  pub none_of_opening : (es : Entries I) → IsOpening es → turn_entries es ≡ []
+  none_of_opening [] zeros = refl
+  none_of_opening (e ∷ es) zeros =
+      ap (λ (b : Bool). cond (not b) (e ∷ turn_entries es) (turn_entries es)) (eq-eqb e.0 0 (All-head (λ x. x.0 ≡ 0) e es zeros)) ∙ none_of_opening es (All-tail (λ x. x.0 ≡ 0) e es zeros)
+
   -- a ticket that no pair has adds none
   pub entries_with_fresh : (ts : List ℕ) (n : ℕ) (es : Entries I) → AllBelow n es → entries_with (ts ++ n ∷ []) es ≡ entries_with ts es
   entries_with_fresh ts n [] below = refl

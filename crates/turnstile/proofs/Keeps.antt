@@ -16,7 +16,7 @@ use Rattle.turnstile.proofs.Sums.{set_there, sum_set, sum_at, sum_two, sum_some,
 use Rattle.std.proofs.lemmas.List.Sums.{sum_by_push}
 use Rattle.std.proofs.lemmas.List.Elements.{All-nil, All-cons, All-append}
 use Rattle.std.proofs.lemmas.Bool.{lt-leb}
-use Rattle.turnstile.proofs.Histories.{AllBelow, Lacks, rising_below, below_end, below_more, rising_more, rising_on, rising_under, rising_front, rising_opening, none_more, none_of_none, none_both, none_front, none_end, begins_longer, begins_whole, entries_with_seen, entries_with_all}
+use Rattle.turnstile.proofs.Histories.{AllBelow, Lacks, rising_below, below_end, below_more, rising_more, rising_on, rising_under, rising_front, rising_opening, none_more, none_of_none, none_both, none_front, none_end, begins_longer, begins_whole, entries_with_seen, entries_with_all, turned_more, none_of_opening}
 
 waiting-outside : (t : ℕ) → Waiting t ≡ Outside → ⊥
 waiting-outside t e = cc
@@ -32,13 +32,14 @@ inside-same t u e = cc
 
 module _ {V I F : Type 0} (entries_of : V → Entries I) (fixed_of : V → F) where
   -- what the closing pass knows of the value
-  pub record Closes (v : View I F) (y : V) : Type 0 where
+  pub record Closes (first : Entries I) (v : View I F) (y : V) : Type 0 where
     pub entries : entries_of y ≡ v.seen
+    pub added : entries_of y ≡ first ++ entries_with v.drawn v.seen
     pub mine : turn_entries (entries_of y) ≡ entries_with v.drawn v.seen
     pub drew : DrewEachOnce v
     pub fixed : v.fixed ≡ Some (fixed_of y)
 
-module _ {V I F : Type 0} (entries_of : V → Entries I) (fixed_of : V → F) (fixed : F) where
+module _ {V I F : Type 0} (entries_of : V → Entries I) (fixed_of : V → F) (fixed : F) (first : Entries I) where
   abbrev W : Type 0
   W = View I F
 
@@ -49,7 +50,7 @@ module _ {V I F : Type 0} (entries_of : V → Entries I) (fixed_of : V → F) (f
   M = Me (Option V) W
 
   abbrev Rule : St → Type 0
-  Rule = TurnstileRule entries_of fixed_of fixed
+  Rule = TurnstileRule entries_of fixed_of fixed first
 
   abbrev Longest : List W → Entries I → Type 0
   Longest views history = (k : ℕ) × (v : W) × (get_elem? views k ≡ some v) × (0 < v.shares) × (v.seen ≡ history)
@@ -124,6 +125,7 @@ module _ {V I F : Type 0} (entries_of : V → Entries I) (fixed_of : V → F) (f
               record { behind = fit.behind; seen = fit.seen; missed = none_more v.drawn n fit.behind fit.missed behind; own = λ x. let z = count_of-append x v.drawn (n ∷ []) in omega arith; live = inl live; joined = tt; agreed = tt };
           longest = longest_set s.views id v w r.history at r.longest (λ e. e) live.0;
           rising = r.rising;
+          added = r.added;
           slot = ⊎_elim (λ h. inl h) (λ o. inr (out_set s id v w (set s.words 0 ((n + 1) % 2 ^ 64)) at (λ t e. inside-outside t (sym e ∙ out)) o)) r.slot;
           in_turn = each_set (λ _ u. HasTurn r.serving r.history s.homes u) s.views id w (λ k u _. r.in_turn k u)
               (λ t e. absurd (inside-waiting t n (sym e)));
@@ -177,6 +179,7 @@ module _ {V I F : Type 0} (entries_of : V → Entries I) (fixed_of : V → F) (f
               record { behind = []; seen = sym home.2 ∙ sym (append-nil entries); missed = All-nil (Lacks v.drawn); own = λ x. subst (λ (l : List ℕ). count_of x l ≤ count_of x v.drawn) holds (fit.own x); live = inl live; joined = tt; agreed = tt };
           longest = (id, w, set_there s.views id v w at, live.0, home.2);
           rising = r.rising;
+          added = r.added;
           slot = inr (taken, (id, w, ticket, set_there s.views id v w at, refl));
           in_turn = each_set (λ _ u. HasTurn r.serving r.history (set s.homes 0 none) u) s.views id w
               (λ k u _ e t stage''. absurd (some_none (Some y) (sym home.1 ∙ (r.in_turn k u e t stage'').2)))
@@ -224,6 +227,14 @@ module _ {V I F : Type 0} (entries_of : V → Entries I) (fixed_of : V → F) (f
   grown n history y pos rising h = ⊎_elim
       (λ (same : entries_of y ≡ history). ([], same ∙ sym (append-nil history), subst (IsRising 0 (n + 1)) (sym same) (rising_on 0 n history rising), λ ts z. All-nil (Lacks ts)))
       (λ (more : (x : I) × (entries_of y ≡ history ++ (n, x) ∷ [])). ((n, more.0) ∷ [], more.1, subst (IsRising 0 (n + 1)) (sym more.1) (rising_more 0 n history more.0 pos rising), λ ts z. All-cons (Lacks ts) (n, more.0) [] z (All-nil (Lacks ts))))
+      h
+
+  -- the history is still what was there at the start and what turns added
+  added_more : (history : Entries I) (n : ℕ) (y : V) → 0 < n → history ≡ first ++ turn_entries history → AddsAtMostOne n history (entries_of y) → entries_of y ≡ first ++ turn_entries (entries_of y)
+  added_more history n y pos added h = ⊎_elim
+      (λ (same : entries_of y ≡ history). same ∙ added ∙ ap (λ (l : Entries I). first ++ turn_entries l) (sym same))
+      (λ (more : (x : I) × (entries_of y ≡ history ++ (n, x) ∷ [])). more.1 ∙ ap (λ (l : Entries I). l ++ (n, more.0) ∷ []) added ∙ append_assoc first (turn_entries history) ((n, more.0) ∷ [])
+      ∙ ap (λ (l : Entries I). first ++ l) (sym (turned_more history n more.0 pos) ∙ ap turn_entries (sym more.1)))
       h
 
   pub goes_on : (slots id : ℕ) (m : M) (ticket : ℕ) (y : V) → m.0.stage ≡ Inside ticket → m.1 ≡ (0, Some y) ∷ [] → m.0.fixed ≡ Some (fixed_of y) → AddsAtMostOne ticket m.0.seen (entries_of y)
@@ -282,6 +293,7 @@ module _ {V I F : Type 0} (entries_of : V → Entries I) (fixed_of : V → F) (f
               record { behind = []; seen = sym (append-nil entries); missed = All-nil (Lacks v.drawn); own = λ x. omega arith; live = inl live; joined = tt; agreed = tt };
           longest = (id, w, set_there s.views id v w at, live.0, refl);
           rising = g.2;
+          added = added_more r.history n y (omega arith) r.added (subst (λ (z : ℕ × Entries I). AddsAtMostOne z.0 z.1 entries) (λ i. (served i, mine.1 i)) grows);
           slot = inl (y, homes, refl, fixed_same);
           in_turn = each_set (λ _ u. HasTurn (n + 1) entries (Rattle.atomic_table.specs.Table.put_back s.homes m.1) u) s.views id w
               (λ k u apart there t stage''. absurd (held_once s r k id u v n apart there at (ap tickets_at stage'' ∙ ap (λ (z : ℕ). z ∷ []) ((r.in_turn k u there t stage'').0 ∙ sym is)) holds))
@@ -336,6 +348,7 @@ module _ {V I F : Type 0} (entries_of : V → Entries I) (fixed_of : V → F) (f
             record { behind = fit.behind; seen = fit.seen; missed = none_of_none fit.behind; own = λ x. omega arith; live = inl (omega arith, live.1); joined = tt; agreed = tt };
         longest = let l = longest_set s.views id v left r.history at r.longest (λ e. e) (omega arith) in (l.0, l.1, at_longer (set s.views id left) (right ∷ []) l.0 l.1 l.2, l.3, l.4);
         rising = r.rising;
+        added = r.added;
         slot = ⊎_elim (λ h. inl h) (λ o. let out = out_set s id v left s.words at (λ t e. inside-outside t (sym e ∙ stage)) o in let there = out.1 in
             inr (out.0, (there.0, there.1, there.2, at_longer (set s.views id left) (right ∷ []) there.0 there.1 there.3, there.4))) r.slot;
         in_turn = each_cut (λ u. HasTurn r.serving r.history s.homes u) s.views id left right r.in_turn (λ t e. absurd (inside-outside t (sym e ∙ stage))) (λ t e. absurd (inside-outside t (sym e)));
@@ -415,6 +428,7 @@ module _ {V I F : Type 0} (entries_of : V → Entries I) (fixed_of : V → F) (f
             (λ e. let same : l.1 ≡ w = some-injective l.1 w (sym l.2 ∙ (ap (get_elem? s.views) e ∙ was)) in (id, both, here, omega arith, longer_whole r.history v w fit fit' (inr (ap (λ (u : W). u.seen) (sym same) ∙ l.4))))
             (λ m. (l.0, l.1, set_else one other l.0 spent_view m ∙ (set_else s.views id l.0 both n ∙ l.2), l.3, l.4)));
         rising = r.rising;
+        added = r.added;
         slot = ⊎_elim (λ h. inl h)
             (λ o. let first = out_set s id v both s.words at (λ t e. inside-outside t (sym e ∙ stage)) o in
             inr (out_set record { words = s.words; homes = s.homes; views = one } other w spent_view s.words there (λ t e. inside-outside t (sym e ∙ stage')) first)) r.slot;
@@ -426,8 +440,8 @@ module _ {V I F : Type 0} (entries_of : V → Entries I) (fixed_of : V → F) (f
       live_shares : (v : W) → 0 < v.shares → (((0 < v.shares) × (v.fixed ≡ Some fixed)) ⊎ (v ≡ spent_view)) → (0 < v.shares) × (v.fixed ≡ Some fixed)
       live_shares v pos h = ⊎_elim (λ a. a) (λ (e : v ≡ spent_view). let z : v.shares ≡ 0 = ap (λ (u : W). u.shares) e in absurd (omega arith)) h
 
-  pub opens : (y : V) → IsOpening (entries_of y) → fixed_of y ≡ fixed → Rule (opening (1 ∷ 1 ∷ []) (Some y ∷ []) (opening_view (entries_of y) fixed))
-  opens y zeros same = record {
+  pub opens : (y : V) → IsOpening (entries_of y) → fixed_of y ≡ fixed → entries_of y ≡ first → Rule (opening (1 ∷ 1 ∷ []) (Some y ∷ []) (opening_view (entries_of y) fixed))
+  opens y zeros same first_is = record {
     ticket = 1;
     serving = 1;
     history = entries_of y;
@@ -440,6 +454,7 @@ module _ {V I F : Type 0} (entries_of : V → Entries I) (fixed_of : V → F) (f
     each = only (Fits fixed (entries_of y)) record { behind = []; seen = sym (append-nil (entries_of y)); missed = All-nil (Lacks []); own = λ x. omega arith; live = inl (omega arith, refl); joined = tt; agreed = tt };
     longest = (0, opening_view (entries_of y) fixed, refl, omega arith, refl);
     rising = rising_opening 0 1 (entries_of y) zeros;
+    added = first_is ∙ sym (append-nil first) ∙ ap (λ (l : Entries I). first ++ l) (sym (none_of_opening (entries_of y) zeros));
     slot = inl (y, refl, refl, same);
     in_turn = only (λ u. HasTurn 1 (entries_of y) (some (Some y) ∷ []) u) (λ t z. absurd (inside-outside t (sym z)));
   }
@@ -461,7 +476,7 @@ module _ {V I F : Type 0} (entries_of : V → Entries I) (fixed_of : V → F) (f
       (λ e. ⊎_elim (λ (live : (0 < u.shares) × (u.fixed ≡ Some fixed)). let p = live.0 in let two = sum_two (λ (z : W). z.shares) s.views k id u v e t.2 at in let sum = r.shares in absurd (omega arith))
       (λ (gone : u ≡ spent_view). let z : count_of x u.drawn ≡ 0 = ap (λ (y : W). count_of x y.drawn) gone in absurd (omega arith)) (r.each k u t.2).live)
 
-  closes : (s : St) (r : Rule s) (id : ℕ) (v : W) → get_elem? s.views id ≡ some v → v.stage ≡ Outside → v.shares ≡ 65 → (y : V) × (get_elem? s.homes 0 ≡ some (some (Some y))) × Closes entries_of fixed_of v y
+  closes : (s : St) (r : Rule s) (id : ℕ) (v : W) → get_elem? s.views id ≡ some v → v.stage ≡ Outside → v.shares ≡ 65 → (y : V) × (get_elem? s.homes 0 ≡ some (some (Some y))) × Closes entries_of fixed_of first v y
   closes s r id v at stage all =
       let fit = r.each id v at in
       let whole = whole_seen s r id v at all in
@@ -483,6 +498,7 @@ module _ {V I F : Type 0} (entries_of : V → Entries I) (fixed_of : V → F) (f
         ap (λ hs. get_elem? hs 0) home.1,
         record {
           entries = same;
+          added = home.2 ∙ r.added ∙ ap (λ (l : Entries I). first ++ l) (ap turn_entries (sym whole) ∙ entries_with_all v.drawn r.ticket v.seen below none_of (drew_all s r id v at all));
           mine = ap turn_entries same ∙ entries_with_all v.drawn r.ticket v.seen below none_of (drew_all s r id v at all);
           drew = (r.ticket, drew, subst (IsRising 0 r.ticket) (sym whole) (rising_under 0 r.serving r.ticket r.history high r.rising));
           fixed = live.1 ∙ ap (λ (f : F). Some f) (sym home.3);
@@ -520,6 +536,7 @@ module _ {V I F : Type 0} (entries_of : V → Entries I) (fixed_of : V → F) (f
               record { behind = fit.behind; seen = fit.seen; missed = fit.missed; own = fit.own; live = ⊎_elim (λ l. inl l) (λ (e : v ≡ spent_view). let z : v.shares ≡ 0 = ap (λ (u : W). u.shares) e in absurd (omega arith)) fit.live; joined = tt; agreed = tt };
           longest = longest_set s.views id v w r.history at r.longest (λ e. e) pos;
           rising = r.rising;
+          added = r.added;
           slot = ⊎_elim (λ h. inl h) (λ o. inr (out_set s id v w (set s.words 1 (slice_index s.words 1)) at (λ t e. inside-outside t (sym e ∙ stage)) o)) r.slot;
           in_turn = each_set (λ _ u. HasTurn r.serving r.history s.homes u) s.views id w (λ k u _. r.in_turn k u)
               (λ t e. absurd (inside-outside t (sym e ∙ stage)));
@@ -535,7 +552,7 @@ module _ {V I F : Type 0} (entries_of : V → Entries I) (fixed_of : V → F) (f
       )
 
   -- the same of what the closed table has in its slot
-  pub ends : (id : ℕ) (v : W) (ws : List ℕ) (xs : List (Option V)) (x : Option V) → Final (Seen Rule id v) ws xs → v.stage ≡ Outside → v.shares ≡ 65 → get_elem? xs 0 ≡ some x → (y : V) × (x ≡ Some y) × Closes entries_of fixed_of v y
+  pub ends : (id : ℕ) (v : W) (ws : List ℕ) (xs : List (Option V)) (x : Option V) → Final (Seen Rule id v) ws xs → v.stage ≡ Outside → v.shares ≡ 65 → get_elem? xs 0 ≡ some x → (y : V) × (x ≡ Some y) × Closes entries_of fixed_of first v y
   ends id v ws xs x f stage all there =
       let t = closes f.0 f.1.0 id v f.1.1 stage all in
       (t.0, some-injective x (Some t.0) (sym there ∙ f.4 0 (Some t.0) t.1), t.2)

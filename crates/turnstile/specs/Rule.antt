@@ -5,7 +5,7 @@ use lib.ListN.{get_elem?}
 use Rattle.atomic_table.specs.Table.{State}
 use Rattle.turnstile.specs.declared.view.View.{View}
 use Rattle.turnstile.specs.declared.view.Stage.TheVariants.{Inside}
-use Rattle.turnstile.specs.History.{Entries, count_of, OnceBetween, NoneWith, IsRising}
+use Rattle.turnstile.specs.History.{Entries, count_of, OnceBetween, NoneWith, IsRising, turn_entries}
 use Rattle.turnstile.specs.Views.{held_tickets, spent_view, AllKnown, AllFixed}
 
 module _ {I F : Type 0} where
@@ -39,7 +39,7 @@ module _ {V I F : Type 0} (entries_of : V → Entries I) (fixed_of : V → F) wh
   IsOut s = (s.homes ≡ none ∷ []) × ((k : ℕ) × (v : View I F) × (ticket : ℕ) × (get_elem? s.views k ≡ some v) × (v.stage ≡ Inside ticket))
 
   -- the rule, between any two steps
-  pub record TurnstileRule (fixed : F) (s : State (Option V) (View I F)) : Type 0 where
+  pub record TurnstileRule (fixed : F) (first : Entries I) (s : State (Option V) (View I F)) : Type 0 where
     -- the words are the ticket to be drawn next and the ticket that is served
     pub ticket : ℕ
     pub serving : ℕ
@@ -59,6 +59,8 @@ module _ {V I F : Type 0} (entries_of : V → Entries I) (fixed_of : V → F) wh
     pub each : (k : ℕ) (v : View I F) → get_elem? s.views k ≡ some v → Fits fixed history v
     -- its tickets other than 0 rise strictly, and are below `serving`
     pub rising : IsRising 0 serving history
+    -- it is what was there at the start, and behind that what turns added
+    pub added : history ≡ first ++ turn_entries history
     -- the value is at home or in a turn
     pub slot : IsHome fixed history s ⊎ IsOut s
     pub in_turn : (k : ℕ) (v : View I F) → get_elem? s.views k ≡ some v → HasTurn serving history s.homes v

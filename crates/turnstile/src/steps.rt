@@ -24,7 +24,7 @@ impl<V: Recorded> TableRule<Option<V>, View<V::Item, V::Fixed>, Snapshot<V>> for
     ghost use Rattle.turnstile.specs.Rule.{TurnstileRule};
     ghost use Rattle.turnstile.specs.Views.{opening_view};
 
-    ghost holds = { λ key. TurnstileRule V.entries V.fixed (V.fixed key.value) };
+    ghost holds = { λ key. TurnstileRule V.entries V.fixed (V.fixed key.value) (V.entries key.value) };
 
     ghost first = { λ key. opening_view (V.entries key.value) (V.fixed key.value) };
 }

@@ -42,7 +42,7 @@ impl<V: Recorded> Turn<V> {
 }
 
 impl<V: Recorded> Turnstile<V> {
-    ghost use Rattle.std.specs.Prelude.{◌⊎◌, ℕ, ◌^◌, Some, IfOk, IfErr, OnOk};
+    ghost use Rattle.std.specs.Prelude.{◌⊎◌, ◌++◌, ℕ, ◌^◌, Some, IfOk, IfErr, OnOk};
     ghost use Rattle.turnstile.specs.declared.pass.PassError.TheVariants.{TooMany};
     ghost use Rattle.turnstile.specs.History.{IsPrefix, AddsAtMostOne, AddsAlike, IsOpening, Interleaves, IsRising, entries_with, turn_entries};
     ghost use Rattle.turnstile.specs.Views.{opening_view, turn_view, outside_view, remaining_view, split_off_view, view_of_both, DrewEachOnce};
@@ -152,6 +152,9 @@ impl<V: Recorded> Turnstile<V> {
         requires all { shares pass ≡ 65 }
         ensures entries { V.entries result ≡ seen pass }
         ensures mine { turn_entries (V.entries result) ≡ mine pass }
+
+        // They are those that the value was put under the turnstile with, and behind them the pass's own.
+        ensures added { V.entries result ≡ V.entries (first_value self) ++ mine pass }
         ensures drew { DrewEachOnce (view_of pass) }
         ensures fixed { fixed pass ≡ Some (V.fixed result) }
     {

@@ -1,6 +1,5 @@
 -- What a worker did so far and what it does then.
-use Rattle.std.proofs.Common.{◌≡◌, ℕ, ◌+◌, ◌<◌, cond, Bool, lt-ltb, List, [], ◌∷◌, ◌++◌, length, sum_by, refl, sym, ap, ◌∙◌, arith, length-append, append_assoc, append-nil, Option, Some}
-use Rattle.std.specs.List.{AllByRecursion}
+use Rattle.std.proofs.Common.{◌≡◌, ℕ, ◌+◌, ◌<◌, cond, Bool, lt-ltb, List, [], ◌∷◌, ◌++◌, length, sum_by, refl, sym, ap, ◌∙◌, subst, arith, length-append, append_assoc, append-nil, Option, Some}
 use Rattle.outside.proofs.Rises.{rose_since}
 use Rattle.outside.specs.Faults.{Rose}
 use Rattle.outside.specs.Visits.{Visit}
@@ -11,22 +10,12 @@ use Rattle.worker_pool.specs.Hands.{is_below}
 use Rattle.worker_pool.specs.Runs.{HasRun, HasWorked}
 use Rattle.worker_pool.proofs.Keeps.{drawn_more}
 
-module _ {X : Type 0} where
-  -- what stands of both lists stands of them together
-  all_both : (P : X → Type 0) (xs ys : List X) → AllByRecursion P xs → AllByRecursion P ys → AllByRecursion P (xs ++ ys)
-  all_both P [] ys here there = there
-  all_both P (x ∷ xs) ys here there = (here.0, all_both P xs ys here.1 there)
-
-  all_still : (P Q : X → Type 0) (xs : List X) → ((x : X) → P x → Q x) → AllByRecursion P xs → AllByRecursion Q xs
-  all_still P Q [] still all = tt
-  all_still P Q (x ∷ xs) still all = (still x all.0, all_still P Q xs still all.1)
-
 -- a number below the limit counts once more
 pub below_one_more : (limit n : ℕ) (numbers : List ℕ) → n < limit → sum_by (is_below limit) (numbers ++ n ∷ []) ≡ sum_by (is_below limit) numbers + 1
 below_one_more limit n numbers less = drawn_more (is_below limit) numbers n ∙ ap (λ (k : ℕ). sum_by (is_below limit) numbers + k) (ap (λ (b : Bool). cond b 1 0) (lt-ltb n limit less))
 
 module _ {J O : Type 0} (door_told numbers_told : Type 0) (given_of left_of ends_of faults_of : O → ℕ) (back_of : O → List Visit)
-    (room_of ran_of : J → ℕ) (numbers_of : J → List ℕ) (stands_of : J → Visit → Type 0) (keeps_of : J → J → Type 0) where
+    (room_of ran_of : J → ℕ) (numbers_of : J → List ℕ) (stands_of : J → J → List Visit → Type 0) (keeps_of : J → J → Type 0) where
   abbrev Run : List ℕ → Worker J O → Worker J O → Type 0
   Run = HasRun door_told numbers_told given_of left_of ends_of faults_of back_of room_of ran_of numbers_of stands_of keeps_of
 
@@ -41,14 +30,13 @@ module _ {J O : Type 0} (door_told numbers_told : Type 0) (given_of left_of ends
         keeps = keeps_more a.job b.job c.job first.keeps second.keeps;
         given = λ told. let p = first.given told in let q = second.given told in omega arith;
         left = λ told. let p = first.left told in let q = second.left told in omega arith;
-        back = λ told.
-            (let v = first.back told in let w = second.back told in record {
+        back = λ told since earlier stood.
+            (let v = first.back told since earlier stood in let w = second.back told since (earlier ++ v.visits) v.stand in record {
               visits = v.visits ++ w.visits;
               behind = w.behind ∙ ap (λ (l : List Visit). l ++ w.visits) v.behind ∙ append_assoc (back_of a.door) v.visits w.visits;
               many = let p = v.many in let q = w.many in omega (arith, length-append v.visits w.visits);
-              stand = all_both (stands_of c.job) v.visits w.visits (all_still (stands_of b.job) (stands_of c.job) v.visits (second.still told) v.stand) w.stand;
+              stand = subst (stands_of since c.job) (append_assoc earlier v.visits w.visits) w.stand;
             });
-        still = λ told visit stood. second.still told visit (first.still told visit stood);
         ends = let p = first.ends in let q = second.ends in omega arith;
         faults = let p = first.faults in let q = second.faults in omega arith;
       }
@@ -62,8 +50,7 @@ module _ {J O : Type 0} (door_told numbers_told : Type 0) (given_of left_of ends
     keeps = run.keeps;
     given = run.given;
     left = run.left;
-    back = λ told. let v = run.back told in record { visits = v.visits; behind = v.behind; many = v.many; stand = v.stand };
-    still = run.still;
+    back = run.back;
     ends = run.ends;
     faults = run.faults;
   }

@@ -1,5 +1,5 @@
 -- What all workers did together.
-use Rattle.std.proofs.Common.{◌≡◌, ◌⊎◌, inl, inr, ℕ, zero, suc, ◌+◌, ◌<◌, ◌≤◌, ◌==◌, cond, ltb, ltb-true, Bool, true, false, List, [], ◌∷◌, length, map, drop, All, sum_by, slice_index_or, Some, refl, sym, ap, ◌∙◌, subst, arith, eqb-true, eq-eqb}
+use Rattle.std.proofs.Common.{◌≡◌, ◌⊎◌, inl, inr, ℕ, zero, suc, ◌+◌, ◌<◌, ◌≤◌, ◌==◌, cond, ltb, ltb-true, Bool, true, false, List, [], ◌∷◌, length, map, drop, All, sum_by, slice_index_or, Option, Some, None, IsSome, refl, sym, ap, ◌∙◌, subst, arith, eqb-true, eq-eqb}
 use Rattle.std.specs.List.{AllZip, AllByRecursion}
 use Rattle.std.proofs.lemmas.List.{drop_at}
 use Rattle.std.proofs.lemmas.List.Sums.{sum_by-cons, sum_by-append}
@@ -8,12 +8,13 @@ use mathlib.Core.Logic.{dite}
 use native.Mathlib.Decide.{ℕ_discrete, dec_le}
 use Rattle.outside.specs.Visits.{Visit}
 use Rattle.worker_pool.specs.declared.worker.Worker.{Worker}
-use Rattle.worker_pool.specs.declared.worker.WorkerEnd.TheVariants.{LimitReached}
+use Rattle.worker_pool.specs.declared.worker.WorkerEnd.{WorkerEnd}
+use Rattle.worker_pool.specs.declared.worker.WorkerEnd.TheVariants.{LinksEnded, LimitReached, LinksFailed}
 use Rattle.worker_pool.specs.declared.pool.Seated.{Seated}
 use Rattle.worker_pool.specs.Hands.{sum_below, is_below}
 use Rattle.worker_pool.specs.Drawers.{drawn}
 use Rattle.worker_pool.specs.Seats.{draws}
-use Rattle.worker_pool.specs.Workers.{IsServed, AreDifferentBelow, added_numbers}
+use Rattle.worker_pool.specs.Workers.{IsServed, AreDifferentBelow, added_numbers, lost}
 use Rattle.worker_pool.specs.Runs.{HasWorked}
 use Rattle.worker_pool.proofs.Sums.{below_min}
 
@@ -53,6 +54,19 @@ below_length : (limit : ℕ) (numbers : List ℕ) → sum_by (is_below limit) nu
 below_length limit [] = omega arith
 below_length limit (n ∷ numbers) = omega (arith, sum_by-cons (is_below limit) n numbers, below_at_most limit n, below_length limit numbers)
 
+-- a number that isn't below the limit doesn't count
+not_below : (limit n : ℕ) → limit ≤ n → sum_by (is_below limit) (n ∷ []) ≡ 0
+not_below limit n le = by_test (ltb n limit) (ltb-true n limit)
+  where
+    by_test : (b : Bool) → (b ≡ true → n < limit) → 0 + cond b 1 0 ≡ 0
+    by_test true less = absurd (let l = less refl in omega arith)
+    by_test false less = refl
+
+-- none isn't some
+pub none_isnt : (end : Option WorkerEnd) → end ≡ None → IsSome end → ⊥
+none_isnt None is some = absurd cc
+none_isnt (Some end) is some = absurd cc
+
 -- where all count, all are below the limit
 all_below : (limit : ℕ) (numbers : List ℕ) → sum_by (is_below limit) numbers ≡ length numbers → AllByRecursion (λ n. n < limit) numbers
 all_below limit [] all = tt
@@ -67,7 +81,7 @@ all_below limit (n ∷ numbers) all =
     is_one false e less = absurd (omega arith)
 
 module _ {J O : Type 0} (door_told numbers_told : Type 0) (given_of left_of ends_of faults_of : O → ℕ) (back_of : O → List Visit)
-    (room_of ran_of : J → ℕ) (numbers_of : J → List ℕ) (stands_of : J → Visit → Type 0) (keeps_of : J → J → Type 0) (limit : ℕ) where
+    (room_of ran_of : J → ℕ) (numbers_of : J → List ℕ) (stands_of : J → J → List Visit → Type 0) (keeps_of : J → J → Type 0) (stands_none : (job : J) → stands_of job job []) (limit : ℕ) where
   -- a worker before it served, and in its seat afterwards
   abbrev Worked : Worker J O → Seated J O → Type 0
   Worked before seated = HasWorked door_told numbers_told given_of left_of ends_of faults_of back_of room_of ran_of numbers_of stands_of keeps_of limit (drawn seated.drawer) before seated.worker
@@ -92,7 +106,7 @@ module _ {J O : Type 0} (door_told numbers_told : Type 0) (given_of left_of ends
       let count : length worked.runs ≡ ran_of seated.worker.job = omega arith in record {
         given = λ told. let e = run.given told in omega arith;
         left = λ told. let e = run.left told in omega arith;
-        back = λ told. let v = run.back told in record { visits = v.visits; behind = v.behind; many = v.many ∙ count; stand = v.stand };
+        back = λ told. let v = run.back told before.job [] (stands_none before.job) in record { visits = v.visits; behind = v.behind; many = v.many ∙ count; stand = v.stand };
         room = let e = run.room in omega arith;
         keeps = run.keeps;
         ends = run.ends;
@@ -116,19 +130,37 @@ module _ {J O : Type 0} (door_told numbers_told : Type 0) (given_of left_of ends
       let below = worked.below in
       omega (arith, ap (sum_by (is_below limit)) worked.all, sum_by-append (is_below limit) worked.runs worked.last, below, ran)
 
-  -- as many numbers below the limit were drawn as there were runs, and at most one more for each worker
+  -- the numbers that all workers lost
+  abbrev lost_of : List (Seated J O) → ℕ
+  lost_of all = sum_by (λ worker. lost worker.ended) (workers_of all)
+
+  -- how many of the last numbers of one worker are below the limit
+  last_lost : (before : Worker J O) (seated : Seated J O) → (worked : Worked before seated) → sum_by (is_below limit) worked.last ≤ lost seated.worker.ended
+  last_lost before seated worked = by_end seated.worker.ended refl
+    where
+      by_end : (end : Option WorkerEnd) → seated.worker.ended ≡ end → sum_by (is_below limit) worked.last ≤ lost end
+      by_end None is = absurd (none_isnt seated.worker.ended is worked.ended)
+      by_end (Some LinksEnded) is = worked.one
+      by_end (Some LinksFailed) is = worked.one
+      by_end (Some LimitReached) is =
+          let last = worked.at_limit is in
+          let none = ap (sum_by (is_below limit)) last.1 ∙ not_below limit last.0 last.2 in
+          omega (arith, none)
+
+  -- as many numbers below the limit were drawn as there were runs, and at most those more that were lost
   pub runs_below : (before : List (Worker J O)) (all : List (Seated J O)) → AllIdle before → AllZip Worked before all
-      → (runs_of all ≤ sum_by (is_below limit) (draws all)) × (sum_by (is_below limit) (draws all) ≤ runs_of all + length (workers_of all))
+      → (runs_of all ≤ sum_by (is_below limit) (draws all)) × (sum_by (is_below limit) (draws all) ≤ runs_of all + lost_of all)
   runs_below [] [] idle worked = (omega arith, omega arith)
   runs_below [] (seated ∷ all) idle worked = absurd worked
   runs_below (first ∷ before) [] idle worked = absurd worked
   runs_below (first ∷ before) (seated ∷ all) idle worked =
       let here = one_below first seated idle.0 worked.0 in
-      let one = worked.0.one in
+      let one = last_lost first seated worked.0 in
       let others = runs_below before all idle.1 worked.1 in
       let low = others.0 in
       let high = others.1 in
       let cut = sum_by-cons (λ (worker : Worker J O). ran_of worker.job) seated.worker (workers_of all) in
+      let lost' = sum_by-cons (λ (worker : Worker J O). lost worker.ended) seated.worker (workers_of all) in
       let drawn' = sum_by-append (is_below limit) (drawn seated.drawer) (draws all) in
       (omega arith, omega arith)
 
@@ -142,44 +174,26 @@ module _ {J O : Type 0} (door_told numbers_told : Type 0) (given_of left_of ends
   reach_at (seated ∷ all) zero d within at = inl at
   reach_at (seated ∷ all) (suc k) d within at = inr (reach_at all k d (omega arith) at)
 
-  -- then one number fewer was drawn, and one that isn't below the limit
-  reached : (before : List (Worker J O)) (all : List (Seated J O)) → AllIdle before → AllZip Worked before all → Reaches all
-      → (sum_by (is_below limit) (draws all) < runs_of all + length (workers_of all)) × ((n : ℕ) × (limit ≤ n) × (0 < sum_by (is_number n) (draws all)))
-  reached [] [] idle worked here = absurd here
-  reached [] (seated ∷ all) idle worked here = absurd worked
-  reached (first ∷ before) [] idle worked here = absurd worked
-  reached (first ∷ before) (seated ∷ all) idle worked (inl here) =
+  -- then one was drawn that isn't below the limit
+  reached : (before : List (Worker J O)) (all : List (Seated J O)) → AllZip Worked before all → Reaches all → (n : ℕ) × (limit ≤ n) × (0 < sum_by (is_number n) (draws all))
+  reached [] [] worked here = absurd here
+  reached [] (seated ∷ all) worked here = absurd worked
+  reached (first ∷ before) [] worked here = absurd worked
+  reached (first ∷ before) (seated ∷ all) worked (inl here) =
       let last = worked.0.at_limit here in
       let n : ℕ = last.0 in
-      let below = one_below first seated idle.0 worked.0 in
-      let none : sum_by (is_below limit) worked.0.last ≡ 0 = ap (sum_by (is_below limit)) last.1 ∙ not_below n last.2 in
-      let high = (runs_below before all idle.1 worked.1).1 in
-      let cut = sum_by-cons (λ (worker : Worker J O). ran_of worker.job) seated.worker (workers_of all) in
-      let drawn' = sum_by-append (is_below limit) (drawn seated.drawer) (draws all) in
       let there = sum_by-append (is_number n) (drawn seated.drawer) (draws all) in
       let mine = ap (sum_by (is_number n)) worked.0.all ∙ sum_by-append (is_number n) worked.0.runs worked.0.last in
       let one : sum_by (is_number n) worked.0.last ≡ 1 = ap (sum_by (is_number n)) last.1 ∙ one_number n in
-      (omega arith, (n, last.2, omega arith))
+      (n, last.2, omega arith)
     where
-      not_below : (n : ℕ) → limit ≤ n → sum_by (is_below limit) (n ∷ []) ≡ 0
-      not_below n le = by_test (ltb n limit) (ltb-true n limit)
-        where
-          by_test : (b : Bool) → (b ≡ true → n < limit) → 0 + cond b 1 0 ≡ 0
-          by_test true less = absurd (let l = less refl in omega arith)
-          by_test false less = refl
-
       one_number : (n : ℕ) → sum_by (is_number n) (n ∷ []) ≡ 1
       one_number n = ap (λ (b : Bool). 0 + cond b 1 0) (eq-eqb n n refl)
-  reached (first ∷ before) (seated ∷ all) idle worked (inr there) =
-      let below = one_below first seated idle.0 worked.0 in
-      let one = worked.0.one in
-      let others = reached before all idle.1 worked.1 there in
-      let less = others.0 in
-      let some = others.1.2 in
-      let cut = sum_by-cons (λ (worker : Worker J O). ran_of worker.job) seated.worker (workers_of all) in
-      let drawn' = sum_by-append (is_below limit) (drawn seated.drawer) (draws all) in
-      let there' = sum_by-append (is_number others.1.0) (drawn seated.drawer) (draws all) in
-      (omega arith, (others.1.0, others.1.1, omega arith))
+  reached (first ∷ before) (seated ∷ all) worked (inr there) =
+      let others = reached before all worked.1 there in
+      let some = others.2 in
+      let there' = sum_by-append (is_number others.0) (drawn seated.drawer) (draws all) in
+      (others.0, others.1, omega arith)
 
   -- all numbers below some number were drawn, each once
   abbrev Drawn : List (Seated J O) → Type 0
@@ -193,13 +207,13 @@ module _ {J O : Type 0} (door_told numbers_told : Type 0) (given_of left_of ends
       omega arith
 
   pub limit_reached : (before : List (Worker J O)) (all : List (Seated J O)) → AllIdle before → AllZip Worked before all → Drawn all
-      → All (λ worker. worker.ended ≡ Some LimitReached → limit < runs_of all + length (workers_of all)) (workers_of all)
+      → All (λ worker. worker.ended ≡ Some LimitReached → limit ≤ runs_of all + lost_of all) (workers_of all)
   limit_reached before all idle worked once k d within at =
-      let t = reached before all idle worked (reach_at all k d within at) in
-      let less = t.0 in
-      let n : ℕ = t.1.0 in
-      let high = t.1.1 in
-      let some = t.1.2 in
+      let t = reached before all worked (reach_at all k d within at) in
+      let n : ℕ = t.0 in
+      let high = t.1 in
+      let some = t.2 in
+      let most = (runs_below before all idle worked).1 in
       let sum = once.1 (is_below limit) in
       let least = below_min limit once.0 in
       let there = once.1 (is_number n) in
@@ -252,7 +266,7 @@ module _ {J O : Type 0} (door_told numbers_told : Type 0) (given_of left_of ends
   pub record Together (before after : List (Worker J O)) : Type 0 where
     pub served : AllZip Served before after
     pub at_most : sum_by (λ worker. ran_of worker.job) after ≤ limit
-    pub at_limit : All (λ worker. worker.ended ≡ Some LimitReached → limit < sum_by (λ other. ran_of other.job) after + length after) after
+    pub at_limit : All (λ worker. worker.ended ≡ Some LimitReached → limit ≤ sum_by (λ other. ran_of other.job) after + sum_by (λ other. lost other.ended) after) after
     pub differ : numbers_told → AreDifferentBelow limit (added_numbers numbers_of before after)
 
   pub together : (before after : List (Worker J O)) (given all lent : List (Seated J O)) (numbers : List ℕ)

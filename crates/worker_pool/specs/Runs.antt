@@ -8,7 +8,7 @@ use Rattle.worker_pool.specs.Hands.{is_below}
 use Rattle.worker_pool.specs.Workers.{HasVisits}
 
 module _ {J O : Type 0} (door_told numbers_told : Type 0) (given_of left_of ends_of faults_of : O → ℕ) (back_of : O → List Visit)
-    (room_of ran_of : J → ℕ) (numbers_of : J → List ℕ) (stands_of : J → Visit → Type 0) (keeps_of : J → J → Type 0) where
+    (room_of ran_of : J → ℕ) (numbers_of : J → List ℕ) (stands_of : J → J → List Visit → Type 0) (keeps_of : J → J → Type 0) where
   -- the worker's job was run with these numbers, once for each connection that its door gave
   pub record HasRun (runs : List ℕ) (before after : Worker J O) : Type 0 where
     pub ran : ran_of after.job ≡ ran_of before.job + length runs
@@ -17,8 +17,7 @@ module _ {J O : Type 0} (door_told numbers_told : Type 0) (given_of left_of ends
     pub keeps : keeps_of before.job after.job
     pub given : door_told → given_of after.door ≡ given_of before.door + length runs
     pub left : door_told → left_of before.door ≡ length runs + left_of after.door
-    pub back : door_told → HasVisits (stands_of after.job) (length runs) (back_of before.door) (back_of after.door)
-    pub still : door_told → (visit : Visit) → stands_of before.job visit → stands_of after.job visit
+    pub back : door_told → (first : J) (earlier : List Visit) → stands_of first before.job earlier → HasVisits (λ visits. stands_of first after.job (earlier ++ visits)) (length runs) (back_of before.door) (back_of after.door)
     pub ends : ends_of before.door ≤ ends_of after.door
     pub faults : faults_of before.door ≤ faults_of after.door
 

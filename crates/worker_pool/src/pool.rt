@@ -6,7 +6,7 @@ ghost use Rattle.worker_pool.specs.Hands.{first_hand, split_off_hand};
 ghost use Rattle.worker_pool.specs.Drawers.{hand_of, drawn, IsAt};
 ghost use Rattle.worker_pool.specs.Seats.{draws};
 ghost use Rattle.worker_pool.specs.Runs.{HasRun, HasWorked};
-ghost use Rattle.worker_pool.specs.Workers.{IsServed, AreDifferentBelow, added_numbers};
+ghost use Rattle.worker_pool.specs.Workers.{IsServed, AreDifferentBelow, added_numbers, lost};
 ghost use Rattle.worker_pool.specs.declared.worker.WorkerEnd.{WorkerEnd};
 
 use crate::numbers::{Drawer, Numbers};
@@ -196,7 +196,7 @@ pub fn serve_all<
     ensures refused { IfErr result (λ same. same ≡ crew) }
     ensures served { IfOk result (λ after. AllZip (IsServed O.told O.given O.left O.ends O.faults O.back J.room J.ran J.stands J.keeps) crew.items after.items) }
     ensures limit { IfOk result (λ after. sum_by (λ worker. J.ran worker.job) after.items ≤ limit) }
-    ensures reached { IfOk result (λ after. All (λ worker. worker.ended ≡ Some WorkerEnd.LimitReached → limit < sum_by (λ other. J.ran other.job) after.items + length after.items) after.items) }
+    ensures reached { IfOk result (λ after. All (λ worker. worker.ended ≡ Some WorkerEnd.LimitReached → limit ≤ sum_by (λ other. J.ran other.job) after.items + sum_by (λ other. lost other.ended) after.items) after.items) }
     ensures numbers { J.told → IfOk result (λ after. AreDifferentBelow limit (added_numbers J.numbers crew.items after.items)) }
 {
     let count = crew.len();

@@ -21,8 +21,8 @@ pub trait Job<Src: Source, Snk: Sink> {
     /// The numbers that it was run with, in order, where clauses are told.
     ghost numbers: { Self → List ℕ };
 
-    /// What it says of a finished connection.
-    ghost stands: { Self → Visit → Type 0 };
+    /// What it says of the finished connections that it served, in order, since it was as it first is here.
+    ghost stands: { Self → Self → List Visit → Type 0 };
 
     /// What each run keeps: the job before and after.
     ghost keeps: { Self → Self → Type 0 };
@@ -35,11 +35,15 @@ pub trait Job<Src: Source, Snk: Sink> {
         ensures ran { ran self.new ≡ ran self.old + 1 }
         ensures numbers { told → numbers self.new ≡ numbers self.old ++ number ∷ [] }
         ensures held { Src.held source.new ≡ Src.held source.old }
+        ensures answers { Snk.answers sink.new ≡ Snk.answers sink.old }
         ensures keeps { keeps self.old self.new }
 
-        // Where both ends tell their bytes and are untouched as it begins, the visit stands with the job, as do all before.
-        ensures visit { IsUntouched Src.told Snk.told (Src.held source.old) (Src.left source.old) (Snk.written sink.old) (Src.faults source.old) (Snk.faults sink.old) → stands self.new (visit_of (Src.held source.new) (Snk.written sink.new) (Src.faults source.new) (Snk.faults sink.new)) }
-        ensures still { IsUntouched Src.told Snk.told (Src.held source.old) (Src.left source.old) (Snk.written sink.old) (Src.faults source.old) (Snk.faults sink.old) → (visit : Visit) → stands self.old visit → stands self.new visit };
+        // Where both ends tell their bytes and are untouched as it begins, the visit stands with the job behind all before.
+        ensures visit { IsUntouched Src.told Snk.told (Src.held source.old) (Src.left source.old) (Snk.written sink.old) (Src.faults source.old) (Snk.faults sink.old) → (first : Self) (visits : List Visit) → stands first self.old visits
+            → stands first self.new (visits ++ visit_of (Src.held source.new) (Snk.written sink.new) (Src.faults source.new) (Snk.faults sink.new) ∷ []) };
+
+    /// What it says where it has served none since.
+    ghost stands_none: { (job : Self) → stands job job [] };
 
     /// What each run keeps, no runs keep and several runs keep.
     ghost keeps_none: { (job : Self) → keeps job job };

@@ -322,6 +322,21 @@ fn a_journal_is_refused_or_fails(rt: HostRuntime) -> Result<(), Fail> {
     Ok(())
 }
 
+// Behind an append that failed each later session of the user is answered so too, although the disk works again.
+#[test]
+fn a_failed_append_is_told_in_later_sessions_too(rt: HostRuntime) -> Result<(), Fail> {
+    let alloc = rt.alloc();
+    let asks = "login eve abc\nask drug(ann)\n";
+    let mut shelf = ward(&rt, alloc)?;
+    let disk = MemoryDisk::with_plan(alloc, journal(alloc, &[0])?, Plan::At(vec![in alloc; 4]?))?;
+    shelf.put_disk(alloc, "d/eve.log", disk)?;
+    let mut links = MemoryLinks::new(alloc, clients(alloc, &[asks, asks, asks])?);
+    let run = serve(&rt, alloc, &["--workers", "1"], &mut shelf, &mut links)?;
+    run.check(&rt, 11, "", "cqe: disk fault\n", "three sessions");
+    assert_eq!(rt; served(&rt, &links, &[(asks, "welcome\nerror 40\n")]), 3);
+    Ok(())
+}
+
 // Two users who can log in with `abc`.
 const TWO: &str = "version = 1\n
 [domains]

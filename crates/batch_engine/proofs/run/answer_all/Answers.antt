@@ -59,7 +59,8 @@ returns-in_default-clause-answered g c =
     let so_far = c.loop-item.invariant.so_far in
     let items = c.items-item-items.result.now in
     let i = c.loop-item.item-index in
-    (c.loop-item.seats.items, runs_stopped c.args.registry.now.schema.now c.args.registry.now.world.now (header_bytes c.args.registry.now.header.now) g.F.D.Disk.told g.F.D.Disk.reads g.F.D.Disk.image g.F.D.Disk.faults g.K.Sink.told (items_of c.args.batch.now) (map item_in (take i items)) (map item_in (drop i items)) c.args.seats.items c.loop-item.seats.items c.loop-item.is_broken _ _ (sym c.items-item-items.ensures.items ∙ items_split items i) so_far, c.in_default.ensures.back)
+    let next = items_more items i c.item-item.result c.loop-item-test.true c.item-item.is in
+    (c.loop-item.seats.items, runs_stopped c.args.registry.now.schema.now c.args.registry.now.world.now (header_bytes c.args.registry.now.header.now) g.F.D.Disk.told g.F.D.Disk.reads g.F.D.Disk.image g.F.D.Disk.faults g.K.Sink.told (items_of c.args.batch.now) (map item_in (take i items)) (map item_in (drop (i + 1) items)) (item_in c.item-item.result) c.args.seats.items c.loop-item.seats.items c.loop-item.is_broken _ _ (sym c.items-item-items.ensures.items ∙ items_split items (i + 1) ∙ ap (λ l. l ++ map item_in (drop (i + 1) items)) next) c.in_default.ensures.restart so_far, c.in_default.ensures.back)
 
 pub returns-in_default-clause-inside : goal.returns-in_default-clause-inside
 returns-in_default-clause-inside g c =

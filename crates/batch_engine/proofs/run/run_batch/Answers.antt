@@ -8,7 +8,7 @@ use Rattle.desk_crew.specs.Crew.{named_user}
 use Rattle.desk_crew.specs.Shelved.{is_among, journals, journals_on, SameBeside, AllOut, AreLater, AreOut}
 use Rattle.batch_engine.proofs.Running.{stay_run}
 use Rattle.desk_crew.proofs.Opening.{seat_journals, seats_distinct, seats_later, seats_served, seats_limits, same_length, length-journals, all_out, none_out, none_fell}
-use Rattle.batch_engine.proofs.Ending.{batch_begins, all_of, finish_all, finish_some}
+use Rattle.batch_engine.proofs.Ending.{batch_begins, all_of, finish_all, finish_some, finish_to}
 use Rattle.batch_engine.proofs.run.run_batch.Goals as goal
 
 pub returns-in-Refused-clause-ends : goal.returns-in-Refused-clause-ends
@@ -137,7 +137,7 @@ returns-clause-ends g c =
     let reads = c.in-Whole.ensures.reads source_told in
     let is = sym (batch_begins _ _ c.new.ensures) ∙ reads.0 in
     let left = c.in-Memory-answer_all.ensures.answered in
-    inr (items_of c.in-Whole.batch, is, finish_some c.args.registry.now.schema.now c.args.registry.now.world.now (header_bytes c.args.registry.now.header.now) c.args.registry.now.directory.now g.F.D.Disk.told g.F.Shelf.told (g.met.F.Shelf.tells_disks shelf_told) shelf_told g.F.D.Disk.reads g.F.D.Disk.image g.F.D.Disk.faults g.met.F.D.Disk.read_is_image (g.F.Shelf.disk c.args.shelf.now) (g.F.Shelf.disk c.answer_all.new.shelf) (g.F.Shelf.disk_faults c.args.shelf.now) (g.F.Shelf.disk_faults c.answer_all.new.shelf) (λ (user : UserProfile) entries bytes why. c.law_openings.ensures.unrefused c.args.registry.now.schema.now c.args.registry.now.world.now user c.args.registry.now.header.now bytes entries why) (λ (user : UserProfile) bytes. c.law_openings.ensures.decided c.args.registry.now.schema.now c.args.registry.now.world.now user (header_bytes c.args.registry.now.header.now) bytes) c.law_legal_grows.ensures.empty c.law_runs_legal.ensures c.law_scripts_hide.ensures c.law_private.ensures c.known.ensures c.args.registry.now.users.now c.requires.limits c.requires.names c.in-Ok-open_all.seats.items c.in-Ok-open_all.ensures.opened g.K.Sink.told sink_told (items_of c.in-Whole.batch) left.0 _ _ left.1 left.2)
+    inr (items_of c.in-Whole.batch, is, finish_to c.args.registry.now.schema.now c.args.registry.now.world.now (header_bytes c.args.registry.now.header.now) c.args.registry.now.directory.now g.F.D.Disk.told g.F.Shelf.told (g.met.F.Shelf.tells_disks shelf_told) shelf_told g.F.D.Disk.reads g.F.D.Disk.image g.F.D.Disk.faults g.met.F.D.Disk.read_is_image (g.F.Shelf.disk c.args.shelf.now) (g.F.Shelf.disk c.answer_all.new.shelf) (g.F.Shelf.disk_faults c.args.shelf.now) (g.F.Shelf.disk_faults c.answer_all.new.shelf) (λ (user : UserProfile) entries bytes why. c.law_openings.ensures.unrefused c.args.registry.now.schema.now c.args.registry.now.world.now user c.args.registry.now.header.now bytes entries why) (λ (user : UserProfile) bytes. c.law_openings.ensures.decided c.args.registry.now.schema.now c.args.registry.now.world.now user (header_bytes c.args.registry.now.header.now) bytes) c.law_legal_grows.ensures.empty c.law_runs_legal.ensures c.law_scripts_hide.ensures c.law_private.ensures c.known.ensures c.args.registry.now.users.now c.requires.limits c.requires.names c.in-Ok-open_all.seats.items c.in-Ok-open_all.ensures.opened g.K.Sink.told sink_told (items_of c.in-Whole.batch) left.0 _ _ left.1 left.2)
 
 pub returns-in-All-clause-disks : goal.returns-in-All-clause-disks
 returns-in-All-clause-disks g c =
@@ -167,8 +167,8 @@ pub returns-clause-counts : goal.returns-clause-counts
 returns-clause-counts g c =
     λ name.
     let left = c.in-Memory-answer_all.ensures.answered in
-    let some = left.1 in
-    let stay = stay_run _ _ _ _ _ _ _ _ _ _ _ _ some.runs in
+    let to = left.1 in
+    let stay = stay_run _ _ _ _ _ _ _ _ _ _ _ _ to.all.runs in
     let first = c.in-Ok-open_all.ensures.counts name in
     let third = none_fell c.args.registry.now.directory.now c.args.registry.now.schema.now c.args.registry.now.world.now (header_bytes c.args.registry.now.header.now) g.F.Shelf.told g.F.D.Disk.told g.F.D.Disk.reads g.F.D.Disk.image g.F.D.Disk.faults (g.F.Shelf.disk c.args.shelf.now) (g.F.Shelf.disk_faults c.args.shelf.now) (g.F.Shelf.disk_faults c.open_all.new.shelf) (g.F.Shelf.disk_faults c.answer_all.new.shelf) left.0 (stay.later (g.F.Shelf.disk_faults c.open_all.new.shelf) (seats_later c.args.registry.now.directory.now c.args.registry.now.schema.now c.args.registry.now.world.now (header_bytes c.args.registry.now.header.now) g.F.Shelf.told g.F.D.Disk.told g.F.D.Disk.reads g.F.D.Disk.image g.F.D.Disk.faults (g.F.Shelf.disk c.args.shelf.now) (g.F.Shelf.disk_faults c.args.shelf.now) (g.F.Shelf.disk_faults c.open_all.new.shelf) c.args.registry.now.users.now c.in-Ok-open_all.seats.items c.in-Ok-open_all.ensures.counts c.in-Ok-open_all.ensures.opened)) (g.F.Shelf.disk c.answer_all.new.shelf) left.2 (subst (λ ns. SameBeside ns (g.F.Shelf.disk_faults c.open_all.new.shelf) (g.F.Shelf.disk_faults c.answer_all.new.shelf)) (sym stay.names) c.in-Memory-answer_all.ensures.counts) name in
     omega (arith, first, third)

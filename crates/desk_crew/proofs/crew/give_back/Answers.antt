@@ -26,7 +26,7 @@ loop-seat-preserved g c =
     let closed = c.close_desk-disk.ensures.closed in
     record {
       so_far = given_more _ _ _ _ _ _ _ _ c.requires.distinct c.requires.out c.requires.later c.pop.new.self.items c.loop-seat.seats.items c.in-Some.seat c.close_desk-disk.result.0
-          (record { holds = λ told. closed.holds (g.met.F.Shelf.tells_disks told); legal = closed.legal; idle = closed.idle; later = closed.later; cause = closed.cause; shut = closed.shut; still = closed.still }) _ _ _ _ _ _ c.as_str.result.now c.as_str.ensures.value split c.loop-seat.invariant.so_far
+          (record { holds = λ told. closed.holds (g.met.F.Shelf.tells_disks told); legal = closed.legal; added = closed.added; idle = closed.idle; later = closed.later; cause = closed.cause; shut = closed.shut; still = closed.still }) _ _ _ _ _ _ c.as_str.result.now c.as_str.ensures.value split c.loop-seat.invariant.so_far
           (λ told. given.held told) given.disks given.back given.others_out given.count given.other_counts;
       faults = given.faults ∙ c.loop-seat.invariant.faults;
       broke = broke_more c.pop.new.self.items c.in-Some.seat c.loop-seat.seats.items _ _ c.loop-seat.is_broken split c.loop-seat.invariant.broke c.close_desk-disk.ensures.broke;

@@ -1,5 +1,6 @@
 use Rattle.std.proofs.Common.{inr, ◌++◌, ◌+◌, ap, ◌∙◌, arith}
 use Rattle.std.specs.List.{sum_by, flat_map}
+use Rattle.outside.specs.Visits.{one_if_any}
 use Rattle.log_journal.specs.Opening.{header_bytes}
 use Rattle.desk_crew.specs.Shelved.{journals_on}
 use Rattle.serve_engine.proofs.Connections.{ends_of, new_given, at_end}
@@ -21,11 +22,10 @@ returns-clause-ended g c links_told done =
     let heard = c.in-Ok.ensures in
     let back = c.take_back_all.ensures in
     let some = c.requires.some in
-    let many = heard.count in
-    let doors = c.serve_opened-end.ensures.doors in
     let none = new_given g.L.D.Door.given g.L.D.Door.back c.in-Ok.doors.items (heard.fresh links_told) in
     let gave = back.given links_told ∙ ap (λ n. n + sum_by g.L.D.Door.given c.serve_opened-end.result.1.items) (heard.given links_told) in
-    at_end g.L.D.Door.left c.serve_opened-end.result.1.items (g.L.Links.at_hand c.take_back_all.new.links) (heard.all links_told (omega (arith, some))) (back.at_hand links_told) _ _ (λ most. omega (arith, most, none, gave, many, doors))
+    let ended = back.ended ∙ ap (λ n. n + sum_by (λ door. one_if_any (g.L.D.Door.ends door)) c.serve_opened-end.result.1.items) heard.ended in
+    at_end g.L.D.Door.left c.serve_opened-end.result.1.items (g.L.Links.at_hand c.take_back_all.new.links) (heard.all links_told (omega (arith, some))) (back.at_hand links_told) _ _ (λ most. omega (arith, most, none, gave, ended))
     (c.serve_opened-end.ensures.ended (g.met.L.Links.tells_doors links_told) done)
 
 pub returns-clause-limited : goal.returns-clause-limited

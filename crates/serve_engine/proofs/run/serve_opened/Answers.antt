@@ -6,8 +6,8 @@ use Rattle.desk_crew.proofs.Opening.{seat_journals, seats_distinct, seats_later,
 use Rattle.serve_engine.specs.Serving.{HaveServed, EndsAt, IsDone}
 use Rattle.serve_engine.specs.Served.{Served}
 use Rattle.serve_engine.specs.Sharing.{seat_member, IsServedAt}
-use Rattle.serve_engine.proofs.Apart.{served_still}
-use Rattle.serve_engine.proofs.Histories.{have_served, all_in_world, broke_at, journals_on_same, later_on_seats, doors_many, doors_gave, ended_at, failed_at, ends_at, seats_fresh, seats_turns}
+use Rattle.serve_engine.proofs.Apart.{served_still, apart_own}
+use Rattle.serve_engine.proofs.Histories.{have_served, all_in_world, broke_at, journals_on_same, later_on_seats, doors_many, doors_gave, ended_at, failed_at, ends_at, seats_fresh, seats_turns, seats_own, own_from, all_told}
 use Rattle.serve_engine.proofs.run.serve_opened.Goals as goal
 
 pub refusals_of-refusals-requires-clause-room : goal.refusals_of-refusals-requires-clause-room
@@ -44,36 +44,41 @@ returns-clause-ends g c shelf_told door_told =
     let refusals = c.refusals_of-refusals.ensures ∙ ap (map (λ x. x.refusal)) c.as_slice.ensures.value in
     let each = have_served c.args.registry.now.schema.now c.args.registry.now.world.now (header_bytes c.args.registry.now.header.now) c.args.registry.now.directory.now g.F.D.Disk.told g.F.Shelf.told disk_told shelf_told g.F.D.Disk.reads g.F.D.Disk.image g.F.D.Disk.faults (g.met.F.D.Disk g.world.𝓛 g.world.𝓜 g.world.𝓡 ((λ s x. x), (λ x. x), (λ x. x), λ x. x)).read_is_image (g.F.Shelf.disk c.args.shelf.now) (g.F.Shelf.disk c.give_back-is_broken.new.shelf) (g.F.Shelf.disk_faults c.args.shelf.now) (g.F.Shelf.disk_faults c.give_back-is_broken.new.shelf) c.known.ensures c.law_hides.ensures c.args.registry.now.users.now c.in-Ok-open_all.seats.items c.serve_seats-outcome.result.1.items c.requires.limits c.in-Ok-open_all.ensures.opened c.serve_seats-outcome.ensures.on c.give_back-is_broken.ensures.back in
     subst (EndsAt c.args.registry.now.schema.now c.args.registry.now.world.now (header_bytes c.args.registry.now.header.now) (journals_on g.F.D.Disk.reads g.F.D.Disk.image c.args.registry.now.directory.now (g.F.Shelf.disk c.args.shelf.now) (g.F.Shelf.disk c.give_back-is_broken.new.shelf) (g.F.Shelf.disk_faults c.args.shelf.now) (g.F.Shelf.disk_faults c.give_back-is_broken.new.shelf)) c.args.registry.now.users.now g.O.Door.told g.O.Door.given g.O.Door.left g.O.Door.faults g.O.Door.back c.args.doors.items c.serve_seats-outcome.result.2.items) (sym c.end_of.ensures)
-    (ends_at c.args.registry.now.schema.now c.args.registry.now.world.now (header_bytes c.args.registry.now.header.now) (journals_on g.F.D.Disk.reads g.F.D.Disk.image c.args.registry.now.directory.now (g.F.Shelf.disk c.args.shelf.now) (g.F.Shelf.disk c.give_back-is_broken.new.shelf) (g.F.Shelf.disk_faults c.args.shelf.now) (g.F.Shelf.disk_faults c.give_back-is_broken.new.shelf)) c.args.registry.now.users.now g.O.Door.told g.O.Door.given g.O.Door.left g.O.Door.faults g.O.Door.back c.args.doors.items c.serve_seats-outcome.result.2.items c.serve_seats-outcome.result.0 c.refusals_of-refusals.result c.give_back-is_broken.result (record {
+    (ends_at c.args.registry.now.schema.now c.args.registry.now.world.now (header_bytes c.args.registry.now.header.now) (journals_on g.F.D.Disk.reads g.F.D.Disk.image c.args.registry.now.directory.now (g.F.Shelf.disk c.args.shelf.now) (g.F.Shelf.disk c.give_back-is_broken.new.shelf) (g.F.Shelf.disk_faults c.args.shelf.now) (g.F.Shelf.disk_faults c.give_back-is_broken.new.shelf)) c.args.registry.now.users.now g.O.Door.told g.O.Door.given g.O.Door.left g.O.Door.faults g.O.Door.back c.args.doors.items c.serve_seats-outcome.result.2.items g.O.Door.ends c.serve_seats-outcome.result.0 c.refusals_of-refusals.result c.give_back-is_broken.result (record {
       members = map seat_member c.serve_seats-outcome.result.1.items;
       each_user = subst (HaveServed c.args.registry.now.schema.now c.args.registry.now.world.now (header_bytes c.args.registry.now.header.now) (journals_on g.F.D.Disk.reads g.F.D.Disk.image c.args.registry.now.directory.now (g.F.Shelf.disk c.args.shelf.now) (g.F.Shelf.disk c.give_back-is_broken.new.shelf) (g.F.Shelf.disk_faults c.args.shelf.now) (g.F.Shelf.disk_faults c.give_back-is_broken.new.shelf)) c.args.registry.now.users.now (map seat_member c.serve_seats-outcome.result.1.items)) (sym refusals) each;
       broken_is = c.give_back-is_broken.ensures.broke ∙ broke_at c.serve_seats-outcome.result.1.items;
       total = served.0;
+      marks = served.1;
       served = served_still g.O.Door.told g.O.Door.given g.O.Door.left g.O.Door.faults g.O.Door.back (IsServedAt c.args.registry.now.users.now c.serve_seats-outcome.result.1.items) (Served c.args.registry.now.schema.now c.args.registry.now.world.now c.args.registry.now.users.now (map seat_member c.serve_seats-outcome.result.1.items))
-          (λ visit is. is c.args.registry.now.schema.now c.args.registry.now.world.now (all_in_world c.args.registry.now.schema.now c.args.registry.now.world.now (header_bytes c.args.registry.now.header.now) c.args.registry.now.directory.now g.F.D.Disk.told g.F.Shelf.told disk_told shelf_told g.F.D.Disk.reads g.F.D.Disk.image g.F.D.Disk.faults (g.met.F.D.Disk g.world.𝓛 g.world.𝓜 g.world.𝓡 ((λ s x. x), (λ x. x), (λ x. x), λ x. x)).read_is_image (g.F.Shelf.disk c.args.shelf.now) (g.F.Shelf.disk c.give_back-is_broken.new.shelf) (g.F.Shelf.disk_faults c.args.shelf.now) (g.F.Shelf.disk_faults c.give_back-is_broken.new.shelf) c.args.registry.now.users.now c.in-Ok-open_all.seats.items c.serve_seats-outcome.result.1.items c.in-Ok-open_all.ensures.opened c.serve_seats-outcome.ensures.on)) served.0 c.args.doors.items c.serve_seats-outcome.result.2.items served.1;
-    }) c.args.limit served.2)
+          (λ visit marks is. is c.args.registry.now.schema.now c.args.registry.now.world.now (all_in_world c.args.registry.now.schema.now c.args.registry.now.world.now (header_bytes c.args.registry.now.header.now) c.args.registry.now.directory.now g.F.D.Disk.told g.F.Shelf.told disk_told shelf_told g.F.D.Disk.reads g.F.D.Disk.image g.F.D.Disk.faults (g.met.F.D.Disk g.world.𝓛 g.world.𝓜 g.world.𝓡 ((λ s x. x), (λ x. x), (λ x. x), λ x. x)).read_is_image (g.F.Shelf.disk c.args.shelf.now) (g.F.Shelf.disk c.give_back-is_broken.new.shelf) (g.F.Shelf.disk_faults c.args.shelf.now) (g.F.Shelf.disk_faults c.give_back-is_broken.new.shelf) c.args.registry.now.users.now c.in-Ok-open_all.seats.items c.serve_seats-outcome.result.1.items c.in-Ok-open_all.ensures.opened c.serve_seats-outcome.ensures.on)) served.0 served.1 c.args.doors.items c.serve_seats-outcome.result.2.items served.2;
+      all_told = λ t. all_told c.args.registry.now.schema.now c.args.registry.now.world.now (header_bytes c.args.registry.now.header.now) c.args.registry.now.directory.now g.F.D.Disk.told g.F.Shelf.told disk_told shelf_told g.F.D.Disk.reads g.F.D.Disk.image g.F.D.Disk.faults (g.met.F.D.Disk g.world.𝓛 g.world.𝓜 g.world.𝓡 ((λ s x. x), (λ x. x), (λ x. x), λ x. x)).read_is_image (g.F.Shelf.disk c.args.shelf.now) (g.F.Shelf.disk c.give_back-is_broken.new.shelf) (g.F.Shelf.disk_faults c.args.shelf.now) (g.F.Shelf.disk_faults c.give_back-is_broken.new.shelf)
+          (served.1 t) 0 c.args.registry.now.users.now c.in-Ok-open_all.seats.items c.serve_seats-outcome.result.1.items c.in-Ok-open_all.ensures.opened c.serve_seats-outcome.ensures.on c.give_back-is_broken.ensures.back
+          (own_from c.args.registry.now.schema.now c.args.registry.now.world.now (header_bytes c.args.registry.now.header.now) c.args.registry.now.directory.now g.F.D.Disk.told g.F.Shelf.told disk_told shelf_told g.F.D.Disk.reads g.F.D.Disk.image g.F.D.Disk.faults (g.met.F.D.Disk g.world.𝓛 g.world.𝓜 g.world.𝓡 ((λ s x. x), (λ x. x), (λ x. x), λ x. x)).read_is_image (g.F.Shelf.disk c.args.shelf.now) (g.F.Shelf.disk c.give_back-is_broken.new.shelf) (g.F.Shelf.disk_faults c.args.shelf.now) (g.F.Shelf.disk_faults c.give_back-is_broken.new.shelf) (served.1 t) c.in-Ok-open_all.seats.items c.serve_seats-outcome.result.1.items
+          (apart_own c.in-Ok-open_all.seats.items (seats_own g.F.Shelf.told g.F.D.Disk.told g.F.D.Disk.reads g.F.D.Disk.image g.F.D.Disk.faults c.args.registry.now.schema.now c.args.registry.now.world.now (header_bytes c.args.registry.now.header.now) c.args.registry.now.directory.now (g.F.Shelf.disk c.args.shelf.now) (g.F.Shelf.disk_faults c.args.shelf.now) c.args.registry.now.users.now c.in-Ok-open_all.seats.items c.in-Ok-open_all.ensures.opened)) (served.5 t));
+    }) c.args.limit served.3)
 
 pub returns-clause-ended : goal.returns-clause-ended
 returns-clause-ended g c door_told done =
     let served = c.serve_seats-outcome.ensures.served in
-    ended_at g.O.Door.told g.O.Door.given g.O.Door.left g.O.Door.faults g.O.Door.back (IsServedAt c.args.registry.now.users.now c.serve_seats-outcome.result.1.items) door_told c.args.limit served.0 c.args.doors.items c.serve_seats-outcome.result.2.items c.serve_seats-outcome.result.0 c.refusals_of-refusals.result c.give_back-is_broken.result served.1 served.2 (subst IsDone c.end_of.ensures done)
+    ended_at g.O.Door.told g.O.Door.given g.O.Door.left g.O.Door.faults g.O.Door.back (IsServedAt c.args.registry.now.users.now c.serve_seats-outcome.result.1.items) door_told g.O.Door.ends c.args.limit served.0 served.1 c.args.doors.items c.serve_seats-outcome.result.2.items c.serve_seats-outcome.result.0 c.refusals_of-refusals.result c.give_back-is_broken.result served.2 served.3 (subst IsDone c.end_of.ensures done)
 
 pub returns-clause-limited : goal.returns-clause-limited
 returns-clause-limited g c door_told =
     let served = c.serve_seats-outcome.ensures.served in
-    let gave = doors_gave g.O.Door.told g.O.Door.given g.O.Door.left g.O.Door.faults g.O.Door.back (IsServedAt c.args.registry.now.users.now c.serve_seats-outcome.result.1.items) door_told served.0 c.args.doors.items c.serve_seats-outcome.result.2.items served.1 in
-    let most = served.3 in
+    let gave = doors_gave g.O.Door.told g.O.Door.given g.O.Door.left g.O.Door.faults g.O.Door.back (IsServedAt c.args.registry.now.users.now c.serve_seats-outcome.result.1.items) door_told served.0 served.1 c.args.doors.items c.serve_seats-outcome.result.2.items served.2 in
+    let most = served.4 in
     omega (arith, gave, most)
 
 pub returns-clause-failed : goal.returns-clause-failed
 returns-clause-failed g c is =
     let served = c.serve_seats-outcome.ensures.served in
-    failed_at g.O.Door.told g.O.Door.given g.O.Door.left g.O.Door.faults g.O.Door.back (IsServedAt c.args.registry.now.users.now c.serve_seats-outcome.result.1.items) c.args.limit served.0 c.serve_seats-outcome.result.2.items c.serve_seats-outcome.result.0 c.refusals_of-refusals.result c.give_back-is_broken.result served.2 (sym c.end_of.ensures ∙ is)
+    failed_at g.O.Door.told g.O.Door.given g.O.Door.left g.O.Door.faults g.O.Door.back (IsServedAt c.args.registry.now.users.now c.serve_seats-outcome.result.1.items) g.O.Door.ends c.args.limit served.0 c.serve_seats-outcome.result.2.items c.serve_seats-outcome.result.0 c.refusals_of-refusals.result c.give_back-is_broken.result served.3 (sym c.end_of.ensures ∙ is)
 
 pub returns-clause-doors : goal.returns-clause-doors
 returns-clause-doors g c =
     let served = c.serve_seats-outcome.ensures.served in
-    doors_many g.O.Door.told g.O.Door.given g.O.Door.left g.O.Door.faults g.O.Door.back (IsServedAt c.args.registry.now.users.now c.serve_seats-outcome.result.1.items) served.0 c.args.doors.items c.serve_seats-outcome.result.2.items served.1
+    doors_many g.O.Door.told g.O.Door.given g.O.Door.left g.O.Door.faults g.O.Door.back (IsServedAt c.args.registry.now.users.now c.serve_seats-outcome.result.1.items) served.0 served.1 c.args.doors.items c.serve_seats-outcome.result.2.items served.2
 
 pub returns-clause-disks : goal.returns-clause-disks
 returns-clause-disks g c name none =

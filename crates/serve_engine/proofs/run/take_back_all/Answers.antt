@@ -1,4 +1,5 @@
 use Rattle.std.proofs.Common.{◌∷◌, [], ◌∙◌, arith, length-append}
+use Rattle.outside.specs.Visits.{one_if_any}
 use Rattle.worker_pool.proofs.Seating.{read_on, read_more}
 use Rattle.serve_engine.proofs.Backing.{sum_more, flat_more, failed_more}
 use Rattle.serve_engine.proofs.run.take_back_all.Goals as goal
@@ -22,6 +23,7 @@ loop-door-preserved g c =
     record {
       rest = read_on c.args.doors.items c.loop-door.yielded _ _ _ so_far.rest c.in-Some.ensures.steps.0;
       out = omega (arith, out, less, read);
+      ended = sum_more (λ door. one_if_any (g.L.D.Door.ends door)) c.loop-door.yielded c.in-Some.door _ _ _ so_far.ended back.ended;
       given = λ t. sum_more g.L.D.Door.given c.loop-door.yielded c.in-Some.door _ _ _ (so_far.given t) (back.given t);
       at_hand = λ t. sum_more g.L.D.Door.left c.loop-door.yielded c.in-Some.door _ _ _ (so_far.at_hand t) (back.at_hand t);
       listened = λ t. back.listened t ∙ so_far.listened t;

@@ -2,6 +2,7 @@ use Rattle.std.proofs.Common.{◌≡◌, ◌+◌, ◌++◌, ◌≤◌, length}
 use Rattle.std.specs.List.{sum_by, flat_map}
 use Rattle.std.specs.Vec.Iter.{into_iter_items}
 use Rattle.outside.specs.Faults.{Rose}
+use Rattle.outside.specs.Visits.{one_if_any}
 use Rattle.serve_engine.specs.Doors.{SomeFailed}
 use Rattle.serve_engine.proofs.run.take_back_all.Given as goal
 
@@ -10,6 +11,7 @@ abbrev pub invariant-loop-door : goal.invariant-loop-door
 invariant-loop-door g l = record {
   rest : l.yielded ++ into_iter_items l.door-iterator ≡ l.fn.doors.items;
   out : g.L.Links.out l.fn.links ≡ g.L.Links.out l.links + length l.yielded;
+  ended : g.L.Links.ended l.links ≡ g.L.Links.ended l.fn.links + sum_by (λ door. one_if_any (g.L.D.Door.ends door)) l.yielded;
   given : g.L.Links.told → g.L.Links.given l.links ≡ g.L.Links.given l.fn.links + sum_by g.L.D.Door.given l.yielded;
   at_hand : g.L.Links.told → g.L.Links.at_hand l.links ≡ g.L.Links.at_hand l.fn.links + sum_by g.L.D.Door.left l.yielded;
   back : g.L.Links.told → g.L.Links.back l.links ≡ g.L.Links.back l.fn.links ++ flat_map g.L.D.Door.back l.yielded;

@@ -5,7 +5,10 @@ use Rattle.session_core.specs.Members.{ArePassesOf, passes_in}
 use Rattle.session_core.specs.declared.counters.Passes.{Passes}
 use Rattle.worker_pool.proofs.Seating.{read_on, next_of}
 use Rattle.serve_engine.specs.Jobs.{job_passes}
+use Rattle.std.proofs.lemmas.List.Sums.{sum_by_push}
+use Rattle.serve_engine.specs.Members.{own_weight}
 use Rattle.serve_engine.specs.Passing.{HaveShares, AreOn, IsBack}
+use Rattle.serve_engine.proofs.Owning.{own_met}
 use Rattle.serve_engine.proofs.Meeting.{on_same, on_then, have_met}
 use Rattle.serve_engine.proofs.Reading.{grown}
 use Rattle.serve_engine.proofs.serving.dismiss.Goals as goal
@@ -20,6 +23,7 @@ loop-worker-init g c =
       these = c.requires.these;
       on = on_same (passes_in c.args.passes.now);
       all_on = All-nil (λ worker. AreOn (job_passes worker.job) c.args.passes.now);
+      own = λ weight place. omega arith;
       shares = (c.requires.rest.0, c.requires.rest.1, omega (arith, total, all));
       room = refl;
     }
@@ -49,6 +53,12 @@ loop-worker-preserved g c =
       all_on = All-push (λ worker. AreOn (job_passes worker.job) c.meet.new.passes) c.loop-worker.yielded c.in-Some.worker
           (All-weaker (λ worker. AreOn (job_passes worker.job) c.loop-worker.passes) (λ worker. AreOn (job_passes worker.job) c.meet.new.passes) (λ worker on. on_then (passes_in (job_passes worker.job)) old new on met.on) c.loop-worker.yielded so_far.all_on)
           (subst (λ (passes : Passes g.row.D.Denot). AreOn passes c.meet.new.passes) c.into_passes.ensures.same met.those_on);
+      own = λ weight place.
+          let both = own_met weight place c.args.counters.now.counters.items old (passes_in c.into_passes.result) new c.meet.ensures.met in
+          let this = ap (λ (passes : Passes g.row.D.Denot). own_weight weight place (passes_in passes)) c.into_passes.ensures.same in
+          let before = so_far.own weight place in
+          let all = sum_by_push (λ worker. own_weight weight place (passes_in (job_passes worker.job))) c.loop-worker.yielded c.in-Some.worker in
+          omega (arith, both, this, before, all);
       shares = (so_far.shares.0 + 1, met.have, omega (arith, next, total));
       room = c.push_reserved.ensures.capacity ∙ so_far.room;
     }

@@ -1,5 +1,5 @@
 use denote.Param.Send.{sendable}
-use Rattle.std.proofs.Common.{rules, arith, ◌≡◌, ◌≤◌, length, refl, sym, ap, subst}
+use Rattle.std.proofs.Common.{rules, arith, ◌≡◌, ◌≤◌, [], length, refl, sym, ap, subst}
 use Rattle.std.specs.Prelude.{None}
 use Rattle.std.proofs.lemmas.List.{length-map}
 use Rattle.std.proofs.lemmas.List.Elements.{All-same, All-weaker, All-from_recursion, recursion_from_All}
@@ -7,10 +7,11 @@ use Rattle.desk_counter.proofs.Crossing.{ticketed_desk_send}
 use Rattle.session_core.specs.Members.{passes_in, fixeds_of}
 use Rattle.serve_engine.specs.Doors.{AreServedDoors}
 use Rattle.serve_engine.specs.Jobs.{job_passes, job_runs}
-use Rattle.serve_engine.specs.Members.{HaveSeenOpenings, IsServedBy, room_in}
+use Rattle.serve_engine.specs.Members.{HaveSeenOpenings, IsServedBy, own_weight, room_in}
 use Rattle.serve_engine.specs.Passing.{AreParts, IsFresh, IsBack}
 use Rattle.serve_engine.proofs.Crossing.{job_send}
 use Rattle.serve_engine.proofs.Apart.{none_served}
+use Rattle.serve_engine.proofs.Connections.{sum_none}
 use Rattle.serve_engine.proofs.Later.{openings_later, room_enough}
 use Rattle.serve_engine.proofs.Meeting.{on_same, on_then}
 use Rattle.serve_engine.proofs.Outcomes.{as_long, are_back, served_together}
@@ -23,11 +24,18 @@ pub returns-in_default-clause-on : goal.returns-in_default-clause-on
 returns-in_default-clause-on g c = on_same (passes_in c.args.passes.now)
 
 pub returns-in_default-clause-served : goal.returns-in_default-clause-served
-returns-in_default-clause-served g c = (0, none_served g.O.Door.told g.O.Door.given g.O.Door.left g.O.Door.faults g.O.Door.back (IsServedBy c.args.counters.now c.args.passes.now) c.args.doors.items, refl, omega arith)
+returns-in_default-clause-served g c =
+    (0, λ t. [], none_served g.O.Door.told g.O.Door.given g.O.Door.left g.O.Door.faults g.O.Door.back (IsServedBy c.args.counters.now c.args.passes.now) c.args.doors.items, refl, omega arith, λ t weight place. omega arith)
 
 pub returns-in_default-split_all-clause-served : goal.returns-in_default-split_all-clause-served
-returns-in_default-split_all-clause-served g c =
-    (0, none_served g.O.Door.told g.O.Door.given g.O.Door.left g.O.Door.faults g.O.Door.back (IsServedBy c.args.counters.now c.split_all.new.passes) c.args.doors.items, refl, omega arith)
+returns-in_default-split_all-clause-served g c = (
+  0,
+  λ t. [],
+  none_served g.O.Door.told g.O.Door.given g.O.Door.left g.O.Door.faults g.O.Door.back (IsServedBy c.args.counters.now c.split_all.new.passes) c.args.doors.items,
+  refl,
+  omega arith,
+  λ t weight place. let same = c.split_all.ensures.own weight place in omega (arith, same),
+)
 
 pub crew_of-crew-requires-clause-opened : goal.crew_of-crew-requires-clause-opened
 crew_of-crew-requires-clause-opened g c κs within =
@@ -106,7 +114,11 @@ pub returns-in-Ok-clause-served : goal.returns-in-Ok-clause-served
 returns-in-Ok-clause-served g c =
     let first = c.args.passes.now in
     served_together g.O.Door.told g.O.Door.given g.O.Door.left g.O.Door.ends g.O.Door.faults g.O.Door.back c.args.counters.now first c.dismiss.new.passes c.args.limit c.outcome_of-outcome.result c.args.doors.items c.dismiss.result.items
-    c.crew_of-crew.result.items c.in-Ok.crew.items c.crew_of-crew.ensures.doors c.dismiss.ensures.doors (search rules) c.requires.whole (c.crew_of-crew.ensures.fresh first c.in-Some.ensures.parts) c.dismiss.ensures.all_on c.in-Ok.ensures.reached c.in-Ok.ensures.served c.in-Ok.ensures.limit
+    c.crew_of-crew.result.items c.in-Ok.crew.items c.crew_of-crew.ensures.doors c.dismiss.ensures.doors (search rules) c.requires.whole c.requires.unended (c.crew_of-crew.ensures.fresh first c.in-Some.ensures.parts) c.dismiss.ensures.all_on c.in-Ok.ensures.reached c.in-Ok.ensures.served c.in-Ok.ensures.limit
+    (λ weight place.
+    let all = c.dismiss.ensures.own weight place in
+    let rest = c.split_all.ensures.own weight place in
+    omega (arith, all, rest))
 
 pub returns-in-Err-clause-on : goal.returns-in-Err-clause-on
 returns-in-Err-clause-on g c = on_then (passes_in c.args.passes.now) (passes_in c.split_all.new.passes) (passes_in c.dismiss-in-Err.new.passes) c.in-Some.ensures.on c.dismiss-in-Err.ensures.on
@@ -115,10 +127,19 @@ pub returns-in-Err-clause-served : goal.returns-in-Err-clause-served
 returns-in-Err-clause-served g c =
     let stands = IsServedBy c.args.counters.now c.dismiss-in-Err.new.passes in
     let same : c.in-Err.crew.items ≡ c.crew_of-crew.result.items = cc (c.in-Err.ensures.refused) in
-    let back : c.dismiss-in-Err.result.items ≡ c.args.doors.items = cc (c.dismiss-in-Err.ensures.doors, same, c.crew_of-crew.ensures.doors) in (
+    let back : c.dismiss-in-Err.result.items ≡ c.args.doors.items = cc (c.dismiss-in-Err.ensures.doors, same, c.crew_of-crew.ensures.doors) in
+    let fresh = c.crew_of-crew.ensures.fresh c.args.passes.now c.in-Some.ensures.parts in (
       0,
-      subst (λ ds. AreServedDoors g.O.Door.told g.O.Door.given g.O.Door.left g.O.Door.faults g.O.Door.back stands 0 c.args.doors.items ds) (sym back)
+      λ t. [],
+      subst (λ ds. AreServedDoors g.O.Door.told g.O.Door.given g.O.Door.left g.O.Door.faults g.O.Door.back stands 0 (λ t. []) c.args.doors.items ds) (sym back)
           (none_served g.O.Door.told g.O.Door.given g.O.Door.left g.O.Door.faults g.O.Door.back stands c.args.doors.items),
       refl,
       omega arith,
+      λ t weight place.
+          let all = c.dismiss-in-Err.ensures.own weight place in
+          let rest = c.split_all.ensures.own weight place in
+          let none = sum_none (λ worker. own_weight weight place (passes_in (job_passes worker.job))) c.in-Err.crew.items
+          (All-same (λ worker. own_weight weight place (passes_in (job_passes worker.job)) ≡ 0) c.in-Err.crew.items c.crew_of-crew.result.items same
+          (All-weaker (IsFresh c.args.counters.now c.args.passes.now) (λ worker. own_weight weight place (passes_in (job_passes worker.job)) ≡ 0) (λ worker is. is.parts.none_own weight place) c.crew_of-crew.result.items fresh)) in
+          omega (arith, all, rest, none),
     )

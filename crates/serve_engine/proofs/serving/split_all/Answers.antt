@@ -1,8 +1,10 @@
-use Rattle.std.proofs.Common.{◌≡◌, ◌-◌, ◌*◌, ◌^◌, [], ◌∷◌, length, sym, ap, subst, ◌∙◌, rules, arith, length-append}
+use Rattle.std.proofs.Common.{◌≡◌, ◌-◌, ◌*◌, ◌^◌, [], ◌∷◌, length, refl, sym, ap, subst, ◌∙◌, rules, arith, length-append}
 use Rattle.std.proofs.lemmas.List.Elements.{All-push, All-same, All-nil, All-weaker}
 use Rattle.session_core.specs.Members.{ArePassesOf, passes_in}
 use Rattle.session_core.specs.declared.counters.Passes.{Passes}
-use Rattle.serve_engine.specs.Passing.{AreParts, AreOn, HaveShares}
+use Rattle.serve_engine.specs.Members.{own_weight}
+use Rattle.serve_engine.specs.Passing.{AreParts, AreOn, NoneOwn, HaveShares}
+use Rattle.serve_engine.proofs.Owning.{own_split}
 use Rattle.serve_engine.proofs.Meeting.{on_same, on_then, can_split, have_split}
 use Rattle.serve_engine.proofs.serving.split_all.Goals as goal
 
@@ -16,6 +18,7 @@ loop-init g c =
     record {
       these = c.requires.these;
       on = on_same (passes_in c.args.passes.now);
+      own = λ weight place. refl;
       count = ap length empty;
       those = All-same (λ part. ArePassesOf part c.args.counters.now) _ [] empty (All-nil (λ part. ArePassesOf part c.args.counters.now));
       parts = All-same (AreParts c.args.passes.now) _ [] empty (All-nil (AreParts c.args.passes.now));
@@ -46,6 +49,16 @@ join_all-requires-clause-rest g c =
 pub join_all-requires-clause-shares : goal.join_all-requires-clause-shares
 join_all-requires-clause-shares g c = All-weaker (AreParts c.args.passes.now) (HaveShares 1) (λ part is. is.shares_are) c.loop.parts.items c.loop.invariant.parts
 
+pub join_all-requires-clause-none : goal.join_all-requires-clause-none
+join_all-requires-clause-none g c = All-weaker (AreParts c.args.passes.now) NoneOwn (λ part is. is.none_own) c.loop.parts.items c.loop.invariant.parts
+
+pub returns-in_err-parts-clause-own : goal.returns-in_err-parts-clause-own
+returns-in_err-parts-clause-own g c weight place = refl
+
+pub returns-in-Err-clause-own : goal.returns-in-Err-clause-own
+returns-in-Err-clause-own g c weight place =
+    c.join_all.ensures.own weight place ∙ ap (λ (passes : Passes g.row.D.Denot). own_weight weight place (passes_in passes)) c.in-Err.ensures.same ∙ c.loop.invariant.own weight place
+
 pub returns-in-Err-clause-on : goal.returns-in-Err-clause-on
 returns-in-Err-clause-on g c =
     let old = passes_in c.args.passes.now in
@@ -71,10 +84,11 @@ loop-preserved g c =
     record {
       these = parts.these;
       on = on_then first old new so_far.on parts.on;
+      own = λ weight place. (own_split weight place c.args.counters.now.counters.items old new part c.in-Ok.ensures.split).0 ∙ so_far.own weight place;
       count = omega (arith, one_more, count);
       those = All-same (λ part. ArePassesOf part c.args.counters.now) _ _ added (All-push (λ part. ArePassesOf part c.args.counters.now) c.loop.parts.items c.in-Ok.part so_far.those parts.those);
       parts = All-same (AreParts c.args.passes.now) _ _ added (All-push (AreParts c.args.passes.now) c.loop.parts.items c.in-Ok.part so_far.parts
-          (record { shares_are = parts.parts_have; turns_are = parts.parts_may; on = on_then first old part so_far.on parts.those_on }));
+          (record { shares_are = parts.parts_have; turns_are = parts.parts_may; on = on_then first old part so_far.on parts.those_on; none_own = λ weight place. (own_split weight place c.args.counters.now.counters.items old new part c.in-Ok.ensures.split).1 }));
       shares = (so_far.shares.0 - 1, parts.have, omega (arith, few, more, shares_left));
       turns = (so_far.turns.0 - 2 ^ 57, parts.may, omega (arith, few, more, turns_left));
       room = search rules;

@@ -1,11 +1,11 @@
-use Rattle.std.proofs.Common.{◌≡◌, ◌≤◌, ◌∙◌, length, map, refl, sym, ap, subst, arith}
+use Rattle.std.proofs.Common.{◌≡◌, ◌≤◌, ◌∙◌, [], length, map, refl, sym, ap, subst, arith}
 use Rattle.std.proofs.lemmas.List.{length-map}
 use Rattle.std.specs.List.{AllByRecursion, AllZip}
 use Rattle.turnstile.specs.History.{IsPrefix}
 use Rattle.turnstile.specs.Passes.{seen, shares, turns}
 use Rattle.desk_counter.specs.Counters.{kept_by}
 use Rattle.session_core.specs.Members.{ArePasses}
-use Rattle.serve_engine.specs.Members.{members_of, HaveSeenOpenings}
+use Rattle.serve_engine.specs.Members.{members_of, HaveSeenOpenings, OwnMore}
 use Rattle.serve_engine.specs.Served.{Served}
 use Rattle.serve_engine.specs.Sharing.{keeper_of, seat_counter, seat_pass, IsServedAt}
 use Rattle.serve_engine.proofs.Apart.{served_still, none_served, apart_turns, apart_opened, seats_on, seats_same, served_at}
@@ -85,17 +85,21 @@ returns-clause-served g c =
     let again = c.put_together-seats.ensures in
     let served = c.serve_doors-outcome.ensures.served in (
       served.0,
+      served.1,
       served_still g.O.Door.told g.O.Door.given g.O.Door.left g.O.Door.faults g.O.Door.back _ (IsServedAt c.args.users.now c.put_together-seats.result.items)
-          (λ visit is. served_at c.args.users.now c.put_together-seats.result.items (map kept_by c.new-counters.result.0.counters.items) c.serve_doors-outcome.new.passes.passes.items
-          (ap (map kept_by) (sym (again.counters ∙ parts.counters))) (sym (again.passes ∙ parts.passes)) visit
-          (λ schema world all. subst (λ us. Served schema world us (members_of (map kept_by c.new-counters.result.0.counters.items) c.serve_doors-outcome.new.passes.passes.items) visit) made.users (is schema world all)))
-          served.0 c.args.doors.items c.serve_doors-outcome.result.1.items served.1,
-      served.2,
+          (λ visit marks is. served_at c.args.users.now c.put_together-seats.result.items (map kept_by c.new-counters.result.0.counters.items) c.serve_doors-outcome.new.passes.passes.items
+          (ap (map kept_by) (sym (again.counters ∙ parts.counters))) (sym (again.passes ∙ parts.passes)) visit marks
+          (λ schema world all. subst (λ us. Served schema world us (members_of (map kept_by c.new-counters.result.0.counters.items) c.serve_doors-outcome.new.passes.passes.items) visit marks) made.users (is schema world all)))
+          served.0 served.1 c.args.doors.items c.serve_doors-outcome.result.1.items served.2,
       served.3,
+      served.4,
+      λ t. subst (λ ps. OwnMore (map seat_pass c.args.seats.items) ps (served.1 t)) (sym (again.passes ∙ parts.passes))
+          (subst (λ ps. OwnMore ps c.serve_doors-outcome.new.passes.passes.items (served.1 t)) (made.passes ∙ c.take_apart-keepers.ensures.passes) (served.5 t)),
     )
 
 pub returns-in_default-clause-on : goal.returns-in_default-clause-on
 returns-in_default-clause-on g c = seats_same c.args.seats.items
 
 pub returns-in_default-clause-served : goal.returns-in_default-clause-served
-returns-in_default-clause-served g c = (0, none_served g.O.Door.told g.O.Door.given g.O.Door.left g.O.Door.faults g.O.Door.back (IsServedAt c.args.users.now c.args.seats.items) c.args.doors.items, refl, omega arith)
+returns-in_default-clause-served g c =
+    (0, λ t. [], none_served g.O.Door.told g.O.Door.given g.O.Door.left g.O.Door.faults g.O.Door.back (IsServedAt c.args.users.now c.args.seats.items) c.args.doors.items, refl, omega arith, λ t weight place. omega arith)

@@ -20,6 +20,7 @@ loop-init g c =
       passes = c.requires.passes;
       place = tt;
       held = refl;
+      answers = refl;
       source_later = omega arith;
       sink_later = omega arith;
     }
@@ -81,6 +82,7 @@ loop-preserved g c =
       passes = c.reply_to-next.ensures.passes;
       place = c.reply_to-next.ensures.place;
       held = c.in-Line.ensures.held ∙ before.held;
+      answers = c.write_reply.ensures.answers ∙ before.answers;
       source_later = omega (arith, before.source_later, c.in-Line.ensures.later);
       sink_later = omega (arith, before.sink_later, c.in-Ok.ensures.cause.later);
     }

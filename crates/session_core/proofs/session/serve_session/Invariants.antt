@@ -13,6 +13,7 @@ invariant-loop g l = record {
   passes : ArePassesOf l.passes l.counters;
   place : IfSome l.who (λ place. place < length (fixeds_of l.counters));
   held : g.S.Source.held l.source ≡ g.S.Source.held l.fn.source;
+  answers : g.K.Sink.answers l.sink ≡ g.K.Sink.answers l.fn.sink;
   source_later : g.S.Source.faults l.fn.source ≤ g.S.Source.faults l.source;
   sink_later : g.K.Sink.faults l.fn.sink ≤ g.K.Sink.faults l.sink;
 }

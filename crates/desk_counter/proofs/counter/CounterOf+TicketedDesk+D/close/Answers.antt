@@ -4,19 +4,23 @@ use Rattle.user_desk.specs.Entries.{StandsWithin}
 use Rattle.user_desk.specs.Standings.{is_sealed}
 use Rattle.user_desk.specs.declared.desk.Desk.{Desk}
 use Rattle.user_desk.specs.Desks.{desk_history, desk_disk, entry_in_flight}
-use Rattle.turnstile.specs.Passes.{seen}
+use Rattle.turnstile.specs.Passes.{first_value, seen, mine}
 use Rattle.desk_counter.specs.declared.item.Fixed.{Fixed}
 use Rattle.desk_counter.specs.Items.{history_of, flying}
 use Rattle.desk_counter.specs.Desks.{fixed_of}
-use Rattle.desk_counter.specs.Tickets.{fixed_in}
+use Rattle.desk_counter.specs.Tickets.{fixed_in, pairs_in}
 use Rattle.desk_counter.specs.Counters.{kept_by}
 use Rattle.desk_counter.proofs.Asking.{one_fixed}
+use Rattle.desk_counter.proofs.Pairs.{history_all}
 use Rattle.desk_counter.proofs.DeskSettles.{history_in, flying_in}
 use Rattle.desk_counter.proofs.Closing.{closed_legal, closed_sizes, closed_whole, closed_images, closed_since, closed_cause, closed_idle, closed_still}
 use Rattle.desk_counter.proofs.counter.CounterOf+TicketedDesk+D.close.Goals as goal
 
 pub returns-clause-history : goal.returns-clause-history
 returns-clause-history g c = ap (λ (d : Desk g.row.D.Denot g.D.Disk). desk_history d) c.into_desk-desk.ensures ∙ sym (history_in c.close.result) ∙ ap (λ ps. history_of ps) c.close.ensures.entries
+
+pub returns-clause-added : goal.returns-clause-added
+returns-clause-added g c = ap (λ ps. history_of ps) (sym c.close.ensures.entries ∙ c.close.ensures.added) ∙ history_all (pairs_in (first_value c.args.self.turnstile)) (mine c.args.pass)
 
 pub returns-clause-in_flight : goal.returns-clause-in_flight
 returns-clause-in_flight g c = ap (λ (d : Desk g.row.D.Denot g.D.Disk). entry_in_flight d) c.into_desk-desk.ensures ∙ sym (flying_in c.close.result) ∙ ap (λ ps. flying ps) c.close.ensures.entries

@@ -4,9 +4,15 @@ use Rattle.user_desk.specs.declared.desk.Desk.{Desk}
 use Rattle.user_desk.specs.Desks.{desk_history, entry_in_flight}
 use Rattle.desk_counter.specs.declared.item.Item.{Item}
 use Rattle.desk_counter.specs.declared.item.Fixed.{Fixed}
+use Rattle.desk_counter.specs.declared.ticketed_desk.TicketedDesk.{TicketedDesk}
 use Rattle.desk_counter.specs.Items.{history_of, flying}
+use Rattle.desk_counter.specs.Tickets.{pairs_in}
 use Rattle.desk_counter.proofs.DeskSettles.{history_in, flying_in}
 use Rattle.desk_counter.proofs.counter.CounterOf+TicketedDesk+D.new.Goals as goal
+
+pub returns-in-Ok-clause-first : goal.returns-in-Ok-clause-first
+returns-in-Ok-clause-first g c =
+    ap (λ (v : TicketedDesk g.row.D.Denot g.D.Disk). history_of (pairs_in v)) c.in-Ok.ensures.first ∙ history_in c.in_ok-value.value ∙ ap (λ (d : Desk g.row.D.Denot g.D.Disk). desk_history d) c.in_ok-value.ensures.desk
 
 pub returns-in-Ok-clause-history : goal.returns-in-Ok-clause-history
 returns-in-Ok-clause-history g c =

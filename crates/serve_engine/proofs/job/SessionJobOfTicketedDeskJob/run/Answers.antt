@@ -2,10 +2,10 @@ use Rattle.std.proofs.Common.{refl, arith}
 use Rattle.session_core.specs.Members.{passes_in, counters_in, users_of, fixeds_of}
 use Rattle.session_core.proofs.Passing.{passes_many}
 use Rattle.session_core.proofs.Talking.{talks_few}
-use Rattle.serve_engine.specs.Members.{members_of}
-use Rattle.serve_engine.proofs.Growing.{served_later}
+use Rattle.serve_engine.proofs.Owning.{marks_of, of_own}
 use Rattle.serve_engine.proofs.Holding.{are_passes, at_each, each_opened, have_opened}
 use Rattle.serve_engine.proofs.Later.{turns_enough, of_room, of_passes, sees_more, openings_later, members_later}
+use Rattle.serve_engine.proofs.Standing.{served_more}
 use Rattle.serve_engine.proofs.Visiting.{session_served}
 use Rattle.serve_engine.proofs.job.SessionJobOfTicketedDeskJob.run.Goals as goal
 
@@ -50,19 +50,16 @@ returns-clause-visit g c =
     let job = c.args.self.now in
     let old = passes_in job.passes in
     let counters = counters_in job.counters.now in
-    let now = c.serve_session-ended.new in
-    let says = c.serve_session-ended.ensures in
-    λ untouched schema world within. session_served g.Src.Source.told g.Snk.Sink.told (users_of job.counters.now) (fixeds_of job.counters.now) c.serve_session-ended.result
-    (g.Src.Source.held c.args.source.now) (g.Src.Source.held now.source) (g.Src.Source.left c.args.source.now) old (passes_in now.passes) (g.Snk.Sink.written c.args.sink.now) (g.Snk.Sink.written now.sink)
-    (g.Src.Source.faults c.args.source.now) (g.Snk.Sink.faults c.args.sink.now) (g.Src.Source.faults now.source) (g.Snk.Sink.faults now.sink)
-    says.session untouched says.held says.read_cause says.write_cause schema world within (have_opened old counters (are_passes old counters job.many job.held) job.opened)
-
-pub returns-clause-still : goal.returns-clause-still
-returns-clause-still g c =
-    let job = c.args.self.now in
     let fixeds = fixeds_of job.counters.now in
-    let old = passes_in job.passes in
-    let new = passes_in c.serve_session-ended.new.passes in
-    let session = c.serve_session-ended.ensures.session in
+    let now = c.serve_session-ended.new in
+    let new = passes_in now.passes in
+    let says = c.serve_session-ended.ensures in
+    let session = says.session in
     let later = members_later fixeds old new (sees_more old new (of_passes session.who fixeds old new session.asks session.desks)) in
-    λ untouched visit stood schema world within. served_later schema world (users_of job.counters.now) (members_of fixeds old) (members_of fixeds new) visit later (stood schema world within)
+    let openings = have_opened old counters (are_passes old counters job.many job.held) job.opened in
+    λ untouched first visits stood. served_more job.counters.now first.passes job.passes now.passes visits _ (marks_of session.who fixeds old new session.asks session.desks) stood later
+    (λ schema world within. session_served g.Src.Source.told g.Snk.Sink.told (users_of job.counters.now) fixeds c.serve_session-ended.result
+    (g.Src.Source.held c.args.source.now) (g.Src.Source.held now.source) (g.Src.Source.left c.args.source.now) old new (g.Snk.Sink.written c.args.sink.now) (g.Snk.Sink.written now.sink)
+    (g.Src.Source.faults c.args.source.now) (g.Snk.Sink.faults c.args.sink.now) (g.Src.Source.faults now.source) (g.Snk.Sink.faults now.sink)
+    session untouched says.held says.read_cause says.write_cause schema world within openings)
+    (λ weight place. of_own weight place session.who fixeds old new session.asks session.desks)

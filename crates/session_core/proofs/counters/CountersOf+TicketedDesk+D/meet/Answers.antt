@@ -51,7 +51,7 @@ loop-other-preserved g c =
     let next = met_next counters olds others (passes_in c.loop-other.passes) c.loop-other.others.items c.pop.new.self.items c.loop-other.invariant.left.0 c.in-Some.other place
     c.loop-other.invariant.left.1 c.in-Some.ensures.items at c.loop-other.invariant.met c.requires.those in
     let met = c.meet.ensures in
-    let one : IsMet c.index.result.now c.index_mut.result.now c.in-Some.other c.meet.new.pass = record { pass_is = met.pass; view = met.view; this = met.this.0; that = met.that.0 } in
+    let one : IsMet c.index.result.now c.index_mut.result.now c.in-Some.other c.meet.new.pass = record { pass_is = met.pass; view = met.view; this = met.this.0; that = met.that.0; mine_is = met.mine } in
     let there : IsMet (get_or counters place c.index.result.now) (get_or olds place c.index_mut.result.now) (get_or others place c.in-Some.other) c.meet.new.pass =
     subst (λ d. IsMet d (get_or olds place c.index_mut.result.now) (get_or others place c.in-Some.other) c.meet.new.pass) c.index.ensures
     (subst (λ o. IsMet c.index.result.now o (get_or others place c.in-Some.other) c.meet.new.pass) (c.index_mut.ensures.value ∙ next.here c.index_mut.result.now)

@@ -13,12 +13,12 @@ pub fetch_add-ticket-requires : goal.fetch_add-ticket-requires
 fetch_add-ticket-requires g c =
     let idle = idle_view c.replace-badge.result c.into_seat-seat.result.me.0 c.into_seat-seat.ensures.2 in
     let is : c.into_seat-seat.result.me.0 ≡ view_of c.args.pass.now = idle.0 ∙ ap view_of c.replace-badge.ensures.value in
-    (search rules, search rules, draws g.V.Recorded.entries g.V.Recorded.fixed _ _ _ _ idle.1 (subst (λ (v : View g.row.V-Item.Denot g.row.V-Fixed.Denot). 0 < v.turns) (sym is) c.requires.turns))
+    (search rules, search rules, draws g.V.Recorded.entries g.V.Recorded.fixed _ _ _ _ _ idle.1 (subst (λ (v : View g.row.V-Item.Denot g.row.V-Fixed.Denot). 0 < v.turns) (sym is) c.requires.turns))
 
 pub load-serving-requires : goal.load-serving-requires
 load-serving-requires g c =
     let drew = c.fetch_add-ticket.ensures.2.0 in
-    (search rules, search rules, looks g.V.Recorded.entries g.V.Recorded.fixed _ _ _ _ c.fetch_add-ticket.result (ap (λ m. m.0.stage) (c.loop.invariant.2 ∙ drew)) (ap (λ m. m.1) (c.loop.invariant.2 ∙ drew) ∙ c.into_seat-seat.ensures.3))
+    (search rules, search rules, looks g.V.Recorded.entries g.V.Recorded.fixed _ _ _ _ _ c.fetch_add-ticket.result (ap (λ m. m.0.stage) (c.loop.invariant.2 ∙ drew)) (ap (λ m. m.1) (c.loop.invariant.2 ∙ drew) ∙ c.into_seat-seat.ensures.3))
 
 pub exchange-requires : goal.exchange-requires
 exchange-requires g c =

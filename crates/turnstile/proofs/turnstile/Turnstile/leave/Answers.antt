@@ -10,7 +10,7 @@ fetch_add-requires g c =
     let same : c.exchange-nothing.new.seat.me.0 ≡ c.args.turn.seat.me.0 = ap (λ m. m.0) now in (
       search rules,
       search rules,
-      goes_on g.V.Recorded.entries g.V.Recorded.fixed _ _ _ _ c.args.turn.ticket c.args.turn.value (ap (λ (v : View g.row.V-Item.Denot g.row.V-Fixed.Denot). v.stage) same ∙ c.args.turn.served.0)
+      goes_on g.V.Recorded.entries g.V.Recorded.fixed _ _ _ _ _ c.args.turn.ticket c.args.turn.value (ap (λ (v : View g.row.V-Item.Denot g.row.V-Fixed.Denot). v.stage) same ∙ c.args.turn.served.0)
           (search rules)
           (ap (λ (v : View g.row.V-Item.Denot g.row.V-Fixed.Denot). v.fixed) same ∙ c.requires.fixed)
           (subst (λ (v : View g.row.V-Item.Denot g.row.V-Fixed.Denot). AddsAtMostOne c.args.turn.ticket v.seen (g.V.Recorded.entries c.args.turn.value)) (sym same) c.requires.grows),

@@ -9,7 +9,7 @@ pub join_seat-requires : goal.join_seat-requires
 join_seat-requires g c =
     let one = idle_view c.replace-badge.result c.into_seat-seat.result.me.0 c.into_seat-seat.ensures.2 in
     let two = idle_view c.args.other c.into_seat.result.me.0 c.into_seat.ensures.2 in
-    (search rules, search rules, search rules, search rules, meets g.V.Recorded.entries g.V.Recorded.fixed _ _ _ _ _ one.1 two.1 one.2 two.2)
+    (search rules, search rules, search rules, search rules, meets g.V.Recorded.entries g.V.Recorded.fixed _ _ _ _ _ _ one.1 two.1 one.2 two.2)
 
 pub load-requires : goal.load-requires
 load-requires g c =
@@ -18,7 +18,7 @@ load-requires g c =
     let stage = ap (λ m. m.0.stage) now ∙ one.1 in
     let sum = ap (λ m. m.0.shares) now in
     let pos = one.2 in
-    (search rules, search rules, compares g.V.Recorded.entries g.V.Recorded.fixed _ _ _ _ stage (omega arith))
+    (search rules, search rules, compares g.V.Recorded.entries g.V.Recorded.fixed _ _ _ _ _ stage (omega arith))
 
 pub returns-clause-fixed : goal.returns-clause-fixed
 returns-clause-fixed g c =

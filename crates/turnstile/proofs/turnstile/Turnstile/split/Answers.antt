@@ -18,7 +18,7 @@ split_seat-other-requires g c =
     let shares_now = ap (λ (v : View g.row.V-Item.Denot g.row.V-Fixed.Denot). v.shares) is in
     let turns_now = ap (λ (v : View g.row.V-Item.Denot g.row.V-Fixed.Denot). v.turns) is in
     let room : 2 ^ 57 ≤ c.into_seat-seat.result.me.0.turns = ⊎_elim (λ (e : (view_of c.args.pass.now).shares ≡ 1). absurd (other (same ∙ (shares_now ∙ e)))) (λ (l : 2 ^ 57 ≤ (view_of c.args.pass.now).turns). omega arith) c.requires.room in
-    (search rules, search rules, parts g.V.Recorded.entries g.V.Recorded.fixed _ _ _ idle.1 more room)
+    (search rules, search rules, parts g.V.Recorded.entries g.V.Recorded.fixed _ _ _ _ idle.1 more room)
 
 pub returns-clause-mine : goal.returns-clause-mine
 returns-clause-mine g c = mine_undrawn _ _ c.into_badge-2.ensures.2 (ap (λ m. m.0.drawn) c.split_seat-other.ensures.4)
