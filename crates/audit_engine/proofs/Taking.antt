@@ -1,4 +1,6 @@
 -- A disk that was taken and given back is what stood under its name.
+-- `taken_bytes` and `taken_images` say what `taken_reads` and `taken_images` of `outside`'s `Taken` do. They stand here
+-- because the tactics try the lemmas of a function's own crate, and so need no answers.
 use Rattle.std.proofs.Common.{◌≡◌, ℕ, Bool, true, false, List, Option, None, Some, refl, sym, ap, subst}
 use Rattle.std.specs.Prelude.{bytes_eq}
 use Rattle.std.proofs.lemmas.Slice.Eq.{bytes_eq-Decides}

@@ -1,4 +1,4 @@
-// How an audit ends.
+//! How an audit ends.
 ghost use Rattle.std.specs.Prelude.{◌≡◌};
 ghost use Rattle.audit_engine.specs.Printed.{end_of};
 

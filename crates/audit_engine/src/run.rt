@@ -1,4 +1,4 @@
-// The audit of a user whose journal lies on a shelf.
+//! The audit of a user whose journal lies on a shelf.
 ghost use Rattle.std.specs.Prelude.{◌≡◌, ◌≤◌, List, ℕ, false, string_bytes};
 ghost use Rattle.outside.specs.Faults.{Rose};
 ghost use Rattle.outside.specs.Shelf.{bytes_on, image_on, SameOthers};
@@ -18,8 +18,8 @@ use log_journal::journal_name;
 use outside::{Shelf, ShelfError, Sink};
 use std::alloc::Global;
 
-/// Prints the audit of a user of the registry, as text or in JSON: his standing and the history of his journal, the disk
-/// `DIRECTORY/NAME.log`. That disk is opened and given back on every path, with the bytes that it had.
+/// Prints the audit of a user of the registry, as text or in JSON: his standing and the history of his journal, the
+/// disk `DIRECTORY/NAME.log`. That disk is opened and given back on every path, with the bytes that it had.
 pub fn run_audit<'w, F: Shelf, K: Sink>(
     alloc: Global,
     registry: &Registry<'w>,
@@ -30,14 +30,18 @@ pub fn run_audit<'w, F: Shelf, K: Sink>(
 ) -> AuditEnd
     requires limits { KeepsLimits registry.now.schema.now (profile_of user.now) }
     requires inside { NoneOut (F.is_out shelf.old) }
-    ensures ends { F.told → K.told → IsEnd registry.now.schema.now registry.now.world.now (header_bytes registry.now.header.now) (string_bytes user.now.name) (profile_of user.now)
+    ensures ends { F.told → K.told → IsEnd registry.now.schema.now registry.now.world.now
+        (header_bytes registry.now.header.now) (string_bytes user.now.name) (profile_of user.now)
         (bytes_on F.D.reads (F.disk shelf.old (journal_name registry.now.directory.now (string_bytes user.now.name))))
-        (F.disk_faults shelf.old (journal_name registry.now.directory.now (string_bytes user.now.name))) (F.disk_faults shelf.new (journal_name registry.now.directory.now (string_bytes user.now.name)))
+        (F.disk_faults shelf.old (journal_name registry.now.directory.now (string_bytes user.now.name)))
+        (F.disk_faults shelf.new (journal_name registry.now.directory.now (string_bytes user.now.name)))
         json result (K.written sink.old) (K.written sink.new) }
-    ensures disks { SameOthers (journal_name registry.now.directory.now (string_bytes user.now.name)) (F.disk shelf.old) (F.disk shelf.new) }
+    ensures disks { SameOthers (journal_name registry.now.directory.now (string_bytes user.now.name)) (F.disk shelf.old)
+        (F.disk shelf.new) }
     ensures bytes { F.told → SameBytes F.D.reads (F.disk shelf.old) (F.disk shelf.new) }
     ensures images { F.told → NoNewImages F.D.image (F.disk shelf.old) (F.disk shelf.new) }
     ensures inside { NoneOut (F.is_out shelf.new) }
+    ensures looked { F.looked shelf.new ≡ F.looked shelf.old }
     ensures counts { NoneFell (F.disk_faults shelf.old) (F.disk_faults shelf.new) }
     ensures shelf_later { F.faults shelf.old ≤ F.faults shelf.new }
     ensures sink_later { K.faults sink.old ≤ K.faults sink.new }
@@ -62,13 +66,18 @@ fn audit_journal<'w, F: Shelf, K: Sink>(
 ) -> AuditEnd
     requires limits { KeepsLimits registry.now.schema.now (profile_of user.now) }
     requires inside { NoneOut (F.is_out shelf.old) }
-    ensures ends { F.told → K.told → IsEnd registry.now.schema.now registry.now.world.now (header_bytes registry.now.header.now) (string_bytes user.now.name) (profile_of user.now)
-        (bytes_on F.D.reads (F.disk shelf.old journal.now)) (F.disk_faults shelf.old journal.now) (F.disk_faults shelf.new journal.now)
+    ensures ends { F.told → K.told → IsEnd registry.now.schema.now registry.now.world.now
+        (header_bytes registry.now.header.now) (string_bytes user.now.name) (profile_of user.now)
+        (bytes_on F.D.reads (F.disk shelf.old journal.now)) (F.disk_faults shelf.old journal.now)
+        (F.disk_faults shelf.new journal.now)
         json result (K.written sink.old) (K.written sink.new) }
     ensures disks { SameOthers journal.now (F.disk shelf.old) (F.disk shelf.new) }
-    ensures bytes { F.told → bytes_on F.D.reads (F.disk shelf.new journal.now) ≡ bytes_on F.D.reads (F.disk shelf.old journal.now) }
-    ensures images { F.told → (c : List ℕ) → image_on F.D.image (F.disk shelf.new journal.now) c → image_on F.D.image (F.disk shelf.old journal.now) c }
+    ensures bytes { F.told → bytes_on F.D.reads (F.disk shelf.new journal.now)
+        ≡ bytes_on F.D.reads (F.disk shelf.old journal.now) }
+    ensures images { F.told → (c : List ℕ) → image_on F.D.image (F.disk shelf.new journal.now) c
+        → image_on F.D.image (F.disk shelf.old journal.now) c }
     ensures inside { NoneOut (F.is_out shelf.new) }
+    ensures looked { F.looked shelf.new ≡ F.looked shelf.old }
     ensures counts { NoneFell (F.disk_faults shelf.old) (F.disk_faults shelf.new) }
     ensures shelf_later { F.faults shelf.old ≤ F.faults shelf.new }
     ensures sink_later { K.faults sink.old ≤ K.faults sink.new }

@@ -1,4 +1,4 @@
-// The other worlds of an open desk's secrets.
+//! The other worlds of an open desk's secrets.
 ghost use Rattle.std.specs.Prelude.{◌≡◌, map, vec_len, IfOk};
 ghost use Rattle.cqe_base.specs.History.{profile_of, answered_query_of};
 ghost use Rattle.cqe_base.specs.Limits.{KeepsLimits, KeepsSizes};
@@ -23,7 +23,8 @@ pub(crate) fn other_worlds(
     requires legal { IsLegalSomewhere schema.now (profile_of user.now) (map answered_query_of entries.now) }
     requires sizes { KeepsSizes schema.now (profile_of user.now) (map answered_query_of entries.now) }
     ensures count { IfOk result (λ found. vec_len found ≡ worlds_for user.now.method (vec_len user.now.secrets)) }
-    ensures others { IfOk result (λ found. AreOthers schema.now (profile_of user.now) (map answered_query_of entries.now) (found_at user.now.method found.items)) }
+    ensures others { IfOk result (λ found. AreOthers schema.now (profile_of user.now)
+        (map answered_query_of entries.now) (found_at user.now.method found.items)) }
 {
     let mut found = Vec::new(alloc);
     for secret in 0..worlds_of(user) {

@@ -1,4 +1,4 @@
-// The audit of a desk.
+//! The audit of a desk.
 ghost use Rattle.std.specs.Prelude.{◌≡◌, ◌≤◌, ◌++◌, map, string_bytes, Err, IfOk, OnOk};
 ghost use Rattle.outside.specs.Faults.{Rose};
 ghost use Rattle.outside.specs.Streams.{AppendsPart};
@@ -26,8 +26,8 @@ pub enum AuditError {
     Memory,
 }
 
-/// Prints the audit of a desk's user, as text or in JSON. Each search for a world has the budget of an admission. After a
-/// write fault a beginning of it was written, and for want of memory nothing.
+/// Prints the audit of a desk's user, as text or in JSON. Each search for a world has the budget of an admission. After
+/// a write fault a beginning of it was written, and for want of memory nothing.
 pub fn audit<D: Disk, K: Sink>(
     alloc: Global,
     schema: &Schema,
@@ -38,9 +38,13 @@ pub fn audit<D: Disk, K: Sink>(
 ) -> Result<(), AuditError>
     requires schema { schema.now ≡ desk_schema desk.now }
     requires user { profile_of user.now ≡ desk_user desk.now }
-    ensures whole { K.told → OnOk result ((said : AuditSaid) × Audits schema.now (string_bytes user.now.name) (profile_of user.now) (desk_standing desk.now) (desk_history desk.now) said
+    ensures whole { K.told → OnOk result ((said : AuditSaid)
+        × Audits schema.now (string_bytes user.now.name) (profile_of user.now) (desk_standing desk.now)
+        (desk_history desk.now) said
         × (K.written sink.new ≡ K.written sink.old ++ audit_text json said)) }
-    ensures part { K.told → result ≡ Err AuditError.WriteFault → (said : AuditSaid) × Audits schema.now (string_bytes user.now.name) (profile_of user.now) (desk_standing desk.now) (desk_history desk.now) said
+    ensures part { K.told → result ≡ Err AuditError.WriteFault
+        → (said : AuditSaid) × Audits schema.now (string_bytes user.now.name) (profile_of user.now)
+        (desk_standing desk.now) (desk_history desk.now) said
         × AppendsPart (K.written sink.old) (K.written sink.new) (audit_text json said) }
     ensures nothing { result ≡ Err AuditError.Memory → sink.new ≡ sink.old }
     ensures later { K.faults sink.old ≤ K.faults sink.new }
@@ -64,7 +68,9 @@ fn audit_lines<D: Disk>(
 ) -> Result<Vec<String>, AllocError>
     requires schema { schema.now ≡ desk_schema desk.now }
     requires user { profile_of user.now ≡ desk_user desk.now }
-    ensures { IfOk result (λ lines. (said : AuditSaid) × Audits schema.now (string_bytes user.now.name) (profile_of user.now) (desk_standing desk.now) (desk_history desk.now) said
+    ensures { IfOk result (λ lines. (said : AuditSaid)
+        × Audits schema.now (string_bytes user.now.name) (profile_of user.now) (desk_standing desk.now)
+        (desk_history desk.now) said
         × (map string_bytes lines.items ≡ lines_of json said)) }
 {
     let report = report_on(alloc, schema, user, desk)?;

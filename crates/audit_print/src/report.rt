@@ -1,4 +1,4 @@
-// What an audit says, in memory.
+//! What an audit says, in memory.
 ghost use Rattle.std.specs.Prelude.{◌≡◌, ◌<◌, ◌++◌, [], ℕ, true, map, option_map, unwrap_or, string_bytes, List, length, vec_len, Option, Some, IfOk, IfSome, OnOk};
 ghost use Rattle.std.specs.List.{list_all};
 ghost use Rattle.cqe_base.specs.Canonical.{canonical};
@@ -37,7 +37,8 @@ pub(crate) fn report_on<'u, D: Disk>(
 ) -> Result<Report<'u>, AllocError>
     requires schema { schema.now ≡ desk_schema desk.now }
     requires user { profile_of user.now ≡ desk_user desk.now }
-    ensures { IfOk result (λ report. Audits schema.now (string_bytes user.now.name) (profile_of user.now) (desk_standing desk.now) (desk_history desk.now) (said_in report)) }
+    ensures { IfOk result (λ report. Audits schema.now (string_bytes user.now.name) (profile_of user.now)
+        (desk_standing desk.now) (desk_history desk.now) (said_in report)) }
 {
     match desk.standing() {
         Standing::Open => served(alloc, schema, user, desk),
@@ -55,7 +56,8 @@ fn served<'u, D: Disk>(
     requires schema { schema.now ≡ desk_schema desk.now }
     requires user { profile_of user.now ≡ desk_user desk.now }
     requires open { is_open (desk_standing desk.now) ≡ true }
-    ensures { IfOk result (λ report. Serves schema.now (string_bytes user.now.name) (profile_of user.now) (desk_history desk.now) (said_in report)) }
+    ensures { IfOk result (λ report. Serves schema.now (string_bytes user.now.name) (profile_of user.now)
+        (desk_history desk.now) (said_in report)) }
 {
     desk.known();
     let worlds = other_worlds(alloc, schema, user, desk.entries())?;
@@ -98,7 +100,8 @@ fn entry_rows(
     entries: &[Entry],
 ) -> Result<Vec<EntryRow>, AllocError>
     requires { list_all (λ entry. is_sentence_of schema.now entry.query) (map answered_query_of entries.now) ≡ true }
-    ensures { IfOk result (λ rows. map entry_in rows.items ≡ map (entry_said schema.now) (map answered_query_of entries.now)) }
+    ensures { IfOk result (λ rows. map entry_in rows.items
+        ≡ map (entry_said schema.now) (map answered_query_of entries.now)) }
 {
     let mut rows = Vec::new(alloc);
     for entry in entries {
@@ -119,8 +122,10 @@ fn secret_rows(
 ) -> Result<Vec<SecretRow>, AllocError>
     requires limits { KeepsLimits schema.now (profile_of user.now) }
     requires enough { (k : ℕ) → k < vec_len user.now.secrets → place_at user.now.method k < length worlds.now }
-    requires of_schema { (k : ℕ) → k < vec_len user.now.secrets → IfSome (found_at user.now.method worlds.now k) (IsWorldOf schema.now) }
-    ensures { IfOk result (λ rows. ListsAll schema.now (profile_of user.now) (found_at user.now.method worlds.now) (vec_len user.now.secrets) (map secret_in rows.items)) }
+    requires of_schema { (k : ℕ) → k < vec_len user.now.secrets
+        → IfSome (found_at user.now.method worlds.now k) (IsWorldOf schema.now) }
+    ensures { IfOk result (λ rows. ListsAll schema.now (profile_of user.now) (found_at user.now.method worlds.now)
+        (vec_len user.now.secrets) (map secret_in rows.items)) }
 {
     let mut rows = Vec::new(alloc);
     for number in 0..user.secrets.len() {
@@ -140,7 +145,13 @@ fn secret_row(
     requires number { number < vec_len user.now.secrets }
     requires enough { place_at user.now.method number < length worlds.now }
     requires of_schema { IfSome (found_at user.now.method worlds.now number) (IsWorldOf schema.now) }
-    ensures { IfOk result (λ row. (listing : Option (List Fact)) × IsListing listing (found_at user.now.method worlds.now number) × (secret_in row ≡ (canonical schema.now (secret_at (profile_of user.now) number), option_map (world_said schema.now) listing))) }
+    ensures { IfOk result (λ row. (listing : Option (List Fact))
+        × IsListing listing (found_at user.now.method worlds.now number)
+        × (secret_in row ≡ (
+          canonical schema.now (secret_at (profile_of user.now) number),
+          option_map
+              (world_said schema.now) listing,
+        ))) }
 {
     let secret = print_sentence(alloc, schema, &user.secrets[number])?;
     let world = world_texts(alloc, schema, &worlds[place_of(user.method, number)])?;
@@ -153,7 +164,8 @@ fn world_texts(
     world: &Option<World>,
 ) -> Result<Option<Vec<String>>, AllocError>
     requires { IfSome world.now (IsWorldOf schema.now) }
-    ensures { IfOk result (λ texts. (listing : Option (List Fact)) × IsListing listing world.now × (option_map (λ facts. map string_bytes facts.items) texts ≡ option_map (world_said schema.now) listing)) }
+    ensures { IfOk result (λ texts. (listing : Option (List Fact)) × IsListing listing world.now
+        × (option_map (λ facts. map string_bytes facts.items) texts ≡ option_map (world_said schema.now) listing)) }
 {
     match world {
         Some(world) => {
@@ -166,7 +178,8 @@ fn world_texts(
 
 fn fact_texts(alloc: Global, schema: &Schema, world: &World) -> Result<Vec<String>, AllocError>
     requires { IsWorldOf schema.now world.now }
-    ensures { IfOk result (λ texts. (facts : List Fact) × IsListing (Some facts) (Some world.now) × (map string_bytes texts.items ≡ world_said schema.now facts)) }
+    ensures { IfOk result (λ texts. (facts : List Fact) × IsListing (Some facts) (Some world.now)
+        × (map string_bytes texts.items ≡ world_said schema.now facts)) }
 {
     let mut texts = Vec::new(alloc);
     let mut facts = world.facts();

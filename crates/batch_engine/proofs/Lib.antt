@@ -5,3 +5,4 @@ pub mod Closing
 pub mod Shorts
 pub mod Running
 pub mod Ending
+pub mod Failing

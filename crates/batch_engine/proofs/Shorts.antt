@@ -6,7 +6,7 @@ use Rattle.std.proofs.lemmas.Fmt.{length-decimal-le}
 use Rattle.std.proofs.lemmas.Bool.{and_parts}
 use Rattle.batch_engine.specs.BatchLines.{NamedAsk}
 use Rattle.batch_engine.specs.Said.{is_short_ask}
-use Rattle.batch_engine.specs.Batches.{named_ask}
+use Rattle.batch_engine.specs.Batches.{ask_in}
 use Rattle.batch_engine.specs.declared.batch.BatchAsk.{BatchAsk}
 
 -- its name, its session and its text
@@ -24,7 +24,7 @@ pub session_digits : (n : ℕ) → n ≤ 64 → length (decimal n) ≤ 2
 session_digits n small = length-decimal-le 2 n (omega arith) (omega arith) (omega arith)
 
 -- each of the asks of a batch is short
-pub short_at : (asks : List BatchAsk) (i : ℕ) (d : BatchAsk) → i < length asks → list_all is_short_ask (map named_ask asks) ≡ true → is_short_ask (named_ask (get_or asks i d)) ≡ true
+pub short_at : (asks : List BatchAsk) (i : ℕ) (d : BatchAsk) → i < length asks → list_all is_short_ask (map ask_in asks) ≡ true → is_short_ask (ask_in (get_or asks i d)) ≡ true
 short_at [] i d low short = absurd (omega (arith, low))
 short_at (ask ∷ asks) zero d low short = (and_parts _ _ short).0
 short_at (ask ∷ asks) (suc i) d low short = short_at asks i d (omega (arith, low)) (and_parts _ _ short).1

@@ -11,6 +11,7 @@ use Rattle.user_desk.specs.Causes.{Opens}
 use Rattle.user_desk.specs.Lives.{Holds}
 use Rattle.user_desk.specs.declared.standing.DeskError.{DeskError}
 use Rattle.desk_crew.specs.Shelved.{Journals, IsKept, AreKept}
+use Rattle.script_lines.specs.Read.{IsReadThrough}
 use Rattle.batch_engine.specs.BatchLines.{BatchItem, asked, restarted, batch_of}
 use Rattle.desk_crew.specs.Openings.{OpensNone, IsOpening}
 use Rattle.batch_engine.specs.Lives.{RoseBy, is_ask, is_opened, failures, AreCaused, IsRefusal}
@@ -132,7 +133,7 @@ module _ (schema : DatabaseSchema) (world : FactSet) (header : List ℕ) (journa
     -- what each end of a batch says of the bytes that were left before and after, and of the output before and after
     abbrev pub Ends : BatchEnd → List ℕ → List ℕ → List ℕ → List ℕ → Type 0
     Ends (Done refusals is_broken) before after old new = (after ≡ []) × (items : List BatchItem) × (batch_of before ≡ Ok items) × AppendsAll items old new refusals.items is_broken
-    Ends (Refused refusal) before after old new = (batch_of before ≡ Err refusal) × LeavesAll old new
+    Ends (Refused refusal) before after old new = (batch_of before ≡ Err refusal) × LeavesAll old new × IsReadThrough 1 before after
     Ends ReadFault before after old new = LeavesAll old new
     Ends WriteFault before after old new = Breaks before old new
     Ends ShelfFault before after old new = LeavesAll old new
@@ -146,3 +147,12 @@ IsUnopened ReadFault = Unit {0}
 IsUnopened WriteFault = ⊥
 IsUnopened ShelfFault = ⊥
 IsUnopened Memory = ⊥
+
+-- the end of a batch in which some ask was answered that an append failed
+abbrev pub IsBroken : BatchEnd → Type 0
+IsBroken (Done refusals is_broken) = is_broken ≡ true
+IsBroken (Refused refusal) = ⊥
+IsBroken ReadFault = ⊥
+IsBroken WriteFault = ⊥
+IsBroken ShelfFault = ⊥
+IsBroken Memory = ⊥

@@ -6,4 +6,4 @@ pub mod Lives
 pub mod Batch
 pub mod DeskAnswers
 pub mod Steps
-pub mod ToldTexts
+pub mod AnswerTexts

@@ -10,13 +10,13 @@ use Rattle.desk_crew.specs.Seats.{DeskSeat}
 use Rattle.batch_engine.specs.DeskAnswers.{DeskAnswered}
 use Rattle.batch_engine.specs.declared.run.Answered.TheVariants.{All, Cut, Memory}
 
--- whether what is told says that an append failed
+-- whether a reply says that an append failed
 abbrev pub is_broken_reply : Option Reply → Bool
 is_broken_reply (Some desk_broken) = true
-is_broken_reply told = false
+is_broken_reply reply = false
 
 module _ (schema : DatabaseSchema) (world : FactSet) (header : List ℕ) {D : Type 0} (told : Type 0) (reads : D → List ℕ) (image : D → List ℕ → Type 0) (faults : D → ℕ) where
-  -- what an item does: an ask is told to the user of its name, and a restart closes and opens every desk; its line, and whether that says that an append failed
+  -- what an item does: an ask is replied to by the user of its name, and a restart closes and opens every desk; its line, and whether that says that an append failed
   abbrev pub Carries : {g h : _} → BatchItem → List (DeskSeat D g h) → List (DeskSeat D g h) → List ℕ → Bool → Type 0
   Carries (asked ask) old new line is_broken =
       (reply : Option Reply) × Tells schema world ask.name ask.text old new reply

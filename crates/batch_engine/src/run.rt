@@ -11,14 +11,14 @@ ghost use Rattle.log_journal.specs.Opening.{header_bytes};
 ghost use Rattle.log_journal.specs.Names.{journal_name};
 ghost use Rattle.user_log.specs.Replies.{reply_of};
 ghost use Rattle.batch_engine.specs.Said.{is_short_ask, is_short_item};
-ghost use Rattle.batch_engine.specs.Batches.{named_ask, item_in};
+ghost use Rattle.batch_engine.specs.Batches.{ask_in, item_in};
 ghost use Rattle.batch_engine.specs.BatchLines.{restarted};
 ghost use Rattle.desk_crew.specs.Crew.{named_user, seat_user, IsServed};
-ghost use Rattle.desk_crew.specs.Shelved.{journals, journals_on, AllOut, AllIn, NoneOut, NoneFell, AreLater, AreBack, SameBeside};
+ghost use Rattle.desk_crew.specs.Shelved.{journals, journals_on, AllOut, AllIn, NoneOut, NoneFell, SomeRose, AreLater, AreBack, SameBeside};
 ghost use Rattle.batch_engine.specs.BatchOf.{items_of};
-ghost use Rattle.batch_engine.specs.ToldTexts.{told_text};
+ghost use Rattle.batch_engine.specs.AnswerTexts.{answer_text};
 ghost use Rattle.batch_engine.specs.Steps.{Carries, is_broken_reply, IsAnswered, HasSeats, IsCut};
-ghost use Rattle.batch_engine.specs.Batch.{Ends, IsUnopened};
+ghost use Rattle.batch_engine.specs.Batch.{Ends, IsUnopened, IsBroken};
 ghost use Rattle.batch_engine.specs.declared.run.BatchEnd.{BatchEnd};
 
 use crate::batch::{Batch, BatchAsk, BatchItem};
@@ -43,8 +43,8 @@ use user_log::Reply;
 /// How a batch ends.
 #[derive(Debug, Drop)]
 pub enum BatchEnd {
-    /// Each item was answered. Of each user, in order, there is the first refusal of his journal, if one was; and it says
-    /// whether some ask was answered that an append failed.
+    /// Each item was answered. Of each user, in order, there is the first refusal of his journal, if one was; and it
+    /// says whether some ask was answered that an append failed.
     Done(Vec<Option<DeskError>>, bool),
     /// The script is refused. Nothing was written.
     Script(ScriptError),
@@ -69,23 +69,24 @@ enum Answered<'w, V: Owned> {
     Memory,
 }
 
-/// The text of what is told, or that no user has the name.
-fn told_text(told: Option<Reply>) -> LineText
-    ensures text { result ≡ told_text (option_map reply_of told) }
+/// The text of a reply, or that no user has the name.
+fn answer_text(reply: Option<Reply>) -> LineText
+    ensures text { result ≡ answer_text (option_map reply_of reply) }
     ensures short { length result ≤ 23 }
 {
-    match told {
+    match reply {
         Some(reply) => text_of(&line_reply(reply)),
         None => LineText::new("error 23"),
     }
 }
 
-/// The line of an ask and what is told.
-fn line_of(ask: &BatchAsk, told: Option<Reply>) -> LineText
-    requires { is_short_ask (named_ask ask.now) ≡ true }
-    ensures { result ≡ line_text (reply_line (named_ask ask.now).name (named_ask ask.now).session (option_map reply_of told)) ++ 10 ∷ [] }
+/// The line of an ask and its reply.
+fn line_of(ask: &BatchAsk, reply: Option<Reply>) -> LineText
+    requires { is_short_ask (ask_in ask.now) ≡ true }
+    ensures { result ≡ line_text (reply_line (ask_in ask.now).name (ask_in ask.now).session
+        (option_map reply_of reply)) ++ 10 ∷ [] }
 {
-    let text = told_text(told);
+    let text = answer_text(reply);
     let mut line = LineText::new(ask.name.as_str());
     line.push(" ");
     line.push_decimal(u32::from(ask.session));
@@ -95,15 +96,11 @@ fn line_of(ask: &BatchAsk, told: Option<Reply>) -> LineText
     line
 }
 
-/// Whether what is told says that an append failed.
-fn is_broken_reply(told: Option<Reply>) -> bool
-    ensures { result ≡ is_broken_reply (option_map reply_of told) }
+/// Whether a reply says that an append failed.
+fn is_broken_reply(reply: Option<Reply>) -> bool
+    ensures { result ≡ is_broken_reply (option_map reply_of reply) }
 {
-    match told {
-        Some(Reply::Broken) => true,
-        Some(_) => false,
-        None => false,
-    }
+    matches!(reply, Some(Reply::Broken))
 }
 
 /// Does what an item says: the seats behind it, its line, and whether that says that an append failed. Where memory is
@@ -117,28 +114,34 @@ fn carry_out<'w, R: Wait, G: Gate, F: Shelf>(
     item: &BatchItem,
     gate: &G,
 ) -> Option<(Vec<DeskSeat<'w, F::D>>, LineText, bool)>
-    requires limits { AllByRecursion (λ seat. KeepsLimits registry.now.schema.now (profile_of (seat_user seat))) seats.items }
-    requires served { AllByRecursion (IsServed registry.now.schema.now registry.now.world.now (header_bytes registry.now.header.now)) seats.items }
+    requires limits { AllByRecursion (λ seat. KeepsLimits registry.now.schema.now
+        (profile_of (seat_user seat))) seats.items }
+    requires served { AllByRecursion (IsServed registry.now.schema.now registry.now.world.now
+        (header_bytes registry.now.header.now)) seats.items }
     requires distinct { has_duplicate (journals seats.items) ≡ false }
     requires out { AllOut (journals seats.items) (F.is_out shelf.old) }
     requires later { AreLater F.D.faults (F.disk_faults shelf.old) seats.items }
     requires short { is_short_item (item_in item.now) ≡ true }
-    ensures carried { IfSome result (λ r. Carries registry.now.schema.now registry.now.world.now (header_bytes registry.now.header.now) F.D.told F.D.reads F.D.image F.D.faults (item_in item.now) seats.entry.items r.0.items r.1 r.2) }
+    ensures carried { IfSome result (λ r. Carries registry.now.schema.now registry.now.world.now
+        (header_bytes registry.now.header.now) F.D.told F.D.reads F.D.image F.D.faults
+        (item_in item.now) seats.entry.items r.0.items r.1 r.2) }
     ensures untouched { OnSome result (shelf.new ≡ shelf.old) }
-    ensures back { IfNone result (AreBack F.told F.D.reads F.D.image F.D.faults (F.disk shelf.new) (F.disk_faults shelf.new) seats.entry.items) }
+    ensures back { IfNone result (AreBack F.told F.D.reads F.D.image F.D.faults (F.disk shelf.new)
+        (F.disk_faults shelf.new) seats.entry.items) }
     ensures inside { IfNone result (AllIn (journals seats.entry.items) (F.is_out shelf.new)) }
     ensures restart { IfNone result (item_in item.now ≡ restarted) }
     ensures others_out { SameBeside (journals seats.entry.items) (F.is_out shelf.old) (F.is_out shelf.new) }
     ensures counts { SameBeside (journals seats.entry.items) (F.disk_faults shelf.old) (F.disk_faults shelf.new) }
     ensures disks { SameBeside (journals seats.entry.items) (F.disk shelf.old) (F.disk shelf.new) }
     ensures faults { F.faults shelf.new ≡ F.faults shelf.old }
+    ensures looked { F.looked shelf.new ≡ F.looked shelf.old }
 {
     match item {
         BatchItem::Ask(ask) => {
             let mut seats = seats;
             let (name, text) = (ask.name.as_str(), ask.text.as_str());
-            let told = answer(rt, alloc, &mut seats, name, text, gate);
-            Some((seats, line_of(ask, told), is_broken_reply(told)))
+            let reply = answer(rt, alloc, &mut seats, name, text, gate);
+            Some((seats, line_of(ask, reply), is_broken_reply(reply)))
         }
         BatchItem::Restart => {
             let seats = reopen_all(alloc, registry, shelf, seats)?;
@@ -158,19 +161,24 @@ fn answer_all<'w, R: Wait, G: Gate, F: Shelf, K: Sink>(
     sink: &mut K,
     gate: &G,
 ) -> Answered<'w, TicketedDesk<'w, F::D>>
-    requires limits { AllByRecursion (λ seat. KeepsLimits registry.now.schema.now (profile_of (seat_user seat))) seats.items }
-    requires served { AllByRecursion (IsServed registry.now.schema.now registry.now.world.now (header_bytes registry.now.header.now)) seats.items }
+    requires limits { AllByRecursion (λ seat. KeepsLimits registry.now.schema.now
+        (profile_of (seat_user seat))) seats.items }
+    requires served { AllByRecursion (IsServed registry.now.schema.now registry.now.world.now
+        (header_bytes registry.now.header.now)) seats.items }
     requires distinct { has_duplicate (journals seats.items) ≡ false }
     requires out { AllOut (journals seats.items) (F.is_out shelf.old) }
     requires later { AreLater F.D.faults (F.disk_faults shelf.old) seats.items }
-    ensures answered { IsAnswered registry.now.schema.now registry.now.world.now (header_bytes registry.now.header.now) F.D.told F.D.reads F.D.image F.D.faults K.told
-        (λ left. AreBack F.told F.D.reads F.D.image F.D.faults (F.disk shelf.new) (F.disk_faults shelf.new) left) (items_of batch.now) seats.entry.items (K.written sink.old) (K.written sink.new) result }
+    ensures answered { IsAnswered registry.now.schema.now registry.now.world.now
+        (header_bytes registry.now.header.now) F.D.told F.D.reads F.D.image F.D.faults K.told
+        (λ left. AreBack F.told F.D.reads F.D.image F.D.faults (F.disk shelf.new) (F.disk_faults shelf.new) left)
+        (items_of batch.now) seats.entry.items (K.written sink.old) (K.written sink.new) result }
     ensures untouched { HasSeats result → shelf.new ≡ shelf.old }
     ensures inside { (HasSeats result → ⊥) → AllIn (journals seats.entry.items) (F.is_out shelf.new) }
     ensures others_out { SameBeside (journals seats.entry.items) (F.is_out shelf.old) (F.is_out shelf.new) }
     ensures counts { SameBeside (journals seats.entry.items) (F.disk_faults shelf.old) (F.disk_faults shelf.new) }
     ensures disks { SameBeside (journals seats.entry.items) (F.disk shelf.old) (F.disk shelf.new) }
     ensures faults { F.faults shelf.new ≡ F.faults shelf.old }
+    ensures looked { F.looked shelf.new ≡ F.looked shelf.old }
     ensures sink_later { K.faults sink.old ≤ K.faults sink.new }
     ensures cause { IsCut result → Rose (K.faults sink.old) (K.faults sink.new) }
 {
@@ -192,10 +200,10 @@ fn answer_all<'w, R: Wait, G: Gate, F: Shelf, K: Sink>(
     Answered::All(seats, is_broken)
 }
 
-/// Reads the whole script of a batch from the source, refuses it before the first ask, or opens the journals of all users
-/// and answers its asks with one line each. Each desk stands under a counter, at which an ask is settled as those of
-/// threads are, and passes the gate. A restart closes every desk and opens it again from its disk. All disks are given
-/// back on every path. It may wait, at the counters and at the gate.
+/// Reads the whole script of a batch from the source, refuses it before the first ask, or opens the journals of all
+/// users and answers its asks with one line each. Each desk stands under a counter, at which an ask is settled as those
+/// of threads are, and passes the gate. A restart closes every desk and opens it again from its disk. All disks are
+/// given back on every path. It may wait, at the counters and at the gate.
 pub fn run_batch<R: Wait, F: Shelf, S: Source, K: Sink, G: Gate>(
     rt: &R,
     alloc: Global,
@@ -208,13 +216,18 @@ pub fn run_batch<R: Wait, F: Shelf, S: Source, K: Sink, G: Gate>(
     requires limits { All (λ user. KeepsLimits registry.now.schema.now (profile_of user)) registry.now.users.now }
     requires names { has_duplicate (map (λ user. user.name) (map named_user registry.now.users.now)) ≡ false }
     requires inside { NoneOut (F.is_out shelf.old) }
-    ensures ends { F.told → S.told → K.told → Ends registry.now.schema.now registry.now.world.now (header_bytes registry.now.header.now)
-        (journals_on F.D.reads F.D.image registry.now.directory.now (F.disk shelf.old) (F.disk shelf.new) (F.disk_faults shelf.old) (F.disk_faults shelf.new))
-        (map named_user registry.now.users.now) result (S.left source.old) (S.left source.new) (K.written sink.old) (K.written sink.new) }
+    ensures ends { F.told → S.told → K.told
+        → Ends registry.now.schema.now registry.now.world.now (header_bytes registry.now.header.now)
+        (journals_on F.D.reads F.D.image registry.now.directory.now (F.disk shelf.old) (F.disk shelf.new)
+        (F.disk_faults shelf.old) (F.disk_faults shelf.new))
+        (map named_user registry.now.users.now) result (S.left source.old) (S.left source.new) (K.written sink.old)
+        (K.written sink.new) }
 
     // No disk but the users' journals is touched, and all are back.
-    ensures disks { SameBeside (map (journal_name registry.now.directory.now) (map (λ user. user.name) (map named_user registry.now.users.now))) (F.disk shelf.old) (F.disk shelf.new) }
+    ensures disks { SameBeside (map (journal_name registry.now.directory.now)
+        (map (λ user. user.name) (map named_user registry.now.users.now))) (F.disk shelf.old) (F.disk shelf.new) }
     ensures inside { NoneOut (F.is_out shelf.new) }
+    ensures looked { F.looked shelf.new ≡ F.looked shelf.old }
     ensures counts { NoneFell (F.disk_faults shelf.old) (F.disk_faults shelf.new) }
     ensures unopened { IsUnopened result → shelf.new ≡ shelf.old }
     ensures held { S.held source.new ≡ S.held source.old }
@@ -224,6 +237,7 @@ pub fn run_batch<R: Wait, F: Shelf, S: Source, K: Sink, G: Gate>(
     ensures read_cause { result ≡ BatchEnd.ReadFault → Rose (S.faults source.old) (S.faults source.new) }
     ensures write_cause { result ≡ BatchEnd.WriteFault → Rose (K.faults sink.old) (K.faults sink.new) }
     ensures shelf_cause { result ≡ BatchEnd.ShelfFault → Rose (F.faults shelf.old) (F.faults shelf.new) }
+    ensures disk_cause { IsBroken result → SomeRose (F.disk_faults shelf.old) (F.disk_faults shelf.new) }
 {
     let batch = match read_script(alloc, source, Batch::new(alloc)) {
         Reading::Whole(batch) => batch,

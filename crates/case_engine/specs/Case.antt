@@ -8,6 +8,7 @@ use Rattle.cqe_base.specs.Censor.{IsLegal, admitted}
 use Rattle.cqe_base.specs.Run.{Reply, Ending, want, kept, Event, ask, replies, final_history}
 use Rattle.cqe_base.specs.Transcript.{reply_text}
 use Rattle.cqe_base.specs.Hiding.{Hides}
+use Rattle.script_lines.specs.Read.{IsReadThrough}
 use Rattle.case_engine.specs.Script.{Script, script_schema, script_user, script_of}
 use Rattle.case_engine.specs.declared.case.CaseEnd.{CaseEnd}
 use Rattle.case_engine.specs.declared.case.CaseEnd.TheVariants.{Done, Script as Refused, ReadFault, WriteFault, Memory}
@@ -77,7 +78,7 @@ pub record Breaks (bytes old new : List ℕ) : Type 0 where
 -- what each end of a case says of the bytes that were left before and after, and of the output before and after
 abbrev pub Ends : CaseEnd → List ℕ → List ℕ → List ℕ → List ℕ → Type 0
 Ends Done before after old new = (after ≡ []) × Completes before old new
-Ends (Refused refusal) before after old new = (script_of before ≡ Err refusal) × (new ≡ old)
+Ends (Refused refusal) before after old new = (script_of before ≡ Err refusal) × (new ≡ old) × IsReadThrough 1 before after
 Ends ReadFault before after old new = new ≡ old
 Ends WriteFault before after old new = Breaks before old new
 Ends Memory before after old new = new ≡ old

@@ -117,6 +117,7 @@ fn closed_names(alloc: Global, tokens: &[Token<'_>]) -> Result<Option<Vec<String
     ensures { IfOk result (λ names. option_map names_in names ≡ closed_names (map token_of tokens.now)) }
 {
     if is_closed(tokens) {
+        // With a name the goal is a plain equation, and no implication under `IfOk`.
         let names = names_or_none(alloc, &tokens[..tokens.len().saturating_sub(1)])?;
         Ok(names)
     } else {

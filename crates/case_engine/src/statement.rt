@@ -57,6 +57,8 @@ fn worded<'a>(alloc: Global, word: &str, text: &'a str) -> Result<Option<Stateme
     }
 }
 
+// The four below have a `match`: the closure of an `Option::map` to a statement gets no generated proof.
+
 fn domain_statement<'a>(declared: Option<Declared>) -> Option<Statement<'a>>
     ensures says { option_map said result ≡ option_map domain_is (option_map declaration_of declared) }
     ensures short { IfSome result IsShortStatement }

@@ -24,7 +24,8 @@ with_formula form formula =
 -- adding a formula to the form of a list gives the form of the longer list
 abbrev pub AddedFormsGrow : Type 0
 AddedFormsGrow =
-    (formulas : List SignedGround) (formula : SignedGround) → with_formula (form_of formulas) formula ≡ form_of (formulas ++ formula ∷ [])
+    (formulas : List SignedGround) (formula : SignedGround)
+    → with_formula (form_of formulas) formula ≡ form_of (formulas ++ formula ∷ [])
 
 -- how many clauses, numbered facts and variables a form has
 pub record FormSize : Type 0 where
@@ -32,15 +33,21 @@ pub record FormSize : Type 0 where
   pub facts : ℕ
   pub variables : ℕ
 
--- how far a form has come: how many facts, variables and clauses it has
+-- how many of each a form has
 abbrev pub size_of : Form → FormSize
-size_of form = record { clauses = length form.clauses; facts = length form.numbering.facts; variables = form.numbering.variables }
+size_of form =
+    record {
+      clauses = length form.clauses;
+      facts = length form.numbering.facts;
+      variables = form.numbering.variables;
+    }
 
--- it is the size of the form of some list with which that of this form begins
+-- the size is that of an earlier form: this form is that of a list, and the size is that of the form of its beginning
 abbrev pub IsSizeWithin : FormSize → Form → Type 0
-IsSizeWithin size form = (formulas more : List SignedGround) × (form ≡ form_of (formulas ++ more)) × (size ≡ size_of (form_of formulas))
+IsSizeWithin size form =
+    (formulas more : List SignedGround) × (form ≡ form_of (formulas ++ more)) × (size ≡ size_of (form_of formulas))
 
--- the first clauses, facts and variables of a form, so many
+-- a form cut back to a size: its first clauses and facts, so many, and so many variables
 abbrev pub first_of : FormSize → Form → Form
 first_of size form =
     record {

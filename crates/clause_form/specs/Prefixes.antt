@@ -1,7 +1,7 @@
 -- Lists that begin with another.
 use Rattle.std.specs.Prelude.{◌≡◌, List, ◌++◌}
 
--- the elements of a list stand in front
+-- a list begins with all elements of another, in order
 pub record BeginsWith {X : Type 0} (first xs : List X) : Type 0 where
   pub more : List X
   pub is : xs ≡ first ++ more

@@ -2,7 +2,8 @@
 use Rattle.std.specs.Prelude.{◌≡◌, ◌≤◌, ◌+◌, List, ◌++◌}
 use Rattle.cqe_base.specs.Literal.{Literal}
 use Rattle.cqe_base.specs.Ground.{Ground, Grounds, ground_nodes, part_nodes}
-use Rattle.cqe_base.specs.ClauseForm.{Numbering, numbering_after, numbering_after_parts, literal_of, literals_of, clauses_of, clauses_of_parts}
+use Rattle.cqe_base.specs.ClauseForm.{Numbering, numbering_after, numbering_after_parts}
+use Rattle.cqe_base.specs.ClauseForm.{literal_of, literals_of, clauses_of, clauses_of_parts}
 use Rattle.clause_form.specs.Forms.{Form}
 use Rattle.clause_form.specs.Prefixes.{BeginsWith}
 
@@ -14,7 +15,7 @@ with_numbering form numbering = record { clauses = form.clauses; numbering = num
 abbrev pub with_clauses : Form → List (List Literal) → Form
 with_clauses form more = record { clauses = form.clauses ++ more; numbering = form.numbering }
 
--- the clauses and the facts of the old form stand in front
+-- the new form goes on from the old one, whose clauses and facts stand in front
 pub record GoesOn (old new : Form) : Type 0 where
   pub clauses : BeginsWith old.clauses new.clauses
   pub facts : BeginsWith old.numbering.facts new.numbering.facts
@@ -25,7 +26,8 @@ walked_form a old = with_clauses (with_numbering old (numbering_after a old.numb
 
 -- the form after the walks of formulas from left to right
 abbrev pub walked_parts : Grounds → Form → Form
-walked_parts parts old = with_clauses (with_numbering old (numbering_after_parts parts old.numbering)) (clauses_of_parts parts old.numbering)
+walked_parts parts old =
+    with_clauses (with_numbering old (numbering_after_parts parts old.numbering)) (clauses_of_parts parts old.numbering)
 
 -- the walk of a formula gave this literal and led to this form, at most one variable further for each node
 pub record Walked (a : Ground) (old : Form) (literal : Literal) (new : Form) : Type 0 where

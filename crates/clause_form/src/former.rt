@@ -1,4 +1,5 @@
-// Formers: the clause form of what is added, one formula after the other.
+//! Formers: the clause form of what is added, one formula after the other.
+
 ghost use Rattle.std.specs.Prelude.{◌≡◌, true, ◌<◌, ◌≤◌, ◌^◌, ◌+◌, List, [], ◌++◌, length, IfOk, OnOk, OnErr};
 ghost use Rattle.std.specs.List.{list_all};
 ghost use Rattle.cqe_base.specs.Facts.{is_fact_of};
@@ -44,7 +45,7 @@ impl Model for Former {
     ghost invariant = { IsSound };
 }
 
-/// How far a former had come.
+/// How far a former had come when the mark was made; `Former::cut` goes back to it.
 #[derive(Drop)]
 pub struct FormMark {
     clauses: usize,
@@ -133,7 +134,8 @@ impl Former {
     /// Goes back to the list that the former had when the mark was made.
     pub fn cut(&mut self, mark: FormMark)
         requires { IsSizeWithin mark self.old }
-        ensures { (formulas more : List SignedGround) → self.old ≡ form_of (formulas ++ more) → mark ≡ size_of (form_of formulas) → self.new ≡ form_of formulas }
+        ensures { (formulas more : List SignedGround) →
+            self.old ≡ form_of (formulas ++ more) → mark ≡ size_of (form_of formulas) → self.new ≡ form_of formulas }
     {
         law_clause_form_is_prefix();
         law_numbering_goes_on();

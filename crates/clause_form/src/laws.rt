@@ -1,4 +1,5 @@
-// Laws of forms. Each function computes nothing: its clause is the law.
+//! Laws of forms. Each function computes nothing: its clause is the law.
+
 ghost use Rattle.clause_form.specs.Forms.{AddedFormsGrow};
 
 use cqe_base::machine_laws::{law_clause_form_is_prefix, law_numbering_goes_on};

@@ -1,4 +1,5 @@
-// The clauses of a node. What is refused leaves the clauses that were there in front.
+//! The clauses of a node. Each call appends: where it is refused, the clauses that were there still stand in front.
+
 ghost use Rattle.std.specs.Prelude.{◌≡◌, ◌<◌, ◌^◌, ◌+◌, [], ◌∷◌, ◌++◌, map, IfOk, OnOk};
 ghost use Rattle.cqe_base.specs.Literal.{opposite, distinct_literals};
 ghost use Rattle.cqe_base.specs.ClauseForm.{and_clauses, or_clauses, iff_clauses};
@@ -9,7 +10,7 @@ use clause_store::literal::Lit;
 use clause_store::resolution::unite;
 use std::alloc::{AllocError, Global};
 
-/// Appends a clause with each of its literals once, in its first place.
+/// Appends a clause, in which each of these literals stands once, where it came first.
 #[tactic(auto, using(crate::proofs::Beginnings::beginnings))]
 fn push_distinct(alloc: Global, clauses: &mut Clauses, literals: &[Lit]) -> Result<(), AllocError>
     ensures pushed { OnOk result (clauses.new ≡ clauses.old ++ distinct_literals literals.now ∷ []) }
@@ -21,7 +22,7 @@ fn push_distinct(alloc: Global, clauses: &mut Clauses, literals: &[Lit]) -> Resu
     Ok(())
 }
 
-/// Appends a clause of two literals for each of these: `first` and the literal.
+/// Appends a clause of two literals, `first` and it, for each of these literals in turn.
 #[tactic(auto, using(crate::proofs::Beginnings::beginnings))]
 fn push_edges(
     alloc: Global,
@@ -29,7 +30,8 @@ fn push_edges(
     first: Lit,
     literals: &[Lit],
 ) -> Result<(), AllocError>
-    ensures pushed { OnOk result (clauses.new ≡ clauses.old ++ map (λ l. distinct_literals (first ∷ l ∷ [])) literals.now) }
+    ensures pushed { OnOk result
+        (clauses.new ≡ clauses.old ++ map (λ l. distinct_literals (first ∷ l ∷ [])) literals.now) }
     ensures begins { BeginsWith clauses.old clauses.new }
 {
     for l in literals {

@@ -1,4 +1,5 @@
-// The world of a model.
+//! The world of a model.
+
 ghost use Rattle.std.specs.Prelude.{◌≡◌, true, ◌<◌, OnOk};
 ghost use Rattle.std.specs.FinSet as set;
 ghost use Rattle.cqe_base.specs.Facts.{is_fact_of};

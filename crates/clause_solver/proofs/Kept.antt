@@ -2,13 +2,15 @@
 use Rattle.std.proofs.Common.{◌≡◌, ℕ, zero, suc, ◌+◌, ◌-◌, ◌*◌, ◌<◌, ◌≤◌, min, Bool, true, false, cond, not, ◌&&◌, ◌||◌, eqb, List, [], ◌∷◌, ◌++◌, length, reverse, get_or, set, replicate, Option, Some, None, refl, sym, ap, ◌∙◌, subst, inl, inr, ⊎_elim, ◌⊎◌, arith}
 use Rattle.std.specs.Prelude.{unwrap_or, IfSome}
 use Rattle.std.specs.List.{find, range_with_len}
-use Rattle.std.proofs.lemmas.Bool.{both_ways, cases_eq, cases_lt, false_from_ne_true, true_from_ne_false, or_cases, or_left, or_right, eq-eqb, ne_eqb, and_from, and_left, and_right}
+use Rattle.std.proofs.lemmas.Bool.{both_ways, cases_eq, cases_lt, false_from_ne_true, true_from_ne_false, or_left, or_right, eq-eqb, ne_eqb, and_from, and_left, and_right}
 use Rattle.std.proofs.lemmas.List.{get_or-set_same, get_or-set_other, length-set, get_or_past, get_or-replicate, length-replicate, reverse-append}
 use Rattle.cqe_base.specs.Literal.{Literal, Positive, Negative, variable_of, same_literal}
 use Rattle.cqe_base.specs.Machine.{Assigned, assigned_literal, is_true, level, level_of, first_unassigned}
+use Rattle.cqe_base.specs.MachineStates.{is_assigned}
 use Rattle.cqe_base.proofs.ClauseTruth.{same_literal-true, same_literal-same}
+use Rattle.cqe_base.proofs.Trails.{true_is_assigned}
 use Rattle.clause_solver.specs.Entries.{is_decided}
-use Rattle.clause_solver.specs.Assigning.{is_assigned, place_of, code_of, IsKept, IsFirstZero}
+use Rattle.clause_solver.specs.Assigning.{place_of, code_of, IsKept, IsFirstZero}
 use Rattle.clause_solver.proofs.Trails.{level-cons}
 
 -- each literal has its own code
@@ -26,24 +28,14 @@ pub level_of-variable : (t : List Assigned) (l : Literal) → level_of t l ≡ l
 level_of-variable [] l = refl
 level_of-variable (a ∷ t) l = ap (λ k. cond (eqb (variable_of l) (variable_of (assigned_literal a))) (level (a ∷ t)) k) (level_of-variable t l)
 
--- the variable of a true literal is assigned
-pub true-assigned : (t : List Assigned) (l : Literal) → is_true t l ≡ true → is_assigned t (variable_of l) ≡ true
-true-assigned [] l h = h
-true-assigned (a ∷ t) l h = step (λ r. true-assigned t l r) (eqb (variable_of l) (variable_of (assigned_literal a))) refl (or_cases (same_literal l (assigned_literal a)) (is_true t l) h)
-  where
-    step : (is_true t l ≡ true → is_assigned t (variable_of l) ≡ true) → (b : Bool) → eqb (variable_of l) (variable_of (assigned_literal a)) ≡ b → (same_literal l (assigned_literal a) ≡ true) ⊎ (is_true t l ≡ true) → cond b true (is_assigned t (variable_of l)) ≡ true
-    step go true e c = refl
-    step go false e (inl s) = absurd (both_ways _ e (eq-eqb _ _ (ap variable_of (same_literal-true l (assigned_literal a) s))))
-    step go false e (inr r) = go r
-
 pub unassigned-true : (t : List Assigned) (l : Literal) → is_assigned t (variable_of l) ≡ false → is_true t l ≡ false
-unassigned-true t l h = false_from_ne_true _ (λ e. both_ways _ h (true-assigned t l e))
+unassigned-true t l h = false_from_ne_true _ (λ e. both_ways _ h (true_is_assigned t l e))
 
 pub unassigned-level : (t : List Assigned) (v : ℕ) → is_assigned t v ≡ false → level_of t (Positive v) ≡ 0
 unassigned-level [] v h = refl
 unassigned-level (a ∷ t) v h = step (λ e. unassigned-level t v e) (eqb v (variable_of (assigned_literal a))) h
   where
-    step : (is_assigned t v ≡ false → level_of t (Positive v) ≡ 0) → (b : Bool) → cond b true (is_assigned t v) ≡ false → cond b (level (a ∷ t)) (level_of t (Positive v)) ≡ 0
+    step : (is_assigned t v ≡ false → level_of t (Positive v) ≡ 0) → (b : Bool) → (b || is_assigned t v) ≡ false → cond b (level (a ∷ t)) (level_of t (Positive v)) ≡ 0
     step go true e = absurd (both_ways true e refl)
     step go false e = go e
 
@@ -51,7 +43,7 @@ pub unassigned-place : (t : List Assigned) (v : ℕ) → is_assigned t v ≡ fal
 unassigned-place [] v h = refl
 unassigned-place (a ∷ t) v h = step (λ e. unassigned-place t v e) (eqb v (variable_of (assigned_literal a))) h
   where
-    step : (is_assigned t v ≡ false → place_of t v ≡ 0) → (b : Bool) → cond b true (is_assigned t v) ≡ false → cond b (suc (length t)) (place_of t v) ≡ 0
+    step : (is_assigned t v ≡ false → place_of t v ≡ 0) → (b : Bool) → (b || is_assigned t v) ≡ false → cond b (suc (length t)) (place_of t v) ≡ 0
     step go true e = absurd (both_ways true e refl)
     step go false e = go e
 
@@ -59,7 +51,7 @@ pub assigned-place : (t : List Assigned) (v : ℕ) → is_assigned t v ≡ true 
 assigned-place [] v h = absurd (both_ways false refl h)
 assigned-place (a ∷ t) v h = step (λ e. assigned-place t v e) (eqb v (variable_of (assigned_literal a))) h
   where
-    step : (is_assigned t v ≡ true → 0 < place_of t v) → (b : Bool) → cond b true (is_assigned t v) ≡ true → 0 < cond b (suc (length t)) (place_of t v)
+    step : (is_assigned t v ≡ true → 0 < place_of t v) → (b : Bool) → (b || is_assigned t v) ≡ true → 0 < cond b (suc (length t)) (place_of t v)
     step go true e = omega arith
     step go false e = go e
 
@@ -68,7 +60,7 @@ pub assigned-true : (t : List Assigned) (v : ℕ) → is_assigned t v ≡ true �
 assigned-true [] v h = absurd (both_ways false refl h)
 assigned-true (a ∷ t) v h = step (λ e. assigned-true t v e) (assigned_literal a) (eqb v (variable_of (assigned_literal a))) refl h
   where
-    step : (is_assigned t v ≡ true → (is_true t (Positive v) ≡ true) ⊎ (is_true t (Negative v) ≡ true)) → (m : Literal) (b : Bool) → eqb v (variable_of m) ≡ b → cond b true (is_assigned t v) ≡ true → ((same_literal (Positive v) m || is_true t (Positive v)) ≡ true) ⊎ ((same_literal (Negative v) m || is_true t (Negative v)) ≡ true)
+    step : (is_assigned t v ≡ true → (is_true t (Positive v) ≡ true) ⊎ (is_true t (Negative v) ≡ true)) → (m : Literal) (b : Bool) → eqb v (variable_of m) ≡ b → (b || is_assigned t v) ≡ true → ((same_literal (Positive v) m || is_true t (Positive v)) ≡ true) ⊎ ((same_literal (Negative v) m || is_true t (Negative v)) ≡ true)
     step go (Positive w) true e h = inl (or_left _ _ e)
     step go (Negative w) true e h = inr (or_left _ _ e)
     step go m false e h = ⊎_elim (λ u. inl (or_right _ _ u)) (λ u. inr (or_right _ _ u)) (go h)
@@ -191,8 +183,8 @@ module _ (n : ℕ) (t : List Assigned) (truths : List Bool) (levels places : Lis
       in_places : v < length places
       in_places = let r = kept.places_room in omega arith
 
-      assigned_more : (w : ℕ) → is_assigned t w ≡ true → cond (eqb w (variable_of (assigned_literal a))) true (is_assigned t w) ≡ true
-      assigned_more w e = elim (eqb w (variable_of (assigned_literal a))) as (λ b. cond b true (is_assigned t w) ≡ true) [ true ↦ refl | false ↦ e ]
+      assigned_more : (w : ℕ) → is_assigned t w ≡ true → (eqb w (variable_of (assigned_literal a)) || is_assigned t w) ≡ true
+      assigned_more w e = or_right _ _ e
 
 -- without the latest entry
 pub kept_pop : (n : ℕ) (a : Assigned) (t : List Assigned) (truths : List Bool) (levels places : List ℕ) (decisions next c v less low : ℕ) → IsKept n (a ∷ t) truths levels places decisions next → c ≡ code_of (assigned_literal a) → v ≡ variable_of (assigned_literal a) → less ≡ cond (is_decided a) (decisions - 1) decisions → low ≡ min next v
@@ -215,7 +207,7 @@ kept_pop n a t truths levels places decisions next c v less low kept ec ev el ew
     | inr other ↦ get_or-set_other places v w 0 0 other ∙ kept.place_at w ∙ ap (λ b. cond b (suc (length t)) (place_of t w)) (ne_eqb _ _ (λ e. other (e ∙ sym ev)))
   ];
   level_is = el ∙ lower (is_decided a) (kept.level_is ∙ level-cons a t);
-  assigned_below = λ w lt. subst (λ b. cond b true (is_assigned t w) ≡ true) (ne_eqb _ _ (λ e. apart (omega arith) (e ∙ sym ev))) (kept.assigned_below w (omega arith));
+  assigned_below = λ w lt. subst (λ b. (b || is_assigned t w) ≡ true) (ne_eqb _ _ (λ e. apart (omega arith) (e ∙ sym ev))) (kept.assigned_below w (omega arith));
   next_room = let r = kept.next_room in omega arith;
 }
   where

@@ -8,10 +8,11 @@ use Rattle.std.proofs.lemmas.Bool.{both_ways, cases_eq, or_cases, or_parts, eq-e
 use Rattle.std.proofs.lemmas.List.{get_or-reverse, length-reverse}
 use Rattle.cqe_base.specs.Literal.{Literal, Positive, Negative, variable_of, opposite, same_literal, has_literal}
 use Rattle.cqe_base.specs.Machine.{Assigned, assigned_literal, is_false, latest_against}
+use Rattle.cqe_base.specs.MachineStates.{is_assigned, IsDistinct}
 use Rattle.cqe_base.proofs.ClauseTruth.{same_literal-true, variable_of-opposite}
 use Rattle.cqe_base.proofs.NoRepeats.{eqb_comm}
-use Rattle.clause_solver.specs.Assigning.{is_assigned, AssignsOnce, place_of, place_against, latest_place}
-use Rattle.clause_solver.proofs.Kept.{true-assigned}
+use Rattle.clause_solver.specs.Assigning.{place_of, place_against, latest_place}
+use Rattle.cqe_base.proofs.Trails.{true_is_assigned}
 
 same_literal-opposite : (l m : Literal) → same_literal (opposite l) m ≡ same_literal (opposite m) l
 same_literal-opposite (Positive v) (Positive w) = refl
@@ -20,7 +21,7 @@ same_literal-opposite (Negative v) (Positive w) = eqb_comm v w
 same_literal-opposite (Negative v) (Negative w) = refl
 
 -- where a literal is false its place is that of its variable
-pub place_against-is : (n : ℕ) (t : List Assigned) (l : Literal) → AssignsOnce n t → place_against t l ≡ cond (is_false t l) (place_of t (variable_of l)) 0
+pub place_against-is : (n : ℕ) (t : List Assigned) (l : Literal) → IsDistinct n t → place_against t l ≡ cond (is_false t l) (place_of t (variable_of l)) 0
 place_against-is n [] l d = refl
 place_against-is n (a ∷ t) l d = step (place_against-is n t l d.2) (same_literal (opposite l) (assigned_literal a)) (is_false t l) refl refl
   where
@@ -28,7 +29,7 @@ place_against-is n (a ∷ t) l d = step (place_against-is n t l d.2) (same_liter
     step go true f e g =
         sym (ap (λ x. cond x (suc (length t)) (place_of t (variable_of l))) (eq-eqb _ _ (sym (variable_of-opposite l) ∙ ap variable_of (same_literal-true (opposite l) (assigned_literal a) e))))
     step go false true e g =
-        let there : is_assigned t (variable_of l) ≡ true = ap (is_assigned t) (sym (variable_of-opposite l)) ∙ true-assigned t (opposite l) g in
+        let there : is_assigned t (variable_of l) ≡ true = ap (is_assigned t) (sym (variable_of-opposite l)) ∙ true_is_assigned t (opposite l) g in
         let apart : eqb (variable_of l) (variable_of (assigned_literal a)) ≡ false = ne_eqb _ _ (λ s. both_ways _ d.1 (ap (is_assigned t) (sym s) ∙ there)) in
         go ∙ sym (ap (λ x. cond (is_false t l) (cond x (suc (length t)) (place_of t (variable_of l))) 0) apart)
     step go false false e g =

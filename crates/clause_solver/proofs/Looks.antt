@@ -1,17 +1,17 @@
 -- What is kept of all clauses: a look at one watch after the other, one more entry of the trail, and a cut.
-use Rattle.std.proofs.Common.{◌≡◌, ℕ, ◌<◌, Bool, true, false, cond, ◌||◌, eqb, List, [], ◌∷◌, ◌++◌, length, get_or, set, map, Option, Some, None, refl, sym, ap, ◌∙◌, subst, inl, inr, ⊎_elim, ◌⊎◌, arith}
+use Rattle.std.proofs.Common.{◌≡◌, ℕ, ◌<◌, true, false, eqb, List, [], ◌∷◌, ◌++◌, length, get_or, set, map, Option, Some, None, refl, sym, ap, ◌∙◌, subst, inl, inr, ⊎_elim, ◌⊎◌, arith}
 use Rattle.std.specs.Prelude.{IfSome}
 use Rattle.std.specs.List.{list_all, AllByRecursion}
 use Rattle.std.proofs.lemmas.Bool.{both_ways, cases_eq, cases_lt, or_cases, or_left, or_right, eq-eqb, eqb-true, and_parts, and_from}
 use Rattle.std.proofs.lemmas.List.{get_or-set_same, get_or-set_other, length-set, map-set, get_or-map, length-map}
 use Rattle.std.proofs.lemmas.List.Folds.{list_any-append}
-use Rattle.cqe_base.specs.Literal.{Literal, variable_of, opposite, has_literal}
+use Rattle.cqe_base.specs.Literal.{Literal, opposite, has_literal}
 use Rattle.cqe_base.specs.Machine.{Assigned, assigned_literal, is_false, level, cut}
-use Rattle.cqe_base.specs.MachineStates.{IsDistinct, is_assigned as trail_assigned}
+use Rattle.cqe_base.specs.MachineStates.{IsDistinct}
 use Rattle.clause_solver.specs.declared.watches.Pair.{Pair}
 use Rattle.clause_solver.specs.declared.watches.Watch.{Watch}
 use Rattle.clause_solver.specs.declared.watches.Watches.{Watches}
-use Rattle.clause_solver.specs.Assigning.{code_of, is_assigned, AssignsOnce}
+use Rattle.clause_solver.specs.Assigning.{code_of}
 use Rattle.clause_solver.specs.Watching.{IsWatched, IsHalfWatched, IsWatching, IsWatchOf, AllFalseBut, has_number, has_clause, is_caught, no_pair}
 use Rattle.clause_solver.proofs.Kept.{code_of-injective}
 use Rattle.clause_solver.proofs.Watching.{which, watched_more, half_more, IsSteady, watched_push, half_push, none_push, watched_cut}
@@ -309,17 +309,3 @@ pub note_map : {V W : Type 0} (g : V → List W) (zs : List V) (i j : ℕ) (old 
 note_map g zs i j old new w low same more =
     ap (λ k. map g (set zs k new)) same ∙ map-set g zs j new
     ∙ ap (set (map g zs) j) (more ∙ ap (λ ys. ys ++ w ∷ []) (sym (get_or-map g zs j old [] low ∙ ap (λ k. g (get_or zs k old)) (sym same))))
-
--- ---- the two words for what is assigned
-
-or_cond : (b x : Bool) → cond b true x ≡ (b || x)
-or_cond true x = refl
-or_cond false x = refl
-
-pub same_assigned : (t : List Assigned) (v : ℕ) → is_assigned t v ≡ trail_assigned t v
-same_assigned [] v = refl
-same_assigned (a ∷ t) v = ap (λ b. cond (eqb v (variable_of (assigned_literal a))) true b) (same_assigned t v) ∙ or_cond (eqb v (variable_of (assigned_literal a))) (trail_assigned t v)
-
-pub distinct_once : (n : ℕ) (t : List Assigned) → IsDistinct n t → AssignsOnce n t
-distinct_once n [] d = d
-distinct_once n (a ∷ t) d = (d.0, same_assigned t (variable_of (assigned_literal a)) ∙ d.1, distinct_once n t d.2)

@@ -2,22 +2,12 @@
 use Rattle.std.specs.Prelude.{◌≡◌, ℕ, suc, ◌<◌, ◌≤◌, ◌+◌, ◌*◌, Bool, true, false, ◌==◌, if◌then◌else◌, List, [], ◌∷◌, length, max, Option, Some, None, slice_index_or}
 use Rattle.cqe_base.specs.Literal.{Literal, Positive, Negative, variable_of, opposite, same_literal}
 use Rattle.cqe_base.specs.Machine.{Assigned, assigned_literal, is_true, level, level_of}
+use Rattle.cqe_base.specs.MachineStates.{is_assigned, IsDistinct}
 
 -- a trail, and how many variables there are
 pub record Assigning : Type 0 where
   pub variables : ℕ
   pub trail : List Assigned
-
--- whether a variable is on the trail
-abbrev pub is_assigned : List Assigned → ℕ → Bool
-is_assigned [] v = false
-is_assigned (a ∷ trail) v = if v == variable_of (assigned_literal a) then true else is_assigned trail v
-
--- the trail's variables are below n, and each is there once
-abbrev pub AssignsOnce : ℕ → List Assigned → Type 0
-AssignsOnce n [] = Unit {0}
-AssignsOnce n (a ∷ trail) =
-    (variable_of (assigned_literal a) < n) × (is_assigned trail (variable_of (assigned_literal a)) ≡ false) × AssignsOnce n trail
 
 -- how long the trail is up to and with a variable, and 0 where that isn't assigned
 abbrev pub place_of : List Assigned → ℕ → ℕ
@@ -41,7 +31,7 @@ code_of (Negative v) = 2 * v + 1
 
 -- the truth of each literal, the level and the place of each variable, the level, and a number below which each variable is assigned are those of the trail
 pub record IsKept (n : ℕ) (trail : List Assigned) (truths : List Bool) (levels places : List ℕ) (decisions next : ℕ) : Type 0 where
-  pub once : AssignsOnce n trail
+  pub once : IsDistinct n trail
   pub truths_room : length truths ≡ 2 * n
   pub levels_room : length levels ≡ n
   pub places_room : length places ≡ n

@@ -1,4 +1,4 @@
-// The analysis of a conflict with the levels and the marks at hand.
+//! The analysis of a conflict with the levels and the marks at hand.
 
 ghost use Rattle.std.specs.Prelude.{◌≡◌, ◌<◌, ◌^◌, [], length, not, max, if◌then◌else◌, IfOk, slice_index_or};
 ghost use Rattle.std.specs.List.{filter, find};
@@ -8,7 +8,7 @@ ghost use Rattle.clause_store.specs.PlainLines.{line_of};
 ghost use Rattle.clause_solver.specs.Marking.{line_with};
 
 use crate::assignment::Assignment;
-use crate::entry::Entry;
+use crate::entry::TrailEntry;
 use crate::marked_clause::MarkedClause;
 use clause_store::clauses::Clauses;
 use clause_store::literal::Lit;
@@ -36,7 +36,7 @@ fn clause_or_none(clauses: &Clauses, number: usize) -> &[Lit]
 /// Resolves a clause with the cause of a literal, whose number joins the chain; a decision has none.
 fn resolve_with(
     clauses: &Clauses,
-    latest: Option<Entry>,
+    latest: Option<TrailEntry>,
     clause: &mut MarkedClause,
     chain: &mut Vec<u32>,
 ) -> Result<(), AllocError>

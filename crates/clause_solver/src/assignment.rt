@@ -1,13 +1,14 @@
-// The trail with what is asked of it at hand: the truth of each literal, and the level and the place of each variable.
+//! The trail with what is asked of it at hand: the truth of each literal, and the level and the place of each variable.
 
 ghost use Rattle.std.specs.Prelude.{◌≡◌, ◌<◌, ◌≤◌, ◌^◌, ◌+◌, ◌-◌, ◌*◌, false, [], ◌∷◌, length, reverse, IfOk, IfSome, IfNone, if◌then◌else◌};
 ghost use Rattle.cqe_base.specs.Literal.{variable_of};
 ghost use Rattle.cqe_base.specs.Machine.{Assigned, assigned_literal, is_true, is_false, level, level_of, is_current, latest_against, first_unassigned};
+ghost use Rattle.cqe_base.specs.MachineStates.{is_assigned};
 ghost use Rattle.clause_solver.specs.Entries.{is_decided};
-ghost use Rattle.clause_solver.specs.Assigning.{is_assigned, place_of, place_against, latest_place, IsFirstZero};
+ghost use Rattle.clause_solver.specs.Assigning.{place_of, place_against, latest_place, IsFirstZero};
 
 use crate::codes::code;
-use crate::entry::Entry;
+use crate::entry::TrailEntry;
 use clause_store::literal::Lit;
 use std::alloc::{AllocError, Global};
 use std::marker::Model;
@@ -16,7 +17,7 @@ use std::marker::Model;
 #[derive(Drop)]
 pub struct Assignment {
     variables: u32,
-    trail: Vec<Entry>,
+    trail: Vec<TrailEntry>,
     /// Whether each literal is true, by its code.
     truths: Vec<bool>,
     /// The level of each variable, 0 where it isn't assigned.
@@ -59,7 +60,7 @@ impl Assignment {
     }
 
     /// The entries, with the latest one last.
-    pub fn entries(&self) -> &[Entry]
+    pub fn entries(&self) -> &[TrailEntry]
         ensures { reverse result.now ≡ self.now.trail }
     {
         self.trail.as_slice()
@@ -142,7 +143,7 @@ impl Assignment {
     }
 
     /// The latest literal of the trail whose opposite a clause has.
-    pub fn latest_against(&self, clause: &[Lit]) -> Option<Entry>
+    pub fn latest_against(&self, clause: &[Lit]) -> Option<TrailEntry>
         ensures { result ≡ latest_against self.now.trail clause.now }
     {
         match self.latest_place(clause) {
@@ -152,7 +153,7 @@ impl Assignment {
     }
 
     /// An entry joins the trail.
-    pub fn push(&mut self, entry: Entry) -> Result<(), AllocError>
+    pub fn push(&mut self, entry: TrailEntry) -> Result<(), AllocError>
         requires below { variable_of (assigned_literal entry) < self.old.variables }
         requires free { is_assigned self.old.trail (variable_of (assigned_literal entry)) ≡ false }
         ensures { IfOk result (λ _. self.new ≡ record self.old { trail = entry ∷ self.old.trail }) }
@@ -170,7 +171,7 @@ impl Assignment {
     }
 
     /// The latest entry leaves the trail.
-    pub fn pop(&mut self) -> Option<Entry>
+    pub fn pop(&mut self) -> Option<TrailEntry>
         ensures some { IfSome result (λ entry. self.old ≡ record self.new { trail = entry ∷ self.new.trail }) }
         ensures none { IfNone result (self.old.trail ≡ []) }
     {
@@ -199,7 +200,7 @@ impl Assignment {
 }
 
 /// The level with one more entry.
-fn level_with(level: usize, entry: Entry) -> usize
+fn level_with(level: usize, entry: TrailEntry) -> usize
     requires { level + 1 < 2 ^ 64 }
     ensures { result ≡ (if is_decided entry then level + 1 else level) }
 {
@@ -207,7 +208,7 @@ fn level_with(level: usize, entry: Entry) -> usize
 }
 
 /// The level without its latest entry.
-fn level_without(level: usize, entry: Entry) -> usize
+fn level_without(level: usize, entry: TrailEntry) -> usize
     ensures { result ≡ (if is_decided entry then level - 1 else level) }
 {
     if entry.is_decided() {

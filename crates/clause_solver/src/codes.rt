@@ -1,4 +1,4 @@
-// A number for each literal.
+//! A number for each literal.
 
 ghost use Rattle.std.specs.Prelude.{◌≡◌, ◌<◌, ◌+◌, ◌*◌, ◌^◌};
 ghost use Rattle.cqe_base.specs.Literal.{variable_of};

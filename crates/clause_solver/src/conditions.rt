@@ -1,4 +1,4 @@
-// What a search asks of its clauses, as a test.
+//! What a search asks of its clauses, as a test.
 
 ghost use Rattle.std.specs.Prelude.{◌≡◌, ◌<◌, ◌^◌, ◌+◌, ◌↔◌, IsTrue, length};
 ghost use Rattle.cqe_base.specs.Literal.{Literal, ClauseBelow, ClausesBelow, HasNoRepeat, HaveNoRepeat};

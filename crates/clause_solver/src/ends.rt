@@ -1,4 +1,4 @@
-// What a step did, and what a search found.
+//! What a step did, and what a search found.
 
 use clause_store::refutation::{Refutation, Signs};
 

@@ -1,4 +1,4 @@
-// An entry of the trail.
+//! An entry of the trail.
 
 ghost use Rattle.std.specs.Prelude.{◌≡◌, false};
 ghost use Rattle.cqe_base.specs.Machine.{Assigned, Decided, Because, assigned_literal};
@@ -9,13 +9,13 @@ use std::marker::Model;
 
 /// A literal on the trail, and the number of the clause that it is because of, 0 where it was decided.
 #[derive(Clone, Copy)]
-pub struct Entry {
+pub struct TrailEntry {
     literal: Lit,
     clause: u32,
     decided: bool,
 }
 
-impl Model for Entry {
+impl Model for TrailEntry {
     ghost use Rattle.cqe_base.specs.Machine.{Assigned, assigned_literal};
 
     ghost Value = { Assigned };
@@ -35,12 +35,12 @@ impl Model for Entry {
     } };
 }
 
-impl Entry {
+impl TrailEntry {
     /// A decided literal.
-    pub fn decided(literal: Lit) -> Entry
+    pub fn decided(literal: Lit) -> TrailEntry
         ensures { result ≡ Decided literal }
     {
-        Entry {
+        TrailEntry {
             literal,
             clause: 0,
             decided: true,
@@ -48,10 +48,10 @@ impl Entry {
     }
 
     /// A literal because of a clause.
-    pub fn because(clause: u32, literal: Lit) -> Entry
+    pub fn because(clause: u32, literal: Lit) -> TrailEntry
         ensures { result ≡ Because clause literal }
     {
-        Entry {
+        TrailEntry {
             literal,
             clause,
             decided: false,

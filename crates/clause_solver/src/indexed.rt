@@ -1,17 +1,17 @@
-// The state of the machine with what is kept of its clauses.
+//! The state of the machine with what is kept of its clauses.
 
 ghost use Rattle.std.specs.Prelude.{◌≡◌, ◌⊎◌, ◌<◌, ◌≤◌, ◌^◌, ◌+◌, ◌==◌, ℕ, true, false, [], ◌∷◌, ◌++◌, length, map, Some, None, IfOk, IfSome, IfNone, not, if◌then◌else◌};
 ghost use Rattle.std.specs.List.{position_from, list_all, find};
 ghost use Rattle.std.specs.Option.{option_map};
 ghost use Rattle.cqe_base.specs.Literal.{Literal, variable_of, ClauseBelow};
 ghost use Rattle.cqe_base.specs.Machine.{Assigned, assigned_literal, is_true, is_false, level, first_unit, cut, start};
-ghost use Rattle.clause_solver.specs.Assigning.{is_assigned};
+ghost use Rattle.cqe_base.specs.MachineStates.{is_assigned};
 ghost use Rattle.clause_solver.specs.Watching.{IsWatched};
 ghost use Rattle.clause_solver.specs.WatchesInside.{units_of};
 ghost use Rattle.clause_solver.specs.IndexedStates.{plain_of, IsLookedAt, IsIndexed};
 
 use crate::assignment::Assignment;
-use crate::entry::Entry;
+use crate::entry::TrailEntry;
 use crate::marked_clause::MarkedClause;
 use crate::watches::Watches;
 use clause_store::clauses::Clauses;
@@ -69,7 +69,7 @@ impl Indexed {
     }
 
     /// A literal joins the trail. Where that raises the level, no clause may be unit or falsified.
-    pub fn assign(&mut self, entry: Entry) -> Result<(), AllocError>
+    pub fn assign(&mut self, entry: TrailEntry) -> Result<(), AllocError>
         requires below { variable_of (assigned_literal entry) < self.old.assignment.variables }
         requires free { is_assigned self.old.assignment.trail (variable_of (assigned_literal entry)) ≡ false }
         requires steady { (level (entry ∷ self.old.assignment.trail) ≡ level self.old.assignment.trail) ⊎ ((units_of self.old.watches ≡ []) × (self.old.watches.falsified ≡ None)) }
@@ -106,6 +106,7 @@ impl Indexed {
         ensures number { IfSome result (λ i. i < length self.now.clauses) }
         ensures none { IfNone result (self.now.watches.falsified ≡ None) }
     {
+        // A match: its two cases have an answer each, and with `map` the clause `first` doesn't prove alone.
         match self.watches.falsified {
             Some(number) => Some(number as usize),
             None => None,

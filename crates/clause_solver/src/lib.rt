@@ -1,15 +1,15 @@
-// The search machine.
-//
-// `search` answers the machine's end, a model or a refutation, or Spent exactly where the machine's whole cost is above the budget;
-// `search_with_cost` answers it with that cost.
-// It looks at two literals of each clause: for each literal it keeps the clauses that watch it, and looks at them where it becomes
-// false. What a clause knows of its watched literals is `IsWatched`, and what is kept of all clauses `IsWatching` (specs/Watching.antt).
-// An assignment that is undone touches no clause.
-// `laws::search_plain` is the plain program of the same contract: it scans the clauses and the trail at each step.
-// A conflict is analysed on one clause with a mark for each literal (`marked_clause`), so a resolution looks at each literal once.
-//
-// Read `entry` and `ends`, then `assignment`, `watches` and `marked_clause`, then `indexed`, `analysis`, `rules` and `run`. `plain`
-// stands alone.
+//! The search machine.
+//!
+//! `search` answers the machine's end, a model or a refutation, or Spent exactly where the machine's whole cost is above the budget;
+//! `search_with_cost` answers it with that cost.
+//! It looks at two literals of each clause: for each literal it keeps the clauses that watch it, and looks at them where it becomes
+//! false. What a clause knows of its watched literals is `IsWatched`, and what is kept of all clauses `IsWatching` (specs/Watching.antt).
+//! An assignment that is undone touches no clause.
+//! `plain::search_plain` is the plain program of the same contract: it scans the clauses and the trail at each step.
+//! A conflict is analysed on one clause with a mark for each literal (`marked_clause`), so a resolution looks at each literal once.
+//!
+//! Read `entry` and `ends`, then `assignment`, `watches` and `marked_clause`, then `indexed`, `analysis`, `rules` and `run`. `plain`
+//! stands alone.
 #![tactic(auto)]
 
 mod analysis;
@@ -19,9 +19,8 @@ mod conditions;
 mod ends;
 mod entry;
 mod indexed;
-pub mod laws;
 mod marked_clause;
-mod plain;
+pub mod plain;
 mod rules;
 mod run;
 mod watches;

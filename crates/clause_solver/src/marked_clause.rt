@@ -1,4 +1,4 @@
-// A clause with a mark for each of its literals, so that a resolution looks at each literal of both clauses once.
+//! A clause with a mark for each of its literals, so that a resolution looks at each literal of both clauses once.
 
 ghost use Rattle.std.specs.Prelude.{◌≡◌, ◌<◌, ◌^◌, ◌++◌, ◌∷◌, [], false, length, slice_set, slice_index_or, if◌then◌else◌, IfOk, OnErr};
 ghost use Rattle.cqe_base.specs.Literal.{Literal, variable_of, has_literal, union, ClauseBelow};

@@ -1,7 +1,9 @@
-// The search machine by plain scanning.
+//! The search machine by plain scanning: the definition's slow body, with the contract of `search`.
 
-pub mod conflict;
-pub mod run;
-pub mod scan;
-pub mod state;
-pub mod trail;
+mod conflict;
+mod run;
+mod scan;
+mod state;
+mod trail;
+
+pub use run::search_plain;

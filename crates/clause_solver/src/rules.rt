@@ -1,4 +1,4 @@
-// The rules of the machine on the state with what is kept of its clauses.
+//! The rules of the machine on the state with what is kept of its clauses.
 
 ghost use Rattle.std.specs.Prelude.{◌≡◌, ◌⊎◌, ◌<◌, ◌≤◌, ◌^◌, ◌+◌, ℕ, [], ◌∷◌, ◌++◌, length, map, Some, None, IfOk, IfSome};
 ghost use Rattle.std.specs.List.{position_from, list_all};
@@ -13,7 +13,7 @@ ghost use Rattle.clause_solver.specs.IndexedStates.{plain_of, IsIndexed, IsHighe
 use crate::analysis::{back_level, conflict_line, first_current};
 use crate::assignment::Assignment;
 use crate::ends::Advance;
-use crate::entry::Entry;
+use crate::entry::TrailEntry;
 use crate::indexed::Indexed;
 use clause_store::literal::Lit;
 use clause_store::refutation::{Line, Signs};
@@ -62,7 +62,7 @@ fn learn(alloc: Global, state: &mut Indexed, line: Line) -> Result<(), AllocErro
     let back = back_level(&state.assignment, &line.clause);
     let second = highest_beside(&state.assignment, &line.clause, asserting);
     state.cut(back);
-    state.assign(Entry::because(number, asserting))?;
+    state.assign(TrailEntry::because(number, asserting))?;
     state.enter(alloc, &line.clause, asserting, second)?;
     state.lines.push(line)?;
     Ok(())
@@ -123,7 +123,7 @@ fn decide_step(alloc: Global, state: &mut Indexed, variables: u32) -> Result<Adv
 {
     match state.assignment.first_unassigned() {
         Some(v) => {
-            state.assign(Entry::decided(Lit::negative(v)))?;
+            state.assign(TrailEntry::decided(Lit::negative(v)))?;
             Ok(Advance::Went(1))
         }
         None => {
@@ -148,7 +148,7 @@ fn unit_step(alloc: Global, state: &mut Indexed, variables: u32) -> Result<Advan
 {
     match state.first_unit() {
         Some(unit) => {
-            state.assign(Entry::because(unit.0 as u32, unit.1))?;
+            state.assign(TrailEntry::because(unit.0 as u32, unit.1))?;
             Ok(Advance::Went(1))
         }
         None => decide_step(alloc, state, variables),

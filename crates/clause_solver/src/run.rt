@@ -1,4 +1,5 @@
-// The run of the machine within a budget.
+//! The run of the machine within a budget.
+
 ghost use Rattle.std.specs.Prelude.{◌≡◌, ◌<◌, ◌^◌, ◌+◌, length, IfOk, None};
 ghost use Rattle.cqe_base.specs.Literal.{ClausesBelow, HaveNoRepeat};
 ghost use Rattle.cqe_base.specs.Machine.{end_within_budget, start};
@@ -55,7 +56,8 @@ fn spent(budget: u64) -> Searched
     }
 }
 
-/// The machine's end with its whole cost, or Spent exactly where that is above the budget, with the budget.
+/// What `search` answers, with the whole cost in the same units. Where the budget is spent the whole cost isn't known, and the
+/// budget stands in its place.
 pub fn search_with_cost(
     alloc: Global,
     clauses: &Clauses,
@@ -102,7 +104,11 @@ pub fn search_with_cost(
     Ok(spent(budget))
 }
 
-/// The machine's end, or Spent exactly where its whole cost is above the budget.
+/// Runs the machine of `cqe_base` (specs/Machine.antt), for callers that don't ask what it cost.
+///
+/// The budget is in the machine's own units: a conflict costs 1, 1 for each resolution and 1 for each literal of the learnt
+/// clause, and any other step costs 1. Time and memory aren't counted. The same clauses in the same order give the same
+/// answer. `is_searchable` tests all that is required; `Err` is want of memory.
 pub fn search(
     alloc: Global,
     clauses: &Clauses,

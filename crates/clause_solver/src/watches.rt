@@ -1,4 +1,4 @@
-// Two watched literals of each clause, and the clauses that became unit or falsified since the last decision.
+//! Two watched literals of each clause, and the clauses that became unit or falsified since the last decision.
 
 ghost use Rattle.std.specs.List.{find};
 ghost use Rattle.std.specs.List.Sorted.{IsPermutation};

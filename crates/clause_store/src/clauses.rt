@@ -1,4 +1,5 @@
-// Numbered clauses.
+//! Numbered clauses.
+
 ghost use Rattle.std.specs.Prelude.{◌≡◌, ◌==◌, ◌<◌, ◌≤◌, [], ◌∷◌, ◌++◌, length, take, IfOk, OnOk, OnErr, slice_index_or, slice_get};
 ghost use Rattle.std.specs.Option.{option_copied};
 ghost use Rattle.clause_store.specs.Ends.{start_of};

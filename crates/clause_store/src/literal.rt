@@ -1,4 +1,5 @@
-// Literals.
+//! Literals.
+
 ghost use Rattle.std.specs.Prelude.{◌≡◌, ◌<◌, ◌^◌, ◌+◌, ◌↔◌, IsTrue, IfSome, IsNone};
 ghost use Rattle.clause_store.specs.SignedNumbers.{number_of_literal, IsNoLiteral};
 ghost use Rattle.cqe_base.specs.Literal.{Literal, Positive, Negative, variable_of, opposite, same_literal, has_literal};
@@ -56,7 +57,8 @@ impl Lit {
         }
     }
 
-    /// Its number.
+    /// Its number, as DIMACS writes literals: v + 1 for variable v, numbered from 0, and -(v + 1) for its negation. It is
+    /// never 0, which ends a clause there, and never `i32::MIN`, so it can be negated.
     pub fn number(self) -> i32
         ensures { result ≡ number_of_literal self }
     {

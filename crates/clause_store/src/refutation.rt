@@ -1,4 +1,5 @@
-// What a search ends with.
+//! What a search ends with.
+
 use crate::literal::Lit;
 
 /// A sign for each variable.

@@ -1,4 +1,5 @@
-// Resolution of clauses.
+//! Resolution of clauses.
+
 ghost use Rattle.std.specs.Prelude.{◌≡◌, IfOk};
 ghost use Rattle.cqe_base.specs.Literal.{union};
 ghost use Rattle.cqe_base.specs.Refutation.{without_variable, resolvent};

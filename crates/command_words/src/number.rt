@@ -1,4 +1,4 @@
-// The numbers among the words.
+//! The numbers among the words.
 ghost use Rattle.std.specs.Prelude.{◌≡◌, option_map};
 ghost use Rattle.command_words.specs.Numbers.{number_from, number_or};
 

@@ -1,4 +1,4 @@
-// The command line of the program, as `clap` is told of it.
+//! The command line of the program, as `clap` is told of it.
 ghost use Rattle.std.specs.Prelude.{◌≡◌, false, IfOk};
 ghost use Rattle.clap.specs.Words.{app_of, rule_of};
 ghost use Rattle.clap.specs.declared.builder.command.Command.TheViews.{out-Command};
@@ -32,6 +32,8 @@ pub(crate) fn program<'a>(alloc: Global) -> Result<Command<'a>, AllocError>
         .subcommand(serve)?;
     Ok(program)
 }
+
+// What each of these returns has a name first: its goals are then plain equations, and no implications under `IfOk`.
 
 // The audit of a user.
 fn audit<'a>(alloc: Global) -> Result<Command<'a>, AllocError>

@@ -84,7 +84,7 @@ cut_number n k (a ∷ t) =
     (λ _. omega arith)
     (λ e. let lt = leb-false _ _ e in let w = weight_le n (n - level (a ∷ t)) (n - (k + 1)) (omega arith) in omega arith)
 
-back_low : (t : List Assigned) (c : List Literal) → 0 < level t → highest_level t (filter (λ m. not (is_current t m)) c) < level t
+pub back_low : (t : List Assigned) (c : List Literal) → 0 < level t → highest_level t (filter (λ m. not (is_current t m)) c) < level t
 back_low t c pos =
     highest-below t (level t) (filter (λ m. not (is_current t m)) c) pos
     (each_weaker (λ m. not (is_current t m) ≡ true) (λ m. level_of t m < level t) (λ m e. not_current_below t m e) (filter (λ m. not (is_current t m)) c) (each_passes (λ m. not (is_current t m)) c))

@@ -1,4 +1,5 @@
--- A code of formulas: a formula is stored as the list of its parts, children before their parent.
+-- A code of formulas, for the checker alone: with it a list of formulas has a known equality. No clause rests on it, and nobody has to believe it.
+-- A formula is stored as the list of its parts, children before their parent.
 use Rattle.std.specs.Prelude.{◌≡◌, ℕ, zero, suc, List, [], ◌∷◌, ◌++◌, refl}
 use Rattle.std.specs.Coded.{Coded, Coded-set, code_by, coded_ℕ, coded_list, coded×}
 use Rattle.std.proofs.Common.{ap, ◌∙◌}

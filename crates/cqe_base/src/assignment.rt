@@ -1,4 +1,4 @@
-// Terms and atoms where the variables have constants.
+//! Terms and atoms where the variables have constants.
 ghost use Rattle.std.specs.Prelude.{◌≡◌, ◌≤◌, length, map};
 ghost use Rattle.cqe_base.specs.Truth.{value_of, same_constant};
 ghost use Rattle.cqe_base.specs.Facts.{fact_of};

@@ -1,4 +1,4 @@
-// Laws of clause forms, refutations and the search machine. Each function computes nothing: its clause is the law.
+//! Laws of clause forms, refutations and the search machine. Each function computes nothing: its clause is the law.
 ghost use Rattle.cqe_base.specs.MachineLaws.{ResolutionIsSound, RefutationIsSound, ModelsAreWorlds, ModelGivesWorld, ClauseFormIsPrefix, NumberingGoesOn, NumberingsAreProper, NumberedFactsStay, NumberedFactsAreOfSchema, ClauseFormUsesItsVariables, ClauseFormHasNoRepeat, VariablesAreFew, NumberedFactsAreFew, NumberedFactsOccur, GroundedFactsAreOfSchema, MachineHasOneEnd, BudgetIsWholeCost, MachineEndsWithinBound, MachineEndsAreRight, GroundFollowsEntails, GroundOpenIsOpen, RefutationEntails, ModelIsCountermodel, SpentIsCost, EnoughIsNeverSpent};
 ghost use Rattle.cqe_base.specs.Trace.{WorkedTrace};
 

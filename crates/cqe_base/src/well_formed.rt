@@ -1,4 +1,4 @@
-// Which sentences are sentences of a schema.
+//! Which sentences are sentences of a schema.
 ghost use Rattle.std.specs.Prelude.{◌≡◌, true, ◌+◌, ◌≤◌, ◌<◌, [], ◌∷◌, ◌++◌, ◌&&◌, length, take};
 ghost use Rattle.cqe_base.specs.Schema.{columns_of};
 ghost use Rattle.cqe_base.specs.Formula.{formula_of, term_domain, is_domain, have_one_domain, have_domains, fit_relation, may_quantify, is_well_formed, is_sentence_of};
@@ -78,10 +78,7 @@ fn term_domain(schema: &Schema, scope: &[u32], term: &Term) -> Option<u32>
                 None
             }
         }
-        Term::Place(i) => match scope.get(*i as usize) {
-            Some(domain) => Some(*domain),
-            None => None,
-        },
+        Term::Place(i) => scope.get(*i as usize).copied(),
     }
 }
 
@@ -89,10 +86,7 @@ fn term_domain(schema: &Schema, scope: &[u32], term: &Term) -> Option<u32>
 fn is_domain(found: Option<u32>, domain: u32) -> bool
     ensures { result ≡ is_domain found domain }
 {
-    match found {
-        Some(other) => other == domain,
-        None => false,
-    }
+    found == Some(domain)
 }
 
 /// Whether both terms have a domain, and the same.

@@ -20,9 +20,9 @@ use Rattle.desk_crew.specs.Openings.{IsOpening}
 use Rattle.audit_engine.specs.Ends.{IsEnd}
 use Rattle.audit_engine.specs.declared.end.AuditEnd.{AuditEnd}
 use Rattle.audit_engine.specs.declared.end.AuditEnd.TheVariants as audit_end
-use Rattle.policy_files.specs.Memory.{named_user_of, policy_value_of}
+use Rattle.policy_files.specs.Memory.{policy_user_of, policy_value_of}
 use Rattle.policy_files.specs.declared.policy.Policy.{Policy}
-use Rattle.policy_files.specs.Policies.{NamedUser, PolicyValue}
+use Rattle.policy_files.specs.Policies.{PolicyUser, PolicyValue}
 use Rattle.policy_files.specs.Users.{names_of}
 use Rattle.cqe_top.specs.declared.end.CommandEnd.{CommandEnd}
 use Rattle.cqe_top.specs.declared.end.CommandEnd.TheVariants as ends
@@ -74,37 +74,37 @@ module _ {X : Type 0} (p : X → Bool) where
 abbrev pub is_named : Text → User → Bool
 is_named name user = bytes_eq (string_bytes user.name) name
 
-named_among : (name : Text) (users : List User) → user_named name (map named_user_of users) ≡ option_map named_user_of (find (is_named name) users)
+named_among : (name : Text) (users : List User) → user_named name (map policy_user_of users) ≡ option_map policy_user_of (find (is_named name) users)
 named_among name [] = refl
 named_among name (user ∷ users) = by (is_named name user) (named_among name users)
   where
-    by : (b : Bool) → user_named name (map named_user_of users) ≡ option_map named_user_of (find (is_named name) users)
-        → cond b (Some (named_user_of user)) (user_named name (map named_user_of users)) ≡ option_map named_user_of (cond b (Some user) (find (is_named name) users))
+    by : (b : Bool) → user_named name (map policy_user_of users) ≡ option_map policy_user_of (find (is_named name) users)
+        → cond b (Some (policy_user_of user)) (user_named name (map policy_user_of users)) ≡ option_map policy_user_of (cond b (Some user) (find (is_named name) users))
     by true is = refl
     by false is = is
 
 -- the user at the place of a name is the one who has it
 pub one_named : (name : Text) (users : List User) (place : ℕ) (user d : User) → Some place ≡ position (is_named name) users → user ≡ get_or users place d → place < length users
-    → user_named name (map named_user_of users) ≡ Some (named_user_of user)
+    → user_named name (map policy_user_of users) ≡ Some (policy_user_of user)
 one_named name users place user d found is low =
-    named_among name users ∙ ap (option_map named_user_of) (first_at (is_named name) users place d (at (nat_lt (before (is_named name) users) (length users)) found) low)
-    ∙ ap (λ u. Some (named_user_of u)) (sym is)
+    named_among name users ∙ ap (option_map policy_user_of) (first_at (is_named name) users place d (at (nat_lt (before (is_named name) users) (length users)) found) low)
+    ∙ ap (λ u. Some (policy_user_of u)) (sym is)
   where
     at : (b : Bool) → Some place ≡ cond b (Some (before (is_named name) users)) None → before (is_named name) users ≡ place
     at true same = cc
     at false same = let clash : Some place ≡ None = same in absurd cc
 
 -- without a place nobody has the name
-pub nobody_named : (name : Text) (users : List User) → None ≡ position (is_named name) users → user_named name (map named_user_of users) ≡ None
+pub nobody_named : (name : Text) (users : List User) → None ≡ position (is_named name) users → user_named name (map policy_user_of users) ≡ None
 nobody_named name users none =
-    named_among name users ∙ ap (option_map named_user_of) (none_before (is_named name) users (past (nat_lt (before (is_named name) users) (length users)) none))
+    named_among name users ∙ ap (option_map policy_user_of) (none_before (is_named name) users (past (nat_lt (before (is_named name) users) (length users)) none))
   where
     past : (b : Bool) → None ≡ cond b (Some (before (is_named name) users)) None → b ≡ false
     past true same = let clash : None ≡ Some (before (is_named name) users) = same in absurd cc
     past false same = refl
 
 -- he who is found has the name
-pub has_name : (name : Text) (users : List NamedUser) (user : NamedUser) → user_named name users ≡ Some user → user.name ≡ name
+pub has_name : (name : Text) (users : List PolicyUser) (user : PolicyUser) → user_named name users ≡ Some user → user.name ≡ name
 has_name name [] user found = let clash : None ≡ Some user = found in absurd cc
 has_name name (one ∷ users) user found = by (bytes_eq one.name name) refl (has_name name users user) found
   where
@@ -132,8 +132,8 @@ module _ (journals : Journals) (json : Bool) (old new policy_name facts_name : L
   refused_audit ends.LinksFault refused same = absurd refused
   refused_audit ends.Memory refused same = same
 
-  module _ (policy : PolicyValue) (world : FactSet) (header : List ℕ) (users : List User) (say : files ≡ both policy world header) (same : init.names_of users ≡ names_of policy.users)
-      (user : NamedUser) (found : user_named name policy.users ≡ Some user) (number : ℕ) (at : IsAt (init.names_of users) number name) where
+  module _ (policy : PolicyValue) (world : FactSet) (header : List ℕ) (users : List User) (say : files ≡ both policy world header) (same : init.user_names users ≡ names_of policy.users)
+      (user : PolicyUser) (found : user_named name policy.users ≡ Some user) (number : ℕ) (at : IsAt (init.user_names users) number name) where
     -- the audit of the user of the name
     pub audit_reaches : (audited : AuditEnd) (end : CommandEnd) → IsEndOfAudit users number audited end
         → IsEnd policy.schema world header user.name user.profile (journals.bytes user.name) (journals.before user.name) (journals.now user.name) json audited old new
@@ -216,9 +216,9 @@ module _ {D : Type 0} (reads : D → List ℕ) (image : D → List ℕ → Type 
 
 -- he has the name
 pub named_at : (name : Text) (users : List User) (place : ℕ) (user : User) → Some place ≡ position (is_named name) users → place < length users → user ≡ get_or users place user → string_bytes user.name ≡ name
-named_at name users place user found low is = has_name name (map named_user_of users) (named_user_of user) (one_named name users place user user found is low)
+named_at name users place user found low is = has_name name (map policy_user_of users) (policy_user_of user) (one_named name users place user user found is low)
 
-at_place : (users : List User) (place : ℕ) (user : User) (name : Text) → place < length users → user ≡ get_or users place user → string_bytes user.name ≡ name → IsAt (init.names_of users) place name
+at_place : (users : List User) (place : ℕ) (user : User) (name : Text) → place < length users → user ≡ get_or users place user → string_bytes user.name ≡ name → IsAt (init.user_names users) place name
 at_place users place user name low is named =
     slice_get-map (λ (u : User). string_bytes u.name) users place ∙ ap (λ o. option_map (λ (u : User). string_bytes u.name) o) (slice_get_read users (length users) place user refl low is) ∙ ap (λ (t : Text). Some t) named
 
@@ -232,7 +232,7 @@ pub audit_over : {D : Type 0} (reads : D → List ℕ) (image : D → List ℕ �
     → AuditReaches (journals_on reads image directory disk disk' count count') json old new policy_name facts_name name files end
 audit_over reads image directory disk mid disk' count mid_count count' json old new policy_name facts_name name files policy world header place user audited end same_disks same_counts say found low is ends_so ended =
     let users = policy.users.items in
-    audit_reaches (journals_on reads image directory disk disk' count count') json old new policy_name facts_name name files (policy_value_of policy) world header users say (names_are users) (named_user_of user)
+    audit_reaches (journals_on reads image directory disk disk' count count') json old new policy_name facts_name name files (policy_value_of policy) world header users say (names_are users) (policy_user_of user)
     (one_named name users place user user found is low) place (at_place users place user name low is (named_at name users place user found low is)) audited end ends_so
     (ended_over reads image disk mid disk' same_disks policy.schema world header directory (string_bytes user.name) (profile_of user) count mid_count count' json audited old new same_counts ended)
 
@@ -241,7 +241,7 @@ pub nobody_over : (journals : Journals) (json : Bool) (old policy_name facts_nam
     → files ≡ both (policy_value_of policy) world header → None ≡ position (is_named name) policy.users.items → AuditReaches journals json old old policy_name facts_name name files ends.Usage
 nobody_over journals json old policy_name facts_name name files policy world header say none = ((policy_value_of policy, world, header, say, nobody_named name policy.users.items none), refl)
 
--- the audit of a user is never usage, reads nothing and listens nowhere
+-- the audit of a user is never usage, reads nothing, listens nowhere and tells no fault of a disk
 pub not_usage : (users : List User) (number : ℕ) (audited : AuditEnd) (end : CommandEnd) → IsEndOfAudit users number audited end → end ≡ ends.Usage → ⊥
 not_usage users number audit_end.Done end is same = let clash : ends.Done ≡ ends.Usage = sym is ∙ same in cc
 not_usage users number (audit_end.Refused why) end (owner, owned, is) same = let clash : ends.Journal owner why ≡ ends.Usage = sym is ∙ same in cc
@@ -262,6 +262,13 @@ not_links users number (audit_end.Refused why) end (owner, owned, is) same = let
 not_links users number audit_end.WriteFault end is same = let clash : ends.WriteFault ≡ ends.LinksFault = sym is ∙ same in cc
 not_links users number audit_end.ShelfFault end is same = let clash : ends.ShelfFault ≡ ends.LinksFault = sym is ∙ same in cc
 not_links users number audit_end.Memory end is same = let clash : ends.Memory ≡ ends.LinksFault = sym is ∙ same in cc
+
+pub not_disk : (users : List User) (number : ℕ) (audited : AuditEnd) (end : CommandEnd) → IsEndOfAudit users number audited end → end ≡ ends.DiskFault → ⊥
+not_disk users number audit_end.Done end is same = let clash : ends.Done ≡ ends.DiskFault = sym is ∙ same in cc
+not_disk users number (audit_end.Refused why) end (owner, owned, is) same = let clash : ends.Journal owner why ≡ ends.DiskFault = sym is ∙ same in cc
+not_disk users number audit_end.WriteFault end is same = let clash : ends.WriteFault ≡ ends.DiskFault = sym is ∙ same in cc
+not_disk users number audit_end.ShelfFault end is same = let clash : ends.ShelfFault ≡ ends.DiskFault = sym is ∙ same in cc
+not_disk users number audit_end.Memory end is same = let clash : ends.Memory ≡ ends.DiskFault = sym is ∙ same in cc
 
 -- a fault of the sink or of the shelf is that of the audit
 pub write_fault : (users : List User) (number : ℕ) (audited : AuditEnd) (end : CommandEnd) → IsEndOfAudit users number audited end → end ≡ ends.WriteFault → audited ≡ audit_end.WriteFault

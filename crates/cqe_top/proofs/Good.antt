@@ -16,8 +16,7 @@ use Rattle.batch_engine.specs.BatchLines.{batch_of}
 use Rattle.batch_engine.specs.Batch.{unopened, with_opening}
 use Rattle.outside.specs.Shelf.{bytes_on}
 use Rattle.desk_crew.specs.Shelved.{Journals, journals_on}
-use Rattle.policy_files.specs.Policies
-use Rattle.policy_files.specs.Policies.{PolicyValue}
+use Rattle.policy_files.specs.Policies.{PolicyUser, PolicyValue}
 use Rattle.policy_files.specs.Users.{names_of}
 use Rattle.cqe_top.specs.declared.end.CommandEnd.{CommandEnd}
 use Rattle.cqe_top.specs.declared.end.CommandEnd.TheVariants as ends
@@ -48,7 +47,7 @@ not_missing files policy_name facts_name name is (inr (none, same)) = subst IsBo
 
 -- ---- a batch
 
-all_open : (policy : PolicyValue) (world : FactSet) (header : List ℕ) (journals : Journals) (users : List NamedUser) (known : List Policies.NamedUser) → map unopened users ≡ map new_user known
+all_open : (policy : PolicyValue) (world : FactSet) (header : List ℕ) (journals : Journals) (users : List NamedUser) (known : List PolicyUser) → map unopened users ≡ map new_user known
     → AllByRecursion (λ user. CanOpen policy.schema world header journals (new_user user)) known → AllByRecursion (CanOpen policy.schema world header journals) users
 all_open policy world header journals [] known are can = tt
 all_open policy world header journals (user ∷ users) [] are can = let clash : unopened user ∷ map unopened users ≡ [] = are in absurd cc
@@ -89,8 +88,8 @@ module _ (journals : Journals) (before after old new policy_name facts_name : Li
 -- ---- the making of journals
 
 -- what all have, the one of a number has
-at_number : (P : Policies.NamedUser → Type 0) (users : List Policies.NamedUser) (number : ℕ) (name : Text) → AllByRecursion P users → slice_get (names_of users) number ≡ Some name
-    → (user : Policies.NamedUser) × P user × (user.name ≡ name)
+at_number : (P : PolicyUser → Type 0) (users : List PolicyUser) (number : ℕ) (name : Text) → AllByRecursion P users → slice_get (names_of users) number ≡ Some name
+    → (user : PolicyUser) × P user × (user.name ≡ name)
 at_number P [] number name all at = let clash : None ≡ Some name = at in absurd cc
 at_number P (user ∷ users) zero name all at = let same : user.name ≡ name = cc in (user, all.0, same)
 at_number P (user ∷ users) (suc number) name all at = at_number P users number name all.1 at
@@ -107,7 +106,7 @@ module _ {D : Type 0} (told : Type 0) (reads : D → List ℕ) (image : D → Li
   unrefused header bytes count count' Memory is (inr shows) whole reason = reason.1 refl
 
   -- a user's disk is as the making of journals needs it
-  abbrev IsMadeOf : List ℕ → Policies.NamedUser → Type 0
+  abbrev IsMadeOf : List ℕ → PolicyUser → Type 0
   IsMadeOf header user =
       ((bytes_on reads (old (journal_name directory user.name)) ≡ []) ⊎ ((why : OpenError) → Refuses header (bytes_on reads (old (journal_name directory user.name))) why → ⊥))
       × (Rose (before (journal_name directory user.name)) (now (journal_name directory user.name)) → ⊥)

@@ -2,6 +2,7 @@
 use Rattle.std.proofs.Common.{◌≡◌, inl, inr, ℕ, Bool, true, false, List, map, Option, refl, ap, subst, ◌∙◌}
 use Rattle.std.specs.Prelude.{Vec, if◌then◌else◌}
 use Rattle.std.specs.declared.alloc.Global.{Global}
+use Rattle.outside.specs.Faults.{Rose}
 use Rattle.outside.specs.Shelf.{SameNames, bytes_on, image_on}
 use Rattle.cqe_base.specs.Schema.{Text}
 use Rattle.cqe_base.specs.Facts.{FactSet}
@@ -16,7 +17,7 @@ use Rattle.case_engine.specs.Case as case
 use Rattle.case_engine.specs.declared.case.CaseEnd.{CaseEnd}
 use Rattle.case_engine.specs.declared.case.CaseEnd.TheVariants as case_end
 use Rattle.batch_engine.specs.Batch as batch
-use Rattle.desk_crew.specs.Shelved.{Journals, journals_on, is_among, AreKept, SameBeside}
+use Rattle.desk_crew.specs.Shelved.{Journals, journals_on, is_among, AreKept, SameBeside, SomeRose}
 use Rattle.batch_engine.specs.declared.run.BatchEnd.{BatchEnd}
 use Rattle.batch_engine.specs.declared.run.BatchEnd.TheVariants as batch_end
 use Rattle.cqe_top.specs.declared.end.CommandEnd.{CommandEnd}
@@ -36,7 +37,7 @@ module _ (before after old new : List ℕ) where
   case_reaches case_end.Memory reached = reached
 
   module _ (journals : Journals) (policy_name facts_name : List ℕ) (files : FilesSay) (policy : PolicyValue) (world : FactSet) (header : List ℕ) (users : Vec User Global)
-      (say : files ≡ both policy world header) (same : init.names_of users.items ≡ names_of policy.users) where
+      (say : files ≡ both policy world header) (same : init.user_names users.items ≡ names_of policy.users) where
     answered : (refusals : Vec (Option DeskError) Global) (is_broken is_refused : Bool) → has_refusal refusals.items ≡ is_refused → Completes journals before after old new refusals.items is_broken policy world header
         → BatchReaches journals before after old new policy_name facts_name files (if is_refused then ends.Journals users refusals else if is_broken then ends.DiskFault else ends.Done)
     answered refusals is_broken true refused reached = (policy, world, header, say, (refused, same, is_broken, reached))
@@ -47,7 +48,7 @@ module _ (before after old new : List ℕ) where
     pub batch_reaches : (end : BatchEnd) → batch.Ends policy.schema world header journals (new_users policy) end before after old new
         → BatchReaches journals before after old new policy_name facts_name files (end_of_batch users end)
     batch_reaches (batch_end.Done refusals is_broken) reached = answered refusals is_broken (has_refusal refusals.items) refl reached
-    batch_reaches (batch_end.Script refusal) reached = ((policy, world, header, say, reached.0), reached.1)
+    batch_reaches (batch_end.Script refusal) reached = ((policy, world, header, say, reached.0), reached.1, reached.2)
     batch_reaches batch_end.ReadFault reached = (policy, world, header, say, reached)
     batch_reaches batch_end.WriteFault reached = (policy, world, header, say, reached)
     batch_reaches batch_end.ShelfFault reached = reached
@@ -57,7 +58,7 @@ module _ (before after old new : List ℕ) where
 -- the same, where the shelf's disks were the same before the files were read, and the users of the batch are those of the policy
 pub batch_over : {D : Type 0} (reads : D → List ℕ) (image : D → List ℕ → Type 0) (directory : List ℕ) (disk mid disk' : Text → Option D) (count mid_count count' : Text → ℕ)
     (before after old new policy_name facts_name : List ℕ) (files : FilesSay) (policy : PolicyValue) (world : FactSet) (header : List ℕ) (users : Vec User Global) (named : List NamedUser) (end : BatchEnd)
-    → SameNames disk mid → SameNames count mid_count → files ≡ both policy world header → init.names_of users.items ≡ names_of policy.users → named ≡ new_users policy
+    → SameNames disk mid → SameNames count mid_count → files ≡ both policy world header → init.user_names users.items ≡ names_of policy.users → named ≡ new_users policy
     → batch.Ends policy.schema world header (journals_on reads image directory mid disk' mid_count count') named end before after old new
     → BatchReaches (journals_on reads image directory disk disk' count count') before after old new policy_name facts_name files (end_of_batch users end)
 batch_over reads image directory disk mid disk' count mid_count count' before after old new policy_name facts_name files policy world header users named end same_disks same_counts say same are reached =
@@ -65,6 +66,24 @@ batch_over reads image directory disk mid disk' count mid_count count' before af
     (subst (λ d. batch.Ends policy.schema world header (journals_on reads image directory d disk' count count') (new_users policy) end before after old new) (λ i name. same_disks name i)
     (subst (λ n. batch.Ends policy.schema world header (journals_on reads image directory mid disk' n count') (new_users policy) end before after old new) (λ i name. same_counts name i)
     (subst (λ u. batch.Ends policy.schema world header (journals_on reads image directory mid disk' mid_count count') u end before after old new) are reached)))
+
+-- a batch that ends by a failed append says so
+pub batch_broken : (users : Vec User Global) (end : BatchEnd) → end_of_batch users end ≡ ends.DiskFault → batch.IsBroken end
+batch_broken users (batch_end.Done refusals is_broken) is = by (has_refusal refusals.items) is_broken is
+  where
+    by : (is_refused broken : Bool) → (if is_refused then ends.Journals users refusals else if broken then ends.DiskFault else ends.Done) ≡ ends.DiskFault → broken ≡ true
+    by true broken clash = absurd cc
+    by false true same = refl
+    by false false clash = absurd cc
+batch_broken users (batch_end.Script refusal) clash = absurd cc
+batch_broken users batch_end.ReadFault clash = absurd cc
+batch_broken users batch_end.WriteFault clash = absurd cc
+batch_broken users batch_end.ShelfFault clash = absurd cc
+batch_broken users batch_end.Memory clash = absurd cc
+
+-- a count that rose after the files were read rose in the call
+pub rose_over : (count mid_count count' : Text → ℕ) → SameNames count mid_count → SomeRose mid_count count' → SomeRose count count'
+rose_over count mid_count count' same (name, rose) = (name, subst (λ n. Rose n (count' name)) (same name) rose)
 
 -- the journals on disks that weren't touched
 pub kept_same : {D : Type 0} (reads : D → List ℕ) (image : D → List ℕ → Type 0) (directory : List ℕ) (disk disk' : Text → Option D) (count count' : Text → ℕ) → SameNames disk disk'

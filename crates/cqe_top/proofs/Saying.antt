@@ -1,5 +1,6 @@
 -- What holds of the command in memory holds of the words that say it.
-use Rattle.std.proofs.Common.{◌≡◌, subst, ℕ, Bool, List, Option, Some}
+use Rattle.std.proofs.Common.{◌≡◌, ◌∙◌, ap, sym, subst, ℕ, Bool, List, Option, Some}
+use Rattle.cqe_top.specs.Words.{files_of_reading}
 use Rattle.command_words.specs.Readings.{Reading, FileNames, runs_init, runs_batch, runs_audit, runs_selfrun, runs_serve}
 
 -- files by their names
@@ -39,6 +40,14 @@ module _ (read : Option Reading) (policy facts journals policy' facts' journals'
       let same_sessions : sessions ≡ sessions' = cc in
       subst (λ n. P policy' facts' journals' address' workers' n) same_sessions (subst (λ n. P policy' facts' journals' address' n sessions) same_workers
       (subst (λ a. P policy' facts' journals' a workers sessions) same_address (subst (λ f. P f.policy f.facts f.journals address workers sessions) same holds)))
+
+-- a command over files
+pub by_files : (P : List ℕ → List ℕ → Type 0) (read : Option Reading) (reading : Reading) (policy facts journals policy' facts' journals' : List ℕ) → Some reading ≡ read
+    → files_of_reading (Some reading) ≡ Some (named policy facts journals) → files_of_reading read ≡ Some (named policy' facts' journals') → P policy facts → P policy' facts'
+by_files P read reading policy facts journals policy' facts' journals' is first second holds =
+    let both : Some (named policy facts journals) ≡ Some (named policy' facts' journals') = sym first ∙ ap files_of_reading is ∙ second in
+    let same : named policy facts journals ≡ named policy' facts' journals' = cc in
+    subst (λ f. P f.policy f.facts) same holds
 
 -- a run
 pub by_selfrun : (read : Option Reading) (seed users asks seed' users' asks' : ℕ) (P : ℕ → ℕ → ℕ → Type 0) → Some (runs_selfrun seed users asks) ≡ read → read ≡ Some (runs_selfrun seed' users' asks') → P seed users asks → P seed' users' asks'

@@ -29,8 +29,8 @@ use Rattle.policy_files.specs.declared.error.PolicyError.{PolicyError}
 use Rattle.policy_files.specs.declared.error.FactsError.{FactsError}
 use Rattle.policy_files.specs.declared.policy.Policy.{Policy}
 use Rattle.policy_files.specs.Facts.{facts_of}
-use Rattle.policy_files.specs.Memory.{named_user_of, policy_value_of}
-use Rattle.policy_files.specs.Policies.{NamedUser, PolicyValue}
+use Rattle.policy_files.specs.Memory.{policy_user_of, policy_value_of}
+use Rattle.policy_files.specs.Policies.{PolicyUser, PolicyValue}
 use Rattle.policy_files.specs.Policy.{policy_in}
 use Rattle.cqe_top.specs.declared.end.CommandEnd.{CommandEnd}
 use Rattle.cqe_top.specs.declared.end.CommandEnd.TheVariants as ends
@@ -80,6 +80,18 @@ serve_over reads image directory disk mid disk' count mid_count count' given giv
     (subst (λ n. serving.Ends policy.schema world header (journals_on reads image directory mid disk' n count') policy.users.items given given' back back' end) (λ i name. same_counts name i)
     (subst (λ u. serving.Ends policy.schema world header (journals_on reads image directory mid disk' mid_count count') u given given' back back' end) are reached)))
 
+-- a serving that ends by a failed append says so
+pub serve_broken : (users : Vec User Global) (end : ServeEnd) → end_of_serve users end ≡ ends.DiskFault → serving.IsBroken end
+serve_broken users (serve_end.Done refusals is_broken) is = by (has_refusal refusals.items) is_broken is
+  where
+    by : (is_refused broken : Bool) → (if is_refused then ends.Journals users refusals else if broken then ends.DiskFault else ends.Done) ≡ ends.DiskFault → broken ≡ true
+    by true broken clash = absurd cc
+    by false true same = refl
+    by false false clash = absurd cc
+serve_broken users serve_end.LinksFault clash = absurd cc
+serve_broken users serve_end.ShelfFault clash = absurd cc
+serve_broken users serve_end.Memory clash = absurd cc
+
 -- what it listened at, where the files said a policy
 pub listens_over : (told : Type 0) (files : FilesSay) (policy : PolicyValue) (world : FactSet) (header address : List ℕ) (doors : ℕ) (old new : List Place) → (told → files ≡ both policy world header)
     → (new ≡ old) ⊎ ListenAt address doors old new → ListensOver told files address doors old new
@@ -112,10 +124,10 @@ said_header (Some bytes) facts policy world header is = said_with_policy bytes (
 module _ (schema : DatabaseSchema) (world : FactSet) (header : List ℕ) (journals : Journals)
     (unrefused : (user : UserProfile) (bytes : List ℕ) (entries : History) (why : DeskError) → Opens schema world user header entries bytes → Refuses schema world user header bytes why → ⊥) where
   -- a user's journal can be opened, and the count of its disk didn't rise
-  abbrev IsReady : NamedUser → Type 0
+  abbrev IsReady : PolicyUser → Type 0
   IsReady user = ((entries : History) × Opens schema world user.profile header entries (journals.bytes user.name)) × (Rose (journals.before user.name) (journals.now user.name) → ⊥)
 
-  not_sealed : (user : NamedUser) (why : DeskError) → IsReady user
+  not_sealed : (user : PolicyUser) (why : DeskError) → IsReady user
       → IsSealedBy schema world user.profile (Unit {0}) header (journals.bytes user.name) (journals.before user.name) (journals.now user.name) why → ⊥
   not_sealed user (desk_errors.Journal Memory) ready is = is
   not_sealed user (desk_errors.Journal DiskFault) ready is = ready.1 is
@@ -128,7 +140,7 @@ module _ (schema : DatabaseSchema) (world : FactSet) (header : List ℕ) (journa
   not_sealed user (desk_errors.Size number) ready is = unrefused user.profile (journals.bytes user.name) ready.0.0 (desk_errors.Size number) ready.0.1 (is tt)
   not_sealed user (desk_errors.NotAdmitted admission) ready is = unrefused user.profile (journals.bytes user.name) ready.0.0 (desk_errors.NotAdmitted admission) ready.0.1 (is tt)
 
-  not_refused : (user : User) (member : Member) (refusal : Option DeskError) → serving.HasServed schema world header journals user member refusal → IsReady (named_user_of user) → is_some refusal ≡ true → ⊥
+  not_refused : (user : User) (member : Member) (refusal : Option DeskError) → serving.HasServed schema world header journals user member refusal → IsReady (policy_user_of user) → is_some refusal ≡ true → ⊥
   not_refused user member refusal served ready refused =
       by served.standing served.refusal_is
       (subst (λ (profile : UserProfile). IsStanding schema world profile (Unit {0}) header (journals.bytes (string_bytes user.name)) member.opening
@@ -139,10 +151,10 @@ module _ (schema : DatabaseSchema) (world : FactSet) (header : List ℕ) (journa
           (journals.before (string_bytes user.name)) (journals.now (string_bytes user.name)) standing → ⊥
       by Open none is = let clash : false ≡ true = sym (ap is_some none) ∙ refused in cc
       by (Closed admission) none is = let clash : false ≡ true = sym (ap is_some none) ∙ refused in cc
-      by (Sealed why) sealed is = not_sealed (named_user_of user) why ready is.1
+      by (Sealed why) sealed is = not_sealed (policy_user_of user) why ready is.1
 
   none_refused : (users : List User) (members : List Member) (refusals : List (Option DeskError)) → serving.HaveServed schema world header journals users members refusals
-      → AllByRecursion IsReady (map named_user_of users) → has_refusal refusals ≡ true → ⊥
+      → AllByRecursion IsReady (map policy_user_of users) → has_refusal refusals ≡ true → ⊥
   none_refused [] [] [] served ready says = let clash : false ≡ true = says in cc
   none_refused [] [] (refusal ∷ refusals) served ready says = served
   none_refused [] (member ∷ members) refusals served ready says = served
@@ -152,7 +164,7 @@ module _ (schema : DatabaseSchema) (world : FactSet) (header : List ℕ) (journa
   none_refused (user ∷ users) (member ∷ members) (Some why ∷ refusals) served ready says = not_refused user member (Some why) served.0 ready.0 refl
 
   none_broke : (users : List User) (members : List Member) (refusals : List (Option DeskError)) → serving.HaveServed schema world header journals users members refusals
-      → AllByRecursion IsReady (map named_user_of users) → list_any (λ member. member.broke) members ≡ true → ⊥
+      → AllByRecursion IsReady (map policy_user_of users) → list_any (λ member. member.broke) members ≡ true → ⊥
   none_broke [] [] refusals served ready says = let clash : false ≡ true = says in cc
   none_broke [] (member ∷ members) refusals served ready says = served
   none_broke (user ∷ users) [] refusals served ready says = served
@@ -178,7 +190,7 @@ module _ (law : OpensUnrefused) (journals : Journals) (given given' : ℕ) (back
       unrefused = subst (λ (text : List ℕ). (user : UserProfile) (bytes : List ℕ) (entries : History) (why : DeskError) → Opens policy.schema world user text entries bytes
           → Refuses policy.schema world user text bytes why → ⊥) (sym said.1) (λ user bytes entries why. law policy.schema world user said.0 bytes entries why)
 
-      ready : AllByRecursion (IsReady policy.schema world header journals unrefused) (map named_user_of users)
+      ready : AllByRecursion (IsReady policy.schema world header journals unrefused) (map policy_user_of users)
       ready = subst (AllByRecursion (IsReady policy.schema world header journals unrefused)) (sym are) can
 
   -- a serving over files that say both, with journals that open, is done or finds no memory

@@ -4,27 +4,27 @@ use Rattle.cqe_base.specs.Schema.{has_duplicate}
 use Rattle.cqe_base.specs.declared.user.User.{User}
 use Rattle.init_engine.specs.Disks as init
 use Rattle.policy_files.specs.Users.{names_of}
-use Rattle.policy_files.specs.Memory.{named_user_of, policy_value_of}
+use Rattle.policy_files.specs.Memory.{policy_user_of, policy_value_of}
 use Rattle.policy_files.specs.Laws.{IsKeptPolicy}
 use Rattle.policy_files.specs.declared.policy.Policy.{Policy}
 use Rattle.desk_crew.specs.Crew.{named_user}
 use Rattle.cqe_top.specs.Files.{new_user, new_users}
 
 -- their names are those that the policy says
-pub names_are : (users : List User) → init.names_of users ≡ names_of (map named_user_of users)
+pub names_are : (users : List User) → init.user_names users ≡ names_of (map policy_user_of users)
 names_are [] = refl
 names_are (user ∷ users) = ap (λ names. (named_user user).name ∷ names) (names_are users)
 
 -- and those of the users of the batch
-pub batch_names_are : (users : List User) → map (λ user. user.name) (map named_user users) ≡ init.names_of users
+pub batch_names_are : (users : List User) → map (λ user. user.name) (map named_user users) ≡ init.user_names users
 batch_names_are [] = refl
 batch_names_are (user ∷ users) = ap (λ names. (named_user user).name ∷ names) (batch_names_are users)
 
 -- they differ
-pub names_differ : (policy : Policy) → IsKeptPolicy (policy_value_of policy) → has_duplicate (init.names_of policy.users.items) ≡ false
+pub names_differ : (policy : Policy) → IsKeptPolicy (policy_value_of policy) → has_duplicate (init.user_names policy.users.items) ≡ false
 names_differ policy kept = ap has_duplicate (names_are policy.users.items) ∙ kept.differ
 
-same_users : (users : List User) → map new_user (map named_user_of users) ≡ map named_user users
+same_users : (users : List User) → map new_user (map policy_user_of users) ≡ map named_user users
 same_users [] = refl
 same_users (user ∷ users) = ap (λ more. named_user user ∷ more) (same_users users)
 

@@ -12,7 +12,7 @@ use Rattle.desk_crew.specs.Shelved.{Journals, SameBytes, NoNewImages}
 use Rattle.audit_engine.specs.Ends.{IsEnd}
 use Rattle.audit_engine.specs.declared.end.AuditEnd.{AuditEnd}
 use Rattle.audit_engine.specs.declared.end.AuditEnd.TheVariants as audit_end
-use Rattle.policy_files.specs.Policies.{NamedUser, PolicyValue}
+use Rattle.policy_files.specs.Policies.{PolicyUser, PolicyValue}
 use Rattle.cqe_top.specs.Words.{IsAudit}
 use Rattle.cqe_top.specs.Files.{FilesSay, bad_policy, bad_facts, Say, files_say}
 use Rattle.cqe_top.specs.Reaches.{IsMissing}
@@ -21,7 +21,7 @@ use Rattle.cqe_top.specs.declared.end.CommandEnd.TheVariants as end
 use Rattle.cqe_top.specs.declared.end.CommandEnd.TheVariants.{Done, Usage, Missing, ShelfFault, Policy, Facts, Script, ReadFault, WriteFault, Journal, DiskFault, LinksFault, Memory}
 
 -- the user of this name, if there is one
-abbrev pub user_named : Text → List NamedUser → Option NamedUser
+abbrev pub user_named : Text → List PolicyUser → Option PolicyUser
 user_named name users = find (λ user. bytes_eq user.name name) users
 
 -- the policy has no user of this name
@@ -33,7 +33,7 @@ module _ (journals : Journals) where
     -- the policy has a user of this name, and his audit ended so
     abbrev pub Audits : AuditEnd → Text → PolicyValue → FactSet → List ℕ → Type 0
     Audits end name policy world header =
-        (user : NamedUser) × (user_named name policy.users ≡ Some user)
+        (user : PolicyUser) × (user_named name policy.users ≡ Some user)
         × IsEnd policy.schema world header user.name user.profile (journals.bytes user.name) (journals.before user.name) (journals.now user.name) json end old new
 
     -- an end of the command `audit` over the files of two names, by what they say and for the user of this name
@@ -56,7 +56,7 @@ module _ (journals : Journals) where
   -- the policy has a user of this name, whose journal stands for a legal history of his within the limits, and the count of its disk's faults didn't rise
   abbrev pub CanBeAudited : Text → PolicyValue → FactSet → List ℕ → Type 0
   CanBeAudited name policy world header =
-      (user : NamedUser) × (user_named name policy.users ≡ Some user) × ((entries : History) × Opens policy.schema world user.profile header entries (journals.bytes user.name))
+      (user : PolicyUser) × (user_named name policy.users ≡ Some user) × ((entries : History) × Opens policy.schema world user.profile header entries (journals.bytes user.name))
       × (Rose (journals.before user.name) (journals.now user.name) → ⊥)
 
 -- the words are an audit of a user whom the policy in the file of its name doesn't have, where clauses are told of files
@@ -74,4 +74,4 @@ pub record LooksAt {D : Type 0} (reads : D → List ℕ) (image : D → List ℕ
 -- no disk was touched; or the files say a policy that has a user of this name, and his journal was looked at
 abbrev pub LooksFor : {D : Type 0} → (D → List ℕ) → (D → List ℕ → Type 0) → Text → Text → FilesSay → (Text → Option D) → (Text → Option D) → Type 0
 LooksFor reads image directory name files old new =
-    SameNames old new ⊎ (Say files (λ policy world header. (user : NamedUser) × (user_named name policy.users ≡ Some user)) × LooksAt reads image (journal_name directory name) old new)
+    SameNames old new ⊎ (Say files (λ policy world header. (user : PolicyUser) × (user_named name policy.users ≡ Some user)) × LooksAt reads image (journal_name directory name) old new)

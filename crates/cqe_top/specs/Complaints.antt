@@ -31,7 +31,6 @@ kind_number kinds.Fact = 5
 kind_number kinds.Sentence = 6
 kind_number kinds.Limit = 7
 kind_number kinds.Order = 8
-kind_number kinds.Unsupported = 9
 
 -- the kind and the line of a script's refusal
 abbrev pub script_complaint : ScriptError → Text

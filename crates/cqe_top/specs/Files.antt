@@ -1,13 +1,12 @@
 -- What the policy file and the facts file say.
-use Rattle.std.specs.Prelude.{◌≡◌, ℕ, List, [], ◌++◌, map, Option, Some, None, Result, Ok, Err}
+use Rattle.std.specs.Prelude.{◌≡◌, ◌⊎◌, ℕ, List, [], ◌∷◌, ◌++◌, map, Option, Some, None, Result, Ok, Err}
 use Rattle.sha2.specs.Sha256.{sha256}
 use Rattle.cqe_base.specs.Facts.{FactSet}
 use Rattle.cqe_base.specs.Transcript.{NamedUser}
 use Rattle.log_journal.specs.Opening.{first_eight}
 use Rattle.policy_files.specs.declared.error.PolicyError.{PolicyError}
 use Rattle.policy_files.specs.declared.error.FactsError.{FactsError}
-use Rattle.policy_files.specs.Policies
-use Rattle.policy_files.specs.Policies.{PolicyValue}
+use Rattle.policy_files.specs.Policies.{PolicyUser, PolicyValue}
 use Rattle.policy_files.specs.Policy.{policy_in}
 use Rattle.policy_files.specs.Facts.{facts_of}
 
@@ -47,8 +46,12 @@ files_say (Some bytes) facts = with_policy bytes (policy_in bytes) facts
 abbrev pub Say : FilesSay → (PolicyValue → FactSet → List ℕ → Type 0) → Type 0
 Say files P = (policy : PolicyValue) × (world : FactSet) × (header : List ℕ) × (files ≡ both policy world header) × P policy world header
 
+-- of the files of these names none was looked at, the policy alone, or the policy and then the facts, and no other file
+abbrev pub LooksAt : List ℕ → List ℕ → List (List ℕ) → List (List ℕ) → Type 0
+LooksAt policy facts old new = (new ≡ old) ⊎ (new ≡ old ++ policy ∷ []) ⊎ (new ≡ old ++ policy ∷ facts ∷ [])
+
 -- a user of a policy before his journal is opened, with no entries
-abbrev pub new_user : Policies.NamedUser → NamedUser
+abbrev pub new_user : PolicyUser → NamedUser
 new_user user = record { name = user.name; profile = user.profile; opened = [] }
 
 -- the users of a policy before their journals are opened

@@ -3,6 +3,7 @@ use Rattle.std.specs.Prelude.{◌≡◌, ◌⊎◌, ℕ, Bool, true, false, List
 use Rattle.outside.specs.Shelf.{SameNames}
 use Rattle.user_desk.specs.declared.standing.DeskError.{DeskError}
 use Rattle.user_desk.specs.declared.standing.DeskError.TheVariants as desk_errors
+use Rattle.script_lines.specs.Read.{IsReadThrough}
 use Rattle.case_engine.specs.Script.{script_of}
 use Rattle.case_engine.specs.Case as case
 use Rattle.init_engine.specs.Disks as init
@@ -25,7 +26,7 @@ use Rattle.cqe_top.specs.declared.end.CommandEnd.TheVariants.{Done, Usage, Missi
 -- an end of the command `case`, by the bytes that were left before and after, and the output before and after
 abbrev pub CaseReaches : CommandEnd → List ℕ → List ℕ → List ℕ → List ℕ → Type 0
 CaseReaches Done before after old new = (after ≡ []) × case.Completes before old new
-CaseReaches (Script refusal) before after old new = (script_of before ≡ Err refusal) × (new ≡ old)
+CaseReaches (Script refusal) before after old new = (script_of before ≡ Err refusal) × (new ≡ old) × IsReadThrough 1 before after
 CaseReaches ReadFault before after old new = new ≡ old
 CaseReaches WriteFault before after old new = case.Breaks before old new
 CaseReaches Memory before after old new = new ≡ old
@@ -106,11 +107,11 @@ module _ (journals : Journals) (before after old new : List ℕ) where
   BatchReaches policy_name facts_name files (Policy why) = (files ≡ bad_policy why) × BeginsNothing
   BatchReaches policy_name facts_name files (Facts why) = (files ≡ bad_facts why) × BeginsNothing
   BatchReaches policy_name facts_name files (Missing name) = IsMissing files policy_name facts_name name.now × BeginsNothing
-  BatchReaches policy_name facts_name files (Script refusal) = Say files (λ policy world header. batch_of before ≡ Err refusal) × LeavesAll
+  BatchReaches policy_name facts_name files (Script refusal) = Say files (λ policy world header. batch_of before ≡ Err refusal) × LeavesAll × IsReadThrough 1 before after
   BatchReaches policy_name facts_name files ReadFault = Say files (λ policy world header. LeavesAll)
   BatchReaches policy_name facts_name files WriteFault = Say files Breaks
   BatchReaches policy_name facts_name files (end.Journals users refusals) =
-      Say files (λ policy world header. (has_refusal refusals.items ≡ true) × (init.names_of users.items ≡ names_of policy.users) × (is_broken : Bool) × Completes refusals.items is_broken policy world header)
+      Say files (λ policy world header. (has_refusal refusals.items ≡ true) × (init.user_names users.items ≡ names_of policy.users) × (is_broken : Bool) × Completes refusals.items is_broken policy world header)
   BatchReaches policy_name facts_name files DiskFault =
       Say files (λ policy world header. (refusals : List (Option DeskError)) × (has_refusal refusals ≡ false) × Completes refusals true policy world header)
   BatchReaches policy_name facts_name files Memory = LeavesAll ⊎ Say files Stops

@@ -10,7 +10,7 @@ use Rattle.serve_engine.specs.Serving as serving
 use Rattle.serve_engine.specs.Serving.{ServesNobody}
 use Rattle.policy_files.specs.Policies.{PolicyValue}
 use Rattle.policy_files.specs.Users.{names_of}
-use Rattle.policy_files.specs.Memory.{named_user_of}
+use Rattle.policy_files.specs.Memory.{policy_user_of}
 use Rattle.cqe_top.specs.Files.{FilesSay, bad_policy, bad_facts, Say}
 use Rattle.cqe_top.specs.Statuses.{has_refusal}
 use Rattle.cqe_top.specs.Reaches.{IsMissing}
@@ -23,7 +23,7 @@ module _ (journals : Journals) (given given' : ℕ) (back back' : List Visit) wh
   -- user there is the refusal of his journal, if it was refused, and it is said whether an append failed.
   abbrev pub ServesAll : List (Option DeskError) → Bool → PolicyValue → FactSet → List ℕ → Type 0
   ServesAll refusals is_broken policy world header =
-      (users : List User) × (map named_user_of users ≡ policy.users) × serving.Serves policy.schema world header journals users given given' back back' refusals is_broken
+      (users : List User) × (map policy_user_of users ≡ policy.users) × serving.Serves policy.schema world header journals users given given' back back' refusals is_broken
 
   -- nobody was served, or those were who were given up to a fault
   abbrev pub ServesSome : PolicyValue → FactSet → List ℕ → Type 0
@@ -31,7 +31,7 @@ module _ (journals : Journals) (given given' : ℕ) (back back' : List Visit) wh
 
   -- no connection was served, though the journals may have been opened
   abbrev pub ServesNone : PolicyValue → FactSet → List ℕ → Type 0
-  ServesNone policy world header = (users : List User) × (map named_user_of users ≡ policy.users) × serving.ServesNone policy.schema world header journals users given given' back back'
+  ServesNone policy world header = (users : List User) × (map policy_user_of users ≡ policy.users) × serving.ServesNone policy.schema world header journals users given given' back back'
 
   -- an end of the command `serve` over the files of two names, by what they say; without a fault of the links it is by the journals: whether one was refused,
   -- and else whether an append failed
@@ -39,7 +39,7 @@ module _ (journals : Journals) (given given' : ℕ) (back back' : List Visit) wh
   ServeReaches policy_name facts_name files Done =
       Say files (λ policy world header. (refusals : List (Option DeskError)) × (has_refusal refusals ≡ false) × ServesAll refusals false policy world header)
   ServeReaches policy_name facts_name files (end.Journals users refusals) =
-      Say files (λ policy world header. (has_refusal refusals.items ≡ true) × (init.names_of users.items ≡ names_of policy.users)
+      Say files (λ policy world header. (has_refusal refusals.items ≡ true) × (init.user_names users.items ≡ names_of policy.users)
       × (is_broken : Bool) × ServesAll refusals.items is_broken policy world header)
   ServeReaches policy_name facts_name files DiskFault =
       Say files (λ policy world header. (refusals : List (Option DeskError)) × (has_refusal refusals ≡ false) × ServesAll refusals true policy world header)

@@ -7,7 +7,7 @@ use Rattle.user_desk.specs.declared.standing.DeskError.{DeskError}
 use Rattle.user_desk.specs.declared.standing.DeskError.TheVariants as desk_errors
 use Rattle.case_engine.specs.declared.case.CaseEnd.{CaseEnd}
 use Rattle.case_engine.specs.declared.case.CaseEnd.TheVariants as case_end
-use Rattle.init_engine.specs.Disks.{names_of}
+use Rattle.init_engine.specs.Disks.{user_names}
 use Rattle.init_engine.specs.declared.end.InitEnd.{InitEnd}
 use Rattle.init_engine.specs.declared.end.InitEnd.TheVariants as init_end
 use Rattle.batch_engine.specs.declared.run.BatchEnd.{BatchEnd}
@@ -56,7 +56,7 @@ InRange users made = Unit {0}
 -- the end of the command `init` for the end of its making of these users' journals; a user who is refused is named
 abbrev pub IsEndOfInit : List User → InitEnd → CommandEnd → Type 0
 IsEndOfInit users init_end.Done end = end ≡ Done
-IsEndOfInit users (init_end.Refused user why) end = (name : String Global) × IsAt (names_of users) user (string_bytes name) × (end ≡ Journal name (desk_errors.Journal why))
+IsEndOfInit users (init_end.Refused user why) end = (name : String Global) × IsAt (user_names users) user (string_bytes name) × (end ≡ Journal name (desk_errors.Journal why))
 IsEndOfInit users init_end.DiskFault end = end ≡ DiskFault
 IsEndOfInit users init_end.ShelfFault end = end ≡ ShelfFault
 IsEndOfInit users init_end.Memory end = end ≡ Memory
@@ -64,7 +64,7 @@ IsEndOfInit users init_end.Memory end = end ≡ Memory
 -- the end of the command `audit` for the end of the audit of the user of this number; where his journal is refused he is named
 abbrev pub IsEndOfAudit : List User → ℕ → AuditEnd → CommandEnd → Type 0
 IsEndOfAudit users number audit_end.Done end = end ≡ Done
-IsEndOfAudit users number (audit_end.Refused why) end = (name : String Global) × IsAt (names_of users) number (string_bytes name) × (end ≡ Journal name why)
+IsEndOfAudit users number (audit_end.Refused why) end = (name : String Global) × IsAt (user_names users) number (string_bytes name) × (end ≡ Journal name why)
 IsEndOfAudit users number audit_end.WriteFault end = end ≡ WriteFault
 IsEndOfAudit users number audit_end.ShelfFault end = end ≡ ShelfFault
 IsEndOfAudit users number audit_end.Memory end = end ≡ Memory

@@ -1,7 +1,7 @@
 -- The commands that words can say.
-use Rattle.std.specs.Prelude.{◌≡◌, ℕ, Bool, List, map, Some, None, String, string_bytes}
+use Rattle.std.specs.Prelude.{◌≡◌, ℕ, Bool, List, map, Option, Some, None, String, string_bytes}
 use Rattle.std.specs.declared.alloc.Global.{Global}
-use Rattle.command_words.specs.Readings.{reading_of, runs_case, runs_init, runs_batch, runs_audit, runs_selfrun, runs_serve}
+use Rattle.command_words.specs.Readings.{Reading, FileNames, reading_of, runs_case, runs_init, runs_batch, runs_audit, runs_selfrun, runs_serve}
 
 -- no command
 abbrev pub IsUsage : List (String Global) → Type 0
@@ -32,6 +32,20 @@ IsSelfrun words seed users asks = reading_of (map string_bytes words) ≡ Some (
 abbrev pub IsServe : List (String Global) → List ℕ → List ℕ → List ℕ → List ℕ → ℕ → ℕ → Type 0
 IsServe words policy facts journals address workers sessions =
     reading_of (map string_bytes words) ≡ Some (runs_serve (record { policy = policy; facts = facts; journals = journals }) address workers sessions)
+
+-- the names of the files that a reading runs over
+abbrev pub files_of_reading : Option Reading → Option FileNames
+files_of_reading (Some (runs_init files)) = Some files
+files_of_reading (Some (runs_batch files)) = Some files
+files_of_reading (Some (runs_audit files user json)) = Some files
+files_of_reading (Some (runs_serve files address workers sessions)) = Some files
+files_of_reading (Some runs_case) = None
+files_of_reading (Some (runs_selfrun seed users asks)) = None
+files_of_reading None = None
+
+-- a command over the policy and the facts of these names
+abbrev pub HasFiles : List (String Global) → List ℕ → List ℕ → List ℕ → Type 0
+HasFiles words policy facts journals = files_of_reading (reading_of (map string_bytes words)) ≡ Some (record { policy = policy; facts = facts; journals = journals })
 
 -- anything but `serve`
 abbrev pub IsNoServer : List (String Global) → Type 0

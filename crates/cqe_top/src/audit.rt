@@ -3,8 +3,8 @@ ghost use Rattle.std.specs.Prelude.{◌≡◌, ◌≤◌, ◌<◌, List, ℕ, by
 ghost use Rattle.outside.specs.Faults.{Rose};
 ghost use Rattle.desk_crew.specs.Shelved.{journals_on, NoneOut, NoneFell};
 ghost use Rattle.cqe_top.specs.declared.end.CommandEnd.{CommandEnd};
-ghost use Rattle.cqe_top.specs.Files.{files_say};
-ghost use Rattle.cqe_top.specs.Audited.{AuditReaches, LooksFor};
+ghost use Rattle.cqe_top.specs.Files.{files_say, LooksAt, Say};
+ghost use Rattle.cqe_top.specs.Audited.{AuditReaches, NamesNobody, LooksFor};
 
 use crate::end::{CommandEnd, end_of_audit};
 use crate::files::read_files;
@@ -30,12 +30,15 @@ pub(crate) fn audit<'w, F: Shelf, K: Sink>(
         json (K.written sink.old) (K.written sink.new) files.now.policy.now files.now.facts.now name.now (files_say (F.file shelf.old files.now.policy.now) (F.file shelf.old files.now.facts.now)) result }
     ensures looks { F.told
         → LooksFor F.D.reads F.D.image files.now.journals.now name.now (files_say (F.file shelf.old files.now.policy.now) (F.file shelf.old files.now.facts.now)) (F.disk shelf.old) (F.disk shelf.new) }
+    ensures names_nobody { F.told → result ≡ CommandEnd.Usage → Say (files_say (F.file shelf.old files.now.policy.now) (F.file shelf.old files.now.facts.now)) (NamesNobody name.now) }
     ensures nobody { result ≡ CommandEnd.Usage → sink.new ≡ sink.old }
     ensures read { result ≡ CommandEnd.ReadFault → ⊥ }
+    ensures disk { result ≡ CommandEnd.DiskFault → ⊥ }
     ensures links { result ≡ CommandEnd.LinksFault → ⊥ }
     ensures write_cause { result ≡ CommandEnd.WriteFault → Rose (K.faults sink.old) (K.faults sink.new) }
     ensures shelf_cause { result ≡ CommandEnd.ShelfFault → Rose (F.faults shelf.old) (F.faults shelf.new) }
     ensures inside { NoneOut (F.is_out shelf.new) }
+    ensures looked { F.told → LooksAt files.now.policy.now files.now.facts.now (F.looked shelf.old) (F.looked shelf.new) }
     ensures counts { NoneFell (F.disk_faults shelf.old) (F.disk_faults shelf.new) }
     ensures shelf_later { F.faults shelf.old ≤ F.faults shelf.new }
     ensures sink_later { K.faults sink.old ≤ K.faults sink.new }

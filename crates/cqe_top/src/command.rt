@@ -4,10 +4,10 @@ ghost use Rattle.outside.specs.Streams.{AppendsUnless};
 ghost use Rattle.outside.specs.Faults.{Rose};
 ghost use Rattle.case_engine.specs.Script.{script_of};
 ghost use Rattle.batch_engine.specs.BatchLines.{batch_of};
-ghost use Rattle.desk_crew.specs.Shelved.{journals_on, NoneOut, NoneFell};
+ghost use Rattle.desk_crew.specs.Shelved.{journals_on, NoneOut, NoneFell, SomeRose};
 ghost use Rattle.cqe_top.specs.declared.end.CommandEnd.{CommandEnd};
-ghost use Rattle.cqe_top.specs.Words.{IsUsage, IsCase, IsInit, IsBatch, IsAudit, IsSelfrun, IsServe, IsNoServer};
-ghost use Rattle.cqe_top.specs.Files.{files_say, Say};
+ghost use Rattle.cqe_top.specs.Words.{IsUsage, IsCase, IsInit, IsBatch, IsAudit, IsSelfrun, IsServe, IsNoServer, HasFiles};
+ghost use Rattle.cqe_top.specs.Files.{files_say, LooksAt, Say};
 ghost use Rattle.cqe_top.specs.Ready.{CanBeMade, CanBeOpened};
 ghost use Rattle.cqe_top.specs.Refusals.{IsOfInit};
 ghost use Rattle.cqe_top.specs.Statuses.{status_of};
@@ -88,7 +88,7 @@ where
 
     // Words without a reading, and the audit of a user whom the policy doesn't have, alone have the status of usage, and then
     // nothing is written; such words are all that is looked at.
-    ensures usage { result ≡ 2 → IsUsage words.now ⊎ AuditsNobody (F.told × K.told) words.now (F.file shelf.old) }
+    ensures usage { result ≡ 2 → IsUsage words.now ⊎ AuditsNobody F.told words.now (F.file shelf.old) }
     ensures is_usage { IsUsage words.now → (result ≡ 2) ⊎ (result ≡ 13) }
     ensures usage_writes_nothing { result ≡ 2 → sink.new ≡ sink.old }
     ensures other_words_take_nothing { IsUsage words.now → shelf.new ≡ shelf.old }
@@ -104,6 +104,9 @@ where
     ensures audit_looks { F.told → (policy facts journals user : List ℕ) (json : Bool) → IsAudit words.now policy facts journals user json
         → LooksFor F.D.reads F.D.image journals user (files_say (F.file shelf.old policy) (F.file shelf.old facts)) (F.disk shelf.old) (F.disk shelf.new) }
     ensures audit_reads_nothing { (policy facts journals user : List ℕ) (json : Bool) → IsAudit words.now policy facts journals user json → source.new ≡ source.old }
+
+    // Of the shelf's files no others are looked at than those of the words, the policy first.
+    ensures looked { F.told → (policy facts journals : List ℕ) → HasFiles words.now policy facts journals → LooksAt policy facts (F.looked shelf.old) (F.looked shelf.new) }
 
     // A batch and a server touch no disk but the journals of the policy's users.
     ensures batch_touches { F.told → (policy facts journals : List ℕ) → IsBatch words.now policy facts journals
@@ -138,6 +141,7 @@ where
     ensures read_cause { result ≡ 6 → Rose (S.faults source.old) (S.faults source.new) }
     ensures write_cause { result ≡ 7 → Rose (K.faults sink.old) (K.faults sink.new) }
     ensures shelf_cause { result ≡ 9 → Rose (F.faults shelf.old) (F.faults shelf.new) }
+    ensures disk_cause { result ≡ 11 → SomeRose (F.disk_faults shelf.old) (F.disk_faults shelf.new) }
     ensures links_cause { result ≡ 12 → Rose (L.faults links.old) (L.faults links.new) }
 
     // Without a fault, all that is right is done, or memory was wanting.
@@ -209,7 +213,7 @@ where
     ensures as_serve { F.told → L.told → (policy facts journals address : List ℕ) (workers sessions : ℕ) → IsServe words.now policy facts journals address workers sessions
         → ServeReaches (journals_on F.D.reads F.D.image journals (F.disk shelf.old) (F.disk shelf.new) (F.disk_faults shelf.old) (F.disk_faults shelf.new))
         (L.given links.old) (L.given links.new) (L.back links.old) (L.back links.new) policy facts (files_say (F.file shelf.old policy) (F.file shelf.old facts)) result }
-    ensures usage { result ≡ CommandEnd.Usage → IsUsage words.now ⊎ AuditsNobody (F.told × K.told) words.now (F.file shelf.old) }
+    ensures usage { result ≡ CommandEnd.Usage → IsUsage words.now ⊎ AuditsNobody F.told words.now (F.file shelf.old) }
     ensures is_usage { IsUsage words.now → (result ≡ CommandEnd.Usage) ⊎ (result ≡ CommandEnd.Memory) }
     ensures usage_writes_nothing { result ≡ CommandEnd.Usage → sink.new ≡ sink.old }
     ensures other_words_take_nothing { IsUsage words.now → shelf.new ≡ shelf.old }
@@ -241,7 +245,9 @@ where
     ensures read_cause { result ≡ CommandEnd.ReadFault → Rose (S.faults source.old) (S.faults source.new) }
     ensures write_cause { result ≡ CommandEnd.WriteFault → Rose (K.faults sink.old) (K.faults sink.new) }
     ensures shelf_cause { result ≡ CommandEnd.ShelfFault → Rose (F.faults shelf.old) (F.faults shelf.new) }
+    ensures disk_cause { result ≡ CommandEnd.DiskFault → SomeRose (F.disk_faults shelf.old) (F.disk_faults shelf.new) }
     ensures links_cause { result ≡ CommandEnd.LinksFault → Rose (L.faults links.old) (L.faults links.new) }
+    ensures looked { F.told → (policy facts journals : List ℕ) → HasFiles words.now policy facts journals → LooksAt policy facts (F.looked shelf.old) (F.looked shelf.new) }
     ensures inside { NoneOut (F.is_out shelf.new) }
     ensures counts { NoneFell (F.disk_faults shelf.old) (F.disk_faults shelf.new) }
     ensures held { S.held source.new ≡ S.held source.old }
@@ -290,7 +296,9 @@ fn init<'w, F: Shelf>(
         policy.now facts.now (files_say (F.file shelf.old policy.now) (F.file shelf.old facts.now)) result }
     ensures is_of_init { IsOfInit result }
     ensures shelf_cause { result ≡ CommandEnd.ShelfFault → Rose (F.faults shelf.old) (F.faults shelf.new) }
+    ensures disk_cause { result ≡ CommandEnd.DiskFault → SomeRose (F.disk_faults shelf.old) (F.disk_faults shelf.new) }
     ensures inside { NoneOut (F.is_out shelf.new) }
+    ensures looked { F.told → LooksAt policy.now facts.now (F.looked shelf.old) (F.looked shelf.new) }
     ensures counts { NoneFell (F.disk_faults shelf.old) (F.disk_faults shelf.new) }
     ensures shelf_later { F.faults shelf.old ≤ F.faults shelf.new }
 {
@@ -327,7 +335,9 @@ fn batch<'w, R: Wait, F: Shelf, S: Source, K: Sink, G: Gate>(
     ensures read_cause { result ≡ CommandEnd.ReadFault → Rose (S.faults source.old) (S.faults source.new) }
     ensures write_cause { result ≡ CommandEnd.WriteFault → Rose (K.faults sink.old) (K.faults sink.new) }
     ensures shelf_cause { result ≡ CommandEnd.ShelfFault → Rose (F.faults shelf.old) (F.faults shelf.new) }
+    ensures disk_cause { result ≡ CommandEnd.DiskFault → SomeRose (F.disk_faults shelf.old) (F.disk_faults shelf.new) }
     ensures inside { NoneOut (F.is_out shelf.new) }
+    ensures looked { F.told → LooksAt policy.now facts.now (F.looked shelf.old) (F.looked shelf.new) }
     ensures counts { NoneFell (F.disk_faults shelf.old) (F.disk_faults shelf.new) }
     ensures held { S.held source.new ≡ S.held source.old }
     ensures shelf_later { F.faults shelf.old ≤ F.faults shelf.new }

@@ -297,7 +297,6 @@ fn kind_number(kind: ScriptKind) -> u32
         ScriptKind::Sentence => 6,
         ScriptKind::Limit => 7,
         ScriptKind::Order => 8,
-        ScriptKind::Unsupported => 9,
     }
 }
 

@@ -1,7 +1,7 @@
 // How a command ends.
 ghost use Rattle.std.specs.Prelude.{◌≡◌, ◌<◌, length, string_bytes};
 ghost use Rattle.cqe_top.specs.Statuses.{end_of_case, end_of_answers, end_of_batch, end_of_serve, has_refusal, IsAt, IsEndOfInit, IsEndOfAudit, InRange, status_of};
-ghost use Rattle.init_engine.specs.Disks.{names_of};
+ghost use Rattle.init_engine.specs.Disks.{user_names};
 
 use audit_engine::AuditEnd;
 use batch_engine::BatchEnd;
@@ -95,7 +95,7 @@ pub(crate) fn end_of_audit<'w>(users: Vec<User>, number: usize, end: AuditEnd) -
 /// The name of the user of this number.
 fn name_at(users: Vec<User>, number: usize) -> String
     requires { number < length users.items }
-    ensures { IsAt (names_of users.items) number (string_bytes result) }
+    ensures { IsAt (user_names users.items) number (string_bytes result) }
 {
     let mut users = users;
     users.remove(number).name

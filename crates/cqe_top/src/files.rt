@@ -1,14 +1,14 @@
 // The policy file and the facts file of a command, and the header that they give to journals.
-ghost use Rattle.std.specs.Prelude.{◌≡◌, ◌≤◌, List, ℕ, false, All, Some, Ok, IfOk, IfErr};
+ghost use Rattle.std.specs.Prelude.{◌≡◌, ◌≤◌, ◌++◌, ◌∷◌, [], List, ℕ, false, All, Some, Ok, IfOk, IfErr, OnErr, OnOk};
 ghost use Rattle.cqe_base.specs.Schema.{has_duplicate};
 ghost use Rattle.cqe_base.specs.History.{profile_of};
 ghost use Rattle.cqe_base.specs.Limits.{KeepsLimits};
-ghost use Rattle.init_engine.specs.Disks.{names_of};
+ghost use Rattle.init_engine.specs.Disks.{user_names};
 ghost use Rattle.log_journal.specs.Opening.{header_bytes};
 ghost use Rattle.outside.specs.Faults.{Rose};
-ghost use Rattle.outside.specs.Shelf.{SameNames};
+ghost use Rattle.outside.specs.Shelf.{Looks, SameNames};
 ghost use Rattle.policy_files.specs.Memory.{policy_value_of};
-ghost use Rattle.cqe_top.specs.Files.{files_say, both, header_for};
+ghost use Rattle.cqe_top.specs.Files.{files_say, both, header_for, LooksAt};
 ghost use Rattle.policy_files.specs.Policy.{policy_in};
 ghost use Rattle.policy_files.specs.Facts.{facts_of};
 ghost use Rattle.cqe_top.specs.Refusals.{RefusesFiles, RefusesFile, RefusesPolicy, RefusesFacts, IsFileEnd};
@@ -40,9 +40,10 @@ pub(crate) fn read_files<'w, F: Shelf>(
 ) -> Result<Inputs, CommandEnd<'w>>
     ensures read { F.told → IfOk result (λ inputs. files_say (F.file shelf.old policy.now) (F.file shelf.old facts.now) ≡ both (policy_value_of inputs.policy) inputs.world (header_bytes inputs.header)) }
     ensures limits { IfOk result (λ inputs. All (λ user. KeepsLimits inputs.policy.schema (profile_of user)) inputs.policy.users.items) }
-    ensures names { IfOk result (λ inputs. has_duplicate (names_of inputs.policy.users.items) ≡ false) }
+    ensures names { IfOk result (λ inputs. has_duplicate (user_names inputs.policy.users.items) ≡ false) }
     ensures ends { IfErr result IsFileEnd }
     ensures refused { IfErr result (λ end. F.told → RefusesFiles policy.now facts.now (files_say (F.file shelf.old policy.now) (F.file shelf.old facts.now)) end) }
+    ensures looked { F.told → LooksAt policy.now facts.now (F.looked shelf.old) (F.looked shelf.new) }
     ensures disks { SameNames (F.disk shelf.old) (F.disk shelf.new) }
     ensures out { SameNames (F.is_out shelf.old) (F.is_out shelf.new) }
     ensures counts { SameNames (F.disk_faults shelf.old) (F.disk_faults shelf.new) }
@@ -82,6 +83,8 @@ fn read_file<'w, F: Shelf>(
     ensures refused { IfErr result (λ end. F.told → RefusesFile name.now (F.file shelf.old name.now) end) }
     ensures ends { IfErr result IsFileEnd }
     ensures files { (other : List ℕ) → F.file shelf.new other ≡ F.file shelf.old other }
+    ensures looked { F.told → OnOk result (F.looked shelf.new ≡ F.looked shelf.old ++ name.now ∷ []) }
+    ensures none { F.told → OnErr result (Looks name.now (F.looked shelf.old) (F.looked shelf.new)) }
     ensures disks { SameNames (F.disk shelf.old) (F.disk shelf.new) }
     ensures out { SameNames (F.is_out shelf.old) (F.is_out shelf.new) }
     ensures counts { SameNames (F.disk_faults shelf.old) (F.disk_faults shelf.new) }
@@ -100,7 +103,7 @@ fn read_file<'w, F: Shelf>(
 fn policy_of<'w>(alloc: Global, bytes: &[u8]) -> Result<Policy, CommandEnd<'w>>
     ensures read { IfOk result (λ policy. policy_in bytes.now ≡ Ok (policy_value_of policy)) }
     ensures limits { IfOk result (λ policy. All (λ user. KeepsLimits policy.schema (profile_of user)) policy.users.items) }
-    ensures names { IfOk result (λ policy. has_duplicate (names_of policy.users.items) ≡ false) }
+    ensures names { IfOk result (λ policy. has_duplicate (user_names policy.users.items) ≡ false) }
     ensures refused { IfErr result (RefusesPolicy (policy_in bytes.now)) }
     ensures ends { IfErr result IsFileEnd }
 {

@@ -26,6 +26,7 @@ pub(crate) fn selfrun<'w, R: Wait, K: Sink>(
     ensures used { result ≡ CommandEnd.Usage → ⊥ }
     ensures read { result ≡ CommandEnd.ReadFault → ⊥ }
     ensures shelf { result ≡ CommandEnd.ShelfFault → ⊥ }
+    ensures disk { result ≡ CommandEnd.DiskFault → ⊥ }
     ensures links { result ≡ CommandEnd.LinksFault → ⊥ }
     ensures write_cause { result ≡ CommandEnd.WriteFault → Rose (K.faults sink.old) (K.faults sink.new) }
     ensures sink_later { K.faults sink.old ≤ K.faults sink.new }

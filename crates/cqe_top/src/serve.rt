@@ -1,9 +1,9 @@
 // The command `serve`.
 ghost use Rattle.std.specs.Prelude.{◌≡◌, ◌≤◌, ◌+◌, ◌⊎◌, ◌^◌, List, ℕ};
 ghost use Rattle.outside.specs.Faults.{Rose};
-ghost use Rattle.desk_crew.specs.Shelved.{journals_on, NoneOut, NoneFell};
+ghost use Rattle.desk_crew.specs.Shelved.{journals_on, NoneOut, NoneFell, SomeRose};
 ghost use Rattle.cqe_top.specs.declared.end.CommandEnd.{CommandEnd};
-ghost use Rattle.cqe_top.specs.Files.{files_say};
+ghost use Rattle.cqe_top.specs.Files.{files_say, LooksAt};
 ghost use Rattle.cqe_top.specs.Reaches.{TouchesJournals};
 ghost use Rattle.cqe_top.specs.Serves.{ServeReaches, ListenAt, ListensOver, IsComplete};
 ghost use Rattle.cqe_top.specs.Statuses.{status_of};
@@ -49,8 +49,10 @@ where
     ensures read { result ≡ CommandEnd.ReadFault → ⊥ }
     ensures write { result ≡ CommandEnd.WriteFault → ⊥ }
     ensures shelf_cause { result ≡ CommandEnd.ShelfFault → Rose (F.faults shelf.old) (F.faults shelf.new) }
+    ensures disk_cause { result ≡ CommandEnd.DiskFault → SomeRose (F.disk_faults shelf.old) (F.disk_faults shelf.new) }
     ensures links_cause { result ≡ CommandEnd.LinksFault → Rose (L.faults links.old) (L.faults links.new) }
     ensures inside { NoneOut (F.is_out shelf.new) }
+    ensures looked { F.told → LooksAt words.now.files.policy.now words.now.files.facts.now (F.looked shelf.old) (F.looked shelf.new) }
     ensures counts { NoneFell (F.disk_faults shelf.old) (F.disk_faults shelf.new) }
     ensures shelf_later { F.faults shelf.old ≤ F.faults shelf.new }
     ensures links_later { L.faults links.old ≤ L.faults links.new }

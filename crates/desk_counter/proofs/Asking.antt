@@ -20,7 +20,7 @@ use Rattle.desk_counter.specs.declared.item.Item.TheVariants.{Kept, Broke}
 use Rattle.desk_counter.specs.declared.item.Fixed.{Fixed}
 use Rattle.desk_counter.specs.Items.{history_of, kept_pair, kept_pairs, flying, has_broke}
 use Rattle.desk_counter.specs.Desks.{state_shown}
-use Rattle.desk_counter.specs.Asks.{entry_for, NoMark, Adds, told, broke, coded, wanted, IsServed, Answers, Asked, all_but_last, pairs_behind, IsReply, Tells, TellsMark, AddsNone}
+use Rattle.desk_counter.specs.Asks.{entry_for, NoMark, Adds, answered, broke, coded, wanted, IsServed, Answers, Asked, all_but_last, pairs_behind, IsReply, Tells, TellsMark, AddsNone}
 
 -- ---- pairs with one more
 
@@ -72,7 +72,7 @@ module _ {D : Type 0} (fixed : Fixed D) where
 
   -- the reply is that of the rule
   pub adds_reply : {ticket : ℕ} {text : Text} {found after : Entries Item} {reply : Reply} → Adds fixed ticket text found after reply → IsReply fixed text after reply
-  adds_reply {ticket = ticket} {text = text} {found = found} (told {query = query} {mark = mark} served answer added) =
+  adds_reply {ticket = ticket} {text = text} {found = found} (answered {query = query} {mark = mark} served answer added) =
       inr (sym (ap (λ ps. reply_at fixed.schema fixed.world fixed.user (state_shown fixed ps) text) (ap (all_but_last fixed) added ∙ without_last fixed found (ticket, Kept (entry_for query mark text)))
       ∙ served_replies found text query mark served answer))
   adds_reply {ticket = ticket} {text = text} {found = found} (broke {query = query} {mark = mark} served answer added) =
@@ -86,7 +86,7 @@ module _ {D : Type 0} (fixed : Fixed D) where
   asked_tells {old = old} {new = new} {text = text} (Mark mark) asked = of_adds asked.adds
     where
       of_adds : Adds fixed asked.ticket text asked.found (seen new) (Mark mark) → Tells fixed old new text mark
-      of_adds (told {query = query} served answer added) = record {
+      of_adds (answered {query = query} served answer added) = record {
         ticket = asked.ticket;
         entry = entry_for query mark text;
         earlier = asked.found;
@@ -115,7 +115,7 @@ module _ {D : Type 0} (fixed : Fixed D) where
       stays same = record { own = ap (λ ps. kept_pairs ps) (asked.own.none same); whole = λ all. ap (λ ps. kept_pairs ps) (same ∙ asked.whole all) }
 
       of_adds : {code : Reply} → Adds fixed asked.ticket text asked.found (seen new) code → NoMark code → AddsNone fixed old new
-      of_adds (told served answer added) none = absurd none
+      of_adds (answered served answer added) none = absurd none
       of_adds (broke {query = query} {mark = mark} served answer added) none =
           let entry = entry_for query mark text in
           record {
@@ -127,7 +127,7 @@ module _ {D : Type 0} (fixed : Fixed D) where
 
   -- the pairs that were added stand behind those that were found
   adds_prefix : {ticket : ℕ} {text : Text} {found after : Entries Item} {reply : Reply} → Adds fixed ticket text found after reply → IsPrefix found after
-  adds_prefix {ticket = ticket} {text = text} (told {query = query} {mark = mark} served answer added) = ((ticket, Kept (entry_for query mark text)) ∷ [], added)
+  adds_prefix {ticket = ticket} {text = text} (answered {query = query} {mark = mark} served answer added) = ((ticket, Kept (entry_for query mark text)) ∷ [], added)
   adds_prefix {ticket = ticket} {text = text} (broke {query = query} {mark = mark} served answer added) = ((ticket, Broke (entry_for query mark text)) ∷ [], added)
   adds_prefix {found = found} (coded none replied same) = ([], same ∙ sym (append-nil found))
   adds_prefix {found = found} (wanted same) = ([], same ∙ sym (append-nil found))
@@ -166,7 +166,7 @@ module _ {D : Type 0} (fixed : Fixed D) where
       subst (λ ps. AddsAtMostOne ticket' ps after) (sym (ap (λ (v : View Item (Fixed D)). v.seen) entered)) (subst (λ t. AddsAtMostOne t found after) same (of_adds adds))
     where
       of_adds : {code : Reply} → Adds fixed ticket text found after code → AddsAtMostOne ticket found after
-      of_adds (told {query = query} {mark = mark} served answer added) = inr (Kept (entry_for query mark text), added)
+      of_adds (answered {query = query} {mark = mark} served answer added) = inr (Kept (entry_for query mark text), added)
       of_adds (broke {query = query} {mark = mark} served answer added) = inr (Broke (entry_for query mark text), added)
       of_adds (coded none replied still) = inl still
       of_adds (wanted still) = inl still

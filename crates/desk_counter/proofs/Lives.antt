@@ -23,7 +23,7 @@ use Rattle.desk_counter.specs.declared.item.Fixed.{Fixed}
 use Rattle.desk_counter.specs.Items.{history_of, kept_pairs, flying}
 use Rattle.desk_counter.specs.Desks.{state_shown}
 use Rattle.desk_counter.specs.Lives.{IsAskOf}
-use Rattle.desk_counter.specs.Asks.{entry_for, NoMark, Adds, told, broke, coded, wanted, IsServed, Answers}
+use Rattle.desk_counter.specs.Asks.{entry_for, NoMark, Adds, answered, broke, coded, wanted, IsServed, Answers}
 use Rattle.desk_counter.proofs.Asking.{kept_more, kept_broke, flying_broke, served_replies}
 
 -- one entry more
@@ -127,7 +127,7 @@ module _ {D : Type 0} (fixed : Fixed D) (text : Text) where
 
     -- what an ask adds is an event
     pub adds_ask : {ticket : ℕ} (reply : Reply) → Adds fixed ticket text found after reply → IsTold reply
-    adds_ask {ticket = ticket} reply (told {query = query} {mark = mark} served answer added) = told_mark query mark served answer ticket added
+    adds_ask {ticket = ticket} reply (answered {query = query} {mark = mark} served answer added) = told_mark query mark served answer ticket added
     adds_ask {ticket = ticket} reply (broke {query = query} {mark = mark} served answer added) = told_broke query mark served answer ticket added
     adds_ask reply (coded none replied same) = told_code reply none replied same
     adds_ask reply (wanted same) = record { ending = want; after = still same; reply = refl }

@@ -18,7 +18,7 @@ use Rattle.desk_counter.specs.declared.item.Item.TheVariants.{Kept, Broke}
 use Rattle.desk_counter.specs.declared.item.Fixed.{Fixed}
 use Rattle.desk_counter.specs.Items.{history_of, kept_pair, kept_pairs, flying, pairs_of, BrokeIsLast}
 use Rattle.desk_counter.specs.Desks.{state_shown}
-use Rattle.desk_counter.specs.Asks.{entry_for, NoMark, Adds, told, broke, coded, wanted, IsServed, Answers}
+use Rattle.desk_counter.specs.Asks.{entry_for, NoMark, Adds, answered, broke, coded, wanted, IsServed, Answers}
 use Rattle.desk_counter.proofs.Settling.{Changes}
 use Rattle.desk_counter.proofs.Settling as settling
 
@@ -103,7 +103,7 @@ module _ {D : Type 0} (fixed : Fixed D) (text : Text) (tickets : List ℕ) (old 
 
   -- a mark adds its entry
   pub adds_mark : {new : History} {new_flying : Option AnsweredQuery} {mark : base.Mark} → (ticket : ℕ) → Changed new new_flying (Mark mark) → Adds fixed ticket text found (pairs_of (tickets ++ ticket ∷ []) new mark_of_broke new_flying) (Mark mark)
-  adds_mark {new = new} {new_flying = new_flying} ticket (settling.added {query = query} {mark = mark} opened whole answer grown none) = told (served opened) (answers answer)
+  adds_mark {new = new} {new_flying = new_flying} ticket (settling.added {query = query} {mark = mark} opened whole answer grown none) = answered (served opened) (answers answer)
       (ap (λ h. pairs_of (tickets ++ ticket ∷ []) h mark_of_broke new_flying) grown ∙ ap (λ o. pairs_of (tickets ++ ticket ∷ []) (old ++ entry_for query mark text ∷ []) mark_of_broke o) none
       ∙ pairs_added tickets old ticket mark_of_broke (entry_for query mark text) counted)
   adds_mark ticket (settling.coded never replied same still) = absurd never

@@ -41,7 +41,7 @@ module _ {D : Type 0} (fixed : Fixed D) where
   -- What an ask adds to the pairs that it found: a mark adds its entry, once; an append that fails adds that entry as one
   -- in flight; a code and want of memory add nothing.
   pub data Adds (ticket : ℕ) (text : Text) (found after : Entries Item) : Reply → Type 0 where
-    told : {query : Formula} {mark : base.Mark} → IsServed found → Answers found text query mark → after ≡ found ++ (ticket, Kept (entry_for query mark text)) ∷ [] → Adds ticket text found after (Mark mark)
+    answered : {query : Formula} {mark : base.Mark} → IsServed found → Answers found text query mark → after ≡ found ++ (ticket, Kept (entry_for query mark text)) ∷ [] → Adds ticket text found after (Mark mark)
     broke : {query : Formula} {mark : base.Mark} → IsServed found → Answers found text query mark → after ≡ found ++ (ticket, Broke (entry_for query mark text)) ∷ [] → Adds ticket text found after Broken
     coded : {code : Reply} → NoMark code → reply_at fixed.schema fixed.world fixed.user (state_shown fixed found) text ≡ reply_of code → after ≡ found → Adds ticket text found after code
     wanted : after ≡ found → Adds ticket text found after Memory

@@ -39,6 +39,6 @@ abbrev pub IsSoleIn : {D : Type 0} {g h : _} → SoleOf (TicketedDesk D g) Item 
 IsSoleIn sole state = IsState (kept_in sole).standing (sole_state sole) state
 
 -- nothing was appended since the desk's opening
-pub record IsUntouched {D : Type 0} (fixed : Fixed D) (pairs : Entries Item) : Type 0 where
+pub record IsAsOpened {D : Type 0} (fixed : Fixed D) (pairs : Entries Item) : Type 0 where
   pub count : length (history_of pairs) ≡ length fixed.opening
   pub none : flying pairs ≡ None

@@ -15,8 +15,8 @@ use turnstile::{Pass, PassError, Turnstile};
 use user_desk::Desk;
 use user_log::Reply;
 
-/// A value that threads share, with the user whose it is. It stands for a `Counter` wherever a thread is to take it, since
-/// it says nothing of the value's type.
+/// A value that threads share, with the user whose it is. It stands for a `Counter` wherever a thread is to take it,
+/// since it says nothing of the value's type.
 #[derive(Drop)]
 pub struct CounterOf<'w, V: Owned> {
     turnstile: Turnstile<V>,
@@ -49,8 +49,8 @@ impl<'w, D: Disk> CounterOf<'w, TicketedDesk<'w, D>> {
     ghost use Rattle.desk_counter.specs.Asks.{NoMark, Asked, IsReply, TellsMark, AddsNone};
     ghost use Rattle.desk_counter.specs.Counters.{kept_by, first_history, IsPassOf};
 
-    /// Puts a desk under a counter. The pass has all 65 shares and 65 * 2^57 turns, and has seen the desk's entries, with
-    /// ticket 0. For want of memory the desk comes back.
+    /// Puts a desk under a counter. The pass has all 65 shares and 65 * 2^57 turns, and has seen the desk's entries,
+    /// with ticket 0. For want of memory the desk comes back.
     pub fn new(
         alloc: Global,
         desk: Desk<'w, D>,
@@ -89,7 +89,8 @@ impl<'w, D: Disk> CounterOf<'w, TicketedDesk<'w, D>> {
         ensures part { IfOk result (λ p. IsPassOf p self.now × (view_of p ≡ split_off_view (view_of pass.old))) }
         ensures mine { IfOk result (λ p. mine p ≡ []) }
         ensures ok { OnOk result (1 < shares pass.old) }
-        ensures err { IfErr result (λ e. (e ≡ TooMany) × (shares pass.old ≡ 1) × (view_of pass.new ≡ view_of pass.old)) }
+        ensures err { IfErr result (λ e. (e ≡ TooMany) × (shares pass.old ≡ 1)
+            × (view_of pass.new ≡ view_of pass.old)) }
     {
         self.turnstile.split(pass)
     }
@@ -102,8 +103,10 @@ impl<'w, D: Disk> CounterOf<'w, TicketedDesk<'w, D>> {
         ensures view { view_of pass.new ≡ view_of_both (view_of pass.old) (view_of other) }
 
         // Each had seen a prefix, in which all pairs with its tickets were.
-        ensures this { IsPrefix (seen pass.old) (seen pass.new) × (entries_with (tickets pass.old) (seen pass.new) ≡ mine pass.old) }
-        ensures that { IsPrefix (seen other) (seen pass.new) × (entries_with (tickets other) (seen pass.new) ≡ mine other) }
+        ensures this { IsPrefix (seen pass.old) (seen pass.new)
+            × (entries_with (tickets pass.old) (seen pass.new) ≡ mine pass.old) }
+        ensures that { IsPrefix (seen other) (seen pass.new)
+            × (entries_with (tickets other) (seen pass.new) ≡ mine other) }
 
         // The pairs of both are put together in the order of their tickets, and no ticket was drawn twice.
         ensures mine { Interleaves (mine pass.old) (mine other) (mine pass.new) }
@@ -113,8 +116,8 @@ impl<'w, D: Disk> CounterOf<'w, TicketedDesk<'w, D>> {
         self.turnstile.meet(pass, other);
     }
 
-    /// Asks a text, in one turn: waits for it, settles the text by the entries of all asks before, and leaves. The gate is
-    /// passed once the text was examined, still in the turn, and once the turn has ended.
+    /// Asks a text, in one turn: waits for it, settles the text by the entries of all asks before, and leaves. The gate
+    /// is passed once the text was examined, still in the turn, and once the turn has ended.
     pub fn ask<R: Wait, G: Gate>(
         &self,
         rt: &R,
@@ -132,17 +135,20 @@ impl<'w, D: Disk> CounterOf<'w, TicketedDesk<'w, D>> {
         // What the ask found, what it added, and what it answered.
         ensures asked { Asked (kept_by self.now) pass.old pass.new text.now result }
 
-        // The reply is that of the rule for what was seen, without the last pair where it is a mark; Broken is answered exactly where an append failed.
+        // The reply is that of the rule for what was seen, without the last pair where it is a mark; Broken is answered
+        // exactly where an append failed.
         ensures reply { IsReply (kept_by self.now) text.now (seen pass.new) result }
         ensures broken { (result ≡ Reply.Broken) ↔ IsTrue (has_broke (seen pass.new)) }
 
-        // A mark's entry is the last that was seen and the one that the pass has more of its own; without a mark there is none.
+        // A mark's entry is the last that was seen and the one that the pass has more of its own; without a mark there
+        // is none.
         ensures mark { TellsMark (kept_by self.now) pass.old pass.new text.now result }
         ensures none { NoMark result → AddsNone (kept_by self.now) pass.old pass.new }
         ensures later { IsPrefix (seen pass.old) (seen pass.new) }
 
         // The history is legal and within the limits, and an entry in flight stands last.
-        ensures legal { IsLegal (kept_by self.now).schema (kept_by self.now).world (kept_by self.now).user (history_of (seen pass.new)) }
+        ensures legal { IsLegal (kept_by self.now).schema (kept_by self.now).world (kept_by self.now).user
+            (history_of (seen pass.new)) }
         ensures sizes { KeepsSizes (kept_by self.now).schema (kept_by self.now).user (history_of (seen pass.new)) }
         ensures last { BrokeIsLast (seen pass.new) }
     {
@@ -156,8 +162,8 @@ impl<'w, D: Disk> CounterOf<'w, TicketedDesk<'w, D>> {
         reply
     }
 
-    /// Takes the desk out, with the pass that has all shares. Its entries have no tickets any more, so that it can be put
-    /// under a counter again.
+    /// Takes the desk out, with the pass that has all shares. Its entries have no tickets any more, so that it can be
+    /// put under a counter again.
     pub fn close(self, pass: DeskPass<D>) -> Desk<'w, D>
         requires pass { IsPassOf pass self }
         requires all { shares pass ≡ 65 }
@@ -168,25 +174,37 @@ impl<'w, D: Disk> CounterOf<'w, TicketedDesk<'w, D>> {
         ensures added { history_of (seen pass) ≡ first_history self.entry ++ history_of (mine pass) }
         ensures drew { DrewEachOnce (view_of pass) }
 
-        // What was seen is a legal history within the limits, and each crash leaves just that; where an append failed, that
-        // or one entry more, and the disk's count of faults rose since the desk's opening. Only a user who is served has any.
-        ensures legal { IsLegal (kept_by self.entry).schema (kept_by self.entry).world (kept_by self.entry).user (history_of (seen pass)) }
+        // What was seen is a legal history within the limits, and each crash leaves just that; where an append failed,
+        // that or one entry more, and the disk's count of faults rose since the desk's opening. Only a user who is
+        // served has any.
+        ensures legal { IsLegal (kept_by self.entry).schema (kept_by self.entry).world (kept_by self.entry).user
+            (history_of (seen pass)) }
         ensures sizes { KeepsSizes (kept_by self.entry).schema (kept_by self.entry).user (history_of (seen pass)) }
-        ensures idle { is_open (kept_by self.entry).standing ≡ false → (history_of (seen pass) ≡ []) × (flying (seen pass) ≡ None) }
-        ensures whole { D.told → is_sealed (kept_by self.entry).standing ≡ false → has_broke (seen pass) ≡ false → (c : List ℕ) → D.image (desk_disk result) c
+        ensures idle { is_open (kept_by self.entry).standing ≡ false
+            → (history_of (seen pass) ≡ []) × (flying (seen pass) ≡ None) }
+        ensures whole { D.told → is_sealed (kept_by self.entry).standing ≡ false → has_broke (seen pass) ≡ false
+            → (c : List ℕ) → D.image (desk_disk result) c
             → StandsFor (kept_by self.entry).schema (kept_by self.entry).header (history_of (seen pass)) c }
-        ensures images { D.told → is_sealed (kept_by self.entry).standing ≡ false → (c : List ℕ) → D.image (desk_disk result) c
-            → Holds (kept_by self.entry).schema (kept_by self.entry).world (kept_by self.entry).user (kept_by self.entry).header (state_shown (kept_by self.entry) (seen pass)) c }
-        ensures cause { has_broke (seen pass) ≡ true → Rose (D.faults (kept_by self.entry).disk) (D.faults (desk_disk result)) }
+        ensures images { D.told → is_sealed (kept_by self.entry).standing ≡ false → (c : List ℕ)
+            → D.image (desk_disk result) c
+            → Holds (kept_by self.entry).schema (kept_by self.entry).world (kept_by self.entry).user
+            (kept_by self.entry).header (state_shown (kept_by self.entry) (seen pass)) c }
+        ensures cause { has_broke (seen pass) ≡ true
+            → Rose (D.faults (kept_by self.entry).disk) (D.faults (desk_disk result)) }
         ensures count { D.faults (kept_by self.entry).disk ≤ D.faults (desk_disk result) }
 
-        // Since the opening each image stood for a beginning of it that has all entries at the opening; and where the journal
-        // was refused, or nothing was appended, the disk is as it was.
-        ensures since { D.told → is_sealed (kept_by self.entry).standing ≡ false → (c : List ℕ) → D.image_since (desk_disk result) (D.moment (kept_by self.entry).disk) c
-            → StandsWithin (kept_by self.entry).schema (kept_by self.entry).header (length (kept_by self.entry).opening) (history_of (seen pass) ++ option_to_list (flying (seen pass))) c }
-        ensures refused { is_sealed (kept_by self.entry).standing ≡ true → desk_disk result ≡ (kept_by self.entry).disk }
-        ensures still { length (history_of (seen pass)) ≡ length (kept_by self.entry).opening → flying (seen pass) ≡ None → desk_disk result ≡ (kept_by self.entry).disk }
-        ensures time { Elapses (D.moment (kept_by self.entry).disk) (D.moment (desk_disk result)) (D.image_since (kept_by self.entry).disk) (D.image_since (desk_disk result)) }
+        // Since the opening each image stood for a beginning of it that has all entries at the opening; and where the
+        // journal was refused, or nothing was appended, the disk is as it was.
+        ensures since { D.told → is_sealed (kept_by self.entry).standing ≡ false → (c : List ℕ)
+            → D.image_since (desk_disk result) (D.moment (kept_by self.entry).disk) c
+            → StandsWithin (kept_by self.entry).schema (kept_by self.entry).header (length (kept_by self.entry).opening)
+            (history_of (seen pass) ++ option_to_list (flying (seen pass))) c }
+        ensures refused { is_sealed (kept_by self.entry).standing ≡ true
+            → desk_disk result ≡ (kept_by self.entry).disk }
+        ensures still { length (history_of (seen pass)) ≡ length (kept_by self.entry).opening
+            → flying (seen pass) ≡ None → desk_disk result ≡ (kept_by self.entry).disk }
+        ensures time { Elapses (D.moment (kept_by self.entry).disk) (D.moment (desk_disk result))
+            (D.image_since (kept_by self.entry).disk) (D.image_since (desk_disk result)) }
     {
         let desk = self.turnstile.close(pass).into_desk();
         desk.known();

@@ -43,7 +43,7 @@ impl<'w, D: Disk> SoleOf<'w, TicketedDesk<'w, D>> {
     ghost use Rattle.desk_counter.specs.Desks.{fixed_of};
     ghost use Rattle.desk_counter.specs.Lives.{IsAskOf};
     ghost use Rattle.desk_counter.specs.Counters.{first_history, IsPassOf};
-    ghost use Rattle.desk_counter.specs.Sole.{counter_in, pass_in, kept_in, pairs_of_sole, sole_state, IsSoleIn, IsUntouched};
+    ghost use Rattle.desk_counter.specs.Sole.{counter_in, pass_in, kept_in, pairs_of_sole, sole_state, IsSoleIn, IsAsOpened};
 
     /// Puts a desk under a counter. For want of memory the desk comes back.
     pub fn new(alloc: Global, desk: Desk<'w, D>) -> Result<SoleCounter<'w, D>, Desk<'w, D>>
@@ -69,7 +69,8 @@ impl<'w, D: Disk> SoleOf<'w, TicketedDesk<'w, D>> {
         ensures kept { kept_in self.new ≡ kept_in self.old }
         // It is an ask of the run, with its reply and its ending.
         ensures settled { (state : UserState) → IsSoleIn self.old state
-            → IsAskOf (kept_in self.old).schema (kept_in self.old).world (kept_in self.old).user (IsSoleIn self.new) state text.now (reply_of result) }
+            → IsAskOf (kept_in self.old).schema (kept_in self.old).world (kept_in self.old).user
+            (IsSoleIn self.new) state text.now (reply_of result) }
     {
         if self.asks_left == 0 {
             return Reply::Memory;
@@ -115,17 +116,25 @@ impl<'w, D: Disk> SoleOf<'w, TicketedDesk<'w, D>> {
         ensures in_flight { entry_in_flight result ≡ flying (pairs_of_sole self.entry) }
 
         // Its history is what it was put under the counter with, and then what its pass has of its own.
-        ensures added { history_of (pairs_of_sole self.entry) ≡ first_history (counter_in self.entry) ++ history_of (mine (pass_in self.entry)) }
+        ensures added { history_of (pairs_of_sole self.entry)
+            ≡ first_history (counter_in self.entry) ++ history_of (mine (pass_in self.entry)) }
 
         // Its history is legal, and only a user who is served has any; and what became of its disk since the opening.
-        ensures legal { IsLegal (kept_in self.entry).schema (kept_in self.entry).world (kept_in self.entry).user (history_of (pairs_of_sole self.entry)) }
-        ensures idle { is_open (kept_in self.entry).standing ≡ false → (history_of (pairs_of_sole self.entry) ≡ []) × (flying (pairs_of_sole self.entry) ≡ None) }
-        ensures images { D.told → is_sealed (kept_in self.entry).standing ≡ false → (c : List ℕ) → D.image (desk_disk result) c
-            → Holds (kept_in self.entry).schema (kept_in self.entry).world (kept_in self.entry).user (kept_in self.entry).header (sole_state self.entry) c }
+        ensures legal { IsLegal (kept_in self.entry).schema (kept_in self.entry).world (kept_in self.entry).user
+            (history_of (pairs_of_sole self.entry)) }
+        ensures idle { is_open (kept_in self.entry).standing ≡ false
+            → (history_of (pairs_of_sole self.entry) ≡ []) × (flying (pairs_of_sole self.entry) ≡ None) }
+        ensures images { D.told → is_sealed (kept_in self.entry).standing ≡ false → (c : List ℕ)
+            → D.image (desk_disk result) c
+            → Holds (kept_in self.entry).schema (kept_in self.entry).world (kept_in self.entry).user
+            (kept_in self.entry).header (sole_state self.entry) c }
         ensures count { D.faults (kept_in self.entry).disk ≤ D.faults (desk_disk result) }
-        ensures cause { has_broke (pairs_of_sole self.entry) ≡ true → Rose (D.faults (kept_in self.entry).disk) (D.faults (desk_disk result)) }
-        ensures refused { is_sealed (kept_in self.entry).standing ≡ true → desk_disk result ≡ (kept_in self.entry).disk }
-        ensures still { IsUntouched (kept_in self.entry) (pairs_of_sole self.entry) → desk_disk result ≡ (kept_in self.entry).disk }
+        ensures cause { has_broke (pairs_of_sole self.entry) ≡ true
+            → Rose (D.faults (kept_in self.entry).disk) (D.faults (desk_disk result)) }
+        ensures refused { is_sealed (kept_in self.entry).standing ≡ true
+            → desk_disk result ≡ (kept_in self.entry).disk }
+        ensures still { IsAsOpened (kept_in self.entry) (pairs_of_sole self.entry)
+            → desk_disk result ≡ (kept_in self.entry).disk }
     {
         self.counter.close(self.pass)
     }

@@ -20,8 +20,8 @@ pub trait Owned: Recorded {
     ghost kept: { Self → Self.Fixed };
 }
 
-/// A desk under a turnstile. Each of its entries has the ticket of the turn that added it, or 0 where it was there before,
-/// and so has the entry whose append failed.
+/// A desk under a turnstile. Each of its entries has the ticket of the turn that added it, or 0 where it was there
+/// before, and so has the entry whose append failed.
 #[derive(Drop)]
 pub struct TicketedDesk<'w, D: Disk> {
     desk: Desk<'w, D>,
@@ -93,8 +93,10 @@ impl<'w, D: Disk> TicketedDesk<'w, D> {
 
     /// What is known of the pairs: their entries are legal and within the limits, and an entry in flight stands last.
     pub(crate) fn known(&self)
-        ensures legal { IsLegal (fixed_in self.now).schema (fixed_in self.now).world (fixed_in self.now).user (history_of (pairs_in self.now)) }
-        ensures sizes { KeepsSizes (fixed_in self.now).schema (fixed_in self.now).user (history_of (pairs_in self.now)) }
+        ensures legal { IsLegal (fixed_in self.now).schema (fixed_in self.now).world (fixed_in self.now).user
+            (history_of (pairs_in self.now)) }
+        ensures sizes { KeepsSizes (fixed_in self.now).schema (fixed_in self.now).user
+            (history_of (pairs_in self.now)) }
         ensures last { BrokeIsLast (pairs_in self.now) }
     {
         self.desk.known();

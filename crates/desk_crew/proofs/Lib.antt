@@ -4,3 +4,4 @@ pub mod Reopening
 pub mod Opening
 pub mod Asking
 pub mod Seated
+pub mod Rising

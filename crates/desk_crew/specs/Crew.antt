@@ -1,4 +1,4 @@
--- The users of a batch at their desks, and their disks.
+-- Users at their desks, and what an ask, a close and an opening make of a desk and of its disk.
 use Rattle.std.specs.Prelude.{◌≡◌, ℕ, ◌≤◌, ◌*◌, ◌^◌, Bool, true, false, List, [], ◌∷◌, ◌++◌, bytes_eq, Option, Some, None, Result, Ok, Err, string_bytes}
 use Rattle.outside.specs.Faults.{Rose}
 use Rattle.cqe_base.specs.Schema.{Text, DatabaseSchema}
@@ -19,7 +19,7 @@ use Rattle.desk_counter.specs.Lives.{IsAskOf}
 use Rattle.desk_counter.specs.Items.{history_of, flying, has_broke}
 use Rattle.turnstile.specs.Passes.{mine, turns}
 use Rattle.desk_counter.specs.Counters.{first_history}
-use Rattle.desk_counter.specs.Sole.{counter_in, pass_in, kept_in, pairs_of_sole, sole_state, IsSoleIn, IsUntouched}
+use Rattle.desk_counter.specs.Sole.{counter_in, pass_in, kept_in, pairs_of_sole, sole_state, IsSoleIn, IsAsOpened}
 use Rattle.desk_counter.specs.declared.sole.SoleOf.{SoleOf}
 use Rattle.desk_counter.specs.declared.ticketed_desk.TicketedDesk.{TicketedDesk}
 use Rattle.desk_counter.specs.declared.item.Item.{Item}
@@ -83,7 +83,7 @@ seat_disk seat = (seat_kept seat).disk
 
 -- nothing was appended since its desk was opened
 abbrev pub IsFresh : {D : Type 0} {g h : _} → DeskSeat D g h → Type 0
-IsFresh seat = IsUntouched (seat_kept seat) (pairs_of_sole seat.desk)
+IsFresh seat = IsAsOpened (seat_kept seat) (pairs_of_sole seat.desk)
 
 -- whether its user has this name
 abbrev pub is_named : {D : Type 0} {g h : _} → Text → DeskSeat D g h → Bool
@@ -99,7 +99,7 @@ abbrev pub journal_seated : {D : Type 0} {g h : _} → Result (DeskSeat D g h) (
 journal_seated (Ok seat) = seat_journal seat
 journal_seated (Err returned) = string_bytes returned.journal
 
--- an opening leaves a disk as it was: it reads the same, no crash leaves anything new, and its count didn't fall
+-- an opening leaves a disk as it was: it reads the same, no crash leaves anything new, and its count of faults didn't fall
 pub record IsLeft {D : Type 0} (reads : D → List ℕ) (image : D → List ℕ → Type 0) (faults : D → ℕ) (old new : D) : Type 0 where
   pub reads_same : reads new ≡ reads old
   pub images : (c : List ℕ) → image new c → image old c
@@ -118,7 +118,7 @@ pub record IsClosed {D : Type 0} {g h : _} (told : Type 0) (image : D → List �
   pub later : faults (kept_in desk).disk ≤ faults disk
   pub cause : (sole_state desk).broken ≡ true → Rose (faults (kept_in desk).disk) (faults disk)
   pub shut : is_sealed (kept_in desk).standing ≡ true → disk ≡ (kept_in desk).disk
-  pub still : IsUntouched (kept_in desk) (pairs_of_sole desk) → disk ≡ (kept_in desk).disk
+  pub still : IsAsOpened (kept_in desk) (pairs_of_sole desk) → disk ≡ (kept_in desk).disk
 
 -- a desk was closed, and an opening left its disk as this one
 pub record IsLeftBy {D : Type 0} {g h : _} (told : Type 0) (reads : D → List ℕ) (image : D → List ℕ → Type 0) (faults : D → ℕ) (desk : SoleOf (TicketedDesk D g) Item (Fixed D) h) (now : D) : Type 0 where
@@ -127,7 +127,7 @@ pub record IsLeftBy {D : Type 0} {g h : _} (told : Type 0) (reads : D → List �
   pub left : IsLeft reads image faults closed now
 
 module _ (schema : DatabaseSchema) (world : FactSet) where
-  -- a seat's user was told this of a text
+  -- a seat's user got this reply to a text, and all but his desk's state is as it was
   pub record IsToldAt {D : Type 0} {g h : _} (text : Text) (told_reply : Reply) (old new : DeskSeat D g h) : Type 0 where
     pub user_is : seat_user new ≡ seat_user old
     pub journal_is : seat_journal new ≡ seat_journal old
@@ -135,7 +135,7 @@ module _ (schema : DatabaseSchema) (world : FactSet) where
     pub kept_is : seat_kept new ≡ seat_kept old
     pub settled : (state : UserState) → IsSeatIn old state → IsAskOf schema world (profile_of (seat_user old)) (IsSeatIn new) state text told_reply
 
-  -- an ask of a name is told to the first seat of that name, and to nobody else
+  -- an ask of a name goes to the first seat of that name, and to no other; without such a seat there is no reply
   pub data Tells {D : Type 0} {g h : _} (name text : Text) : List (DeskSeat D g h) → List (DeskSeat D g h) → Option Reply → Type 0 where
     nobody : Tells name text [] [] None
     here : {old new : DeskSeat D g h} {others : List (DeskSeat D g h)} {told_reply : Reply}

@@ -1,6 +1,7 @@
 -- The disks of users on their shelf.
 use Rattle.std.specs.Prelude.{◌≡◌, ℕ, ◌≤◌, Bool, true, false, List, [], ◌∷◌, bytes_eq, Option, Some, None, map, string_bytes}
 use Rattle.std.specs.List.{list_any}
+use Rattle.outside.specs.Faults.{Rose}
 use Rattle.outside.specs.Shelf.{IsTaken, bytes_on, image_on}
 use Rattle.cqe_base.specs.Schema.{Text, DatabaseSchema}
 use Rattle.cqe_base.specs.Facts.{FactSet}
@@ -78,11 +79,15 @@ NoNewImages image old new = (name : Text) (c : List ℕ) → image_on image (new
 abbrev pub NoneFell : (Text → ℕ) → (Text → ℕ) → Type 0
 NoneFell old new = (name : Text) → old name ≤ new name
 
+-- the count of some name rose
+abbrev pub SomeRose : (Text → ℕ) → (Text → ℕ) → Type 0
+SomeRose old new = (name : Text) × Rose (old name) (new name)
+
 -- the disks with these names are out, and no others
 abbrev pub AreOut : List Text → (Text → Bool) → Type 0
 AreOut names is_out = (name : Text) → is_out name ≡ is_among names name
 
--- no seat's disk had a lower count than its name as its desk was opened
+-- the count of faults under the name of each seat's journal is at most that of its disk as its desk was opened
 abbrev pub AreLater : {D : Type 0} {g h : _} → (D → ℕ) → (Text → ℕ) → List (DeskSeat D g h) → Type 0
 AreLater faults count [] = Unit {0}
 AreLater faults count (seat ∷ seats) = (count (seat_journal seat) ≤ faults (seat_disk seat)) × AreLater faults count seats

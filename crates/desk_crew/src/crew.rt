@@ -51,12 +51,14 @@ pub fn give_back<F: Shelf>(shelf: &mut F, seats: Vec<DeskSeat<'_, F::D>>) -> boo
     requires out { AllOut (journals seats.items) (F.is_out shelf.old) }
     requires later { AreLater F.D.faults (F.disk_faults shelf.old) seats.items }
     ensures broke { result ≡ list_any seat_broke seats.entry.items }
-    ensures back { AreBack F.told F.D.reads F.D.image F.D.faults (F.disk shelf.new) (F.disk_faults shelf.new) seats.entry.items }
+    ensures back { AreBack F.told F.D.reads F.D.image F.D.faults (F.disk shelf.new)
+        (F.disk_faults shelf.new) seats.entry.items }
     ensures inside { AllIn (journals seats.entry.items) (F.is_out shelf.new) }
     ensures others_out { SameBeside (journals seats.entry.items) (F.is_out shelf.old) (F.is_out shelf.new) }
     ensures disks { SameBeside (journals seats.entry.items) (F.disk shelf.old) (F.disk shelf.new) }
     ensures counts { SameBeside (journals seats.entry.items) (F.disk_faults shelf.old) (F.disk_faults shelf.new) }
     ensures faults { F.faults shelf.new ≡ F.faults shelf.old }
+    ensures looked { F.looked shelf.new ≡ F.looked shelf.old }
 {
     let mut seats = seats;
     let mut is_broken = false;
@@ -75,18 +77,23 @@ pub fn reopen_all<'w, F: Shelf>(
     shelf: &mut F,
     seats: Vec<DeskSeat<'w, F::D>>,
 ) -> Option<Vec<DeskSeat<'w, F::D>>>
-    requires limits { AllByRecursion (λ seat. KeepsLimits registry.now.schema.now (profile_of (seat_user seat))) seats.items }
+    requires limits { AllByRecursion (λ seat. KeepsLimits registry.now.schema.now
+        (profile_of (seat_user seat))) seats.items }
     requires distinct { has_duplicate (journals seats.items) ≡ false }
     requires out { AllOut (journals seats.items) (F.is_out shelf.old) }
     requires later { AreLater F.D.faults (F.disk_faults shelf.old) seats.items }
-    ensures reopened { IfSome result (λ reopened. AreReopened registry.now.schema.now registry.now.world.now (header_bytes registry.now.header.now) F.D.told F.D.reads F.D.image F.D.faults seats.entry.items reopened.items) }
+    ensures reopened { IfSome result (λ reopened. AreReopened registry.now.schema.now registry.now.world.now
+        (header_bytes registry.now.header.now) F.D.told F.D.reads F.D.image F.D.faults seats.entry.items
+        reopened.items) }
     ensures untouched { OnSome result (shelf.new ≡ shelf.old) }
-    ensures back { IfNone result (AreBack F.told F.D.reads F.D.image F.D.faults (F.disk shelf.new) (F.disk_faults shelf.new) seats.entry.items) }
+    ensures back { IfNone result (AreBack F.told F.D.reads F.D.image F.D.faults (F.disk shelf.new)
+        (F.disk_faults shelf.new) seats.entry.items) }
     ensures inside { IfNone result (AllIn (journals seats.entry.items) (F.is_out shelf.new)) }
     ensures others_out { SameBeside (journals seats.entry.items) (F.is_out shelf.old) (F.is_out shelf.new) }
     ensures disks { SameBeside (journals seats.entry.items) (F.disk shelf.old) (F.disk shelf.new) }
     ensures counts { SameBeside (journals seats.entry.items) (F.disk_faults shelf.old) (F.disk_faults shelf.new) }
     ensures faults { F.faults shelf.new ≡ F.faults shelf.old }
+    ensures looked { F.looked shelf.new ≡ F.looked shelf.old }
 {
     let mut seats = seats;
     let mut reopened = Vec::new(alloc);
@@ -119,18 +126,26 @@ fn open_seat<'w, F: Shelf>(
     user: &'w User,
 ) -> Result<DeskSeat<'w, F::D>, NotOpened>
     requires limits { KeepsLimits registry.now.schema.now (profile_of user.now) }
-    requires inside { F.is_out shelf.old (journal_name registry.now.directory.now (string_bytes user.now.name)) ≡ false }
-    ensures opened { IfOk result (IsSeatOf F.told F.D.reads F.D.image F.D.faults F.D.told registry.now.schema.now registry.now.world.now (header_bytes registry.now.header.now) registry.now.directory.now (F.disk shelf.old) (F.disk_faults shelf.old) user.now) }
-    ensures out { OnOk result (F.is_out shelf.new (journal_name registry.now.directory.now (string_bytes user.now.name)) ≡ true) }
-    ensures others_out { SameOthers (journal_name registry.now.directory.now (string_bytes user.now.name)) (F.is_out shelf.old) (F.is_out shelf.new) }
-    ensures disks { SameOthers (journal_name registry.now.directory.now (string_bytes user.now.name)) (F.disk shelf.old) (F.disk shelf.new) }
+    requires inside { F.is_out shelf.old (journal_name registry.now.directory.now (string_bytes user.now.name))
+        ≡ false }
+    ensures opened { IfOk result (IsSeatOf F.told F.D.reads F.D.image F.D.faults F.D.told registry.now.schema.now
+        registry.now.world.now (header_bytes registry.now.header.now) registry.now.directory.now (F.disk shelf.old)
+        (F.disk_faults shelf.old) user.now) }
+    ensures out { OnOk result (F.is_out shelf.new (journal_name registry.now.directory.now (string_bytes user.now.name))
+        ≡ true) }
+    ensures others_out { SameOthers (journal_name registry.now.directory.now (string_bytes user.now.name))
+        (F.is_out shelf.old) (F.is_out shelf.new) }
+    ensures disks { SameOthers (journal_name registry.now.directory.now (string_bytes user.now.name)) (F.disk shelf.old)
+        (F.disk shelf.new) }
     ensures counts { OnOk result (SameNames (F.disk_faults shelf.old) (F.disk_faults shelf.new)) }
     ensures refused_out { OnErr result (SameNames (F.is_out shelf.old) (F.is_out shelf.new)) }
     ensures refused_bytes { F.told → OnErr result (SameBytes F.D.reads (F.disk shelf.old) (F.disk shelf.new)) }
     ensures refused_images { F.told → OnErr result (NoNewImages F.D.image (F.disk shelf.old) (F.disk shelf.new)) }
     ensures fell { NoneFell (F.disk_faults shelf.old) (F.disk_faults shelf.new) }
-    ensures other_counts { SameOthers (journal_name registry.now.directory.now (string_bytes user.now.name)) (F.disk_faults shelf.old) (F.disk_faults shelf.new) }
+    ensures other_counts { SameOthers (journal_name registry.now.directory.now (string_bytes user.now.name))
+        (F.disk_faults shelf.old) (F.disk_faults shelf.new) }
     ensures later { F.faults shelf.old ≤ F.faults shelf.new }
+    ensures looked { F.looked shelf.new ≡ F.looked shelf.old }
     ensures cause { IsErrOf result NotOpened.Shelf → Rose (F.faults shelf.old) (F.faults shelf.new) }
 {
     let Ok(journal) = journal_name(alloc, registry.directory, user.name.as_str()) else {
@@ -162,15 +177,19 @@ pub fn open_all<'w, F: Shelf>(
     requires limits { All (λ user. KeepsLimits registry.now.schema.now (profile_of user)) registry.now.users.now }
     requires distinct { has_duplicate (map (λ user. user.name) (map named_user registry.now.users.now)) ≡ false }
     requires inside { NoneOut (F.is_out shelf.old) }
-    ensures opened { IfOk result (λ seats. AreSeatsOf F.told F.D.reads F.D.image F.D.faults F.D.told registry.now.schema.now registry.now.world.now (header_bytes registry.now.header.now) registry.now.directory.now (F.disk shelf.old) (F.disk_faults shelf.old) registry.now.users.now seats.items) }
+    ensures opened { IfOk result (λ seats. AreSeatsOf F.told F.D.reads F.D.image F.D.faults F.D.told
+        registry.now.schema.now registry.now.world.now (header_bytes registry.now.header.now) registry.now.directory.now
+        (F.disk shelf.old) (F.disk_faults shelf.old) registry.now.users.now seats.items) }
     ensures out { IfOk result (λ seats. AreOut (journals seats.items) (F.is_out shelf.new)) }
-    ensures disks { SameBeside (map (journal_name registry.now.directory.now) (map (λ user. user.name) (map named_user registry.now.users.now))) (F.disk shelf.old) (F.disk shelf.new) }
+    ensures disks { SameBeside (map (journal_name registry.now.directory.now)
+        (map (λ user. user.name) (map named_user registry.now.users.now))) (F.disk shelf.old) (F.disk shelf.new) }
     ensures counts { OnOk result (SameNames (F.disk_faults shelf.old) (F.disk_faults shelf.new)) }
     ensures refused_out { OnErr result (NoneOut (F.is_out shelf.new)) }
     ensures refused_bytes { F.told → OnErr result (SameBytes F.D.reads (F.disk shelf.old) (F.disk shelf.new)) }
     ensures refused_images { F.told → OnErr result (NoNewImages F.D.image (F.disk shelf.old) (F.disk shelf.new)) }
     ensures fell { NoneFell (F.disk_faults shelf.old) (F.disk_faults shelf.new) }
     ensures later { F.faults shelf.old ≤ F.faults shelf.new }
+    ensures looked { F.looked shelf.new ≡ F.looked shelf.old }
     ensures cause { IsErrOf result NotOpened.Shelf → Rose (F.faults shelf.old) (F.faults shelf.new) }
 {
     law_journals_differ();
@@ -210,7 +229,8 @@ pub fn answer<R: Wait, G: Gate, D: Disk>(
 ) -> Option<Reply>
     requires short { length text.now ≤ 4096 }
     requires users { AllByRecursion (λ seat. (seat_kept seat).user ≡ profile_of (seat_user seat)) seats.old.items }
-    ensures told { (schema : DatabaseSchema) (world : FactSet) (header : List ℕ) → AllByRecursion (IsServed schema world header) seats.old.items
+    ensures replied { (schema : DatabaseSchema) (world : FactSet) (header : List ℕ)
+        → AllByRecursion (IsServed schema world header) seats.old.items
         → Tells schema world name.now text.now seats.old.items seats.new.items (option_map reply_of result) }
 {
     let place = place_of(seats.as_slice(), name)?;

@@ -62,7 +62,8 @@ pub(crate) fn seat_at<'w, D: Disk>(
     disk: D,
 ) -> Result<DeskSeat<'w, D>, Returned<D>>
     requires { KeepsLimits registry.now.schema.now (profile_of user.now) }
-    ensures opened { IfOk result (IsOpenedFrom registry.now.schema.now registry.now.world.now (header_bytes registry.now.header.now) D.told D.reads D.image D.faults disk before) }
+    ensures opened { IfOk result (IsOpenedFrom registry.now.schema.now registry.now.world.now
+        (header_bytes registry.now.header.now) D.told D.reads D.image D.faults disk before) }
     ensures user { IfOk result (λ seat. seat_user seat ≡ user.now) }
     ensures journal { journal_seated result ≡ string_bytes journal }
     ensures left { IsLeft D.reads D.image D.faults disk (disk_seated result) }
@@ -108,7 +109,8 @@ pub(crate) fn settle_at<R: Wait, G: Gate, D: Disk>(
 ) -> Reply
     requires short { length text.now ≤ 4096 }
     requires user { (seat_kept seat.old).user ≡ profile_of (seat_user seat.old) }
-    ensures { IsToldAt (seat_kept seat.old).schema (seat_kept seat.old).world text.now (reply_of result) seat.old seat.new }
+    ensures { IsToldAt (seat_kept seat.old).schema (seat_kept seat.old).world text.now
+        (reply_of result) seat.old seat.new }
 {
     seat.desk.ask(rt, alloc, text, gate)
 }
@@ -130,7 +132,8 @@ pub(crate) fn reopen<'w, D: Disk>(
     seat: DeskSeat<'w, D>,
 ) -> Result<DeskSeat<'w, D>, Returned<D>>
     requires { KeepsLimits registry.now.schema.now (profile_of (seat_user seat)) }
-    ensures reopened { IfOk result (IsReopened registry.now.schema.now registry.now.world.now (header_bytes registry.now.header.now) D.told D.reads D.image D.faults seat.entry) }
+    ensures reopened { IfOk result (IsReopened registry.now.schema.now registry.now.world.now
+        (header_bytes registry.now.header.now) D.told D.reads D.image D.faults seat.entry) }
     ensures journal { journal_seated result ≡ seat_journal seat.entry }
     ensures left { IsLeftBy D.told D.reads D.image D.faults seat.entry.desk (disk_seated result) }
 {

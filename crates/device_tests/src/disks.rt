@@ -12,7 +12,7 @@ fn a_disk_reads_what_was_written(rt: HostRuntime) -> Result<(), Fail> {
     assert_eq!(rt; disk.read_at(1, &mut piece), Ok(3));
     assert_eq!(rt; piece, [2, 7, 8]);
     assert_eq!(rt; disk.read_at(3, &mut piece), Ok(1));
-    assert_eq!(rt; disk.read_at(9, &mut piece), Ok(0));
+    assert_eq!(rt; disk.read_at(4, &mut piece), Ok(0));
     assert_eq!(rt; disk.length(), Ok(4));
     let before = disk.crash_image(alloc, 0)?;
     assert_eq!(rt; before.as_slice(), [1, 2, 3].as_slice());

@@ -1,6 +1,6 @@
 ghost use Rattle.std.specs.Prelude.{◌≡◌, List, ℕ, false, IfOk, string_bytes};
 ghost use Rattle.cqe_base.specs.Schema.{has_duplicate};
-ghost use Rattle.init_engine.specs.Disks.{names_of};
+ghost use Rattle.init_engine.specs.Disks.{user_names};
 ghost use Rattle.outside.specs.MemoryShelves.{is_disk_out};
 
 use cqe_base::user::{Method, User};
@@ -31,7 +31,7 @@ fn user(alloc: Global, name: &str) -> Result<User, AllocError>
 }
 
 fn users(alloc: Global) -> Result<Vec<User>, AllocError>
-    ensures { IfOk result (λ users. has_duplicate (names_of users.items) ≡ false) }
+    ensures { IfOk result (λ users. has_duplicate (user_names users.items) ≡ false) }
 {
     let mut users = Vec::new(alloc);
     users.push(user(alloc, "ann")?)?;

@@ -18,6 +18,11 @@ fn a_shelf_reads_the_first_file_of_a_name(rt: HostRuntime) -> Result<(), Fail> {
         shelf.read_file(alloc, "p ").err(),
         Some(ShelfError::Missing)
     );
+    let looked = shelf.looked();
+    assert_eq!(rt; looked.len(), 4);
+    for (name, read) in looked.iter().zip(["p", "f", "", "p "]) {
+        assert_eq!(rt; name.as_str(), read);
+    }
     assert_eq!(rt; shelf.faults(), 0);
     Ok(())
 }

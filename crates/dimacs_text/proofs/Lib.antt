@@ -1,4 +1,4 @@
 pub mod Additions
 pub mod Digits
-pub mod Entries
 pub mod Lines
+pub mod Numbers

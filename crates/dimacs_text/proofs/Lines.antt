@@ -5,7 +5,7 @@ use Rattle.cqe_base.specs.Lines.{text_lines}
 use Rattle.cqe_base.proofs.TextLines.{no_lines}
 use Rattle.dimacs_text.specs.Dimacs.{Problem, Cnf, empty_problem, finish, cnf_after, cnf_in}
 use Rattle.dimacs_text.specs.Reads.{ReadsFile, IsFinished}
-use Rattle.dimacs_text.specs.declared.refusal.Refusal.{Refusal}
+use Rattle.dimacs_text.specs.declared.refusal.DimacsRefusal.{DimacsRefusal}
 use Rattle.dimacs_text.specs.declared.reading.Reading.{Reading}
 use Rattle.dimacs_text.specs.declared.reading.Reading.TheVariants as reading
 
@@ -18,7 +18,7 @@ file_ends number p before all so_far over =
     sym so_far ∙ ap (λ (b : List ℕ). cnf_after number p (text_lines b)) over ∙ ap (cnf_after number p) no_lines
 
 -- what a finished file says is what its bytes are
-pub file_read : (finished : Result Cnf Refusal) (found : Reading) (all left : List ℕ) → cnf_in all ≡ finished → left ≡ [] → IsFinished finished found → ReadsFile found all left
+pub file_read : (finished : Result Cnf DimacsRefusal) (found : Reading) (all left : List ℕ) → cnf_in all ≡ finished → left ≡ [] → IsFinished finished found → ReadsFile found all left
 file_read finished (reading.Whole cnf) all left is over h = (is ∙ h, over)
 file_read finished (reading.Refused refusal) all left is over h = is ∙ h
 file_read finished reading.Fault all left is over h = absurd h

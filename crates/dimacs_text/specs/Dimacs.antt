@@ -1,15 +1,18 @@
 -- What a file in the DIMACS format means, and where it is refused.
-use Rattle.std.specs.Prelude.{ℕ, zero, suc, ◌+◌, ◌==◌, Bool, true, false, ◌&&◌, nat_le, nat_lt, List, [], ◌∷◌, ◌++◌, length, Option, Some, None, is_some, unwrap_or, Result, Ok, Err, if◌then◌else◌, codes, bytes_eq}
+use Rattle.std.specs.Prelude.{ℕ, zero, suc, ◌+◌, ◌==◌, Bool, true, false, ◌&&◌, nat_le, nat_lt, if◌then◌else◌}
+use Rattle.std.specs.Prelude.{List, [], ◌∷◌, ◌++◌, length, codes, bytes_eq}
+use Rattle.std.specs.Prelude.{Option, Some, None, is_some, unwrap_or, Result, Ok, Err}
 use Rattle.cqe_base.specs.Schema.{Text}
 use Rattle.cqe_base.specs.Lines.{TextLine, text_lines, content, is_too_long}
 use Rattle.cqe_base.specs.Literal.{Literal, Positive, Negative, union}
-use Rattle.dimacs_text.specs.Words.{words, entry_in}
+use Rattle.dimacs_text.specs.Words.{words, signed_number_in}
 use Rattle.line_protocol.specs.Words.{number_in}
-use Rattle.dimacs_text.specs.declared.words.Entry.{Entry}
+use Rattle.dimacs_text.specs.declared.words.SignedNumber.{SignedNumber}
 use Rattle.dimacs_text.specs.declared.header.Header.{Header}
-use Rattle.dimacs_text.specs.declared.refusal.Kind.{Kind}
-use Rattle.dimacs_text.specs.declared.refusal.Kind.TheVariants.{NotALine, TooLong, TooMany, Order, Limit, Variable, Surplus, Missing}
-use Rattle.dimacs_text.specs.declared.refusal.Refusal.{Refusal}
+use Rattle.dimacs_text.specs.declared.refusal.RefusalKind.{RefusalKind}
+use Rattle.dimacs_text.specs.declared.refusal.RefusalKind.TheVariants.{NotALine, TooLong, TooMany, Order}
+use Rattle.dimacs_text.specs.declared.refusal.RefusalKind.TheVariants.{Limit, Variable, Surplus, Missing}
+use Rattle.dimacs_text.specs.declared.refusal.DimacsRefusal.{DimacsRefusal}
 
 -- what the lines so far have said
 pub record Problem : Type 0 where
@@ -28,7 +31,7 @@ empty_problem = record { header = None; budget = None; lrat = false; clauses = [
 
 -- a problem, or the kind of its refusal
 abbrev pub Step : Type 0
-Step = Result Problem Kind
+Step = Result Problem RefusalKind
 
 -- what follows a step, unless it is refused
 abbrev pub then_step : Step → (Problem → Step) → Step
@@ -60,7 +63,8 @@ header_of _ _ = None
 
 -- `cnf`, the number of variables and the number of clauses
 abbrev pub header_in : List Text → Option Header
-header_in (kind ∷ variables ∷ clauses ∷ []) = if bytes_eq kind (codes "cnf") then header_of (number_in variables) (number_in clauses) else None
+header_in (kind ∷ variables ∷ clauses ∷ []) =
+    if bytes_eq kind (codes "cnf") then header_of (number_in variables) (number_in clauses) else None
 header_in _ = None
 
 -- the problem line stands once, and says at most 1,000,000 variables and as many clauses
@@ -80,7 +84,9 @@ literal_of false variable = Positive variable
 
 -- the clause is over; there are at most as many as the problem line says
 abbrev pub close : ℕ → Problem → Step
-close most p = if nat_lt (length p.clauses) most then Ok (record p { clauses = p.clauses ++ p.unfinished ∷ []; unfinished = [] }) else Err Surplus
+close most p =
+    if nat_lt (length p.clauses) most then Ok (record p { clauses = p.clauses ++ p.unfinished ∷ []; unfinished = [] })
+    else Err Surplus
 
 -- a literal that would stand twice in a clause is written once, in its first place
 abbrev pub with_literal : Problem → Literal → Problem
@@ -93,19 +99,19 @@ with_number header p is_negative (suc variable) =
     if nat_lt variable header.variables then Ok (with_literal p (literal_of is_negative variable)) else Err Variable
 
 -- numbers stand behind the problem line
-abbrev pub with_entry_of : Option Header → Problem → Entry → Step
-with_entry_of None p entry = Err Order
-with_entry_of (Some header) p entry = with_number header p entry.is_negative entry.number
+abbrev pub with_signed_number : Option Header → Problem → SignedNumber → Step
+with_signed_number None p signed = Err Order
+with_signed_number (Some header) p signed = with_number header p signed.is_negative signed.number
 
 -- a word of a line of numbers
-abbrev pub with_entry : Problem → Option Entry → Step
-with_entry p None = Err NotALine
-with_entry p (Some entry) = with_entry_of p.header p entry
+abbrev pub with_number_word : Problem → Option SignedNumber → Step
+with_number_word p None = Err NotALine
+with_number_word p (Some signed) = with_signed_number p.header p signed
 
 -- the numbers of a line, from left to right
-abbrev pub with_entries : Problem → List Text → Step
-with_entries p [] = Ok p
-with_entries p (word ∷ rest) = then_step (with_entry p (entry_in word)) (λ next. with_entries next rest)
+abbrev pub with_numbers : Problem → List Text → Step
+with_numbers p [] = Ok p
+with_numbers p (word ∷ rest) = then_step (with_number_word p (signed_number_in word)) (λ next. with_numbers next rest)
 
 -- ---- lines
 
@@ -120,7 +126,7 @@ with_words p [] = Ok p
 with_words p (word ∷ rest) =
     if begins_comment word then (if length word == 1 then with_comment p rest else Ok p)
     else if bytes_eq word (codes "p") then with_header p (header_in rest)
-    else with_entries p (word ∷ rest)
+    else with_numbers p (word ∷ rest)
 
 -- the line of this number
 abbrev pub with_line : ℕ → Problem → TextLine → Step
@@ -140,25 +146,28 @@ pub record Cnf : Type 0 where
 
 -- the clauses and options of a problem; where no budget is said it is 1,000,000
 abbrev pub cnf_of : Problem → Header → Cnf
-cnf_of p header = record { variables = header.variables; clauses = p.clauses; budget = unwrap_or p.budget 1000000; lrat = p.lrat }
+cnf_of p header =
+    record { variables = header.variables; clauses = p.clauses; budget = unwrap_or p.budget 1000000; lrat = p.lrat }
 
 -- the file is over: there was a problem line, each clause is over, and there are as many as it says
-abbrev pub finish : ℕ → Problem → Option Header → Result Cnf Refusal
+abbrev pub finish : ℕ → Problem → Option Header → Result Cnf DimacsRefusal
 finish number p None = Err (record { kind = Missing; line = number })
 finish number p (Some header) =
     if length p.unfinished == 0 && length p.clauses == header.clauses then Ok (cnf_of p header)
     else Err (record { kind = Missing; line = number })
 
 -- what follows a line, unless it is refused
-abbrev pub then_lines : ℕ → Step → (Problem → Result Cnf Refusal) → Result Cnf Refusal
+abbrev pub then_lines : ℕ → Step → (Problem → Result Cnf DimacsRefusal) → Result Cnf DimacsRefusal
 then_lines number (Err kind) rest = Err (record { kind = kind; line = number })
 then_lines number (Ok p) rest = rest p
 
 -- the lines from this number on, up to the first that is refused
-abbrev pub cnf_after : ℕ → Problem → List TextLine → Result Cnf Refusal
+abbrev pub cnf_after : ℕ → Problem → List TextLine → Result Cnf DimacsRefusal
 cnf_after number p [] = finish number p p.header
-cnf_after number p (line ∷ lines) = then_lines number (with_line number p line) (λ next. cnf_after (number + 1) next lines)
+cnf_after number p (line ∷ lines) =
+    then_lines number (with_line number p line) (λ next. cnf_after (number + 1) next lines)
 
--- the clauses and options that bytes are, or the first line that is refused, with its kind; where something is wanting at the end, that is the line behind the last
-unfoldable pub cnf_in : List ℕ → Result Cnf Refusal
+-- the clauses and options that bytes are, or the first line that is refused, with its kind; where something is wanting
+-- at the end, that is the line behind the last
+unfoldable pub cnf_in : List ℕ → Result Cnf DimacsRefusal
 cnf_in bytes = cnf_after 1 empty_problem (text_lines bytes)

@@ -5,9 +5,10 @@ use Rattle.outside.specs.Streams.{AppendsPart}
 use Rattle.dimacs_text.specs.Dimacs.{Cnf, cnf_in}
 use Rattle.clause_solver.specs.Costs.{cost_within_budget}
 use Rattle.dimacs_text.specs.Printed.{cost_text, end_text}
-use Rattle.dimacs_text.specs.declared.refusal.Kind.{Kind}
-use Rattle.dimacs_text.specs.declared.refusal.Kind.TheVariants.{NotALine, TooLong, TooMany, Order, Limit, Variable, Surplus, Missing}
-use Rattle.dimacs_text.specs.declared.refusal.Refusal.{Refusal}
+use Rattle.dimacs_text.specs.declared.refusal.RefusalKind.{RefusalKind}
+use Rattle.dimacs_text.specs.declared.refusal.RefusalKind.TheVariants.{NotALine, TooLong, TooMany, Order}
+use Rattle.dimacs_text.specs.declared.refusal.RefusalKind.TheVariants.{Limit, Variable, Surplus, Missing}
+use Rattle.dimacs_text.specs.declared.refusal.DimacsRefusal.{DimacsRefusal}
 use Rattle.dimacs_text.specs.declared.ending.Verdict.{Verdict}
 use Rattle.dimacs_text.specs.declared.ending.Verdict.TheVariants.{Satisfiable, Unsatisfiable, Unknown}
 use Rattle.dimacs_text.specs.declared.ending.Ending.{Ending}
@@ -63,19 +64,20 @@ status_of WriteFault = 7
 status_of Memory = 13
 
 -- the number of a refusal
-abbrev pub kind_number : Kind → ℕ
-kind_number NotALine = 1
-kind_number TooLong = 2
-kind_number TooMany = 3
-kind_number Order = 4
-kind_number Limit = 5
-kind_number Variable = 6
-kind_number Surplus = 7
-kind_number Missing = 8
+abbrev pub refusal_number : RefusalKind → ℕ
+refusal_number NotALine = 1
+refusal_number TooLong = 2
+refusal_number TooMany = 3
+refusal_number Order = 4
+refusal_number Limit = 5
+refusal_number Variable = 6
+refusal_number Surplus = 7
+refusal_number Missing = 8
 
 -- the kind and the line of a refusal
-abbrev pub refusal_text : Refusal → List ℕ
-refusal_text refusal = codes "dimacs: refused " ++ decimal (kind_number refusal.kind) ++ codes " " ++ decimal refusal.line ++ codes "\n"
+abbrev pub refusal_text : DimacsRefusal → List ℕ
+refusal_text refusal =
+    codes "dimacs: refused " ++ decimal (refusal_number refusal.kind) ++ codes " " ++ decimal refusal.line ++ codes "\n"
 
 -- what is said of an ending without an answer
 abbrev pub complaint_of : Ending → List ℕ

@@ -3,15 +3,15 @@ use Rattle.std.specs.Prelude.{◌≡◌, ℕ, Bool, true, false, List, [], ◌�
 use Rattle.cqe_base.specs.Lines.{TextLine, text_lines}
 use Rattle.line_protocol.specs.Reads.{TakesLine}
 use Rattle.dimacs_text.specs.Dimacs.{Problem, Cnf, with_line, cnf_in}
-use Rattle.dimacs_text.specs.declared.refusal.Refusal.{Refusal}
-use Rattle.dimacs_text.specs.declared.refusal.Kind.{Kind}
+use Rattle.dimacs_text.specs.declared.refusal.DimacsRefusal.{DimacsRefusal}
+use Rattle.dimacs_text.specs.declared.refusal.RefusalKind.{RefusalKind}
 use Rattle.dimacs_text.specs.declared.reading.Reading.{Reading}
 use Rattle.dimacs_text.specs.declared.reading.Reading.TheVariants as reading
 use Rattle.dimacs_text.specs.declared.reading.NextLine.{NextLine}
 use Rattle.dimacs_text.specs.declared.reading.NextLine.TheVariants as next
 
 -- the first line of the bytes is refused whatever stands above it
-pub record RefusesFirst (number : ℕ) (before : List ℕ) (kind : Kind) : Type 0 where
+pub record RefusesFirst (number : ℕ) (before : List ℕ) (kind : RefusalKind) : Type 0 where
   pub first : TextLine
   pub rest : List TextLine
   pub lines : text_lines before ≡ first ∷ rest
@@ -32,7 +32,7 @@ ReadsFile reading.Fault before after = Unit {0}
 ReadsFile reading.Memory before after = Unit {0}
 
 -- what a finished file is to its readers
-abbrev pub IsFinished : Result Cnf Refusal → Reading → Type 0
+abbrev pub IsFinished : Result Cnf DimacsRefusal → Reading → Type 0
 IsFinished finished (reading.Whole cnf) = finished ≡ Ok cnf
 IsFinished finished (reading.Refused refusal) = finished ≡ Err refusal
 IsFinished finished reading.Fault = ⊥

@@ -32,7 +32,7 @@ impl Model for Cnf {
 impl Cnf {
     ghost use Rattle.dimacs_text.specs.CnfInside.{IsSearchable};
 
-    /// Clauses that can be searched.
+    /// These clauses, over variables below `variables`, where they can be searched.
     pub fn new(variables: u32, clauses: Clauses, budget: u64, lrat: bool) -> Cnf
         requires { IsSearchable (record { variables = variables; clauses = clauses; budget = budget; lrat = lrat }) }
         ensures { result ≡ record { variables = variables; clauses = clauses; budget = budget; lrat = lrat } }
@@ -60,7 +60,8 @@ impl Cnf {
         self.lrat
     }
 
-    /// The machine's end on the clauses within the budget, with its whole cost, or with the budget where that was spent.
+    /// The machine's end on the clauses within the budget, with its whole cost, or with the budget where that was
+    /// spent.
     pub fn search(&self, alloc: Global) -> Result<Searched, AllocError>
         ensures found { IfOk result (λ searched. found_of searched.found ≡ end_of self.now) }
         ensures cost { IfOk result (λ searched. searched.cost ≡ cost_of self.now) }

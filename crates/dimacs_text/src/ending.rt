@@ -2,9 +2,9 @@
 ghost use Rattle.std.specs.Prelude.{◌≡◌, ◌≤◌, ◌++◌, codes, decimal};
 ghost use Rattle.outside.specs.Streams.{AppendsUnless};
 ghost use Rattle.outside.specs.Faults.{Rose};
-ghost use Rattle.dimacs_text.specs.Ends.{status_of, kind_number, refusal_text, complaint_of};
+ghost use Rattle.dimacs_text.specs.Ends.{status_of, refusal_number, refusal_text, complaint_of};
 
-use crate::refusal::{Kind, Refusal};
+use crate::refusal::{DimacsRefusal, RefusalKind};
 use line_protocol::LineText;
 use outside::{Sink, write_all};
 
@@ -23,7 +23,7 @@ pub enum Ending {
     /// The clauses were read and searched, and the answer is written.
     Answered(Verdict),
     /// The file is refused. Nothing was written.
-    Refused(Refusal),
+    Refused(DimacsRefusal),
     /// A read failed. Nothing was written.
     ReadFault,
     /// A write failed.
@@ -33,7 +33,8 @@ pub enum Ending {
 }
 
 impl Ending {
-    /// The status with which the program ends, as solvers have it: 10 satisfiable, 20 unsatisfiable, 0 unknown; else 5 refused, 6 read, 7 write, 13 memory.
+    /// The status with which the program ends, as solvers have it: 10 satisfiable, 20 unsatisfiable, 0 unknown; else
+    /// 5 refused, 6 read, 7 write, 13 memory.
     pub fn status(self) -> u8
         ensures { result ≡ status_of self }
     {
@@ -51,7 +52,9 @@ impl Ending {
 
 /// Gives what is said of an ending to a sink. Where that fails nobody is left to be told.
 pub(crate) fn complain<E: Sink>(complaints: &mut E, ending: Ending)
-    ensures given { E.told → AppendsUnless (complaint_of ending) (E.written complaints.old) (E.written complaints.new) (Rose (E.faults complaints.old) (E.faults complaints.new)) }
+    ensures given { E.told → AppendsUnless (complaint_of ending)
+        (E.written complaints.old) (E.written complaints.new)
+        (Rose (E.faults complaints.old) (E.faults complaints.new)) }
     ensures later { E.faults complaints.old ≤ E.faults complaints.new }
 {
     let text = complaint_of(ending);
@@ -70,29 +73,29 @@ fn complaint_of(ending: Ending) -> LineText
     }
 }
 
-fn refusal_text(refusal: Refusal) -> LineText
+fn refusal_text(refusal: DimacsRefusal) -> LineText
     ensures { result ≡ refusal_text refusal }
 {
     let mut line = LineText::new("dimacs: refused ");
-    line.push_decimal(kind_number(refusal.kind));
+    line.push_decimal(refusal_number(refusal.kind));
     line.push(" ");
     line.push_decimal(refusal.line);
     line.push("\n");
     line
 }
 
-fn kind_number(kind: Kind) -> u32
-    ensures number { result ≡ kind_number kind }
+fn refusal_number(kind: RefusalKind) -> u32
+    ensures number { result ≡ refusal_number kind }
     ensures digit { result ≤ 8 }
 {
     match kind {
-        Kind::NotALine => 1,
-        Kind::TooLong => 2,
-        Kind::TooMany => 3,
-        Kind::Order => 4,
-        Kind::Limit => 5,
-        Kind::Variable => 6,
-        Kind::Surplus => 7,
-        Kind::Missing => 8,
+        RefusalKind::NotALine => 1,
+        RefusalKind::TooLong => 2,
+        RefusalKind::TooMany => 3,
+        RefusalKind::Order => 4,
+        RefusalKind::Limit => 5,
+        RefusalKind::Variable => 6,
+        RefusalKind::Surplus => 7,
+        RefusalKind::Missing => 8,
     }
 }

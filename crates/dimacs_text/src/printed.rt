@@ -1,8 +1,10 @@
 //! What is printed of what a search found.
-ghost use Rattle.std.specs.Prelude.{◌≡◌, ◌<◌, ◌≤◌, ◌+◌, ◌^◌, ◌++◌, length, reverse, OnOk, IfOk, codes, decimal, string_bytes, map};
+ghost use Rattle.std.specs.Prelude.{◌≡◌, ◌<◌, ◌≤◌, ◌+◌, ◌^◌, OnOk, IfOk};
+ghost use Rattle.std.specs.Prelude.{◌++◌, length, reverse, map, codes, decimal, string_bytes};
 ghost use Rattle.clause_store.specs.PlainLines.{line_of, lines_of};
 ghost use Rattle.clause_solver.specs.PlainStates.{found_of};
-ghost use Rattle.dimacs_text.specs.Printed.{literal_text, clause_text, value_text, values_text, hints_text, lrat_line, lrat_text, refutation_text, cost_text, end_text};
+ghost use Rattle.dimacs_text.specs.Printed.{literal_text, clause_text, value_text, values_text, cost_text, end_text};
+ghost use Rattle.dimacs_text.specs.Printed.{hints_text, lrat_line, lrat_text, refutation_text};
 
 use crate::cnf::Cnf;
 use clause_solver::{Found, Searched};
@@ -81,7 +83,8 @@ fn push_cost(text: &mut String, cost: u64) -> Result<(), AllocError>
 
 /// The text of what a search found and cost.
 pub fn answer_text(alloc: Global, cnf: &Cnf, searched: &Searched) -> Result<String, AllocError>
-    ensures { IfOk result (λ text. string_bytes text ≡ cost_text searched.now.cost ++ end_text cnf.now (found_of searched.now.found)) }
+    ensures { IfOk result (λ text.
+        string_bytes text ≡ cost_text searched.now.cost ++ end_text cnf.now (found_of searched.now.found)) }
 {
     let mut text = String::new(alloc);
     push_cost(&mut text, searched.cost)?;
@@ -101,7 +104,8 @@ fn push_end(text: &mut String, cnf: &Cnf, found: &Found) -> Result<(), AllocErro
 }
 
 fn push_model(text: &mut String, signs: &Signs) -> Result<(), AllocError>
-    ensures { OnOk result (string_bytes text.new ≡ string_bytes text.old ++ (codes "s SATISFIABLE\nv " ++ values_text 0 signs.now.values.items)) }
+    ensures { OnOk result (string_bytes text.new
+        ≡ string_bytes text.old ++ (codes "s SATISFIABLE\nv " ++ values_text 0 signs.now.values.items)) }
 {
     text.push_str("s SATISFIABLE\nv ")?;
     push_values(text, &signs.values)?;
@@ -109,7 +113,8 @@ fn push_model(text: &mut String, signs: &Signs) -> Result<(), AllocError>
 }
 
 fn push_refutation(text: &mut String, cnf: &Cnf, refutation: &Refutation) -> Result<(), AllocError>
-    ensures { OnOk result (string_bytes text.new ≡ string_bytes text.old ++ refutation_text cnf.now (lines_of refutation.now)) }
+    ensures { OnOk result (string_bytes text.new
+        ≡ string_bytes text.old ++ refutation_text cnf.now (lines_of refutation.now)) }
 {
     text.push_str("s UNSATISFIABLE\n")?;
     if cnf.lrat() {

@@ -1,15 +1,16 @@
 //! What the lines of a file have said so far.
 ghost use Rattle.std.specs.Prelude.{◌≡◌, ◌<◌, ◌≤◌, ◌+◌, ◌^◌, map, Ok, OnOk, IfErr};
 ghost use Rattle.dimacs_text.specs.Words.{words};
-ghost use Rattle.dimacs_text.specs.Dimacs.{empty_problem, allow, with_comment, with_header, literal_of, close, with_literal, with_entry, with_entries, begins_comment, with_words, finish};
+ghost use Rattle.dimacs_text.specs.Dimacs.{empty_problem, allow, with_comment, with_header, begins_comment, with_words};
+ghost use Rattle.dimacs_text.specs.Dimacs.{literal_of, close, with_literal, with_number_word, with_numbers, finish};
 ghost use Rattle.cqe_base.specs.Literal.{variable_of};
 ghost use Rattle.dimacs_text.specs.Sound.{variables_in};
 ghost use Rattle.dimacs_text.specs.Refuses.{Refuses};
 
 use crate::cnf::Cnf;
 use crate::header::{Header, header_in};
-use crate::refusal::{Kind, LineError, Refusal};
-use crate::words::{Entry, entry_in, is_word, words};
+use crate::refusal::{DimacsRefusal, LineError, RefusalKind};
+use crate::words::{SignedNumber, is_word, signed_number_in, words};
 use clause_store::clauses::Clauses;
 use clause_store::literal::{Lit, has_literal};
 use line_protocol::words::number_in;
@@ -88,7 +89,7 @@ impl Problem {
         if is_word(first, "p") {
             return self.take_header(header_in(rest));
         }
-        self.take_entries(words)
+        self.take_numbers(words)
     }
 
     /// A comment behind its `c`.
@@ -119,16 +120,16 @@ impl Problem {
         ensures refused { IfErr result (Refuses (allow self.old budget)) }
     {
         let Some(budget) = budget else {
-            return Err(LineError::Refused(Kind::Limit));
+            return Err(LineError::Refused(RefusalKind::Limit));
         };
         if self.budget.is_some() {
-            return Err(LineError::Refused(Kind::Order));
+            return Err(LineError::Refused(RefusalKind::Order));
         }
         if 1 <= budget && budget <= BUDGET {
             self.budget = Some(budget);
             Ok(())
         } else {
-            Err(LineError::Refused(Kind::Limit))
+            Err(LineError::Refused(RefusalKind::Limit))
         }
     }
 
@@ -138,49 +139,49 @@ impl Problem {
         ensures refused { IfErr result (Refuses (with_header self.old header)) }
     {
         let Some(header) = header else {
-            return Err(LineError::Refused(Kind::NotALine));
+            return Err(LineError::Refused(RefusalKind::NotALine));
         };
         if self.header.is_some() {
-            return Err(LineError::Refused(Kind::Order));
+            return Err(LineError::Refused(RefusalKind::Order));
         }
         if header.variables <= MOST && header.clauses <= MOST {
             self.header = Some(header);
             Ok(())
         } else {
-            Err(LineError::Refused(Kind::Limit))
+            Err(LineError::Refused(RefusalKind::Limit))
         }
     }
 
     /// The numbers of a line, from left to right.
-    fn take_entries(&mut self, words: &[&[u8]]) -> Result<(), LineError>
-        ensures added { OnOk result (with_entries self.old (map (λ word. word.now) words.now) ≡ Ok self.new) }
-        ensures refused { IfErr result (Refuses (with_entries self.old (map (λ word. word.now) words.now))) }
+    fn take_numbers(&mut self, words: &[&[u8]]) -> Result<(), LineError>
+        ensures added { OnOk result (with_numbers self.old (map (λ word. word.now) words.now) ≡ Ok self.new) }
+        ensures refused { IfErr result (Refuses (with_numbers self.old (map (λ word. word.now) words.now))) }
     {
         for word in words {
-            self.take_entry(entry_in(word))?;
+            self.take_number(signed_number_in(word))?;
         }
         Ok(())
     }
 
     /// A number, which stands behind the problem line.
-    fn take_entry(&mut self, entry: Option<Entry>) -> Result<(), LineError>
-        ensures added { OnOk result (with_entry self.old entry ≡ Ok self.new) }
-        ensures refused { IfErr result (Refuses (with_entry self.old entry)) }
+    fn take_number(&mut self, number: Option<SignedNumber>) -> Result<(), LineError>
+        ensures added { OnOk result (with_number_word self.old number ≡ Ok self.new) }
+        ensures refused { IfErr result (Refuses (with_number_word self.old number)) }
     {
-        let Some(entry) = entry else {
-            return Err(LineError::Refused(Kind::NotALine));
+        let Some(signed) = number else {
+            return Err(LineError::Refused(RefusalKind::NotALine));
         };
         let Some(header) = self.header else {
-            return Err(LineError::Refused(Kind::Order));
+            return Err(LineError::Refused(RefusalKind::Order));
         };
-        if entry.number == 0 {
+        if signed.number == 0 {
             return self.close(header.clauses);
         }
-        if entry.number > header.variables {
-            return Err(LineError::Refused(Kind::Variable));
+        if signed.number > header.variables {
+            return Err(LineError::Refused(RefusalKind::Variable));
         }
-        let variable = (entry.number - 1) as u32;
-        self.add_literal(literal_of(entry.is_negative, variable))
+        let variable = (signed.number - 1) as u32;
+        self.add_literal(literal_of(signed.is_negative, variable))
     }
 
     /// The clause is over.
@@ -190,7 +191,7 @@ impl Problem {
         ensures refused { IfErr result (Refuses (close most self.old)) }
     {
         if self.clauses.len() as u64 >= most {
-            return Err(LineError::Refused(Kind::Surplus));
+            return Err(LineError::Refused(RefusalKind::Surplus));
         }
         self.clauses.push(&self.unfinished)?;
         self.unfinished.clear();
@@ -210,7 +211,7 @@ impl Problem {
     }
 
     /// The clauses, once the file is over at the line of this number.
-    pub fn finish(self, number: u32) -> Result<Cnf, Refusal>
+    pub fn finish(self, number: u32) -> Result<Cnf, DimacsRefusal>
         ensures { result ≡ finish number self self.header }
     {
         let Problem {
@@ -220,8 +221,8 @@ impl Problem {
             clauses,
             unfinished,
         } = self;
-        let missing = Refusal {
-            kind: Kind::Missing,
+        let missing = DimacsRefusal {
+            kind: RefusalKind::Missing,
             line: number,
         };
         let Some(header) = header else {

@@ -1,7 +1,7 @@
 //! A file is read from its source line by line, to its end or to the first line that is refused.
 //!
-//! It isn't a script of `script_lines`: it has ten times the lines, kinds of refusals of its own and something to say at
-//! its end, and it isn't read behind a refusal.
+//! It isn't a script of `script_lines`: it has ten times the lines, kinds of refusals of its own and something to say
+//! at its end, and it isn't read behind a refusal.
 ghost use Rattle.std.specs.Prelude.{◌≡◌, ◌≤◌, IsTrue};
 ghost use Rattle.outside.specs.Faults.{Rose};
 ghost use Rattle.line_protocol.specs.Buffer.{unread};
@@ -10,7 +10,7 @@ ghost use Rattle.dimacs_text.specs.Reads.{ReadsLine, ReadsFile, IsFinished, is_r
 
 use crate::cnf::Cnf;
 use crate::problem::Problem;
-use crate::refusal::{Kind, LineError, Refusal};
+use crate::refusal::{DimacsRefusal, LineError, RefusalKind};
 use line_protocol::{LineBuffer, LineOutcome, read_line};
 use outside::Source;
 use std::alloc::Global;
@@ -24,7 +24,7 @@ pub enum Reading {
     /// The source is at its end, and these are the clauses.
     Whole(Cnf),
     /// The file is refused.
-    Refused(Refusal),
+    Refused(DimacsRefusal),
     /// The source failed.
     Fault,
     /// Memory was wanting.
@@ -36,13 +36,14 @@ pub enum Reading {
 pub enum NextLine {
     Line,
     End,
-    Refused(Kind),
+    Refused(RefusalKind),
     Fault,
 }
 
 /// Reads the next line, which has this number. It is refused where it is too long or one too many.
 fn next_line<S: Source>(source: &mut S, buffer: &mut LineBuffer, number: u32) -> NextLine
-    ensures reads { S.told → ReadsLine number result (unread buffer.old (S.left source.old)) (unread buffer.new (S.left source.new)) buffer.new.line }
+    ensures reads { S.told → ReadsLine number result
+        (unread buffer.old (S.left source.old)) (unread buffer.new (S.left source.new)) buffer.new.line }
     ensures few { result ≡ NextLine.Line → number ≤ 1000000 }
     ensures held { S.held source.new ≡ S.held source.old }
     ensures later { S.faults source.old ≤ S.faults source.new }
@@ -51,13 +52,13 @@ fn next_line<S: Source>(source: &mut S, buffer: &mut LineBuffer, number: u32) ->
     match read_line(source, buffer) {
         LineOutcome::Line => {
             if number > LINES {
-                NextLine::Refused(Kind::TooMany)
+                NextLine::Refused(RefusalKind::TooMany)
             } else {
                 NextLine::Line
             }
         }
         LineOutcome::End => NextLine::End,
-        LineOutcome::TooLong => NextLine::Refused(Kind::TooLong),
+        LineOutcome::TooLong => NextLine::Refused(RefusalKind::TooLong),
         LineOutcome::ReadFault => NextLine::Fault,
     }
 }
@@ -76,14 +77,14 @@ pub fn read_cnf<S: Source>(alloc: Global, source: &mut S) -> Reading
             NextLine::Line => (),
             NextLine::End => return finished(problem, number),
             NextLine::Refused(kind) => {
-                return Reading::Refused(Refusal { kind, line: number });
+                return Reading::Refused(DimacsRefusal { kind, line: number });
             }
             NextLine::Fault => return Reading::Fault,
         }
         match problem.take(alloc, buffer.line()) {
             Ok(()) => (),
             Err(LineError::Refused(kind)) => {
-                return Reading::Refused(Refusal { kind, line: number });
+                return Reading::Refused(DimacsRefusal { kind, line: number });
             }
             Err(LineError::Memory) => return Reading::Memory,
         }

@@ -4,9 +4,10 @@ ghost use Rattle.dimacs_text.specs.declared.refusal.LineError.TheVariants.{Memor
 
 use std::alloc::{AllocError, AllocFailed};
 
-/// Why a line is refused. The numbers that are printed go from 1 in this order.
+/// Why a line of a file in the DIMACS format is refused. The numbers that are printed go from 1 in this order, as in
+/// `docs/FORMATS.md`, "DIMACS".
 #[derive(Clone, Copy, Debug, PartialEq, Eq)]
-pub enum Kind {
+pub enum RefusalKind {
     /// It has none of the shapes.
     NotALine,
     /// It has more than 4,096 bytes.
@@ -25,10 +26,11 @@ pub enum Kind {
     Missing,
 }
 
-/// A line that is refused, counted from 1. Where something is missing at the end it is the line behind the last.
+/// The first line that is refused, counted from 1, and why. Where something is missing at the end it is the line behind
+/// the last.
 #[derive(Clone, Copy, Debug, PartialEq, Eq)]
-pub struct Refusal {
-    pub kind: Kind,
+pub struct DimacsRefusal {
+    pub kind: RefusalKind,
     pub line: u32,
 }
 
@@ -36,7 +38,7 @@ pub struct Refusal {
 #[derive(Clone, Copy, Debug, PartialEq, Eq)]
 pub enum LineError {
     /// It is refused.
-    Refused(Kind),
+    Refused(RefusalKind),
     /// Memory is wanting.
     Memory,
 }

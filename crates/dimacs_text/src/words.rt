@@ -1,6 +1,6 @@
 //! The words of a line, and the numbers that words write.
 ghost use Rattle.std.specs.Prelude.{◌≡◌, map, option_map, IfOk, bytes_eq};
-ghost use Rattle.dimacs_text.specs.Words.{words, entry_in, entry_of};
+ghost use Rattle.dimacs_text.specs.Words.{words, signed_number_in, signed_number};
 
 use cqe_base::text::is_blank;
 use line_protocol::words::number_in;
@@ -8,7 +8,7 @@ use std::alloc::{AllocError, Global};
 
 /// A number with its sign: a variable counted from 1 or its negation, or 0, which ends a clause.
 #[derive(Clone, Copy)]
-pub struct Entry {
+pub struct SignedNumber {
     pub is_negative: bool,
     pub number: u64,
 }
@@ -30,8 +30,8 @@ pub fn is_word(word: &[u8], text: &str) -> bool
 }
 
 /// One to ten digits, with or without a `-` in front.
-pub fn entry_in(word: &[u8]) -> Option<Entry>
-    ensures { result ≡ entry_in word.now }
+pub fn signed_number_in(word: &[u8]) -> Option<SignedNumber>
+    ensures { result ≡ signed_number_in word.now }
 {
     let [first, digits @ ..] = word else {
         return None;
@@ -44,11 +44,11 @@ pub fn entry_in(word: &[u8]) -> Option<Entry>
 }
 
 /// A number with this sign.
-fn signed(is_negative: bool, number: Option<u64>) -> Option<Entry>
-    ensures { result ≡ option_map (entry_of is_negative) number }
+fn signed(is_negative: bool, number: Option<u64>) -> Option<SignedNumber>
+    ensures { result ≡ option_map (signed_number is_negative) number }
 {
     match number {
-        Some(number) => Some(Entry {
+        Some(number) => Some(SignedNumber {
             is_negative,
             number,
         }),

@@ -15,8 +15,8 @@ use Rattle.clause_form.specs.Forms.{Form, form_of, with_formula, AddedFormsGrow}
 use Rattle.entailment.specs.Logs.{log_nodes, sentence_nodes}
 use Rattle.entailment.specs.Forms.{form_of_log, with_negated, HasAdded, IsSearchable, IsChecked}
 use Rattle.entailment.specs.Probes.{IsTrueVerdict}
-use Rattle.entailment.specs.declared.Verdict.{Verdict}
-use Rattle.entailment.specs.declared.Verdict.TheVariants.{Follows, Open, Spent}
+use Rattle.entailment.specs.declared.probes.Verdict.{Verdict}
+use Rattle.entailment.specs.declared.probes.Verdict.TheVariants.{Follows, Open, Spent}
 use Rattle.entailment.proofs.ClauseCount.{clauses_are_few}
 use Rattle.entailment.proofs.LogNodes.{grounded-nodes, sentence_nodes-le, probe-nodes}
 

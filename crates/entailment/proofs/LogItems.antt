@@ -9,7 +9,7 @@ use Rattle.std.proofs.lemmas.List.Sums.{AllPass-from_list_all, sum_by-take-le}
 use Rattle.cqe_base.specs.Schema.{DatabaseSchema}
 use Rattle.cqe_base.specs.Formula.{formula_of, nodes, is_sentence_of}
 use Rattle.cqe_base.specs.Entailment.{Signed}
-use Rattle.entailment.specs.declared.Told.{Told}
+use Rattle.entailment.specs.declared.view.Told.{Told}
 use Rattle.entailment.specs.Logs.{IsSmallLog, sentence_nodes, told_log}
 use Rattle.entailment.proofs.LogNodes.{sentence_nodes-le}
 

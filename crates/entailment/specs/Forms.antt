@@ -9,8 +9,8 @@ use Rattle.cqe_base.specs.ClauseForm.{world_of}
 use Rattle.cqe_base.specs.Refutation.{RefutationLine, is_refutation, is_model}
 use Rattle.cqe_base.specs.Outcome.{grounded_signed}
 use Rattle.clause_form.specs.Forms.{Form, form_of}
-use Rattle.entailment.specs.declared.Verdict.{Verdict}
-use Rattle.entailment.specs.declared.Verdict.TheVariants.{Follows, Open, Spent}
+use Rattle.entailment.specs.declared.probes.Verdict.{Verdict}
+use Rattle.entailment.specs.declared.probes.Verdict.TheVariants.{Follows, Open, Spent}
 
 -- the form of a log's grounded sentences, with their signs
 abbrev pub form_of_log : DatabaseSchema → List Signed → Form

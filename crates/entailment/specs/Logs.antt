@@ -5,7 +5,7 @@ use Rattle.cqe_base.specs.Schema.{DatabaseSchema}
 use Rattle.cqe_base.specs.Formula.{formula_of, nodes}
 use Rattle.cqe_base.specs.Entailment.{Signed, are_sentences_of}
 use Rattle.cqe_base.specs.History.{signed_nodes}
-use Rattle.entailment.specs.declared.Told.{Told}
+use Rattle.entailment.specs.declared.view.Told.{Told}
 
 -- the nodes of a list of sentences and negations
 abbrev pub log_nodes : DatabaseSchema → List Signed → ℕ

@@ -6,9 +6,9 @@ use Rattle.cqe_base.specs.Schema.{DatabaseSchema}
 use Rattle.cqe_base.specs.Formula.{formula_of}
 use Rattle.cqe_base.specs.Entailment.{Signed, Entails, IsCountermodel}
 use Rattle.cqe_base.specs.Outcome.{Outcome, Follows, Open, Spent}
-use Rattle.entailment.specs.declared.Probe.{Probe}
-use Rattle.entailment.specs.declared.Verdict.{Verdict}
-use Rattle.entailment.specs.declared.Verdict.TheVariants as verdict
+use Rattle.entailment.specs.declared.probes.Probe.{Probe}
+use Rattle.entailment.specs.declared.probes.Verdict.{Verdict}
+use Rattle.entailment.specs.declared.probes.Verdict.TheVariants as verdict
 
 -- the sentence or the negation that a reference with a sign means
 abbrev pub signed_at : Bor Sentence × Bool → Signed

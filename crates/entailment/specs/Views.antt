@@ -2,7 +2,7 @@
 use Rattle.std.specs.Prelude.{List}
 use Rattle.cqe_base.specs.Schema.{DatabaseSchema}
 use Rattle.cqe_base.specs.Entailment.{Signed}
-use Rattle.entailment.specs.declared.View.{View}
+use Rattle.entailment.specs.declared.view.View.{View}
 use Rattle.entailment.specs.Logs.{told_log}
 
 -- the schema of a view

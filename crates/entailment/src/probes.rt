@@ -1,4 +1,4 @@
-// Probes: the clause form of what is asked, the search, and the check of what it found.
+//! Probes: the clause form of what is asked, the search, and the check of what it found.
 ghost use Rattle.std.specs.Prelude.{◌≡◌, ◌≤◌, ◌<◌, ◌+◌, ◌^◌, true, nat_le, [], ◌∷◌, ◌++◌, Some, IfOk, OnOk};
 ghost use Rattle.std.specs.List.{list_all};
 ghost use Rattle.cqe_base.specs.Formula.{formula_of, nodes, is_sentence_of};
@@ -12,7 +12,7 @@ ghost use Rattle.entailment.specs.Forms.{form_of_log, with_negated, HasAdded, Is
 ghost use Rattle.entailment.specs.Views.{schema_of, log_of};
 ghost use Rattle.entailment.specs.Probes.{premise_list, premise_of, goal_of, outcome_of, IsTrueVerdict};
 
-use crate::{Probe, Told, Verdict, View};
+use crate::view::{Told, View};
 use clause_form::former::Former;
 use clause_form::laws::law_added_forms_grow;
 use clause_solver::{Found, search};
@@ -26,10 +26,29 @@ use cqe_base::machine_laws::{
 use cqe_base::prop::Prop;
 use cqe_base::schema::Schema;
 use cqe_base::sentence::Sentence;
+use cqe_base::world::World;
 use grounding::{GroundError, ground};
 use proof_check::model::check_model;
 use proof_check::refutation::check_refutation;
 use std::alloc::{AllocError, Global};
+
+/// A further premise, if there is one, and a goal: each a sentence, or with `false` beside it its negation.
+#[derive(Clone, Copy)]
+pub struct Probe<'a> {
+    pub premise: Option<(&'a Sentence, bool)>,
+    pub goal: (&'a Sentence, bool),
+}
+
+/// What a probe found.
+#[derive(Drop)]
+pub enum Verdict {
+    /// The premises entail the goal.
+    Follows,
+    /// In this world the premises are true and the goal is false.
+    Open(World),
+    /// The budget doesn't suffice.
+    Spent,
+}
 
 /// Runs a probe of the view's log with a budget. The clause form of the log, of the premise and of the negated goal is searched, and what
 /// the search found is checked before it is told.

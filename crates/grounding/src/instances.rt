@@ -1,4 +1,5 @@
-// Sentences with their quantifiers written out.
+//! Sentences with their quantifiers written out.
+
 ghost use Rattle.std.specs.Prelude.{◌≡◌, true, false, ◌+◌, ◌<◌, ◌≤◌, ◌↔◌, [], ◌∷◌, ◌++◌, length, take, map, IfOk, if◌then◌else◌};
 ghost use Rattle.std.specs.FinSet as set;
 ghost use Rattle.cqe_base.specs.Schema.{domain_size};
@@ -24,7 +25,10 @@ pub enum GroundError {
 /// A ground formula has at most so many nodes.
 const NODES: u64 = 40_000;
 
-/// The ground formula of a sentence of the schema.
+/// Writes out the quantifiers of a sentence, each in the order of its domain's constants, and decides its equations.
+///
+/// `TooLarge` comes before any memory is taken. The limit is the one that `cqe_base` sets for a user's view and for each sentence
+/// that is guarded from him (specs/Limits.antt), counted in nodes of the result: a quantifier counts all its instances.
 pub fn ground(alloc: Global, schema: &Schema, sentence: &Sentence) -> Result<Prop, GroundError>
     requires { is_sentence_of schema.now (formula_of sentence.now) ≡ true }
     ensures grounded { IfOk result (λ prop. ground_of prop ≡ grounded schema.now (formula_of sentence.now)) }

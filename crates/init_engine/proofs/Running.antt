@@ -6,7 +6,7 @@ use Rattle.outside.specs.Shelf.{SameOthers, bytes_on}
 use Rattle.cqe_base.specs.declared.user.User.{User}
 use Rattle.cqe_base.specs.Schema.{has_duplicate}
 use Rattle.log_journal.specs.Names.{journal_name, JournalsDiffer}
-use Rattle.init_engine.specs.Disks.{names_of, IsReady, Readies}
+use Rattle.init_engine.specs.Disks.{user_names, IsReady, Readies}
 use Rattle.init_engine.specs.Stops.{HasReason, StaysAt}
 use Rattle.init_engine.specs.Ends.{Change, StopsAt, IsEnd, end_of}
 use Rattle.init_engine.specs.declared.end.Stop.{Stop}
@@ -86,6 +86,6 @@ module _ {D : Type 0} (told : Type 0) (reads : D → List ℕ) (image : D → Li
   ends stop.Memory reason kept = (k, stops stop.Memory reason kept)
 
 -- the name of the user at a place
-pub name_at : (users : List User) (k : ℕ) (user : User) (text : List ℕ) → k < length users → user ≡ get_or users k user → text ≡ string_bytes user.name → slice_get (names_of users) k ≡ Some text
+pub name_at : (users : List User) (k : ℕ) (user : User) (text : List ℕ) → k < length users → user ≡ get_or users k user → text ≡ string_bytes user.name → slice_get (user_names users) k ≡ Some text
 name_at users k user text within is same =
     slice_get-map (λ (u : User). string_bytes u.name) users k ∙ ap (λ o. option_map (λ (u : User). string_bytes u.name) o) (slice_get_read users (length users) k user refl within is) ∙ ap (λ (t : List ℕ). Some t) (sym same)

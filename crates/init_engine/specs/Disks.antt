@@ -6,9 +6,9 @@ use Rattle.cqe_base.specs.declared.user.User.{User}
 use Rattle.log_journal.specs.Records.{Recorded, IsJournal}
 use Rattle.log_journal.specs.Names.{journal_name}
 
--- the names of users
-abbrev pub names_of : List User → List (List ℕ)
-names_of users = map (λ user. string_bytes user.name) users
+-- the names of users in memory, as bytes
+abbrev pub user_names : List User → List (List ℕ)
+user_names users = map (λ user. string_bytes user.name) users
 
 module _ {D : Type 0} (reads : D → List ℕ) (image : D → List ℕ → Type 0) (header : List ℕ) where
   -- The disk is a journal with this header, in each image. One that was empty is an empty journal, and another has its bytes.

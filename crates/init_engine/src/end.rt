@@ -1,4 +1,4 @@
-// How the making of journals ends.
+//! How the making of journals ends.
 use log_journal::OpenError;
 
 /// How `run_init` ends.

@@ -1,8 +1,8 @@
-// Making the journals of users.
+//! Making the journals of users.
 ghost use Rattle.std.specs.Prelude.{◌≡◌, ◌≤◌, List, ℕ, false};
 ghost use Rattle.cqe_base.specs.Schema.{has_duplicate};
 ghost use Rattle.log_journal.specs.Opening.{header_bytes};
-ghost use Rattle.init_engine.specs.Disks.{names_of};
+ghost use Rattle.init_engine.specs.Disks.{user_names};
 ghost use Rattle.init_engine.specs.Ends.{IsEnd, end_of};
 
 use crate::InitEnd;
@@ -24,13 +24,14 @@ pub fn run_init<F: Shelf>(
     directory: &str,
     shelf: &mut F,
 ) -> InitEnd
-    requires names { has_duplicate (names_of users.now) ≡ false }
+    requires names { has_duplicate (user_names users.now) ≡ false }
     requires out { (name : List ℕ) → F.is_out shelf.old name ≡ false }
-    ensures ends { IsEnd F.told F.D.reads F.D.image (header_bytes header.now) directory.now (names_of users.now)
+    ensures ends { IsEnd F.told F.D.reads F.D.image (header_bytes header.now) directory.now (user_names users.now)
         (record { old = F.disk shelf.old; new = F.disk shelf.new; before = F.disk_faults shelf.old; now = F.disk_faults shelf.new; shelf_before = F.faults shelf.old; shelf_now = F.faults shelf.new }) result }
     ensures out { (name : List ℕ) → F.is_out shelf.new name ≡ false }
     ensures counts { (name : List ℕ) → F.disk_faults shelf.old name ≤ F.disk_faults shelf.new name }
     ensures files { (name : List ℕ) → F.file shelf.new name ≡ F.file shelf.old name }
+    ensures looked { F.looked shelf.new ≡ F.looked shelf.old }
     ensures later { F.faults shelf.old ≤ F.faults shelf.new }
 {
     law_journals_differ();

@@ -1,4 +1,4 @@
-// What is done with the disk of one user.
+//! What is done with the disk of one user.
 ghost use Rattle.std.specs.Prelude.{◌≡◌, ◌≢◌, ◌≤◌, ◌++◌, ◌∷◌, [], List, ℕ, true, false, Some, IfOk, OnOk, IfErr};
 ghost use Rattle.outside.specs.Disk.{Only};
 ghost use Rattle.outside.specs.Faults.{HasCause};
@@ -31,6 +31,7 @@ pub(crate) fn serve<F: Shelf>(
     ensures out { SameNames (F.is_out shelf.old) (F.is_out shelf.new) }
     ensures counts { (other : List ℕ) → F.disk_faults shelf.old other ≤ F.disk_faults shelf.new other }
     ensures files { (other : List ℕ) → F.file shelf.new other ≡ F.file shelf.old other }
+    ensures looked { F.looked shelf.new ≡ F.looked shelf.old }
     ensures later { F.faults shelf.old ≤ F.faults shelf.new }
 {
     let journal = journal_name(alloc, directory, name).map_err(|_| Stop::Memory)?;
@@ -53,6 +54,7 @@ fn serve_disk<F: Shelf>(
     ensures out { SameNames (F.is_out shelf.old) (F.is_out shelf.new) }
     ensures counts { (other : List ℕ) → F.disk_faults shelf.old other ≤ F.disk_faults shelf.new other }
     ensures files { (other : List ℕ) → F.file shelf.new other ≡ F.file shelf.old other }
+    ensures looked { F.looked shelf.new ≡ F.looked shelf.old }
     ensures later { F.faults shelf.old ≤ F.faults shelf.new }
 {
     match shelf.take_disk(alloc, journal) {

@@ -14,18 +14,18 @@ pub data LineRequest : Type 0 where
   quit_session : LineRequest
   other_line : LineRequest
 
--- the same of a request in memory
+-- what a Request in memory asks for
 abbrev pub meaning_of : Request → LineRequest
 meaning_of (Login user phrase) = login_as user.now phrase.now
 meaning_of (Ask text) = ask_for text.now
 meaning_of Quit = quit_session
 meaning_of Other = other_line
 
--- who logs in, and how: a name of the form of a constant's, and a phrase of 1 to 256 bytes
+-- whether a user and a phrase make a login: a name of the form of a constant's, and 1 to 256 bytes
 abbrev pub is_login : Text → Text → Bool
 is_login user phrase = is_schema_name user && (nat_le 1 (length phrase) && nat_le (length phrase) 256)
 
--- a name, one blank, and a phrase, which is all of the rest
+-- the request of the text behind `login `: a name, one blank, and a phrase, which is all of the rest
 unfoldable pub login_of : Text → LineRequest
 login_of text =
     let user = before_first is_blank text in

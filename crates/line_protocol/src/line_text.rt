@@ -1,8 +1,9 @@
-// A short line that is put together without memory.
+//! A short line that is put together without memory.
 ghost use Rattle.std.specs.Prelude.{◌≡◌, ◌+◌, ◌<◌, ◌≤◌, [], ◌∷◌, ◌++◌, length, decimal};
 
 use std::marker::Model;
 
+// A line has at most so many bytes.
 const ROOM: usize = 64;
 
 /// A text of at most 64 bytes that is put together without memory.

@@ -1,4 +1,4 @@
-// Lines out of the pieces that a source gives.
+//! Lines out of the pieces that a source gives.
 ghost use Rattle.std.specs.Prelude.{◌≡◌, ◌≢◌, ◌==◌, ℕ, ◌+◌, ◌≤◌, List, [], length, take, position, IfOk, IfSome, IfNone, OnErr};
 ghost use Rattle.cqe_base.specs.Lines.{without_return};
 ghost use Rattle.outside.specs.Faults.{HasCause, Rose};

@@ -1,4 +1,4 @@
-// Who may log in.
+//! Who may log in.
 ghost use Rattle.std.specs.Prelude.{◌≡◌, ◌↔◌, IsTrue};
 ghost use Rattle.line_protocol.specs.Logins.{MayLogIn};
 

@@ -1,4 +1,4 @@
-// The lines of replies.
+//! The lines of replies.
 ghost use Rattle.std.specs.Prelude.{◌≡◌, ◌≤◌, ◌++◌, length, codes, decimal, OnOk, OnErr};
 ghost use Rattle.cqe_base.specs.Transcript.{mark_text};
 ghost use Rattle.outside.specs.Faults.{HasCause};

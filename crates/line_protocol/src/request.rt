@@ -1,4 +1,4 @@
-// What a line asks for.
+//! What a line asks for.
 ghost use Rattle.std.specs.Prelude.{◌≡◌, true};
 ghost use Rattle.std.specs.List.{list_all};
 ghost use Rattle.line_protocol.specs.Words.{is_printable};

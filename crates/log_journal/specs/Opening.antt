@@ -34,7 +34,8 @@ Refuses header bytes (Damaged number) = (73 ≤ length bytes) × (take 72 bytes 
 Refuses header bytes DiskFault = ⊥
 Refuses header bytes Memory = ⊥
 
--- Why an opening was refused: want of memory, a fault of the disk, or the bytes, where clauses are told of them.
+-- Why an opening was refused: want of memory, a fault of the disk, whose count of faults rose, or the bytes, where clauses
+-- are told of them.
 abbrev pub IsRefused : Type 0 → List ℕ → List ℕ → ℕ → ℕ → OpenError → Type 0
 IsRefused told header bytes before now Memory = Unit {0}
 IsRefused told header bytes before now DiskFault = Rose before now

@@ -9,7 +9,8 @@ Recorded = ℕ × List ℕ
 abbrev pub length_of : ℕ → ℕ → ℕ
 length_of high low = 256 * high + low
 
--- The records from a gate on, behind some bytes that are passed over. A gate of value 1 opens a record, another ends them.
+-- A gate is the byte before a record: of value 1 it opens one, of any other it ends them. These are the records from a
+-- gate on, behind some bytes that are passed over.
 abbrev pub opened : ℕ → List ℕ → List Recorded
 opened (suc n) (byte ∷ rest) = opened n rest
 opened zero (gate ∷ kind ∷ high ∷ low ∷ rest) =

@@ -1,4 +1,4 @@
-// A journal on a disk.
+//! A journal on a disk.
 ghost use Rattle.std.specs.Prelude.{◌≡◌, ◌≤◌, ◌<◌, ◌+◌, ◌++◌, ◌∷◌, [], false, List, ℕ, length, take, OnOk};
 ghost use Rattle.outside.specs.Disk.{Only, Elapses};
 ghost use Rattle.outside.specs.Faults.{HasCause};
@@ -69,21 +69,27 @@ impl<D: Disk> Journal<D> {
         requires short { length text.now ≤ 4096 }
 
         // After Ok the disk, and each image, has this record behind the records before it.
-        ensures added { D.told → OnOk result (Adds (D.reads (disk_of self.old)) (kind, text.now) (D.reads (disk_of self.new))) }
-        ensures kept { D.told → OnOk result ((c : List ℕ) → D.image (disk_of self.new) c → Adds (D.reads (disk_of self.old)) (kind, text.now) c) }
+        ensures added { D.told → OnOk result (Adds (D.reads (disk_of self.old)) (kind, text.now)
+            (D.reads (disk_of self.new))) }
+        ensures kept { D.told → OnOk result ((c : List ℕ) → D.image (disk_of self.new) c
+            → Adds (D.reads (disk_of self.old)) (kind, text.now) c) }
 
         // At every moment of the call each image has the records before it, or these and this one.
         ensures moments { D.told → is_broken self.old ≡ false
-            → (c : List ℕ) → D.image_since (disk_of self.new) (D.moment (disk_of self.old)) c → KeepsOrAdds (D.reads (disk_of self.old)) (kind, text.now) c }
-        ensures time { Elapses (D.moment (disk_of self.old)) (D.moment (disk_of self.new)) (D.image_since (disk_of self.old)) (D.image_since (disk_of self.new)) }
+            → (c : List ℕ) → D.image_since (disk_of self.new) (D.moment (disk_of self.old)) c
+            → KeepsOrAdds (D.reads (disk_of self.old)) (kind, text.now) c }
+        ensures time { Elapses (D.moment (disk_of self.old)) (D.moment (disk_of self.new))
+            (D.image_since (disk_of self.old)) (D.image_since (disk_of self.new)) }
 
         // After a failure at the disk each image is one of the two, and no later append touches the disk.
         ensures either { D.told → IsErrOf result AppendError.DiskFault
-            → (c : List ℕ) → D.image (disk_of self.new) c → KeepsOrAdds (D.reads (disk_of self.old)) (kind, text.now) c }
+            → (c : List ℕ) → D.image (disk_of self.new) c
+            → KeepsOrAdds (D.reads (disk_of self.old)) (kind, text.now) c }
         ensures room { (n : ℕ) → HasRoom self.old n → HasRoom self.new n }
 
         // A refusal has its cause, and from a failure at the disk on every append is refused.
-        ensures fault { IsErrOf result AppendError.DiskFault → Rose (D.faults (disk_of self.old)) (D.faults (disk_of self.new)) }
+        ensures fault { IsErrOf result AppendError.DiskFault
+            → Rose (D.faults (disk_of self.old)) (D.faults (disk_of self.new)) }
         ensures count { D.faults (disk_of self.old) ≤ D.faults (disk_of self.new) }
         ensures refused { IsErrOf result AppendError.Broken ↔ IsTrue (is_broken self.old) }
         ensures untouched { IsErrOf result AppendError.Broken → disk_of self.new ≡ disk_of self.old }
@@ -134,7 +140,8 @@ fn put_record<D: Disk>(
     ensures durable { OnOk result (Only (D.reads disk.new) (D.image disk.new)) }
     ensures images { D.told → (c : List ℕ) → D.image disk.new c → KeepsOrAdds (D.reads disk.old) (kind, text.now) c }
     ensures time { Elapses (D.moment disk.old) (D.moment disk.new) (D.image_since disk.old) (D.image_since disk.new) }
-    ensures moments { D.told → (c : List ℕ) → D.image_since disk.new (D.moment disk.old) c → KeepsOrAdds (D.reads disk.old) (kind, text.now) c }
+    ensures moments { D.told → (c : List ℕ) → D.image_since disk.new (D.moment disk.old) c
+        → KeepsOrAdds (D.reads disk.old) (kind, text.now) c }
     ensures cause { HasCause (D.faults disk.old) (D.faults disk.new) result }
 {
     fill_start(room, kind, text);

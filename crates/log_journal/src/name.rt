@@ -1,4 +1,4 @@
-// The names of the disks on which journals lie.
+//! The names of the disks on which journals lie.
 ghost use Rattle.std.specs.Prelude.{◌≡◌, IfOk, string_bytes};
 ghost use Rattle.log_journal.specs.Names.{journal_name, JournalsDiffer};
 

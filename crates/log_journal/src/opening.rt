@@ -1,4 +1,4 @@
-// How a journal is made and opened.
+//! How a journal is made and opened.
 ghost use Rattle.std.specs.Prelude.{◌≡◌, ◌≢◌, ◌⊎◌, ◌≤◌, ◌<◌, ◌+◌, ◌++◌, ◌∷◌, [], ◌^◌, false, List, ℕ, length, take, drop, Some, None, IfSome, IfNone, IfOk, IfErr, OnOk, IsErrOf, IsTrue, ◌↔◌, map, All};
 ghost use Rattle.outside.specs.Disk.{Only, Elapses};
 ghost use Rattle.outside.specs.Faults.{HasCause, Rose};
@@ -94,7 +94,8 @@ fn read_records(alloc: Global, bytes: &[u8]) -> Result<(Vec<Record>, usize), Ope
     requires { 73 ≤ length bytes.now }
     ensures ok { IfOk result (λ r. IsRead bytes.now (map recorded r.0.items) r.1) }
     ensures each { IfOk result (λ r. All IsRecord r.0.items) }
-    ensures err { IfErr result (λ why. (why ≡ OpenError.Memory) ⊎ ((number : ℕ) × (why ≡ OpenError.Damaged number) × (damaged 0 0 (drop 72 bytes.now) ≡ Some number))) }
+    ensures err { IfErr result (λ why. (why ≡ OpenError.Memory)
+        ⊎ ((number : ℕ) × (why ≡ OpenError.Damaged number) × (damaged 0 0 (drop 72 bytes.now) ≡ Some number))) }
 {
     let mut records = Vec::new(alloc);
     let mut rest = &bytes[72..];
@@ -129,7 +130,8 @@ fn read_all<D: Disk>(alloc: Global, disk: &mut D) -> Result<Vec<u8>, OpenError>
     ensures moments { (c : List ℕ) → D.image_since disk.new (D.moment disk.old) c → D.image disk.old c }
     ensures time { Elapses (D.moment disk.old) (D.moment disk.new) (D.image_since disk.old) (D.image_since disk.new) }
     ensures count { D.faults disk.old ≤ D.faults disk.new }
-    ensures cause { IfErr result (λ why. (why ≡ OpenError.Memory) ⊎ ((why ≡ OpenError.DiskFault) × Rose (D.faults disk.old) (D.faults disk.new))) }
+    ensures cause { IfErr result (λ why. (why ≡ OpenError.Memory)
+        ⊎ ((why ≡ OpenError.DiskFault) × Rose (D.faults disk.old) (D.faults disk.new))) }
 {
     disk.sync()?;
     let length = disk.length()?;
@@ -145,10 +147,12 @@ fn read_journal<D: Disk>(
     disk: &mut D,
     header: &Header,
 ) -> Result<(Vec<Record>, u64), OpenError>
-    ensures opened { D.told → IfOk result (λ r. IsJournal (header_bytes header.now) (map recorded r.0.items) (D.reads disk.old)) }
+    ensures opened { D.told → IfOk result (λ r. IsJournal (header_bytes header.now) (map recorded r.0.items)
+        (D.reads disk.old)) }
     ensures each { IfOk result (λ r. All IsRecord r.0.items) }
     ensures ends { D.told → IfOk result (λ r. EndsAt (D.reads disk.new) r.1) }
-    ensures refused { IfErr result (IsRefused D.told (header_bytes header.now) (D.reads disk.old) (D.faults disk.old) (D.faults disk.new)) }
+    ensures refused { IfErr result (IsRefused D.told (header_bytes header.now) (D.reads disk.old) (D.faults disk.old)
+        (D.faults disk.new)) }
     ensures reads { D.reads disk.new ≡ D.reads disk.old }
     ensures durable { OnOk result (Only (D.reads disk.new) (D.image disk.new)) }
     ensures synced { IfErr result (λ why. (why ≡ OpenError.DiskFault) ⊎ Only (D.reads disk.new) (D.image disk.new)) }
@@ -181,21 +185,25 @@ pub fn open<D: Disk>(
     disk: D,
     header: &Header,
 ) -> Result<(Journal<D>, Vec<Record>), Refused<D, OpenError>>
-    ensures opened { D.told → IfOk result (λ r. IsJournal (header_bytes header.now) (map recorded r.1.items) (D.reads disk)) }
+    ensures opened { D.told → IfOk result (λ r. IsJournal (header_bytes header.now) (map recorded r.1.items)
+        (D.reads disk)) }
     ensures each { IfOk result (λ r. All IsRecord r.1.items) }
     ensures whole { IfOk result (λ r. is_broken r.0 ≡ false) }
 
     // Bytes are refused exactly where they show a reason: what is opened shows none, a refusal has its cause, and a
     // journal with this header is refused for a fault or for want of memory alone.
     ensures sound { D.told → OnOk result ((why : OpenError) → ¬ Refuses (header_bytes header.now) (D.reads disk) why) }
-    ensures refused { IfErr result (λ r. IsRefused D.told (header_bytes header.now) (D.reads disk) (D.faults disk) (D.faults r.disk) r.why) }
-    ensures good { D.told → (all : List Recorded) → IsJournal (header_bytes header.now) all (D.reads disk) → IfErr result (λ r. IsOutside r.why) }
+    ensures refused { IfErr result (λ r. IsRefused D.told (header_bytes header.now) (D.reads disk) (D.faults disk)
+        (D.faults r.disk) r.why) }
+    ensures good { D.told → (all : List Recorded) → IsJournal (header_bytes header.now) all (D.reads disk)
+        → IfErr result (λ r. IsOutside r.why) }
 
     ensures reads { D.reads (disk_after result) ≡ D.reads disk }
     ensures durable { OnOk result (Only (D.reads disk) (D.image (disk_after result))) }
     ensures synced { IfErr result (λ r. (r.why ≡ OpenError.DiskFault) ⊎ Only (D.reads disk) (D.image r.disk)) }
     ensures images { (c : List ℕ) → D.image (disk_after result) c → D.image disk c }
-    ensures time { Elapses (D.moment disk) (D.moment (disk_after result)) (D.image_since disk) (D.image_since (disk_after result)) }
+    ensures time { Elapses (D.moment disk) (D.moment (disk_after result)) (D.image_since disk)
+        (D.image_since (disk_after result)) }
     ensures moments { (c : List ℕ) → D.image_since (disk_after result) (D.moment disk) c → D.image disk c }
     ensures count { D.faults disk ≤ D.faults (disk_after result) }
 {

@@ -1,4 +1,4 @@
-// The device calls of a journal: writes that are on the disk when they return.
+//! The device calls of a journal: writes that are on the disk when they return.
 ghost use Rattle.std.specs.Prelude.{◌≡◌, ◌⊎◌, ◌≤◌, ◌<◌, ◌+◌, ◌^◌, List, ℕ, length, OnOk};
 ghost use Rattle.outside.specs.Disk.{Holds, Torn, Only, Elapses};
 ghost use Rattle.outside.specs.Faults.{HasCause};
@@ -15,7 +15,8 @@ pub(crate) fn write_synced<D: Disk>(disk: &mut D, at: u64, piece: &[u8]) -> Resu
     ensures durable { OnOk result (Only (D.reads disk.new) (D.image disk.new)) }
     ensures images { (c : List ℕ) → D.image disk.new c → Torn at (length piece.now) (D.reads disk.old) c }
     ensures time { Elapses (D.moment disk.old) (D.moment disk.new) (D.image_since disk.old) (D.image_since disk.new) }
-    ensures moments { (c : List ℕ) → D.image_since disk.new (D.moment disk.old) c → Torn at (length piece.now) (D.reads disk.old) c }
+    ensures moments { (c : List ℕ) → D.image_since disk.new (D.moment disk.old) c
+        → Torn at (length piece.now) (D.reads disk.old) c }
     ensures cause { HasCause (D.faults disk.old) (D.faults disk.new) result }
 {
     disk.write_at(at, piece)?;
@@ -35,7 +36,8 @@ pub(crate) fn put<D: Disk>(disk: &mut D, gate: u64, piece: &[u8]) -> Result<(), 
     // At each moment, and at the end of a call that fails, the gate is shut or the piece stands whole behind it.
     ensures images { D.told → (c : List ℕ) → D.image disk.new c → IsBetween (D.reads disk.old) gate piece.now c }
     ensures time { Elapses (D.moment disk.old) (D.moment disk.new) (D.image_since disk.old) (D.image_since disk.new) }
-    ensures moments { D.told → (c : List ℕ) → D.image_since disk.new (D.moment disk.old) c → IsBetween (D.reads disk.old) gate piece.now c }
+    ensures moments { D.told → (c : List ℕ) → D.image_since disk.new (D.moment disk.old) c
+        → IsBetween (D.reads disk.old) gate piece.now c }
     ensures cause { HasCause (D.faults disk.old) (D.faults disk.new) result }
 {
     // A disk that clauses are told of has fewer than 2^64 bytes, so this sum isn't cut off.

@@ -1,6 +1,7 @@
 // Clause lists on which both bodies of the search give the same answer, at the budgets of their whole cost and one less. The costs
 // and ends come from an independent program for the machine.
-use clause_solver::{Found, is_searchable, laws, search};
+use clause_solver::plain::search_plain;
+use clause_solver::{Found, is_searchable, search};
 use clause_store::clauses::Clauses;
 use clause_store::literal::Lit;
 use clause_store::refutation::{Line, Refutation};
@@ -57,7 +58,7 @@ fn found(
         return Err(Fail::from("not searchable"));
     }
     let first = search(alloc, clauses, variables, budget)?;
-    let second = laws::search_plain(alloc, clauses, variables, budget)?;
+    let second = search_plain(alloc, clauses, variables, budget)?;
     match (first, second) {
         (Found::Model(signs), Found::Model(plain)) => {
             assert_eq!(rt; signs.values.as_slice(), plain.values.as_slice());

@@ -14,6 +14,10 @@ files_of shelf = map (λ file. (string_bytes file.name, file.bytes.items)) shelf
 abbrev pub shelf_faults : MemoryShelf → ℕ
 shelf_faults shelf = shelf.faults
 
+-- the names of the files that were looked at, in order
+abbrev pub files_looked_at : MemoryShelf → List (List ℕ)
+files_looked_at shelf = map string_bytes shelf.looked.items
+
 -- the bytes of the first file of a name
 abbrev pub file_named : MemoryShelf → List ℕ → Option (List ℕ)
 file_named shelf name = file_among shelf.files.items name

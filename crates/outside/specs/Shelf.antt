@@ -1,5 +1,5 @@
 -- What a call of a shelf does to what stands under its names.
-use Rattle.std.specs.Prelude.{◌≡◌, ℕ, List, [], false, bytes_eq, Option, Some, None}
+use Rattle.std.specs.Prelude.{◌≡◌, ◌⊎◌, ◌++◌, ◌∷◌, ℕ, List, [], false, bytes_eq, Option, Some, None}
 use Rattle.outside.specs.Disk.{Only}
 
 -- Under every name the same stands as before.
@@ -9,6 +9,10 @@ SameNames old new = (name : List ℕ) → new name ≡ old name
 -- Under every name but this one the same stands as before.
 abbrev pub SameOthers : {A : Type 0} → List ℕ → (List ℕ → A) → (List ℕ → A) → Type 0
 SameOthers name old new = (other : List ℕ) → bytes_eq other name ≡ false → new other ≡ old other
+
+-- The file of this name was looked at behind those before, or no further one was.
+abbrev pub Looks : List ℕ → List (List ℕ) → List (List ℕ) → Type 0
+Looks name old new = (new ≡ old) ⊎ (new ≡ old ++ name ∷ [])
 
 -- The bytes that a disk reads; none where there is no disk.
 abbrev pub bytes_on : {D : Type 0} → (D → List ℕ) → Option D → List ℕ

@@ -1,4 +1,4 @@
-// A disk: what its calls promise of the bytes that it reads, and of what a crash may leave.
+//! A disk: what its calls promise of the bytes that it reads, and of what a crash may leave.
 ghost use Rattle.std.specs.Prelude.{◌≡◌, ◌⊎◌, ◌<◌, ◌≤◌, ◌^◌, List, ℕ, length, IfOk, OnOk, OnErr};
 ghost use Rattle.outside.specs.Disk.{Holds, Fills, Torn, Follows, Only, Elapses};
 ghost use Rattle.outside.specs.Faults.{HasCause};
@@ -38,8 +38,10 @@ pub trait Disk {
         ensures moments { (c : List ℕ) → image_since self.new (moment self.old) c → image self.old c }
         ensures cause { HasCause (faults self.old) (faults self.new) result };
 
-    /// Fills the piece from that place on, less only where the disk ends.
+    /// Fills the piece from that place on, less only where the disk ends. Nobody reads behind the end: a real disk may
+    /// fail there, and a fault is nothing to bring about.
     fn read_at(&mut self, at: u64, into: &mut [u8]) -> Result<usize, Failed>
+        requires within { told → at ≤ length (reads self.old) }
         ensures fits { IfOk result (λ n. n ≤ length into.old) }
         ensures bytes { told → IfOk result (λ n. Fills (reads self.old) at n into.old into.new) }
         ensures same_piece { told → OnErr result (into.new ≡ into.old) }
@@ -56,7 +58,8 @@ pub trait Disk {
         ensures fits { told → OnOk result (length (reads self.new) < 2 ^ 64) }
         ensures images { Follows (Torn at (length bytes.now)) (image self.old) (image self.new) }
         ensures time { Elapses (moment self.old) (moment self.new) (image_since self.old) (image_since self.new) }
-        ensures moments { (c : List ℕ) → image_since self.new (moment self.old) c → image self.old c ⊎ image self.new c }
+        ensures moments { (c : List ℕ) → image_since self.new (moment self.old) c
+            → image self.old c ⊎ image self.new c }
         ensures cause { HasCause (faults self.old) (faults self.new) result };
 
     /// After it, a crash leaves what a read gives.

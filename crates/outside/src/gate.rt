@@ -1,4 +1,4 @@
-// A gate, at which a test can hold an ask between its steps.
+//! A gate, at which a test can hold an ask between its steps.
 
 /// What an ask has done as it passes a gate.
 #[derive(Clone, Copy, Debug, PartialEq, Eq)]

@@ -1,4 +1,4 @@
-// Connections of clients: the doors through which they come, and the links that open doors at an address.
+//! Connections of clients: the doors through which they come, and the links that open doors at an address.
 ghost use Rattle.std.specs.Prelude.{◌≡◌, ◌≢◌, ◌⊎◌, ◌<◌, ◌≤◌, ◌+◌, ◌-◌, ◌++◌, ◌∷◌, [], List, ℕ, Option, Some, None, All, length, IfOk, OnOk, OnErr, IsErrOf};
 ghost use Rattle.std.specs.List.{sum_by};
 ghost use Rattle.outside.specs.Faults.{Rose, HasCause};
@@ -72,7 +72,9 @@ pub trait Door {
 
         // What was written went to the client who asked.
         requires client { told → Self.Snk.answers sink ≡ Self.Src.held source }
-        ensures back { told → back self.new ≡ back self.old ++ visit_of (Self.Src.held source) (Self.Snk.written sink) (Self.Src.faults source) (Self.Snk.faults sink) ∷ [] }
+        ensures back { told → back self.new
+            ≡ back self.old ++ visit_of (Self.Src.held source) (Self.Snk.written sink) (Self.Src.faults source)
+            (Self.Snk.faults sink) ∷ [] }
         ensures none { told → last self.new ≡ None }
         ensures given { told → given self.new ≡ given self.old }
         ensures left { told → left self.new ≡ left self.old }
@@ -124,17 +126,20 @@ pub trait Links {
     ) -> Result<Vec<Self::D>, LinksError>
         ensures count { IfOk result (λ opened. length opened.items ≡ doors) }
         ensures whole { IfOk result (λ opened. All (λ door. Self.D.faults door ≡ 0) opened.items) }
-        ensures fresh { told → IfOk result (λ opened. All (λ door. (Self.D.given door ≡ 0) × (Self.D.back door ≡ [])) opened.items) }
+        ensures fresh { told → IfOk result (λ opened. All (λ door. (Self.D.given door ≡ 0)
+            × (Self.D.back door ≡ [])) opened.items) }
         ensures unended { IfOk result (λ opened. All (λ door. Self.D.ends door ≡ 0) opened.items) }
 
         // The connections at hand are spread over the doors.
-        ensures spread { told → IfOk result (λ opened. sum_by Self.D.left opened.items + at_hand self.new ≡ at_hand self.old) }
+        ensures spread { told → IfOk result (λ opened. sum_by Self.D.left opened.items + at_hand self.new
+            ≡ at_hand self.old) }
         ensures all { told → 0 < doors → OnOk result (at_hand self.new ≡ 0) }
         ensures kept { told → OnErr result (at_hand self.new ≡ at_hand self.old) }
         ensures out { OnOk result (out self.new ≡ out self.old + doors) }
         ensures none_out { OnErr result (out self.new ≡ out self.old) }
         ensures ended { ended self.new ≡ ended self.old }
-        ensures listened { told → OnOk result (listened self.new ≡ listened self.old ++ place_of address.now doors ∷ []) }
+        ensures listened { told → OnOk result (listened self.new
+            ≡ listened self.old ++ place_of address.now doors ∷ []) }
         ensures unheard { told → OnErr result (listened self.new ≡ listened self.old) }
         ensures given { told → given self.new ≡ given self.old }
         ensures left { told → left self.new ≡ left self.old }

@@ -1,4 +1,4 @@
-// A disk in memory, which keeps a record of all its calls.
+//! A disk in memory, which keeps a record of all its calls.
 ghost use Rattle.std.specs.Prelude.{◌≡◌, ◌⊎◌, ◌≤◌, ◌<◌, ◌^◌, [], ◌∷◌, ◌++◌, true, false, length, IfOk, OnOk, OnErr};
 ghost use Rattle.outside.specs.Disk.{Holds, Fills, Torn};
 ghost use Rattle.outside.specs.Faults.{HasCause};
@@ -108,8 +108,10 @@ impl MemoryDisk {
         ensures reads { memory_bytes self.new ≡ memory_bytes self.old }
         ensures images { (c : List ℕ) → IsMemoryImage self.new c → IsMemoryImage self.old c }
         ensures durable { operation ≡ Sync → OnOk result (Only (memory_bytes self.old) (IsMemoryImage self.new)) }
-        ensures time { Elapses (memory_moment self.old) (memory_moment self.new) (IsMemoryImageSince self.old) (IsMemoryImageSince self.new) }
-        ensures moments { (c : List ℕ) → IsMemoryImageSince self.new (memory_moment self.old) c → IsMemoryImage self.old c }
+        ensures time { Elapses (memory_moment self.old) (memory_moment self.new) (IsMemoryImageSince self.old)
+            (IsMemoryImageSince self.new) }
+        ensures moments { (c : List ℕ) → IsMemoryImageSince self.new (memory_moment self.old) c
+            → IsMemoryImage self.old c }
         ensures cause { HasCause (memory_faults self.old) (memory_faults self.new) result }
     {
         let fails = self.plan.fails(self.calls.len() as u64);
@@ -124,7 +126,8 @@ fn note(
     operation: Operation,
     failed: bool,
 ) -> Result<(), Failed>
-    ensures ok { OnOk result (calls.new.items ≡ calls.old.items ++ record { operation = operation; failed = false } ∷ []) }
+    ensures ok { OnOk result (calls.new.items
+        ≡ calls.old.items ++ record { operation = operation; failed = false } ∷ []) }
     ensures err { OnErr result (IsRefusal calls.old.items operation calls.new.items) }
     ensures cause { HasCause faults.old faults.new result }
 {
@@ -215,7 +218,8 @@ fn after_call(
     number: u64,
 ) -> Result<(Vec<u8>, Vec<u8>), AllocError>
     ensures bytes { IfOk result (λ r. r.0.items ≡ bytes_after_operation bytes.now call.now.operation call.now.failed) }
-    ensures image { IfOk result (λ r. image_after_operation bytes.now (λ d. d ≡ image.now) call.now.operation call.now.failed r.1.items) }
+    ensures image { IfOk result (λ r. image_after_operation bytes.now
+        (λ d. d ≡ image.now) call.now.operation call.now.failed r.1.items) }
 {
     match &call.operation {
         Operation::Write { at, bytes: piece } => {

@@ -1,4 +1,4 @@
-// A door in memory.
+//! A door in memory.
 ghost use Rattle.std.specs.Prelude.{◌≡◌, ◌≤◌, ◌<◌, ◌+◌, ◌^◌, [], length, map, None, option_to_list, vec_capacity, IfOk};
 ghost use Rattle.outside.specs.MemoryStreams.{source_held, source_left, source_faults, sink_written, sink_answers, sink_faults};
 
@@ -17,8 +17,8 @@ pub struct Connection {
 }
 
 impl Connection {
-    /// A connection of two ends of which nothing was taken or written yet. From here on the sink is the one that answers
-    /// the client of this source.
+    /// A connection of two ends of which nothing was taken or written yet. From here on the sink is the one that
+    /// answers the client of this source.
     pub fn new(source: MemorySource, sink: MemorySink) -> Self
         requires whole { (source_faults source ≡ 0) × (sink_faults sink ≡ 0) }
         requires untouched { (source_left source ≡ source_held source) × (sink_written sink ≡ []) }

@@ -1,4 +1,4 @@
-// Links in memory.
+//! Links in memory.
 ghost use Rattle.std.specs.Prelude.{◌≡◌, ◌≤◌, ◌<◌, ◌+◌, ◌-◌, ◌++◌, ◌∷◌, [], All, length, vec_len, vec_capacity, IfOk, OnOk, OnErr};
 ghost use Rattle.std.specs.List.{sum_by};
 ghost use Rattle.outside.specs.Visits.{place_of, one_if_any};
@@ -126,9 +126,11 @@ impl MemoryLinks {
     ) -> Result<Vec<MemoryDoor>, AllocError>
         ensures count { IfOk result (λ opened. length opened.items ≡ doors) }
         ensures whole { IfOk result (λ opened. All (λ door. door_faults door ≡ 0) opened.items) }
-        ensures fresh { IfOk result (λ opened. All (λ door. (door_given door ≡ 0) × (door_back door ≡ [])) opened.items) }
+        ensures fresh { IfOk result (λ opened. All (λ door. (door_given door ≡ 0)
+            × (door_back door ≡ [])) opened.items) }
         ensures unended { IfOk result (λ opened. All (λ door. door_ends door ≡ 0) opened.items) }
-        ensures spread { IfOk result (λ opened. sum_by door_left opened.items + links_at_hand self.new ≡ links_at_hand self.old) }
+        ensures spread { IfOk result (λ opened. sum_by door_left opened.items + links_at_hand self.new
+            ≡ links_at_hand self.old) }
         ensures all { 0 < doors → OnOk result (links_at_hand self.new ≡ 0) }
         ensures kept { OnErr result (links_at_hand self.new ≡ links_at_hand self.old) }
         ensures out { OnOk result (links_out self.new ≡ links_out self.old + doors) }
@@ -137,7 +139,8 @@ impl MemoryLinks {
         ensures given { links_given self.new ≡ links_given self.old }
         ensures left { links_left self.new ≡ links_left self.old }
         ensures back { links_back self.new ≡ links_back self.old }
-        ensures listened { OnOk result (links_listened self.new ≡ links_listened self.old ++ place_of address.now doors ∷ []) }
+        ensures listened { OnOk result (links_listened self.new
+            ≡ links_listened self.old ++ place_of address.now doors ∷ []) }
         ensures unheard { OnErr result (links_listened self.new ≡ links_listened self.old) }
         ensures faults { links_faults self.new ≡ links_faults self.old }
     {
@@ -239,7 +242,8 @@ fn gather(
     groups: &mut Vec<Vec<Connection>>,
 ) -> Result<(), AllocError>
     ensures all { OnOk result (groups.new.items ≡ []) }
-    ensures kept { length waiting.new.items + sum_by (λ group. length group.items) groups.new.items ≡ length waiting.old.items + sum_by (λ group. length group.items) groups.old.items }
+    ensures kept { length waiting.new.items + sum_by (λ group. length group.items) groups.new.items
+        ≡ length waiting.old.items + sum_by (λ group. length group.items) groups.old.items }
     ensures fewer { length groups.new.items ≤ length groups.old.items }
     ensures capacity { vec_capacity groups.new ≡ vec_capacity groups.old }
 {

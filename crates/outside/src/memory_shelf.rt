@@ -1,5 +1,5 @@
-// A shelf in memory.
-ghost use Rattle.std.specs.Prelude.{◌≡◌, ◌≤◌, ◌++◌, ◌∷◌, [], List, ℕ, Some, None, true, false, IfOk, IfSome, IfNone, OnErr, OnOk, IfErr, IsErrOf, option_copied};
+//! A shelf in memory.
+ghost use Rattle.std.specs.Prelude.{◌≡◌, ◌≤◌, ◌++◌, ◌∷◌, [], List, ℕ, Some, None, true, false, IfOk, IfSome, IfNone, OnErr, OnOk, IfErr, IsErrOf, map, option_copied, string_bytes};
 ghost use Rattle.outside.specs.Faults.{Rose};
 ghost use Rattle.outside.specs.Shelf.{SameNames, SameOthers, IsTaken};
 ghost use Rattle.outside.specs.MemoryFiles.{file_among};
@@ -30,13 +30,14 @@ enum Place {
 pub struct MemoryShelf {
     files: Vec<MemoryFile>,
     disks: Places<Place>,
+    looked: Vec<String>,
     plan: Plan,
     calls: u64,
     faults: u64,
 }
 
 impl MemoryShelf {
-    ghost use Rattle.outside.specs.MemoryShelves.{file_named, shelf_faults, files_of, disk_named, is_disk_out, disk_faults_of};
+    ghost use Rattle.outside.specs.MemoryShelves.{file_named, shelf_faults, files_of, files_looked_at, disk_named, is_disk_out, disk_faults_of};
     ghost use Rattle.outside.specs.MemoryDisk.{memory_faults};
 
     /// A shelf without files and disks that never fails.
@@ -46,21 +47,25 @@ impl MemoryShelf {
         ensures none_out { (name : List ℕ) → is_disk_out result name ≡ false }
         ensures counts { (name : List ℕ) → disk_faults_of result name ≡ 0 }
         ensures faultless { shelf_faults result ≡ 0 }
+        ensures unread { files_looked_at result ≡ [] }
     {
         Self::with_plan(alloc, Plan::Never)
     }
 
-    /// A shelf without files and disks whose calls fail by plan. A call that gives a disk back can't fail and isn't counted.
+    /// A shelf without files and disks whose calls fail by plan. A call that gives a disk back can't fail and isn't
+    /// counted.
     pub fn with_plan(alloc: Global, plan: Plan) -> Self
         ensures empty { files_of result ≡ [] }
         ensures no_disks { (name : List ℕ) → disk_named result name ≡ None }
         ensures none_out { (name : List ℕ) → is_disk_out result name ≡ false }
         ensures counts { (name : List ℕ) → disk_faults_of result name ≡ 0 }
         ensures faultless { shelf_faults result ≡ 0 }
+        ensures unread { files_looked_at result ≡ [] }
     {
         MemoryShelf {
             files: Vec::new(alloc),
             disks: Places::new(alloc),
+            looked: Vec::new(alloc),
             plan,
             calls: 0,
             faults: 0,
@@ -75,6 +80,7 @@ impl MemoryShelf {
         ensures out { SameNames (is_disk_out self.old) (is_disk_out self.new) }
         ensures counts { SameNames (disk_faults_of self.old) (disk_faults_of self.new) }
         ensures faults { shelf_faults self.new ≡ shelf_faults self.old }
+        ensures looked { files_looked_at self.new ≡ files_looked_at self.old }
     {
         let name = String::from_str(alloc, name)?;
         let bytes = bytes.to_vec(alloc)?;
@@ -99,6 +105,7 @@ impl MemoryShelf {
         ensures refused_counts { OnErr result (SameNames (disk_faults_of self.old) (disk_faults_of self.new)) }
         ensures files { files_of self.new ≡ files_of self.old }
         ensures faults { shelf_faults self.new ≡ shelf_faults self.old }
+        ensures looked { files_looked_at self.new ≡ files_looked_at self.old }
     {
         self.disks.set(alloc, name, Place::Here(disk))
     }
@@ -113,6 +120,13 @@ impl MemoryShelf {
         }
     }
 
+    /// The names of the files that were looked at, in order.
+    pub fn looked(&self) -> &[String]
+        ensures { map string_bytes result.now ≡ files_looked_at self.now }
+    {
+        self.looked.as_slice()
+    }
+
     /// The count of faults.
     pub fn faults(&self) -> u64
         ensures { result ≡ shelf_faults self.now }
@@ -122,7 +136,7 @@ impl MemoryShelf {
 }
 
 impl Shelf for MemoryShelf {
-    ghost use Rattle.outside.specs.MemoryShelves.{file_named, shelf_faults, disk_named, is_disk_out, disk_faults_of};
+    ghost use Rattle.outside.specs.MemoryShelves.{file_named, files_looked_at, shelf_faults, disk_named, is_disk_out, disk_faults_of};
 
     type D = MemoryDisk;
 
@@ -138,9 +152,12 @@ impl Shelf for MemoryShelf {
 
     ghost faults = { shelf_faults };
 
+    ghost looked = { files_looked_at };
+
     ghost tells_disks = { λ told. told };
 
     fn read_file(&mut self, alloc: Global, name: &str) -> Result<Vec<u8>, ShelfError> {
+        keep_name(alloc, &mut self.looked, name)?;
         count_call(&self.plan, &mut self.calls, &mut self.faults)?;
         copied(alloc, &self.files, name)
     }
@@ -155,6 +172,21 @@ impl Shelf for MemoryShelf {
 
     fn give_disk(&mut self, name: &str, taken: MemoryDisk) {
         let _out = self.disks.replace(name, Place::Here(taken));
+    }
+}
+
+// Keeps one more name.
+fn keep_name(alloc: Global, names: &mut Vec<String>, name: &str) -> Result<(), ShelfError>
+    ensures kept { OnOk result (map string_bytes names.new.items ≡ map string_bytes names.old.items ++ name.now ∷ []) }
+    ensures refused { OnErr result (names.new.items ≡ names.old.items) }
+    ensures memory { IfErr result (λ why. why ≡ ShelfError.Memory) }
+{
+    let Ok(name) = String::from_str(alloc, name) else {
+        return Err(ShelfError::Memory);
+    };
+    match names.push(name) {
+        Ok(()) => Ok(()),
+        Err(_) => Err(ShelfError::Memory),
     }
 }
 

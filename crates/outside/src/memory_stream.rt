@@ -1,4 +1,4 @@
-// A source and a sink in memory.
+//! A source and a sink in memory.
 ghost use Rattle.std.specs.Prelude.{◌≡◌, ◌≤◌, ◌++◌, [], take, drop, length};
 ghost use Rattle.outside.specs.Faults.{Rose};
 ghost use Rattle.std.proofs.lemmas.List.{take-append-drop};
@@ -82,7 +82,11 @@ impl Source for MemorySource {
 
     ghost faults = { source_faults };
 
-    ghost left_of_held = { λ source told. (take source.given source.bytes.items, sym (take-append-drop source.given source.bytes.items)) };
+    ghost left_of_held = { λ source told. (
+      take source.given source.bytes.items,
+      sym
+          (take-append-drop source.given source.bytes.items),
+    ) };
 
     fn take(&mut self, into: &mut [u8]) -> Result<usize, Failed> {
         let number = self.calls;

@@ -1,4 +1,4 @@
-// Places under names.
+//! Places under names.
 ghost use Rattle.std.specs.Prelude.{◌≡◌, List, ℕ, Some, None, IsSome, OnOk, OnErr, option_copied};
 ghost use Rattle.outside.specs.Shelf.{SameNames, SameOthers};
 

@@ -1,7 +1,7 @@
-// Files and disks by their names.
-ghost use Rattle.std.specs.Prelude.{◌≡◌, ◌≤◌, List, ℕ, Bool, true, false, Option, Some, None, IfOk, OnOk, OnErr, IsErrOf};
+//! Files and disks by their names.
+ghost use Rattle.std.specs.Prelude.{◌≡◌, ◌≤◌, ◌++◌, ◌∷◌, [], List, ℕ, Bool, true, false, Option, Some, None, IfOk, OnOk, OnErr, IsErrOf};
 ghost use Rattle.outside.specs.Faults.{Rose};
-ghost use Rattle.outside.specs.Shelf.{IsTaken, SameNames, SameOthers};
+ghost use Rattle.outside.specs.Shelf.{IsTaken, Looks, SameNames, SameOthers};
 
 use crate::Disk;
 use std::alloc::Global;
@@ -19,8 +19,8 @@ pub enum ShelfError {
 
 /// Where the files of a policy and of facts lie, and the disks of journals. No call changes a file.
 ///
-/// A disk that was taken isn't taken again before it is given back. For each name the shelf keeps a count of faults, with
-/// which its disk comes and which is that disk's count again once it is back.
+/// A disk that was taken isn't taken again before it is given back. For each name the shelf keeps a count of faults,
+/// with which its disk comes and which is that disk's count again once it is back.
 pub trait Shelf {
     /// The disks that it gives.
     type D: Disk + Drop;
@@ -43,10 +43,15 @@ pub trait Shelf {
     /// The count of faults, which doesn't fall.
     ghost faults: { Self → ℕ };
 
+    /// The names of the files that were looked at, in order, where clauses are told.
+    ghost looked: { Self → List (List ℕ) };
+
     /// Reads the file of this name whole.
     fn read_file(&mut self, alloc: Global, name: &str) -> Result<Vec<u8>, ShelfError>
         ensures read { told → IfOk result (λ bytes. file self.old name.now ≡ Some bytes.items) }
         ensures missing { told → IsErrOf result ShelfError.Missing → file self.old name.now ≡ None }
+        ensures looked { told → OnOk result (looked self.new ≡ looked self.old ++ name.now ∷ []) }
+        ensures refused { told → OnErr result (Looks name.now (looked self.old) (looked self.new)) }
         ensures files { (name : List ℕ) → file self.new name ≡ file self.old name }
         ensures disks { SameNames (disk self.old) (disk self.new) }
         ensures out { SameNames (is_out self.old) (is_out self.new) }
@@ -65,6 +70,7 @@ pub trait Shelf {
         ensures others_out { SameOthers name.now (is_out self.old) (is_out self.new) }
         ensures disk_faults { SameNames (disk_faults self.old) (disk_faults self.new) }
         ensures files { (name : List ℕ) → file self.new name ≡ file self.old name }
+        ensures looked { looked self.new ≡ looked self.old }
 
         // A refusal leaves every disk where it was.
         ensures refused_disks { OnErr result (SameNames (disk self.old) (disk self.new)) }
@@ -84,6 +90,7 @@ pub trait Shelf {
         ensures count { disk_faults self.new name.now ≡ Self.D.faults taken }
         ensures other_counts { SameOthers name.now (disk_faults self.old) (disk_faults self.new) }
         ensures files { (name : List ℕ) → file self.new name ≡ file self.old name }
+        ensures looked { looked self.new ≡ looked self.old }
         ensures faults { faults self.new ≡ faults self.old };
 
     /// A shelf that tells its disks gives disks that tell their bytes.

@@ -1,4 +1,4 @@
-// Bytes that come in and bytes that go out.
+//! Bytes that come in and bytes that go out.
 ghost use Rattle.std.specs.Prelude.{◌≡◌, ◌<◌, ◌≤◌, ◌++◌, [], List, ℕ, length, take, IfOk, OnErr};
 ghost use Rattle.outside.specs.Faults.{HasCause, Rose};
 ghost use Rattle.outside.specs.Streams.{Moves};

@@ -1,4 +1,4 @@
-// Writing whole pieces to a sink.
+//! Writing whole pieces to a sink.
 ghost use Rattle.std.specs.Prelude.{◌≡◌, ◌++◌, OnOk, OnErr};
 ghost use Rattle.std.specs.List.{flat_map};
 ghost use Rattle.outside.specs.Faults.{HasCause};
@@ -29,7 +29,8 @@ pub fn write_all<K: Sink>(sink: &mut K, bytes: &[u8]) -> Result<(), Failed>
 /// appended.
 pub fn write_parts<K: Sink, P: AsSlice<u8>>(sink: &mut K, parts: &[P]) -> Result<(), Failed>
     ensures all { K.told → OnOk result (K.written sink.new ≡ K.written sink.old ++ flat_map P.items parts.now) }
-    ensures part { K.told → OnErr result (AppendsPart (K.written sink.old) (K.written sink.new) (flat_map P.items parts.now)) }
+    ensures part { K.told → OnErr result (AppendsPart (K.written sink.old) (K.written sink.new)
+        (flat_map P.items parts.now)) }
     ensures answers { K.answers sink.new ≡ K.answers sink.old }
     ensures cause { HasCause (K.faults sink.old) (K.faults sink.new) result }
 {

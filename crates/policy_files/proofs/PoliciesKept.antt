@@ -9,8 +9,8 @@ use Rattle.cqe_base.specs.History.{profile_of}
 use Rattle.cqe_base.specs.Limits.{KeepsLimits}
 use Rattle.cqe_base.specs.Schema.{Declaration, DatabaseSchema, AcceptedIsValid, schema_refusal, schema_of, is_valid_schema}
 use Rattle.cqe_base.specs.Reading.{ReadingsAreSentences}
-use Rattle.policy_files.specs.Policies.{NamedUser, PolicyValue}
-use Rattle.policy_files.specs.Memory.{named_user_of}
+use Rattle.policy_files.specs.Policies.{PolicyUser, PolicyValue}
+use Rattle.policy_files.specs.Memory.{policy_user_of}
 use Rattle.policy_files.specs.Tree.{tables_in}
 use Rattle.policy_files.specs.Keys.{key_place, only_keys, required, within}
 use Rattle.policy_files.specs.Users.{users_behind}
@@ -63,7 +63,7 @@ unfolding policy_in
 read_kept law bytes policy e = first_ok (tree_in bytes) policy_of policy e (λ root root_is e. law root policy e)
 
 -- its users in memory
-pub users_keep : (schema : DatabaseSchema) (users : List User) → All (λ named. KeepsLimits schema named.profile) (map named_user_of users) → All (λ user. KeepsLimits schema (profile_of user)) users
+pub users_keep : (schema : DatabaseSchema) (users : List User) → All (λ named. KeepsLimits schema named.profile) (map policy_user_of users) → All (λ user. KeepsLimits schema (profile_of user)) users
 users_keep schema users all = λ k d below.
-    let at = all k (named_user_of d) (rw (length-map users named_user_of) below) in
-    subst (λ (named : NamedUser). KeepsLimits schema named.profile) (get_or-map named_user_of users k d (named_user_of d) below) at
+    let at = all k (policy_user_of d) (rw (length-map users policy_user_of) below) in
+    subst (λ (named : PolicyUser). KeepsLimits schema named.profile) (get_or-map policy_user_of users k d (policy_user_of d) below) at

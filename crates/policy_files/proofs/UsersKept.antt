@@ -16,7 +16,7 @@ use Rattle.cqe_base.proofs.Lists.{other_text}
 use Rattle.policy_files.specs.declared.error.Place.{Place}
 use Rattle.policy_files.specs.declared.error.PolicyError.TheVariants.{WrongKind, DuplicateUser, Limit}
 use Rattle.policy_files.specs.Tree.{natural}
-use Rattle.policy_files.specs.Policies.{NamedUser}
+use Rattle.policy_files.specs.Policies.{PolicyUser}
 use Rattle.policy_files.specs.Keys.{only_keys, required, of_kind}
 use Rattle.policy_files.specs.Users.{user_place, new_name, name_of, method_of, known_of, secrets_of, fit_budget, budget_of, token_of, with_small_view, user_of, users_behind, names_of}
 use Rattle.policy_files.proofs.OkSteps.{first_ok, unless_ok, when_ok, same_ok, within_ok}
@@ -70,7 +70,7 @@ budget_ok user (Some value) budget e =
 -- ---- whole users
 
 -- a user keeps the limits, and has a name that is new
-pub record IsKeptUser (schema : DatabaseSchema) (earlier : List Text) (user : NamedUser) : Type 0 where
+pub record IsKeptUser (schema : DatabaseSchema) (earlier : List Text) (user : PolicyUser) : Type 0 where
   pub limits : KeepsLimits schema user.profile
   pub name : IsNewName earlier user.name
 
@@ -88,13 +88,13 @@ limits_kept schema user know secrets budget view = record {
   budget = budget.1;
 }
 
-view_ok : (schema : DatabaseSchema) (user : ℕ) (named out : NamedUser) → with_small_view schema user named ≡ Ok out → (view_size schema named.profile [] ≤ 40000) × (named ≡ out)
+view_ok : (schema : DatabaseSchema) (user : ℕ) (named out : PolicyUser) → with_small_view schema user named ≡ Ok out → (view_size schema named.profile [] ≤ 40000) × (named ≡ out)
 view_ok schema user named out e =
     let h = when_ok (nat_le (view_size schema named.profile []) 40000) (Limit (user_place user (codes "secrets"))) (Ok named) out e in
     let test : nat_le (view_size schema named.profile []) 40000 ≡ true = h.0 in
     (grind (arith, nat_tests), same_ok named out h.1)
 
-user_ok : ReadingsAreSentences → (schema : DatabaseSchema) (earlier : List Text) (user : ℕ) (keys : Data) (named : NamedUser) → user_of schema earlier user keys ≡ Ok named → IsKeptUser schema earlier named
+user_ok : ReadingsAreSentences → (schema : DatabaseSchema) (earlier : List Text) (user : ℕ) (keys : Data) (named : PolicyUser) → user_of schema earlier user keys ≡ Ok named → IsKeptUser schema earlier named
 unfolding user_of
 user_ok law schema earlier user keys named e =
     first_ok (only_keys (Some user) keys) _ named e (λ none none_is e.
@@ -104,7 +104,7 @@ user_ok law schema earlier user keys named e =
     first_ok (secrets_of schema user (get (codes "secrets") keys)) _ named e (λ secrets secrets_is e.
     first_ok (budget_of user (get (codes "budget") keys)) _ named e (λ budget budget_is e.
     first_ok (token_of user (get (codes "token") keys)) _ named e (λ token token_is e.
-    let made : NamedUser = record { name = name; profile = record { method = method; know = know; secrets = secrets; budget = budget }; token = token } in
+    let made : PolicyUser = record { name = name; profile = record { method = method; know = know; secrets = secrets; budget = budget }; token = token } in
     let view = view_ok schema user made named e in
     let kept : IsKeptUser schema earlier made = record {
       limits = limits_kept schema made.profile (known_ok schema law user (get (codes "know") keys) know know_is) (secrets_ok schema law user (get (codes "secrets") keys) secrets secrets_is) (budget_ok user (get (codes "budget") keys) budget budget_is) view.0;
@@ -113,24 +113,24 @@ user_ok law schema earlier user keys named e =
     subst (IsKeptUser schema earlier) view.1 kept)))))))
 
 -- users who keep the limits, and whose names differ
-pub record AreKept (schema : DatabaseSchema) (users : List NamedUser) : Type 0 where
+pub record AreKept (schema : DatabaseSchema) (users : List PolicyUser) : Type 0 where
   pub limits : All (λ user. KeepsLimits schema user.profile) users
   pub proper : list_all is_schema_name (names_of users) ≡ true
   pub differ : has_duplicate (names_of users) ≡ false
 
 pub no_users_kept : (schema : DatabaseSchema) → AreKept schema []
-no_users_kept schema = record { limits = All-nil (λ (user : NamedUser). KeepsLimits schema user.profile); proper = refl; differ = refl }
+no_users_kept schema = record { limits = All-nil (λ (user : PolicyUser). KeepsLimits schema user.profile); proper = refl; differ = refl }
 
-kept_more : (schema : DatabaseSchema) (read : List NamedUser) (user : NamedUser) → AreKept schema read → IsKeptUser schema (names_of read) user → AreKept schema (read ++ user ∷ [])
+kept_more : (schema : DatabaseSchema) (read : List PolicyUser) (user : PolicyUser) → AreKept schema read → IsKeptUser schema (names_of read) user → AreKept schema (read ++ user ∷ [])
 kept_more schema read user kept one =
-    let names : names_of (read ++ user ∷ []) ≡ names_of read ++ user.name ∷ [] = map-append (λ (u : NamedUser). u.name) read (user ∷ []) in
+    let names : names_of (read ++ user ∷ []) ≡ names_of read ++ user.name ∷ [] = map-append (λ (u : PolicyUser). u.name) read (user ∷ []) in
     record {
-      limits = All-push (λ (user : NamedUser). KeepsLimits schema user.profile) read user kept.limits one.limits;
+      limits = All-push (λ (user : PolicyUser). KeepsLimits schema user.profile) read user kept.limits one.limits;
       proper = ap (list_all is_schema_name) names ∙ all_more is_schema_name (names_of read) user.name kept.proper one.name.proper;
       differ = ap has_duplicate names ∙ differ_more (names_of read) user.name kept.differ one.name.new;
     }
 
-pub users_ok : ReadingsAreSentences → (schema : DatabaseSchema) (read : List NamedUser) (tables : List Data) (all : List NamedUser)
+pub users_ok : ReadingsAreSentences → (schema : DatabaseSchema) (read : List PolicyUser) (tables : List Data) (all : List PolicyUser)
     → AreKept schema read → users_behind schema read tables ≡ Ok all → AreKept schema all × (length all ≡ length read + length tables)
 users_ok law schema read [] all kept e =
     let same : read ≡ all = same_ok read all e in

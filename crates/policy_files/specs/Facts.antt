@@ -32,9 +32,8 @@ abbrev pub with_line : DatabaseSchema → ℕ → FactSet → TextLine → Resul
 with_line schema number world line =
     if says_nothing (content line) then Ok world else with_fact number world (fact_of_line schema line)
 
--- what follows a line, unless it is refused
 infixl 10 ◌>>=◌
--- what follows facts that were read, unless they are refused
+-- what follows lines that were read, unless one of them is refused
 abbrev pub ◌>>=◌ : Result FactSet FactsError → (FactSet → Result FactSet FactsError) → Result FactSet FactsError
 (Ok world) >>= rest = rest world
 (Err why) >>= rest = Err why

@@ -8,13 +8,12 @@ use Rattle.policy_files.specs.declared.error.Place.{Place}
 use Rattle.policy_files.specs.declared.error.PolicyError.{PolicyError}
 use Rattle.policy_files.specs.declared.error.PolicyError.TheVariants.{MissingKey, WrongKind, UnknownKey, Limit}
 
--- what a step of reading a policy gives, or why the policy is refused
+-- what a step of reading a policy gives, or why it refuses the policy
 abbrev pub Step : Type 0 → Type 0
 Step A = Result A PolicyError
 
--- one step after another, where each may refuse
 infixl 10 ◌>>=◌
--- what follows a check, unless it fails
+-- one step after another; the first that refuses ends them
 abbrev pub ◌>>=◌ : {A B : Type 0} → Step A → (A → Step B) → Step B
 (Ok x) >>= f = f x
 (Err e) >>= f = Err e

@@ -14,7 +14,7 @@ use Rattle.cqe_base.specs.Limits.{is_small}
 use Rattle.policy_files.specs.declared.error.Place.{Place}
 use Rattle.policy_files.specs.declared.error.PolicyError.TheVariants.{MissingKey, WrongKind, Sentence, Limit, DuplicateUser}
 use Rattle.policy_files.specs.Tree.{elements, is_string_array, text_in, natural}
-use Rattle.policy_files.specs.Policies.{NamedUser}
+use Rattle.policy_files.specs.Policies.{PolicyUser}
 use Rattle.policy_files.specs.Keys.{Step, ◌>>=◌, key_place, text_place, only_keys, of_kind, required, within}
 
 -- the place of a key of the user of this number
@@ -95,7 +95,7 @@ budget_of user (Some value) =
 
 -- ---- the token
 
--- the 32 bytes that 64 hexadecimal digits of either case write
+-- the 32 bytes that 64 hexadecimal digits of either case write; any other text is refused
 abbrev pub token_bytes : ℕ → Result (List ℕ) FromHexError → Step (Option (List ℕ))
 token_bytes user (Ok bytes) = Ok (Some bytes)
 token_bytes user (Err why) = Err (WrongKind (user_place user (codes "token")))
@@ -109,13 +109,13 @@ token_of user (Some value) =
 -- ---- whole users
 
 -- the view of a user who has asked nothing has at most 40,000 nodes
-abbrev pub with_small_view : DatabaseSchema → ℕ → NamedUser → Step NamedUser
+abbrev pub with_small_view : DatabaseSchema → ℕ → PolicyUser → Step PolicyUser
 with_small_view schema user named =
     if nat_le (view_size schema named.profile []) 40000 then Ok named
     else Err (Limit (user_place user (codes "secrets")))
 
 -- the user of this number, behind users of these names: unknown keys, then key by key, then the size of his view
-unfoldable pub user_of : DatabaseSchema → List Text → ℕ → Data → Step NamedUser
+unfoldable pub user_of : DatabaseSchema → List Text → ℕ → Data → Step PolicyUser
 user_of schema earlier user keys = do
   none ← only_keys (Some user) keys
   name ← name_of earlier user (get (codes "name") keys)
@@ -130,12 +130,12 @@ user_of schema earlier user keys = do
     token = token;
   })
 
--- the names of users
-abbrev pub names_of : List NamedUser → List Text
+-- the names of the users of a policy, in their order
+abbrev pub names_of : List PolicyUser → List Text
 names_of users = map (λ u. u.name) users
 
 -- the users of the tables that are left, behind those that were read
-abbrev pub users_behind : DatabaseSchema → List NamedUser → List Data → Step (List NamedUser)
+abbrev pub users_behind : DatabaseSchema → List PolicyUser → List Data → Step (List PolicyUser)
 users_behind schema read [] = Ok read
 users_behind schema read (keys ∷ rest) =
     user_of schema (names_of read) (length read) keys

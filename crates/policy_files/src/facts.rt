@@ -104,7 +104,10 @@ fn world_of_lines(alloc: Global, schema: &Schema, bytes: &[u8]) -> Result<World,
     Ok(world)
 }
 
-/// Reads the bytes of a facts file. A fact that stands twice counts once.
+/// Reads the bytes of a facts file, UTF-8, as `docs/FORMATS.md`, "The facts file", has them: each line states one fact
+/// of the schema, or says nothing. A fact that stands twice counts once. The bytes are refused at their first bad line,
+/// counted from 1, by the numbers of `FactsError`: 1 it states no fact of the schema, 2 its fact is one too many; bytes
+/// that aren't UTF-8 are refused as a whole, by 3.
 pub fn read_facts(alloc: Global, schema: &Schema, bytes: &[u8]) -> Result<World, FactsError>
     // What is read is the world that the bytes are.
     ensures read { IfOk result (λ world. facts_of schema.now bytes.now ≡ Ok world) }
@@ -118,6 +121,7 @@ pub fn read_facts(alloc: Global, schema: &Schema, bytes: &[u8]) -> Result<World,
     let Ok(_text) = str::from_utf8(bytes) else {
         return Err(FactsError::NotUtf8);
     };
+    // A match, so that what was read and what was refused are goals of their own.
     match world_of_lines(alloc, schema, bytes) {
         Ok(world) => Ok(world),
         Err(why) => Err(why),

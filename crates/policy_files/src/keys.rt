@@ -91,10 +91,7 @@ fn unknown_key_in<'a>(user: Option<u32>, table: &'a Table) -> Option<&'a str>
 fn unknown_key<'a>(user: Option<u32>, value: &'a Value) -> Option<&'a str>
     ensures { option_map (λ key. key.now) result ≡ unknown_key (keys_at user) (members (view value.now)) }
 {
-    match value.as_table() {
-        Some(table) => unknown_key_in(user, table),
-        None => None,
-    }
+    unknown_key_in(user, value.as_table()?)
 }
 
 /// A table has no other keys than those that have a meaning there.

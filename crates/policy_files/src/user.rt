@@ -7,7 +7,7 @@ ghost use Rattle.cqe_base.specs.Schema.{contains_text};
 ghost use Rattle.cqe_base.specs.Formula.{formula_of, nodes};
 ghost use Rattle.cqe_base.specs.History.{profile_of, view_size};
 ghost use Rattle.policy_files.specs.Users.{name_of, method_of, known_of, secrets_of, budget_of, token_of, with_small_view, user_of, names_of, users_behind};
-ghost use Rattle.policy_files.specs.Memory.{named_user_of};
+ghost use Rattle.policy_files.specs.Memory.{policy_user_of};
 ghost use Rattle.policy_files.specs.Gives.{Gives};
 
 use crate::error::{PolicyError, Stop};
@@ -39,7 +39,7 @@ const VIEW_NODES: u64 = 40_000;
 
 /// Whether one of the users has this name.
 fn is_named(users: &[User], name: &str) -> bool
-    ensures { result ≡ contains_text (names_of (map named_user_of users.now)) name.now }
+    ensures { result ≡ contains_text (names_of (map policy_user_of users.now)) name.now }
 {
     for user in users {
         if name == user.name.as_str() {
@@ -56,7 +56,7 @@ fn name_of<'a>(
     user: u32,
     table: &'a Value,
 ) -> Result<&'a str, Stop>
-    ensures { Gives (λ name. name.now) result (name_of (names_of (map named_user_of earlier.now)) user (get (codes "name") (view table.now))) }
+    ensures { Gives (λ name. name.now) result (name_of (names_of (map policy_user_of earlier.now)) user (get (codes "name") (view table.now))) }
 {
     let name = string_at(alloc, Some(user), table, "name")?;
     if !is_schema_name(name) {
@@ -154,7 +154,7 @@ fn token_of(alloc: Global, user: u32, table: &Value) -> Result<Option<[u8; 32]>,
 
 /// The user of this number, if his view isn't too large.
 fn with_small_view(alloc: Global, schema: &Schema, number: u32, user: User) -> Result<User, Stop>
-    ensures { Gives named_user_of result (with_small_view schema.now number (named_user_of user)) }
+    ensures { Gives policy_user_of result (with_small_view schema.now number (policy_user_of user)) }
 {
     if user.view_nodes(schema) > VIEW_NODES {
         let place = key_place(alloc, Some(number), "secrets")?;
@@ -172,7 +172,7 @@ fn user_of(
     number: u32,
     table: &Value,
 ) -> Result<User, Stop>
-    ensures { Gives named_user_of result (user_of schema.now (names_of (map named_user_of earlier.now)) number (view table.now)) }
+    ensures { Gives policy_user_of result (user_of schema.now (names_of (map policy_user_of earlier.now)) number (view table.now)) }
 {
     only_keys(alloc, Some(number), table)?;
     let name = name_of(alloc, earlier, number, table)?;
@@ -195,7 +195,7 @@ fn user_of(
 /// The users of these tables.
 pub fn read_users(alloc: Global, schema: &Schema, tables: &[Value]) -> Result<Vec<User>, Stop>
     requires { length tables.now ≤ 256 }
-    ensures { Gives (λ users. map named_user_of users.items) result (users_behind schema.now [] (map view tables.now)) }
+    ensures { Gives (λ users. map policy_user_of users.items) result (users_behind schema.now [] (map view tables.now)) }
 {
     let mut users = Vec::new(alloc);
     for table in tables {

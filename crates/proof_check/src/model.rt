@@ -1,4 +1,5 @@
-// Models, and when they are right.
+//! Models, and when they are right.
+
 ghost use Rattle.std.specs.Prelude.{◌≡◌, length, nat_lt};
 ghost use Rattle.std.specs.List.{list_all};
 ghost use Rattle.cqe_base.specs.Literal.{variable_of, sign_at, literal_true, clause_true, clauses_true};

@@ -1,4 +1,5 @@
-// Refutations, and when they are right.
+//! Refutations, and when they are right.
+
 ghost use Rattle.std.specs.Prelude.{◌≡◌, ◌++◌, map, IfOk, IsTrue, slice_get, Some};
 ghost use Rattle.std.specs.Option.{option_map, option_copied};
 ghost use Rattle.std.specs.List.{list_all};
@@ -90,10 +91,9 @@ fn clause_at<'a>(clauses: &'a Clauses, lines: &'a [Line], number: usize) -> Opti
     if number < clauses.len() {
         Some(clauses.clause(number))
     } else {
-        match lines.get(number - clauses.len()) {
-            Some(line) => Some(&line.clause),
-            None => None,
-        }
+        lines
+            .get(number - clauses.len())
+            .map(|line| line.clause.as_slice())
     }
 }
 

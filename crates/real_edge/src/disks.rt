@@ -1,12 +1,17 @@
 // A file of the system as a disk. Clauses aren't told what it holds.
 ghost use Rattle.std.specs.Prelude.{◌≡◌, ◌≤◌, [], length, IfOk, OnOk, Ok};
+ghost use Rattle.std.specs.Fs.{metadata_len, file_type, IsFile};
 ghost use Rattle.outside.specs.Faults.{HasCause};
 
 use outside::{Disk, Failed};
-use std::fs::OpenFile;
-use std::io::{self, Read, Seek, SeekFrom, Write};
+use std::fs::{Metadata, OpenFile};
+use std::io::{self, ErrorKind, Read, Seek, SeekFrom, Write};
 
-/// An open file as a disk. A call that fails is counted and isn't tried again.
+/// An open file as a disk. A call that fails is counted and isn't tried again, and behind it no sync succeeds. A system may
+/// take what it couldn't write for written, so that its next sync says that all is well although bytes never reached the
+/// disk.
+///
+/// What is no regular file, as a pipe or a device, has no length: that of the system would be 0, as of an empty file.
 #[derive(Drop)]
 pub struct FileDisk<F> {
     file: F,
@@ -16,7 +21,7 @@ pub struct FileDisk<F> {
 impl<F> FileDisk<F> {
     ghost use Rattle.real_edge.specs.Counts.{disk_faults};
 
-    /// A disk over an open file, with this count of faults.
+    /// A disk over an open file, with this count of faults. Where it isn't 0, no sync succeeds.
     pub fn new(file: F, faults: u64) -> Self
         ensures { disk_faults result ≡ faults }
     {
@@ -64,8 +69,12 @@ impl<F: Read + Write + Seek + OpenFile> Disk for FileDisk<F> {
         counted(write_to(&mut self.file, at, bytes), &mut self.faults)
     }
 
-    fn sync(&mut self) -> Result<(), Failed> {
-        counted(self.file.sync_all(), &mut self.faults)
+    /// The system's sync, where no call of this file has failed, also while it was taken before.
+    fn sync(&mut self) -> Result<(), Failed>
+        ensures lasting { OnOk result (disk_faults self.old ≡ 0) }
+        ensures cause { HasCause (disk_faults self.old) (disk_faults self.new) result }
+    {
+        counted(sync_unfailed(&self.file, self.faults), &mut self.faults)
     }
 }
 
@@ -84,9 +93,32 @@ fn counted<T>(answer: io::Result<T>, faults: &mut u64) -> Result<T, Failed>
     }
 }
 
-// How many bytes a file has.
+// Syncs a file with this count of faults.
+fn sync_unfailed<F: OpenFile>(file: &F, faults: u64) -> io::Result<()>
+    ensures { OnOk result (faults ≡ 0) }
+{
+    if faults > 0 {
+        return Err(io::Error::from(ErrorKind::Other));
+    }
+    file.sync_all()
+}
+
+// How many bytes an open file has, where it is a regular file.
 fn length_of<F: OpenFile>(file: &F) -> io::Result<u64> {
-    Ok(file.metadata()?.len())
+    regular_length(&file.metadata()?)
+}
+
+/// How many bytes a file has, where it is a regular file. What the system says of another isn't how many bytes are read
+/// from it.
+pub(crate) fn regular_length(metadata: &Metadata) -> io::Result<u64>
+    ensures regular { OnOk result (IsFile (file_type metadata.now)) }
+    ensures length { IfOk result (λ n. n ≡ metadata_len metadata.now) }
+{
+    if metadata.is_file() {
+        Ok(metadata.len())
+    } else {
+        Err(io::Error::from(ErrorKind::InvalidInput))
+    }
 }
 
 // Fills the piece from that place of a file on, less only where the file ends.

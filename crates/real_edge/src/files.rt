@@ -1,5 +1,5 @@
 // The files of the system as a shelf. Clauses aren't told what they hold.
-ghost use Rattle.std.specs.Prelude.{◌≡◌, ◌≢◌, ◌≤◌, List, ℕ, Some, None, true, false, IfOk, IfErr, IfSome};
+ghost use Rattle.std.specs.Prelude.{◌≡◌, ◌≢◌, ◌≤◌, [], List, ℕ, Some, None, true, false, IfOk, IfErr, IfSome};
 ghost use Rattle.outside.specs.Faults.{Rose};
 ghost use Rattle.outside.specs.Places.{at_name};
 ghost use Rattle.outside.specs.Shelf.{SameNames, SameOthers};
@@ -7,10 +7,12 @@ ghost use Rattle.real_edge.specs.Kept.{faults_kept};
 ghost use Rattle.real_edge.specs.Refusals.{opening_refusal, reading_refusal};
 
 use crate::FileDisk;
+use crate::disks::regular_length;
 use outside::{Places, Shelf, ShelfError};
 use std::alloc::{AllocError, Global};
-use std::fs::{self, OpenOptions};
-use std::io::{ErrorKind, Read};
+use std::fs::{self, OpenFile, OpenOptions};
+use std::io::{self, ErrorKind, Read};
+use std::path::Path;
 use std::rt::Files;
 
 // What a shelf keeps of a disk that it gave.
@@ -21,7 +23,12 @@ struct Kept {
 }
 
 /// The files that a runtime reaches, each by its path, also as a disk. A call that fails is counted and isn't tried
-/// again. A disk that comes back is closed, and only its count is kept.
+/// again. A disk that comes back is closed, and only its count is kept, so that a disk which failed is still known for one
+/// when it is taken again.
+///
+/// A disk is a regular file; a pipe or a device isn't given as one. Where its file is empty, it may just have been made:
+/// its directory is synced before it is given, since a crash may otherwise take the name of a file that was synced. That
+/// is the directory of its path, also where the path is a link to a file elsewhere.
 #[derive(Drop)]
 pub struct FileShelf<'r, R> {
     runtime: &'r R,
@@ -69,6 +76,8 @@ impl<R: Files> Shelf for FileShelf<'_, R> {
     ghost disk_faults = { file_faults };
 
     ghost faults = { shelf_faults };
+
+    ghost looked = { λ shelf. [] };
 
     ghost tells_disks = { λ told. told };
 
@@ -137,9 +146,30 @@ fn open_disk<R: Files>(runtime: &R, path: &str) -> Result<R::File, ShelfError>
 {
     let mut options = OpenOptions::new();
     options.read(true).write(true).create(true);
-    match options.open(runtime, path) {
-        Ok(file) => Ok(file),
+    let file = match options.open(runtime, path) {
+        Ok(file) => file,
+        Err(error) => return Err(reading_refusal(error.kind())),
+    };
+    match settle_name(runtime, path, &file) {
+        Ok(()) => Ok(file),
         Err(error) => Err(reading_refusal(error.kind())),
+    }
+}
+
+// Syncs the directory of an open file that has no bytes. Each opening does so until it has some, since the one that made
+// the file may have been cut off before.
+fn settle_name<R: Files>(runtime: &R, path: &str, file: &R::File) -> io::Result<()> {
+    if regular_length(&file.metadata()?)? > 0 {
+        return Ok(());
+    }
+    fs::open(runtime, directory_of(path))?.sync_all()
+}
+
+// The directory of the file of a path.
+fn directory_of(path: &str) -> &str {
+    match Path::new(path).parent() {
+        Some(directory) if !directory.as_str().is_empty() => directory.as_str(),
+        _ => ".",
     }
 }
 

@@ -9,6 +9,8 @@
 #![tactic(auto)]
 
 mod disks;
+#[cfg(test)]
+mod file_tests;
 mod files;
 #[cfg(test)]
 mod socket_tests;

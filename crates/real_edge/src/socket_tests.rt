@@ -62,6 +62,27 @@ fn doors_of_one_socket_give_its_connections(rt: HostRuntime) -> Result<(), Fail>
 }
 
 #[test]
+fn a_client_who_sends_more_than_is_read_gets_his_replies(rt: HostRuntime) -> Result<(), Fail> {
+    let alloc = rt.alloc();
+    let mut links = TcpLinks::new(&rt);
+    let mut doors = links.listen(alloc, "127.0.0.1:0", 1)?;
+    let mut door = doors.pop().expect(&rt, "a door");
+    let mut client = client(&rt, door.address()?, &[b'x'; 9000])?;
+    let Some((source, sink)) = door.next()? else {
+        return Ok(());
+    };
+    let (mut source, mut sink) = (source, sink);
+    assert_eq!(rt; source.take(&mut [0; 4])?, 4);
+    write_all(&mut sink, b"bye\n")?;
+    door.done(source, sink);
+    let mut reply = Vec::new(alloc);
+    client.read_to_end(&mut reply)?;
+    assert_eq!(rt; reply.as_slice(), b"bye\n".as_slice());
+    links.take_back(door);
+    Ok(())
+}
+
+#[test]
 fn an_address_that_cannot_be_bound_is_a_fault(rt: HostRuntime) {
     let mut links = TcpLinks::new(&rt);
     for (address, faults) in [("", 1), ("127.0.0.1", 2), ("127.0.0.1:65536", 3)] {

@@ -7,10 +7,20 @@ use crate::{StreamSink, StreamSource};
 use outside::{Door, Failed, Links, LinksError};
 use std::alloc::{AllocError, Global};
 use std::io::{self, Read, Write};
-use std::net::{Net, OpenListener, OpenStream, SocketAddr, TcpListener};
+use std::net::{Net, OpenListener, OpenStream, Shutdown, SocketAddr, TcpListener};
+use std::time::Duration;
+
+// How much of what a client still sends is read as its connection ends, and for how many seconds each piece is waited for.
+const LAST_PIECES: usize = 16;
+
+const PIECE: usize = 4096;
+
+const LAST_WAIT: u64 = 1;
 
 /// A listening socket as a door, through which no connection is the last. A call that fails is counted and isn't tried
-/// again. What was given is closed once it is done.
+/// again. What was given is closed once it is done, behind at most 64 KiB that its client still sends: a connection that is
+/// closed while bytes of the client are unread is reset, and the last replies to him may be lost on their way. A client who
+/// doesn't close is waited for one second at each of at most 16 pieces.
 #[derive(Drop)]
 pub struct TcpDoor<L> {
     listener: L,
@@ -79,7 +89,26 @@ where
         }
     }
 
-    fn done(&mut self, _source: Self::Src, _sink: Self::Snk) {}
+    fn done(&mut self, source: Self::Src, sink: Self::Snk) {
+        hang_up(source.into_input(), &sink.into_output());
+    }
+}
+
+// Ends a connection: its client is told that no further byte comes, and what he still sends is thrown away. No failure is
+// counted here, since every reply was written before.
+fn hang_up<S: Read + OpenStream + Drop>(input: S, output: &S) {
+    let bounded = input.set_read_timeout(Some(Duration::from_secs(LAST_WAIT)));
+    if bounded.is_err() || output.shutdown(Shutdown::Write).is_err() {
+        return;
+    }
+    let mut input = input;
+    let mut piece = [0; PIECE];
+    for _ in 0..LAST_PIECES {
+        match input.read(&mut piece) {
+            Ok(count) if count > 0 => {}
+            _ => return,
+        }
+    }
 }
 
 // Waits for a client, and gives both ends of its connection.

@@ -28,6 +28,13 @@ impl<R> StreamSource<R> {
     {
         self.faults
     }
+
+    /// The reader.
+    pub(crate) fn into_input(self) -> R
+        ensures { result ≡ self.input }
+    {
+        self.input
+    }
 }
 
 impl<R: Read> Source for StreamSource<R> {
@@ -75,6 +82,13 @@ impl<W> StreamSink<W> {
         ensures { result ≡ sink_faults self.now }
     {
         self.faults
+    }
+
+    /// The writer.
+    pub(crate) fn into_output(self) -> W
+        ensures { result ≡ self.output }
+    {
+        self.output
     }
 }
 

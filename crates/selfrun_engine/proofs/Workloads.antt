@@ -13,7 +13,7 @@ use Rattle.cqe_base.specs.Transcript.{NamedUser, ScriptEvent, script_ask, script
 use Rattle.cqe_base.specs.declared.user.User.{User}
 use Rattle.log_journal.specs.Records.{records}
 use Rattle.log_journal.specs.Names.{journal_name}
-use Rattle.init_engine.specs.Disks.{names_of, Readies}
+use Rattle.init_engine.specs.Disks.{user_names, Readies}
 use Rattle.batch_engine.specs.BatchLines.{BatchItem, asked, restarted, batch_of}
 use Rattle.batch_engine.specs.Batch.{AreEventsOf, with_opening}
 use Rattle.desk_crew.specs.Crew.{named_user}
@@ -22,7 +22,7 @@ use Rattle.policy_files.specs.declared.error.FactsError.{FactsError}
 use Rattle.policy_files.specs.Policy.{policy_in}
 use Rattle.policy_files.specs.Facts.{facts_of}
 use Rattle.policy_files.specs.Policies.{PolicyValue}
-use Rattle.policy_files.specs.Memory.{named_user_of, policy_value_of}
+use Rattle.policy_files.specs.Memory.{policy_user_of, policy_value_of}
 use Rattle.policy_files.specs.Users
 use Rattle.policy_files.specs.Laws.{IsKeptPolicy}
 use Rattle.policy_files.specs.declared.policy.Policy.{Policy}
@@ -38,28 +38,28 @@ use Rattle.selfrun_engine.proofs.Counting.{is_inside, decimal_inside, IsPlain, t
 -- ---- names
 
 -- the names of a policy's users are those that it says
-names_are : (users : List User) → names_of users ≡ Users.names_of (map named_user_of users)
+names_are : (users : List User) → user_names users ≡ Users.names_of (map policy_user_of users)
 names_are [] = refl
 names_are (user ∷ users) = ap (λ names. string_bytes user.name ∷ names) (names_are users)
 
-pub batch_names_are : (users : List User) → map (λ user. user.name) (map named_user users) ≡ names_of users
+pub batch_names_are : (users : List User) → map (λ user. user.name) (map named_user users) ≡ user_names users
 batch_names_are [] = refl
 batch_names_are (user ∷ users) = ap (λ names. string_bytes user.name ∷ names) (batch_names_are users)
 
 -- they differ
-pub names_differ : (policy : Policy) → IsKeptPolicy (policy_value_of policy) → has_duplicate (names_of policy.users.items) ≡ false
+pub names_differ : (policy : Policy) → IsKeptPolicy (policy_value_of policy) → has_duplicate (user_names policy.users.items) ≡ false
 names_differ policy kept = ap has_duplicate (names_are policy.users.items) ∙ kept.differ
 
 -- ---- journals that were made
 
 module _ {D : Type 0} (reads : D → List ℕ) (image : D → List ℕ → Type 0) (header directory : List ℕ) (old new : List ℕ → Option D) where
   -- what holds of the name at each place holds of all users
-  by_place : (P : Text → Type 0) (users : List User) → ((i : ℕ) (name : Text) → i < length (names_of users) → slice_get (names_of users) i ≡ Some name → P name) → AllByRecursion (λ (u : NamedUser). P u.name) (map named_user users)
+  by_place : (P : Text → Type 0) (users : List User) → ((i : ℕ) (name : Text) → i < length (user_names users) → slice_get (user_names users) i ≡ Some name → P name) → AllByRecursion (λ (u : NamedUser). P u.name) (map named_user users)
   by_place P [] each = tt
   by_place P (user ∷ users) each = (each 0 (string_bytes user.name) (omega arith) refl, by_place P users (λ i name low at. each (suc i) name (omega (arith, low)) at))
 
   -- a journal that was made where there was no disk has no record
-  pub all_empty : (users : List User) → ((name : List ℕ) → old name ≡ None) → Readies reads image header directory (names_of users) old new (length (names_of users)) (length (names_of users))
+  pub all_empty : (users : List User) → ((name : List ℕ) → old name ≡ None) → Readies reads image header directory (user_names users) old new (length (user_names users)) (length (user_names users))
       → AllByRecursion (λ (u : NamedUser). records (bytes_on reads (new (journal_name directory u.name))) ≡ []) (map named_user users)
   all_empty users none ready = by_place (λ name. records (bytes_on reads (new (journal_name directory name))) ≡ []) users (λ i name low at.
       let one = ready.are i name low at in
@@ -123,7 +123,7 @@ one_policy a b read first second = cc
 one_world : (a b : FactSet) (read : Result FactSet FactsError) → read ≡ Ok a → read ≡ Ok b → a ≡ b
 one_world a b read first second = cc
 
-same_users : (users : List User) → map named_user users ≡ map without_entries (map named_user_of users)
+same_users : (users : List User) → map named_user users ≡ map without_entries (map policy_user_of users)
 same_users [] = refl
 same_users (user ∷ users) = ap (λ more. named_user user ∷ more) (same_users users)
 

@@ -3,9 +3,8 @@ use Rattle.std.specs.Prelude.{◌≡◌, ℕ, Bool, true, List, [], ◌++◌, ma
 use Rattle.std.specs.List.{AllByRecursion}
 use Rattle.outside.specs.Streams.{AppendsPart}
 use Rattle.cqe_base.specs.Schema.{Text}
-use Rattle.cqe_base.specs.Transcript
-use Rattle.cqe_base.specs.Transcript.{ScriptEvent, transcript}
-use Rattle.policy_files.specs.Policies.{NamedUser}
+use Rattle.cqe_base.specs.Transcript.{NamedUser, ScriptEvent, transcript}
+use Rattle.policy_files.specs.Policies.{PolicyUser}
 use Rattle.batch_engine.specs.Batch.{AreEventsOf, with_opening}
 use Rattle.workload.specs.Stated.{workload_schema, workload_world}
 use Rattle.workload.specs.Policies.{workload_policy}
@@ -17,11 +16,11 @@ use Rattle.selfrun_engine.specs.declared.end.SelfrunEnd.{SelfrunEnd}
 use Rattle.selfrun_engine.specs.declared.end.SelfrunEnd.TheVariants.{Done, WriteFault, Memory}
 
 -- a user of a policy with an empty history
-abbrev pub without_entries : NamedUser → Transcript.NamedUser
+abbrev pub without_entries : PolicyUser → NamedUser
 without_entries user = record { name = user.name; profile = user.profile; opened = [] }
 
 -- the users of the workload, with empty histories
-abbrev pub workload_users : ℕ → ℕ → List Transcript.NamedUser
+abbrev pub workload_users : ℕ → ℕ → List NamedUser
 workload_users seed users = map without_entries (workload_policy seed users).users
 
 module _ (seed users asks : ℕ) where

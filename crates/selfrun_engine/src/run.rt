@@ -4,7 +4,7 @@ ghost use Rattle.std.specs.List.{AllByRecursion, list_any};
 ghost use Rattle.cqe_base.specs.Schema.{has_duplicate};
 ghost use Rattle.cqe_base.specs.History.{profile_of};
 ghost use Rattle.cqe_base.specs.Limits.{KeepsLimits};
-ghost use Rattle.init_engine.specs.Disks.{names_of};
+ghost use Rattle.init_engine.specs.Disks.{user_names};
 ghost use Rattle.desk_crew.specs.Crew.{named_user};
 ghost use Rattle.outside.specs.Faults.{Rose};
 ghost use Rattle.outside.specs.MemoryStreams.{sink_written};
@@ -109,7 +109,7 @@ fn answers<R: Wait>(
     script: Vec<u8>,
 ) -> Result<MemorySink, AllocError>
     requires limits { All (λ user. KeepsLimits policy.now.schema (profile_of user)) policy.now.users.items }
-    requires names { has_duplicate (names_of policy.now.users.items) ≡ false }
+    requires names { has_duplicate (user_names policy.now.users.items) ≡ false }
     ensures { IfOk result (λ output. (items : List BatchItem) → batch_of script.items ≡ Ok items → AllByRecursion (IsOfUser (map named_user policy.now.users.items)) items
         → IsOutput policy.now.schema world.now (map named_user policy.now.users.items) items (sink_written output)) }
 {

@@ -19,22 +19,23 @@ pub record IsSameText (old new : Position) : Type 0 where
   pub schema : new.schema ≡ old.schema
   pub refusal : new.refusal ≡ old.refusal
 
--- What a call returned, seen by view, is what reading gives, with these tokens left, unless memory ran out.
+-- an error is the refusal that the definition gives, unless memory is wanting
 abbrev pub Refuses : {A : Type 0} → ReadError → Result A Refusal → Type 0
 Refuses errors.Memory reading = Unit {0}
 Refuses (errors.Text e) reading = reading ≡ Err e
 
--- a reader gives what its definition gives, and stands behind the tokens that it took; want of memory aside
+-- what a call of a reader returned, seen by view, is what its definition gives, and the tokens that are left are
+-- those that it leaves; its error is a refusal so
 abbrev pub Reads : {X A : Type 0} → (X → A) → Result X ReadError → List Token → Result (A × List Token) Refusal → Type 0
 Reads view (Ok x) rest reading = reading ≡ Ok (view x, rest)
 Reads view (Err e) rest reading = Refuses e reading
 
--- The same of a call that passes tokens alone.
+-- the same of a call that passes tokens and returns nothing
 abbrev pub Passes : Result (Unit {0}) ReadError → List Token → Result (List Token) Refusal → Type 0
 Passes (Ok _) rest reading = reading ≡ Ok rest
 Passes (Err e) rest reading = Refuses e reading
 
--- The same of a call that leaves nothing to be read.
+-- the same of a call whose definition says nothing of the tokens that are left
 abbrev pub Gives : {X A : Type 0} → (X → A) → Result X ReadError → Result A Refusal → Type 0
 Gives view (Ok x) reading = reading ≡ Ok (view x)
 Gives view (Err e) reading = Refuses e reading

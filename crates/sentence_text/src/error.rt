@@ -1,4 +1,5 @@
-//! Why a sentence could not be read.
+//! Why a sentence could not be read. The kinds of refusal are numbered as the table of `docs/FORMATS.md`, "Sentences",
+//! has them.
 
 ghost use Rattle.std.specs.Prelude.{◌≡◌};
 ghost use Rattle.sentence_text.specs.declared.error.ReadError.TheVariants.{Memory};
@@ -24,11 +25,13 @@ pub const TOO_DEEP: u8 = 5;
 /// A comma or a term comes after the last column, or a `)` before it.
 pub const WRONG_COLUMNS: u8 = 6;
 
+/// Why a text gives no sentence. Want of memory says nothing of the text: the same call may succeed later.
 #[derive(Debug, Drop)]
 pub enum ReadError {
-    /// The text is no sentence.
+    /// The text is no sentence of the schema: the kind, which is one of the numbers above, and the place, the byte,
+    /// counted from 0, at which that shows.
     Text(TextError),
-    /// Memory ran out.
+    /// Memory is wanting.
     Memory,
 }
 

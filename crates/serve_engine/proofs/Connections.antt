@@ -94,7 +94,7 @@ module _ (schema : DatabaseSchema) (world : FactSet) (header : List ℕ) (journa
         broken_is = serves.broken_is;
         count = serves.total;
         given_is = gave ∙ ap (λ n. given + n) has.gave;
-        told = serves.marks t;
+        visit_marks = serves.marks t;
         visits = record { visits = flat_map back_of others; behind = came; many = has.many; stand = has.stand };
         all_told = serves.all_told t;
       }

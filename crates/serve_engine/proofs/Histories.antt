@@ -37,7 +37,7 @@ use Rattle.desk_crew.specs.Shelved.{Journals, journals, journals_on, AreLater, I
 use Rattle.serve_engine.specs.Served.{Member, SessionMarks}
 use Rattle.serve_engine.specs.Members.{OwnMore, own_weight}
 use Rattle.serve_engine.specs.Doors.{AreServedDoors, SomeFailed, HasOutcome}
-use Rattle.serve_engine.specs.Serving.{HasServed, HaveServed, AreAllTold, ServesDoors, EndsAt, IsDone, end_of}
+use Rattle.serve_engine.specs.Serving.{HasServed, HaveServed, AreAllTold, ServesDoors, EndsAt, IsDone, IsBroken, end_of}
 use Rattle.serve_engine.specs.declared.serving.Outcome.{Outcome}
 use Rattle.serve_engine.specs.declared.serving.Outcome.TheVariants as outcome
 use Rattle.serve_engine.specs.declared.run.ServeEnd.TheVariants.{LinksFault}
@@ -265,6 +265,12 @@ module _ {O : Type 0} (told : Type 0) (given_of left_of faults_of : O → ℕ) (
   failed_at ends_of limit total others outcome.Served refusals is_broken has is = absurd cc
   failed_at ends_of limit total others outcome.LinksFailed refusals is_broken has is = has
   failed_at ends_of limit total others outcome.Memory refusals is_broken has is = absurd cc
+
+-- an end that says that an append failed came of desks of which one says so
+pub broken_end : (went : Outcome) (refusals : Vec (Option DeskError) Global) (is_broken : Bool) → IsBroken (end_of went refusals is_broken) → is_broken ≡ true
+broken_end outcome.Served refusals is_broken is = is
+broken_end outcome.LinksFailed refusals is_broken is = absurd is
+broken_end outcome.Memory refusals is_broken is = absurd is
 
 module _ (schema : DatabaseSchema) (world : FactSet) (header : List ℕ) (journals : Journals) (users : List User) {O : Type 0} (told : Type 0) (given_of left_of faults_of : O → ℕ) (back_of : O → List Visit) (doors doors' : List O) where
   -- each end of desks that were opened

@@ -98,7 +98,7 @@ module _ {D G O : Type 0} {g h : _} (told : Type 0) (given_of left_of ends_of fa
   -- the marks of all their connections
   abbrev all_told : told → (before after : List (Worker (SessionJobOf (TicketedDesk D g) D G h) O)) → AllZip Was before after → List SessionMarks
   all_told t [] [] was = []
-  all_told t (b ∷ before) (a ∷ after) was = (was.0.back t).stand.told ++ all_told t before after was.1
+  all_told t (b ∷ before) (a ∷ after) was = (was.0.back t).stand.visit_marks ++ all_told t before after was.1
   all_told t [] (a ∷ after) was = []
   all_told t (b ∷ before) [] was = []
 
@@ -111,7 +111,7 @@ module _ {D G O : Type 0} {g h : _} (told : Type 0) (given_of left_of ends_of fa
       let here = (was.0.back t).stand.own weight place in
       let rest = all_own counters first t weight place before after fresh.1 was.1 in
       let one = sum_by-cons (λ (worker : Worker (SessionJobOf (TicketedDesk D g) D G h) O). own_weight weight place (passes_in (job_passes worker.job))) a after in
-      let both = sum_by-append (λ marks. sum_by weight (entries_told place marks)) (was.0.back t).stand.told (all_told t before after was.1) in
+      let both = sum_by-append (λ marks. sum_by weight (entries_told place marks)) (was.0.back t).stand.visit_marks (all_told t before after was.1) in
       omega (arith, none, here, rest, one, both)
   all_own counters first t weight place [] (a ∷ after) fresh was = absurd was
   all_own counters first t weight place (b ∷ before) [] fresh was = absurd was
@@ -135,7 +135,7 @@ module _ {D G O : Type 0} {g h : _} (told : Type 0) (given_of left_of ends_of fa
     -- ---- the doors
 
     one_served : (first final : Passes D) (before after : Worker (SessionJobOf (TicketedDesk D g) D G h) O) → IsFresh counters first before → AreOn (job_passes after.job) final → (was : Was before after)
-        → IsServedDoor told given_of left_of faults_of back_of (IsServedBy counters final) (job_runs after.job) (λ t. (was.back t).stand.told) before.door after.door
+        → IsServedDoor told given_of left_of faults_of back_of (IsServedBy counters final) (job_runs after.job) (λ t. (was.back t).stand.visit_marks) before.door after.door
     one_served first final before after fresh on was = record {
       given = was.given;
       left = was.left;
@@ -143,7 +143,7 @@ module _ {D G O : Type 0} {g h : _} (told : Type 0) (given_of left_of ends_of fa
         visits = v.visits;
         behind = v.behind;
         many = v.many;
-        stand = stay counters (job_counters after.job) (job_passes after.job) final v.visits v.stand.told (was.keeps.0 ∙ fresh.counters_are) on v.stand.each;
+        stand = stay counters (job_counters after.job) (job_passes after.job) final v.visits v.stand.visit_marks (was.keeps.0 ∙ fresh.counters_are) on v.stand.each;
       };
       faults = was.faults;
     }
@@ -157,7 +157,7 @@ module _ {D G O : Type 0} {g h : _} (told : Type 0) (given_of left_of ends_of fa
       job_runs a.job,
       sum_by (λ worker. job_runs worker.job) after,
       sum_by-cons (λ (worker : Worker (SessionJobOf (TicketedDesk D g) D G h) O). job_runs worker.job) a after,
-      λ t. (was.0.back t).stand.told,
+      λ t. (was.0.back t).stand.visit_marks,
       λ t. all_told t before after was.1,
       λ t. refl,
       one_served first final b a fresh.0 on.0 was.0,

@@ -35,15 +35,15 @@ pub served_more : {D : Type 0} {g h : _} (counters : CountersOf (TicketedDesk D 
     → ((weight : AnsweredQuery → ℕ) (place : ℕ) → own_weight weight place (passes_in new) ≡ own_weight weight place (passes_in old) + sum_by weight (entries_told place marks))
     → AreServedBy counters first new (visits ++ visit ∷ [])
 served_more counters first old new visits visit marks stood later served own = record {
-  told = stood.told ++ marks ∷ [];
-  each = zip_both (IsServedBy counters new) visits (visit ∷ []) stood.told (marks ∷ [])
+  visit_marks = stood.visit_marks ++ marks ∷ [];
+  each = zip_both (IsServedBy counters new) visits (visit ∷ []) stood.visit_marks (marks ∷ [])
       (zip_still (IsServedBy counters old) (IsServedBy counters new)
       (λ v m is schema world within. served_later schema world (users_of counters) (members_of (fixeds_of counters) (passes_in old)) (members_of (fixeds_of counters) (passes_in new)) v m later (is schema world within))
-      visits stood.told stood.each)
+      visits stood.visit_marks stood.each)
       (served, tt);
   own = λ weight place.
       let more = own weight place in
       let before = stood.own weight place in
-      let all = sum_by_push (λ m. sum_by weight (entries_told place m)) stood.told marks in
+      let all = sum_by_push (λ m. sum_by weight (entries_told place m)) stood.visit_marks marks in
       omega (arith, more, before, all);
 }

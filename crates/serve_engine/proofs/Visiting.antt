@@ -16,7 +16,7 @@ use Rattle.session_core.specs.Talks.{written_lines, IsCut}
 use Rattle.session_core.specs.Sessions.{Session, Hears, Writes}
 use Rattle.session_core.specs.declared.session.Ended.{Ended}
 use Rattle.session_core.specs.declared.session.Ended.TheVariants.{Quit, InputEnd, TooLong, TooMany, ReadFault, WriteFault}
-use Rattle.worker_pool.specs.Jobs.{IsUntouched}
+use Rattle.worker_pool.specs.Jobs.{AreUntouchedEnds}
 use Rattle.serve_engine.specs.Served.{Served}
 use Rattle.serve_engine.specs.Members.{members_of, AreIn, HaveSeenOpenings}
 use Rattle.serve_engine.proofs.Later.{of_replied}
@@ -65,7 +65,7 @@ all_written WriteFault after texts no_write writes = absurd (no_write refl)
 
 -- A session over ends that were untouched is a connection that was served by the users as their passes are then.
 pub session_served : {D : Type 0} (S K : Type 0) (users : List User) (fixeds : List (Fixed D)) (ended : Ended) (held held' left : List ℕ) (old new : List (Pass Item (Fixed D))) (before after : List ℕ) (sources sinks sources' sinks' : ℕ)
-    → (session : Session S K users fixeds ended left old new before after) → IsUntouched S K held left before sources sinks → held' ≡ held
+    → (session : Session S K users fixeds ended left old new before after) → AreUntouchedEnds S K held left before sources sinks → held' ≡ held
     → (ended ≡ ReadFault → Rose sources sources') → (ended ≡ WriteFault → Rose sinks sinks')
     → (schema : DatabaseSchema) (world : FactSet) → AreIn schema world fixeds → HaveSeenOpenings fixeds old → Served schema world users (members_of fixeds new) (visit_of held' after sources' sinks') (marks_of session.who fixeds old new session.asks session.desks)
 session_served {D} S K users fixeds ended held held' left old new before after sources sinks sources' sinks' session untouched same read_cause write_cause schema world within openings =

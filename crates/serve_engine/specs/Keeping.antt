@@ -14,13 +14,15 @@ use Rattle.serve_engine.specs.Members.{IsPassLater, AreServedBy}
 
 -- no connection was served, and the passes have no more of their own
 pub nothing_served : {D : Type 0} {g h : _} (counters : CountersOf (TicketedDesk D g) Item (Fixed D) h) (passes : Passes D) → AreServedBy counters passes passes []
-nothing_served counters passes = record { told = []; each = tt; own = λ weight place. omega arith }
+nothing_served counters passes = record { visit_marks = []; each = tt; own = λ weight place. omega arith }
 
 module _ {D : Type 0} where
+  -- passes are later than themselves
   pub same_passes : (passes : List (Pass Item (Fixed D))) → AllZip IsPassLater passes passes
   same_passes [] = tt
   same_passes (p ∷ passes) = (record { same_shares = refl; later = ([], sym (append-nil (seen p))) }, same_passes passes)
 
+  -- passes that are later than later ones are later
   pub later_passes : (xs ys zs : List (Pass Item (Fixed D))) → AllZip IsPassLater xs ys → AllZip IsPassLater ys zs → AllZip IsPassLater xs zs
   later_passes [] [] [] first second = tt
   later_passes (x ∷ xs) (y ∷ ys) (z ∷ zs) first second = (

@@ -65,7 +65,7 @@ module _ {D : Type 0} where
 
   -- However entries are weighed, each pass has more of its own what the marks weigh that were told to the user at its place.
   abbrev pub OwnMore : List (Pass Item (Fixed D)) → List (Pass Item (Fixed D)) → List SessionMarks → Type 0
-  OwnMore before after told = (weight : AnsweredQuery → ℕ) (place : ℕ) → own_weight weight place after ≡ own_weight weight place before + sum_by (λ marks. sum_by weight (entries_told place marks)) told
+  OwnMore before after visit_marks = (weight : AnsweredQuery → ℕ) (place : ℕ) → own_weight weight place after ≡ own_weight weight place before + sum_by (λ marks. sum_by weight (entries_told place marks)) visit_marks
 
 module _ {D : Type 0} {g h : _} where
   -- A finished connection is served by the users of these desks, as the passes know them, wherever all desks are in one
@@ -74,8 +74,9 @@ module _ {D : Type 0} {g h : _} where
   IsServedBy counters passes visit marks = (schema : DatabaseSchema) (world : FactSet) → AreIn schema world (fixeds_of counters)
       → Served schema world (users_of counters) (members_of (fixeds_of counters) (passes_in passes)) visit marks
 
-  -- Finished connections are served so, and what the passes have more of their own was told in them.
+  -- Finished connections are served so, each with its marks, and what the passes have more of their own are the entries of
+  -- these.
   pub record AreServedBy (counters : CountersOf (TicketedDesk D g) Item (Fixed D) h) (before passes : Passes D) (visits : List Visit) : Type 0 where
-    pub told : List SessionMarks
-    pub each : AllZip (IsServedBy counters passes) visits told
-    pub own : OwnMore (passes_in before) (passes_in passes) told
+    pub visit_marks : List SessionMarks
+    pub each : AllZip (IsServedBy counters passes) visits visit_marks
+    pub own : OwnMore (passes_in before) (passes_in passes) visit_marks

@@ -34,10 +34,10 @@ pub record ServesNobody (journals : Journals) (given given' : ℕ) (back back' :
 -- Of each user, from this place on: however entries are weighed, his history weighs what it did at the opening, and what
 -- the entries of the marks weigh that connections told him. So behind the opening each of these stands once, and no other.
 abbrev pub AreAllTold : ℕ → List Member → List SessionMarks → Type 0
-AreAllTold place [] told = Unit {0}
-AreAllTold place (member ∷ members) told =
-    ((weight : AnsweredQuery → ℕ) → sum_by weight member.history ≡ sum_by weight member.opening + sum_by (λ marks. sum_by weight (entries_told place marks)) told)
-    × AreAllTold (suc place) members told
+AreAllTold place [] visit_marks = Unit {0}
+AreAllTold place (member ∷ members) visit_marks =
+    ((weight : AnsweredQuery → ℕ) → sum_by weight member.history ≡ sum_by weight member.opening + sum_by (λ marks. sum_by weight (entries_told place marks)) visit_marks)
+    × AreAllTold (suc place) members visit_marks
 
 module _ (schema : DatabaseSchema) (world : FactSet) (header : List ℕ) (journals : Journals) where
   -- A user over all connections: how his journal was opened, what his one history is, and how his disk came back.
@@ -78,9 +78,9 @@ module _ (schema : DatabaseSchema) (world : FactSet) (header : List ℕ) (journa
       pub broken_is : is_broken ≡ list_any (λ member. member.broke) members
       pub count : ℕ
       pub given_is : given' ≡ given + count
-      pub told : List SessionMarks
-      pub visits : HasVisits (λ visits. AllZip (Served schema world users members) visits told) count back back'
-      pub all_told : AreAllTold 0 members told
+      pub visit_marks : List SessionMarks
+      pub visits : HasVisits (λ visits. AllZip (Served schema world users members) visits visit_marks) count back back'
+      pub all_told : AreAllTold 0 members visit_marks
 
     -- no connection was served: no journal was opened, or all were and are closed again
     abbrev pub ServesNone : Type 0
@@ -123,6 +123,13 @@ IsDone (Done refusals is_broken) = Unit {0}
 IsDone LinksFault = ⊥
 IsDone ShelfFault = ⊥
 IsDone Memory = ⊥
+
+-- the end of a serving that came to its end, and in which an append failed
+abbrev pub IsBroken : ServeEnd → Type 0
+IsBroken (Done refusals is_broken) = is_broken ≡ true
+IsBroken LinksFault = ⊥
+IsBroken ShelfFault = ⊥
+IsBroken Memory = ⊥
 
 -- the end of serving with this outcome
 abbrev pub end_of : Outcome → Vec (Option DeskError) Global → Bool → ServeEnd

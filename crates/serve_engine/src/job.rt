@@ -83,11 +83,17 @@ impl<'a, 'w, D: Disk, G: Gate, Src: Source, Snk: Sink> Job<Src, Snk>
 
     ghost stands_none = { λ job. nothing_served (job_counters job) (job_passes job) };
 
-    ghost keeps = { λ before after. (job_counters after ≡ job_counters before) × ArePassesLater (job_passes before) (job_passes after) };
+    ghost keeps = { λ before after. (job_counters after ≡ job_counters before)
+        × ArePassesLater (job_passes before) (job_passes after) };
 
     ghost keeps_none = { λ job. (refl, same_passes (passes_in (job_passes job))) };
 
-    ghost keeps_more = { λ before between after first second. (second.0 ∙ first.0, later_passes (passes_in (job_passes before)) (passes_in (job_passes between)) (passes_in (job_passes after)) first.1 second.1) };
+    ghost keeps_more = { λ before between after first second. (
+      second.0 ∙ first.0,
+      later_passes
+          (passes_in (job_passes before)) (passes_in (job_passes between))
+          (passes_in (job_passes after)) first.1 second.1,
+    ) };
 
     fn run<R: Wait>(
         &mut self,

@@ -9,9 +9,9 @@ ghost use Rattle.cqe_base.specs.Limits.{KeepsLimits};
 ghost use Rattle.log_journal.specs.Opening.{header_bytes};
 ghost use Rattle.log_journal.specs.Names.{journal_name};
 ghost use Rattle.desk_crew.specs.Crew.{named_user};
-ghost use Rattle.desk_crew.specs.Shelved.{journals_on, SameBeside, NoneOut, NoneFell};
+ghost use Rattle.desk_crew.specs.Shelved.{journals_on, SameBeside, NoneOut, NoneFell, SomeRose};
 ghost use Rattle.serve_engine.specs.Doors.{SomeFailed};
-ghost use Rattle.serve_engine.specs.Serving.{Ends, EndsAt, IsDone, end_of};
+ghost use Rattle.serve_engine.specs.Serving.{Ends, EndsAt, IsDone, IsBroken, end_of};
 ghost use Rattle.serve_engine.specs.declared.run.ServeEnd.{ServeEnd};
 
 use crate::serving::Outcome;
@@ -39,8 +39,8 @@ pub struct Listening<'a> {
 /// How serving ends.
 #[derive(Debug, Drop)]
 pub enum ServeEnd {
-    /// The links ended, or the greatest number of connections was reached. Of each user, in order, there is the refusal of
-    /// his journal, if it was refused; and it says whether an append failed.
+    /// The links ended, or the greatest number of connections was reached. Of each user, in order, there is the refusal
+    /// of his journal, if it was refused; and it says whether an append failed.
     Done(Vec<Option<DeskError>>, bool),
     /// The links failed: they didn't listen, or a door failed.
     LinksFault,
@@ -52,8 +52,8 @@ pub enum ServeEnd {
 
 /// Serves the connections that come in at an address: opens the journals of all users, and answers each connection by a
 /// session, side by side with the others, up to the end of the links or the greatest number. A user's sessions are all
-/// answered by his one history. All disks and all doors are given back on every path. It may wait, for clients and at the
-/// desks.
+/// answered by his one history. All disks and all doors are given back on every path. It may wait, for clients and at
+/// the desks.
 pub fn run_serve<R: Threads + Wait + Sync, F: Shelf, L: Links, G: Gate + Sync>(
     rt: &R,
     alloc: Global,
@@ -73,30 +73,41 @@ where
     requires most { listening.sessions ≤ 2 ^ 30 }
 
     // Each connection that was given is served, and each journal is as its user's one history says.
-    ensures ends { F.told → L.told → Ends registry.now.schema.now registry.now.world.now (header_bytes registry.now.header.now)
-        (journals_on F.D.reads F.D.image registry.now.directory.now (F.disk shelf.old) (F.disk shelf.new) (F.disk_faults shelf.old) (F.disk_faults shelf.new))
+    ensures ends { F.told → L.told → Ends registry.now.schema.now registry.now.world.now
+        (header_bytes registry.now.header.now)
+        (journals_on F.D.reads F.D.image registry.now.directory.now (F.disk shelf.old) (F.disk shelf.new)
+        (F.disk_faults shelf.old) (F.disk_faults shelf.new))
         registry.now.users.now (L.given links.old) (L.given links.new) (L.back links.old) (L.back links.new) result }
 
     // It listens at that address alone, with a door for each worker.
-    ensures listens { L.told → (L.listened links.new ≡ L.listened links.old) ⊎ (L.listened links.new ≡ L.listened links.old ++ place_of listening.entry.address.now listening.entry.workers ∷ []) }
-    ensures heard { L.told → IsDone result → L.listened links.new ≡ L.listened links.old ++ place_of listening.entry.address.now listening.entry.workers ∷ [] }
+    ensures listens { L.told → (L.listened links.new ≡ L.listened links.old)
+        ⊎ (L.listened links.new
+        ≡ L.listened links.old ++ place_of listening.entry.address.now listening.entry.workers ∷ []) }
+    ensures heard { L.told → IsDone result
+        → L.listened links.new
+        ≡ L.listened links.old ++ place_of listening.entry.address.now listening.entry.workers ∷ [] }
 
     // There are no more of them than the greatest number.
     ensures limited { L.told → L.given links.new ≤ L.given links.old + listening.entry.sessions }
 
     // It comes to its end where no connection is left, or these reach the greatest number, together with the doors that
     // answered that no further one comes.
-    ensures ended { L.told → IsDone result → (L.at_hand links.new ≡ 0) ⊎ (L.given links.old + listening.entry.sessions + L.ended links.old ≤ L.given links.new + L.ended links.new) }
+    ensures ended { L.told → IsDone result
+        → (L.at_hand links.new ≡ 0)
+        ⊎ (L.given links.old + listening.entry.sessions + L.ended links.old ≤ L.given links.new + L.ended links.new) }
 
     // No disk but the users' journals is touched, and all are back.
-    ensures disks { SameBeside (map (journal_name registry.now.directory.now) (map (λ user. user.name) (map named_user registry.now.users.now))) (F.disk shelf.old) (F.disk shelf.new) }
+    ensures disks { SameBeside (map (journal_name registry.now.directory.now)
+        (map (λ user. user.name) (map named_user registry.now.users.now))) (F.disk shelf.old) (F.disk shelf.new) }
     ensures inside { NoneOut (F.is_out shelf.new) }
+    ensures looked { F.looked shelf.new ≡ F.looked shelf.old }
     ensures counts { NoneFell (F.disk_faults shelf.old) (F.disk_faults shelf.new) }
     ensures out { L.out links.new ≡ L.out links.old }
     ensures shelf_later { F.faults shelf.old ≤ F.faults shelf.new }
     ensures links_later { L.faults links.old ≤ L.faults links.new }
     ensures shelf_cause { result ≡ ServeEnd.ShelfFault → Rose (F.faults shelf.old) (F.faults shelf.new) }
     ensures links_cause { result ≡ ServeEnd.LinksFault → Rose (L.faults links.old) (L.faults links.new) }
+    ensures disk_cause { IsBroken result → SomeRose (F.disk_faults shelf.old) (F.disk_faults shelf.new) }
 {
     let doors = match links.listen(alloc, listening.address, listening.workers) {
         Ok(doors) => doors,
@@ -108,8 +119,8 @@ where
     end
 }
 
-/// Opens the journals of all users, serves the connections of doors at their desks, and gives the journals back. The doors
-/// come back on every path.
+/// Opens the journals of all users, serves the connections of doors at their desks, and gives the journals back. The
+/// doors come back on every path.
 fn serve_opened<R: Threads + Wait + Sync, F: Shelf, O: Door + Drop + Send, G: Gate + Sync>(
     rt: &R,
     alloc: Global,
@@ -129,18 +140,26 @@ where
     requires limit { limit ≤ 2 ^ 30 }
     requires whole { All (λ door. O.faults door ≡ 0) doors.items }
     requires unended { All (λ door. O.ends door ≡ 0) doors.items }
-    ensures ends { F.told → O.told → EndsAt registry.now.schema.now registry.now.world.now (header_bytes registry.now.header.now)
-        (journals_on F.D.reads F.D.image registry.now.directory.now (F.disk shelf.old) (F.disk shelf.new) (F.disk_faults shelf.old) (F.disk_faults shelf.new))
+    ensures ends { F.told → O.told → EndsAt registry.now.schema.now registry.now.world.now
+        (header_bytes registry.now.header.now)
+        (journals_on F.D.reads F.D.image registry.now.directory.now (F.disk shelf.old) (F.disk shelf.new)
+        (F.disk_faults shelf.old) (F.disk_faults shelf.new))
         registry.now.users.now O.told O.given O.left O.faults O.back doors.items result.1.items result.0 }
-    ensures ended { O.told → IsDone result.0 → All (λ door. O.left door ≡ 0) result.1.items ⊎ (sum_by O.given doors.items + limit ≤ sum_by O.given result.1.items + sum_by (λ door. one_if_any (O.ends door)) result.1.items) }
+    ensures ended { O.told → IsDone result.0
+        → All (λ door. O.left door ≡ 0) result.1.items
+        ⊎ (sum_by O.given doors.items + limit ≤ sum_by O.given result.1.items
+        + sum_by (λ door. one_if_any (O.ends door)) result.1.items) }
     ensures limited { O.told → sum_by O.given result.1.items ≤ sum_by O.given doors.items + limit }
     ensures failed { result.0 ≡ ServeEnd.LinksFault → SomeFailed O.faults result.1.items }
     ensures doors { length result.1.items ≡ length doors.items }
-    ensures disks { SameBeside (map (journal_name registry.now.directory.now) (map (λ user. user.name) (map named_user registry.now.users.now))) (F.disk shelf.old) (F.disk shelf.new) }
+    ensures disks { SameBeside (map (journal_name registry.now.directory.now)
+        (map (λ user. user.name) (map named_user registry.now.users.now))) (F.disk shelf.old) (F.disk shelf.new) }
     ensures inside { NoneOut (F.is_out shelf.new) }
+    ensures looked { F.looked shelf.new ≡ F.looked shelf.old }
     ensures counts { NoneFell (F.disk_faults shelf.old) (F.disk_faults shelf.new) }
     ensures shelf_later { F.faults shelf.old ≤ F.faults shelf.new }
     ensures shelf_cause { result.0 ≡ ServeEnd.ShelfFault → Rose (F.faults shelf.old) (F.faults shelf.new) }
+    ensures disk_cause { IsBroken result.0 → SomeRose (F.disk_faults shelf.old) (F.disk_faults shelf.new) }
 {
     law_hides();
     law_legal_grows();
@@ -161,7 +180,8 @@ where
     (end_of(outcome, refusals, is_broken), doors)
 }
 
-/// The end of serving that went so, with what is to be told where it came to its end.
+/// The end of serving with this outcome. Where the links ended or the limit was reached it has the refusals, and
+/// whether an append failed.
 fn end_of(outcome: Outcome, refusals: Vec<Option<DeskError>>, is_broken: bool) -> ServeEnd
     ensures { result ≡ end_of outcome refusals is_broken }
 {

@@ -96,7 +96,8 @@ fn crew_of<'a, 'w, D: Disk, G: Gate, O: Door + Drop>(
     requires those { All (λ part. ArePassesOf part counters.now) parts.items }
     requires opened { All (λ part. HaveSeenOpenings (fixeds_of counters.now) (passes_in part)) parts.items }
     ensures doors { map (λ worker. worker.door) result.items ≡ doors.items }
-    ensures fresh { (before : Passes D) → All (AreParts before) parts.items → All (IsFresh counters.now before) result.items }
+    ensures fresh { (before : Passes D) → All (AreParts before) parts.items
+        → All (IsFresh counters.now before) result.items }
 {
     let mut crew = room;
     let mut parts = parts;
@@ -130,7 +131,8 @@ fn dismiss<'a, 'w, D: Disk, G: Gate, O: Door + Drop>(
     ensures all_on { All (λ worker. AreOn (job_passes worker.job) passes.new) crew.entry.items }
     ensures shares { HaveShares 65 passes.new }
     ensures own { (weight : AnsweredQuery → ℕ) (place : ℕ) → own_weight weight place (passes_in passes.new)
-        ≡ own_weight weight place (passes_in passes.old) + sum_by (λ worker. own_weight weight place (passes_in (job_passes worker.job))) crew.entry.items }
+        ≡ own_weight weight place (passes_in passes.old) + sum_by
+        (λ worker. own_weight weight place (passes_in (job_passes worker.job))) crew.entry.items }
 {
     let mut doors = room;
     for worker in crew {
@@ -190,8 +192,11 @@ pub(crate) fn serve_doors<
     ensures these { ArePassesOf passes.new counters.now }
     ensures on { AreOn passes.old passes.new }
     ensures shares { HaveShares 65 passes.new }
-    ensures served { (total : ℕ) × (marks : O.told → List SessionMarks) × AreServedDoors O.told O.given O.left O.faults O.back (IsServedBy counters.now passes.new) total marks doors.items result.1.items
-        × HasOutcome O.told O.left O.ends O.faults limit result.0 total result.1.items × (total ≤ limit) × ((t : O.told) → OwnMore (passes_in passes.old) (passes_in passes.new) (marks t)) }
+    ensures served { (total : ℕ) × (marks : O.told → List SessionMarks)
+        × AreServedDoors O.told O.given O.left O.faults O.back
+        (IsServedBy counters.now passes.new) total marks doors.items result.1.items
+        × HasOutcome O.told O.left O.ends O.faults limit result.0 total result.1.items × (total ≤ limit)
+        × ((t : O.told) → OwnMore (passes_in passes.old) (passes_in passes.new) (marks t)) }
 {
     let count = doors.len();
     let (Ok(crew_room), Ok(room)) = (room_for(alloc, count), room_for(alloc, count)) else {

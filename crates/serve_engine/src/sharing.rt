@@ -34,7 +34,8 @@ type Apart<'w, D> = (Vec<Keeper<'w>>, Vec<Counter<'w, D>>, Vec<DeskPass<D>>);
 /// Empty lists with the room for so many seats taken apart.
 fn rooms_for<'w, D: Disk + Drop>(alloc: Global, count: usize) -> Result<Apart<'w, D>, AllocError>
     ensures empty { IfOk result (λ rooms. (rooms.0.items ≡ []) × (rooms.1.items ≡ []) × (rooms.2.items ≡ [])) }
-    ensures room { IfOk result (λ rooms. (count ≤ vec_capacity rooms.0) × (count ≤ vec_capacity rooms.1) × (count ≤ vec_capacity rooms.2)) }
+    ensures room { IfOk result (λ rooms. (count ≤ vec_capacity rooms.0) × (count ≤ vec_capacity rooms.1)
+        × (count ≤ vec_capacity rooms.2)) }
 {
     let keepers = room_for(alloc, count)?;
     let counters = room_for(alloc, count)?;
@@ -45,7 +46,8 @@ fn rooms_for<'w, D: Disk + Drop>(alloc: Global, count: usize) -> Result<Apart<'w
 /// Takes seats apart, into lists with the room for them.
 fn take_apart<'w, D: Disk + Drop>(rooms: Apart<'w, D>, seats: Vec<DeskSeat<'w, D>>) -> Apart<'w, D>
     requires empty { (rooms.0.items ≡ []) × (rooms.1.items ≡ []) × (rooms.2.items ≡ []) }
-    requires room { (length seats.items ≤ vec_capacity rooms.0) × (length seats.items ≤ vec_capacity rooms.1) × (length seats.items ≤ vec_capacity rooms.2) }
+    requires room { (length seats.items ≤ vec_capacity rooms.0) × (length seats.items ≤ vec_capacity rooms.1)
+        × (length seats.items ≤ vec_capacity rooms.2) }
     ensures keepers { result.0.items ≡ map keeper_of seats.entry.items }
     ensures counters { result.1.items ≡ map seat_counter seats.entry.items }
     ensures passes { result.2.items ≡ map seat_pass seats.entry.items }
@@ -121,8 +123,11 @@ pub(crate) fn serve_seats<
     requires whole { All (λ door. O.faults door ≡ 0) doors.items }
     requires unended { All (λ door. O.ends door ≡ 0) doors.items }
     ensures on { AreSeatsOn seats.entry.items result.1.items }
-    ensures served { (total : ℕ) × (marks : O.told → List SessionMarks) × AreServedDoors O.told O.given O.left O.faults O.back (IsServedAt users.now result.1.items) total marks doors.items result.2.items
-        × HasOutcome O.told O.left O.ends O.faults limit result.0 total result.2.items × (total ≤ limit) × ((t : O.told) → OwnMore (map seat_pass seats.entry.items) (map seat_pass result.1.items) (marks t)) }
+    ensures served { (total : ℕ) × (marks : O.told → List SessionMarks)
+        × AreServedDoors O.told O.given O.left O.faults O.back
+        (IsServedAt users.now result.1.items) total marks doors.items result.2.items
+        × HasOutcome O.told O.left O.ends O.faults limit result.0 total result.2.items × (total ≤ limit)
+        × ((t : O.told) → OwnMore (map seat_pass seats.entry.items) (map seat_pass result.1.items) (marks t)) }
 {
     let count = seats.len();
     let (Ok(rooms), Ok(room)) = (rooms_for(alloc, count), room_for(alloc, count)) else {

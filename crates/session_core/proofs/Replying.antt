@@ -19,10 +19,10 @@ use Rattle.desk_counter.specs.declared.item.Item.{Item}
 use Rattle.desk_counter.specs.declared.item.Item.TheVariants.{Kept, Broke}
 use Rattle.desk_counter.specs.declared.item.Fixed.{Fixed}
 use Rattle.desk_counter.specs.Items.{history_of, has_broke}
-use Rattle.desk_counter.specs.Asks.{entry_for, NoMark, Adds, told as adds_told, broke as adds_broke, coded as adds_coded, wanted as adds_wanted, Asked}
+use Rattle.desk_counter.specs.Asks.{entry_for, NoMark, Adds, answered as adds_answered, broke as adds_broke, coded as adds_coded, wanted as adds_wanted, Asked}
 use Rattle.desk_counter.proofs.Asking.{flying_broke}
 use Rattle.desk_counter.proofs.Pairs.{history_all}
-use Rattle.session_core.specs.Replied.{IsCode, Replied, nothing, told, coded, append_failed, wanted}
+use Rattle.session_core.specs.Replied.{IsUnmarked, Replied, nothing, answered, coded, append_failed, wanted}
 use Rattle.session_core.specs.Desks.{Asks, AreReplied}
 
 module _ (schema : DatabaseSchema) (world : FactSet) (user : UserProfile) (standing : Standing) where
@@ -33,8 +33,8 @@ module _ (schema : DatabaseSchema) (world : FactSet) (user : UserProfile) (stand
   pub from_earlier : (history : History) (broke : Bool) {least least' : ℕ} {failed failed' : Bool} {asks : List (Text × Run.Reply)} {entries : History} → least' ≤ least → (failed' ≡ true → failed ≡ true)
       → Chain history broke least failed asks entries → Chain history broke least' failed' asks entries
   from_earlier history broke low if (nothing within fails) = nothing (omega (arith, low, within)) (λ f. fails (if f))
-  from_earlier history broke {failed' = false} low if (told before after entry least is read size answer rest) = told before after entry (omega (arith, low, least)) is read size answer rest
-  from_earlier history broke {failed' = true} low if (told before after entry least is read size answer rest) = let e : false ≡ true = if refl in absurd cc
+  from_earlier history broke {failed' = false} low if (answered before after entry least is read size answer rest) = answered before after entry (omega (arith, low, least)) is read size answer rest
+  from_earlier history broke {failed' = true} low if (answered before after entry least is read size answer rest) = let e : false ≡ true = if refl in absurd cc
   from_earlier history broke low if (coded before after now least is on none answer rest) = coded before after now (omega (arith, low, least)) is (λ f. on (if f)) none answer rest
   from_earlier history broke low if (append_failed rest) = append_failed (from_earlier history broke low (λ f. f) rest)
   from_earlier history broke low if (wanted rest) = wanted (from_earlier history broke low if rest)
@@ -43,8 +43,8 @@ module _ (schema : DatabaseSchema) (world : FactSet) (user : UserProfile) (stand
   pub replied_then : (first more : History) (broke broke' : Bool) {least : ℕ} {failed : Bool} {asks asks' : List (Text × Run.Reply)} {entries entries' : History} → (broke ≡ true → broke' ≡ true)
       → Chain first broke least failed asks entries → Chain (first ++ more) broke' (length first) broke asks' entries' → Chain (first ++ more) broke' least failed (asks ++ asks') (entries ++ entries')
   replied_then first more broke broke' on (nothing within fails) last = from_earlier (first ++ more) broke' within fails last
-  replied_then first more broke broke' on (told before after entry least is read size answer rest) last =
-      told before (after ++ more) entry least (ap (λ h. h ++ more) is ∙ append_assoc before (entry ∷ after) more) read size answer (replied_then first more broke broke' on rest last)
+  replied_then first more broke broke' on (answered before after entry least is read size answer rest) last =
+      answered before (after ++ more) entry least (ap (λ h. h ++ more) is ∙ append_assoc before (entry ∷ after) more) read size answer (replied_then first more broke broke' on rest last)
   replied_then first more broke broke' on (coded before after now least is if none answer rest) last =
       coded before (after ++ more) now least (ap (λ h. h ++ more) is ∙ append_assoc before after more) if none answer (replied_then first more broke broke' on rest last)
   replied_then first more broke broke' on (append_failed rest) last = append_failed (replied_then first more broke broke' on rest last)
@@ -92,7 +92,7 @@ module _ {D : Type 0} (fixed : Fixed D) where
         used = omega (arith, first.used, last.used, two);
       }
 
-  code_told : (code : Reply) → NoMark code → IsCode (reply_of code)
+  code_told : (code : Reply) → NoMark code → IsUnmarked (reply_of code)
   code_told (Mark mark) none = absurd none
   code_told (Syntax refusal) none = tt
   code_told Full none = tt
@@ -127,7 +127,7 @@ module _ {D : Type 0} (fixed : Fixed D) where
       }
 
       of_adds : {code : Reply} → Adds fixed asked.ticket text asked.found (seen new) code → Asks fixed old new ((text, reply_of code) ∷ [])
-      of_adds (adds_told {query = query} {mark = mark} served answer added) =
+      of_adds (adds_answered {query = query} {mark = mark} served answer added) =
           let entry = entry_for query mark text in
           let whole = added in
           let grown : history_of (seen new) ≡ history_of asked.found ++ entry ∷ [] = ap history_of added ∙ history_all asked.found ((asked.ticket, Kept entry) ∷ []) in
@@ -135,7 +135,7 @@ module _ {D : Type 0} (fixed : Fixed D) where
           let never : has_broke (seen old) ≡ true → false ≡ true = λ b. sym (ap (λ o. is_some o) served.1) ∙ failed_before b in
           made (Mark mark) (entry ∷ [])
           (from_earlier fixed.schema fixed.world fixed.user (standing_of fixed.standing) (history_of (seen new)) (has_broke (seen new)) begun never
-          (told (history_of asked.found) [] entry (omega arith) grown answer.read refl
+          (answered (history_of asked.found) [] entry (omega arith) grown answer.read refl
           (ap (λ s. reply fixed.schema fixed.world fixed.user (history_of asked.found) s false text) served.0 ∙ answer.answer) (nothing (omega (arith, more)) (λ f. absurd cc))))
           (ap history_of (asked.own.one (asked.ticket, Kept entry) added) ∙ history_all (mine old) ((asked.ticket, Kept entry) ∷ []))
           ((asked.ticket, Kept entry) ∷ [], added)

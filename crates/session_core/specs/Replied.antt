@@ -7,31 +7,32 @@ use Rattle.cqe_base.specs.History.{UserProfile, AnsweredQuery, History}
 use Rattle.cqe_base.specs.Run.{Standing, Reply, reply, marked, no_sentence, history_full, too_large, user_closed, desk_sealed, desk_broken, no_memory}
 
 -- a reply that is no mark
-abbrev pub IsCode : Reply → Type 0
-IsCode (marked mark) = ⊥
-IsCode (no_sentence kind place) = Unit {0}
-IsCode history_full = Unit {0}
-IsCode too_large = Unit {0}
-IsCode user_closed = Unit {0}
-IsCode desk_sealed = Unit {0}
-IsCode desk_broken = Unit {0}
-IsCode no_memory = Unit {0}
+abbrev pub IsUnmarked : Reply → Type 0
+IsUnmarked (marked mark) = ⊥
+IsUnmarked (no_sentence kind place) = Unit {0}
+IsUnmarked history_full = Unit {0}
+IsUnmarked too_large = Unit {0}
+IsUnmarked user_closed = Unit {0}
+IsUnmarked desk_sealed = Unit {0}
+IsUnmarked desk_broken = Unit {0}
+IsUnmarked no_memory = Unit {0}
 
 -- The user's history and whether an append failed, as they are in the end.
 module _ (schema : DatabaseSchema) (world : FactSet) (user : UserProfile) (standing : Standing) (history : History) (broke : Bool) where
   -- The asks of a session with their replies. Each is replied to by the first entries of the history, of which there are
   -- never fewer than at the ask before; a mark has its own entry just behind them, and the next ask has it among its own.
-  -- From an ask on that was answered that an append failed, it is so. The last list are the entries of the marks.
+  -- Behind an ask that was answered that an append failed, all asks find it failed, and so it is in the end. The last list
+  -- are the entries of the marks.
   pub data Replied : (least : ℕ) (failed : Bool) → List (Text × Reply) → History → Type 0 where
     nothing : {least : ℕ} {failed : Bool} → least ≤ length history → (failed ≡ true → broke ≡ true) → Replied least failed [] []
-    told : {least : ℕ} {text : Text} {asks : List (Text × Reply)} {entries : History} (before after : History) (entry : AnsweredQuery)
+    answered : {least : ℕ} {text : Text} {asks : List (Text × Reply)} {entries : History} (before after : History) (entry : AnsweredQuery)
         → least ≤ length before → history ≡ before ++ entry ∷ after
         → reading schema text ≡ Ok entry.query → entry.length ≡ length text → reply schema world user before standing false text ≡ marked entry.mark
         → Replied (suc (length before)) false asks entries
         → Replied least false ((text, marked entry.mark) ∷ asks) (entry ∷ entries)
     coded : {least : ℕ} {failed : Bool} {text : Text} {code : Reply} {asks : List (Text × Reply)} {entries : History} (before after : History) (failed_now : Bool)
         → least ≤ length before → history ≡ before ++ after → (failed ≡ true → failed_now ≡ true)
-        → IsCode code → reply schema world user before standing failed_now text ≡ code
+        → IsUnmarked code → reply schema world user before standing failed_now text ≡ code
         → Replied (length before) failed_now asks entries
         → Replied least failed ((text, code) ∷ asks) entries
     append_failed : {least : ℕ} {failed : Bool} {text : Text} {asks : List (Text × Reply)} {entries : History}

@@ -56,7 +56,8 @@ impl<'w, D: Disk> CountersOf<'w, TicketedDesk<'w, D>> {
     pub fn split(&self, alloc: Global, passes: &mut Passes<D>) -> Result<Passes<D>, AllocError>
         requires passes { ArePassesOf passes.old self.now }
         requires room { AllByRecursion CanSplit (passes_in passes.old) }
-        ensures split { IfOk result (λ parts. AreSplit self.now.counters.items (passes_in passes.old) (passes_in passes.new) (passes_in parts)) }
+        ensures split { IfOk result (λ parts. AreSplit self.now.counters.items (passes_in passes.old)
+            (passes_in passes.new) (passes_in parts)) }
         ensures same { OnErr result (passes.new ≡ passes.old) }
     {
         let mut parts = Vec::new(alloc);

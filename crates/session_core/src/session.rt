@@ -60,6 +60,7 @@ fn login_place(users: &[User], name: &str, phrase: &str) -> Option<usize>
                     None
                 }
             } else {
+                // A `match` and not `map`: the proof has the place as a case of its own.
                 match login_place(others, name, phrase) {
                     Some(place) => Some(place + 1),
                     None => None,
@@ -84,7 +85,8 @@ fn ask_at<R: Wait, D: Disk, G: Gate>(
     requires turns { AllByRecursion (λ pass. 2 ≤ turns pass) (passes_in passes.old) }
     requires short { length text.now ≤ 4096 }
     ensures passes { ArePassesOf passes.new counters.now }
-    ensures asked { AsksAt place (fixeds_of counters.now) (passes_in passes.old) (passes_in passes.new) ((text.now, reply_of result) ∷ []) }
+    ensures asked { AsksAt place (fixeds_of counters.now) (passes_in passes.old) (passes_in passes.new)
+        ((text.now, reply_of result) ∷ []) }
 {
     let counter = &counters.counters[place];
     let pass = &mut passes.passes[place];
@@ -108,7 +110,8 @@ fn reply_to<R: Wait, D: Disk, G: Gate>(
     requires short { IsShort (meaning_of request) }
     ensures passes { ArePassesOf passes.new counters.now }
     ensures place { IfSome result.0 (λ place. place < length (fixeds_of counters.now)) }
-    ensures replies { Replies (users_of counters.now) (fixeds_of counters.now) who (meaning_of request.entry) result.0 (text_of result.1) (passes_in passes.old) (passes_in passes.new) }
+    ensures replies { Replies (users_of counters.now) (fixeds_of counters.now) who (meaning_of request.entry) result.0
+        (text_of result.1) (passes_in passes.old) (passes_in passes.new) }
 {
     match (request, who) {
         (Request::Login { user, phrase }, None) => match login_place(counters.users, user, phrase) {
@@ -136,8 +139,8 @@ fn is_quit(request: &Request<'_>) -> bool
 }
 
 /// Serves a session: reads lines from the source up to `quit`, the end of the input, a line that is too long or the
-/// 100,000th, and writes a reply to each. An ask is replied to by the history of the user who logged in, and only his pass
-/// changes. It waits for other sessions of that user, and makes at most 2^26 turns.
+/// 100,000th, and writes a reply to each. An ask is replied to by the history of the user who logged in, and only his
+/// pass changes. It waits for other sessions of that user, and makes at most 2^26 turns.
 pub fn serve_session<R: Wait, D: Disk, S: Source, K: Sink, G: Gate>(
     rt: &R,
     alloc: Global,
@@ -151,7 +154,8 @@ pub fn serve_session<R: Wait, D: Disk, S: Source, K: Sink, G: Gate>(
     requires counted { length (users_of counters.now) ≡ length (fixeds_of counters.now) }
     requires turns { AllByRecursion (λ pass. 2 ^ 26 ≤ turns pass) (passes_in passes.old) }
     ensures passes { ArePassesOf passes.new counters.now }
-    ensures session { Session S.told K.told (users_of counters.now) (fixeds_of counters.now) result (S.left source.old) (passes_in passes.old) (passes_in passes.new) (K.written sink.old) (K.written sink.new) }
+    ensures session { Session S.told K.told (users_of counters.now) (fixeds_of counters.now) result (S.left source.old)
+        (passes_in passes.old) (passes_in passes.new) (K.written sink.old) (K.written sink.new) }
     ensures held { S.held source.new ≡ S.held source.old }
     ensures answers { K.answers sink.new ≡ K.answers sink.old }
     ensures source_later { S.faults source.old ≤ S.faults source.new }
@@ -185,8 +189,10 @@ pub fn serve_session<R: Wait, D: Disk, S: Source, K: Sink, G: Gate>(
 /// Replies to a line that is too long.
 fn end_too_long<K: Sink>(sink: &mut K) -> Ended
     ensures ends { (result ≡ Ended.TooLong) ⊎ (result ≡ Ended.WriteFault) }
-    ensures whole { result ≡ Ended.TooLong → K.told → K.written sink.new ≡ K.written sink.old ++ (text_of (Reply.Code 26) ++ codes "\n") }
-    ensures part { result ≡ Ended.WriteFault → K.told → AppendsPart (K.written sink.old) (K.written sink.new) (text_of (Reply.Code 26) ++ codes "\n") }
+    ensures whole { result ≡ Ended.TooLong → K.told
+        → K.written sink.new ≡ K.written sink.old ++ (text_of (Reply.Code 26) ++ codes "\n") }
+    ensures part { result ≡ Ended.WriteFault → K.told
+        → AppendsPart (K.written sink.old) (K.written sink.new) (text_of (Reply.Code 26) ++ codes "\n") }
     ensures answers { K.answers sink.new ≡ K.answers sink.old }
     ensures later { K.faults sink.old ≤ K.faults sink.new }
     ensures cause { result ≡ Ended.WriteFault → Rose (K.faults sink.old) (K.faults sink.new) }

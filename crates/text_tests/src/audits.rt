@@ -1,4 +1,4 @@
-// Audits as text and as JSON, with texts that were worked out by hand.
+//! Audits as text and as JSON, with texts that were worked out by hand.
 use audit_text::{EntryRow, Report, SecretRow, lines_of};
 use cqe_base::user::Mark;
 use std::alloc::{AllocError, Global};

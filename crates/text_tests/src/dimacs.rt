@@ -1,4 +1,4 @@
-// Files, statuses and outputs that an independent program gave, the shorter ones worked out by hand too.
+//! Files, statuses and outputs that an independent program gave, the shorter ones worked out by hand too.
 use dimacs_text::answer_input;
 use outside::{MemorySink, MemorySource, Pieces, Plan};
 use std::alloc::{AllocError, Global};

@@ -1,4 +1,5 @@
-// Truth of a sentence in a world.
+//! Truth of a sentence in a world.
+
 ghost use Rattle.std.specs.Prelude.{◌≡◌, true, ◌+◌, ◌≤◌, ◌<◌, [], ◌∷◌, ◌++◌, length, take, map};
 ghost use Rattle.std.specs.List.{list_all, list_any};
 ghost use Rattle.std.specs.FinSet as set;

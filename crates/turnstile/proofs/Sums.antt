@@ -1,4 +1,6 @@
 -- Sums over a list that is read by `get_elem?`, and numbers that are counted once.
+-- `set_there`, `sum_set` and `sum_at` stand in `worker_pool` too: std says them by `get_or` below a length, not by `get_elem?`,
+-- and no crate of this repository stands below both.
 use Rattle.std.proofs.Common.{◌≡◌, ◌≢◌, ℕ, zero, suc, ◌+◌, ◌<◌, ◌≤◌, eqb, cond, Bool, List, [], ◌∷◌, ◌++◌, set, sum_by, refl, sym, ap, ◌∙◌, subst, arith, eq-eqb, ne_eqb}
 use Rattle.std.proofs.lemmas.List.Sums.{sum_by-cons, sum_by-append}
 use mathlib.Core.Logic.{dite}

@@ -12,7 +12,8 @@ use std::snapshot::Snapshot;
 use std::sync::Wait;
 use std::{mem, thread};
 
-/// A value that moves from turn to turn. Word 0 is the ticket to be drawn next, word 1 the ticket that is served, and slot 0 has the value.
+/// A value that moves from turn to turn. Word 0 is the ticket to be drawn next, word 1 the ticket that is served, and
+/// slot 0 has the value.
 #[derive(Drop)]
 pub struct Turnstile<V: Recorded> {
     table: Table<Option<V>, View<V::Item, V::Fixed>, Snapshot<V>, Ticketed, Global>,
@@ -48,7 +49,8 @@ impl<V: Recorded> Turnstile<V> {
     ghost use Rattle.turnstile.specs.Views.{opening_view, turn_view, outside_view, remaining_view, split_off_view, view_of_both, DrewEachOnce};
     ghost use Rattle.turnstile.specs.Passes.{IsReady, IsAway, IsOf, first_value, IsAt, view_of, seen, tickets, mine, fixed, shares, turns, ticket_of, view_in, entries_before, mine_before};
 
-    /// Puts a value under a turnstile. The pass has all 65 shares and 65 * 2^57 turns. For want of memory the value comes back.
+    /// Puts a value under a turnstile. The pass has all 65 shares and 65 * 2^57 turns. For want of memory the value
+    /// comes back.
     pub fn new(alloc: Global, value: V) -> Result<(Turnstile<V>, Pass<V::Item, V::Fixed>), V>
         requires { IsOpening (V.entries value) }
         ensures place { IfOk result (λ t. IsOf t.1 t.0 × IsReady t.1) }
@@ -92,10 +94,12 @@ impl<V: Recorded> Turnstile<V> {
         requires room { (shares pass.old ≡ 1) ⊎ (2 ^ 57 ≤ turns pass.old) }
         ensures place { IsOf pass.new self.now × IsReady pass.new }
         ensures rest { OnOk result (view_of pass.new ≡ remaining_view (view_of pass.old)) }
-        ensures part { IfOk result (λ p. IsOf p self.now × IsReady p × (view_of p ≡ split_off_view (view_of pass.old))) }
+        ensures part { IfOk result (λ p. IsOf p self.now × IsReady p
+            × (view_of p ≡ split_off_view (view_of pass.old))) }
         ensures mine { IfOk result (λ p. mine p ≡ []) }
         ensures ok { OnOk result (1 < shares pass.old) }
-        ensures err { IfErr result (λ e. (e ≡ TooMany) × (shares pass.old ≡ 1) × (view_of pass.new ≡ view_of pass.old)) }
+        ensures err { IfErr result (λ e. (e ≡ TooMany) × (shares pass.old ≡ 1)
+            × (view_of pass.new ≡ view_of pass.old)) }
     {
         if pass.shares == 1 {
             return Err(PassError::TooMany);
@@ -113,7 +117,8 @@ impl<V: Recorded> Turnstile<V> {
         })
     }
 
-    /// Joins another pass to this one: the shares, the turns and the tickets add up, and the longer of both lists has been seen.
+    /// Joins another pass to this one: the shares, the turns and the tickets add up, and the longer of both lists has
+    /// been seen.
     pub fn meet(&self, pass: &mut Pass<V::Item, V::Fixed>, other: Pass<V::Item, V::Fixed>)
         requires this { IsOf pass.old self.now × IsReady pass.old }
         requires that { IsOf other self.now × IsReady other }
@@ -122,8 +127,10 @@ impl<V: Recorded> Turnstile<V> {
         ensures fixed { fixed pass.old ≡ fixed other }
 
         // Each had seen a prefix, in which all entries with its tickets were.
-        ensures this { IsPrefix (seen pass.old) (seen pass.new) × (entries_with (tickets pass.old) (seen pass.new) ≡ mine pass.old) }
-        ensures that { IsPrefix (seen other) (seen pass.new) × (entries_with (tickets other) (seen pass.new) ≡ mine other) }
+        ensures this { IsPrefix (seen pass.old) (seen pass.new)
+            × (entries_with (tickets pass.old) (seen pass.new) ≡ mine pass.old) }
+        ensures that { IsPrefix (seen other) (seen pass.new)
+            × (entries_with (tickets other) (seen pass.new) ≡ mine other) }
 
         // The entries of both are put together in the order of their tickets, and no ticket was drawn twice.
         ensures mine { Interleaves (mine pass.old) (mine other) (mine pass.new) }
@@ -174,7 +181,8 @@ impl<V: Recorded> Turnstile<V> {
         ensures view { view_in result ≡ turn_view (view_of pass.old) (ticket_of result) (V.entries result.value) }
         ensures fixed { fixed pass.old ≡ Some (V.fixed result.value) }
 
-        // What the pass had seen is a prefix, in which all entries with its tickets were, and it is all where the pass has all shares.
+        // What the pass had seen is a prefix, in which all entries with its tickets were, and it is all where the pass
+        // has all shares.
         ensures later { IsPrefix (seen pass.old) (V.entries result.value) }
         ensures whole { shares pass.old ≡ 65 → V.entries result.value ≡ seen pass.old }
         ensures own { entries_with (tickets pass.old) (V.entries result.value) ≡ mine pass.old }

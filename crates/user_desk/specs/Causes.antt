@@ -63,7 +63,7 @@ module _ (schema : DatabaseSchema) (world : FactSet) (user : UserProfile) where
       IsJournal header (records bytes) bytes × (admitted schema world user ≡ false) × (admission ≡ admission_of schema world user) × (records bytes ≢ [])
   Refuses header bytes why = IsJournal header (records bytes) bytes × (admitted schema world user ≡ true) × RefusesRecords (records bytes) why
 
-  -- why a desk is sealed: a fault of the disk, or the bytes, where clauses are told of them
+  -- why a desk is sealed: a fault of the disk, whose count of faults rose, or the bytes, where clauses are told of them
   abbrev pub IsSealedBy : Type 0 → List ℕ → List ℕ → ℕ → ℕ → DeskError → Type 0
   IsSealedBy told header bytes before now (Journal Memory) = ⊥
   IsSealedBy told header bytes before now (Journal DiskFault) = Rose before now

@@ -26,14 +26,16 @@ module _ (schema : DatabaseSchema) (world : FactSet) (user : UserProfile) where
     pub sought : found ≡ true → is_some state.pending ≡ true
     pub opens : Opens schema world user header (entries_found schema world user state found) bytes
 
-  -- an ask of the text, with some ending, makes of the state one of these, and has this reply; an append failed only where the count of faults rose
-  pub record Settles (is_now : UserState → Type 0) (state : UserState) (text : Text) (told : Reply) (before now : ℕ) : Type 0 where
+  -- an ask of the text, with some ending, leads from the state to one that is now, and has this reply; an append failed
+  -- only where the count of faults rose
+  pub record Settles (is_now : UserState → Type 0) (state : UserState) (text : Text) (answer : Reply) (before now : ℕ) : Type 0 where
     pub ending : Ending
     pub after : is_now (after_event schema world user state (ask text ending))
-    pub reply : told ≡ reply_to_ask schema world user state text ending
+    pub reply : answer ≡ reply_to_ask schema world user state text ending
     pub cause : ending ≡ failed → Rose before now
 
-  -- a restart makes of the state one of these; it finds only an entry that was in flight, and the journal was refused only where the count of faults rose
+  -- a restart leads from the state to one that is now; it finds only an entry that was in flight, and the journal was
+  -- refused only where the count of faults rose
   pub record Restarts (is_now : UserState → Type 0) (state : UserState) (before now : ℕ) : Type 0 where
     pub found : Bool
     pub opened : Bool
@@ -43,8 +45,8 @@ module _ (schema : DatabaseSchema) (world : FactSet) (user : UserProfile) where
 
   -- a desk with this standing, which shows this state, answers every text so and stays as it is
   abbrev pub AnswersAll : Standing → UserState → Reply → Type 0
-  AnswersAll standing desk_state told =
-      (state : UserState) → IsState standing desk_state state → (text : Text) (count : ℕ) → Settles (IsState standing desk_state) state text told count count
+  AnswersAll standing desk_state answer =
+      (state : UserState) → IsState standing desk_state state → (text : Text) (count : ℕ) → Settles (IsState standing desk_state) state text answer count count
 
   -- in this state no text adds an entry
   abbrev pub AddsNone : UserState → Type 0

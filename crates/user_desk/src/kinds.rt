@@ -1,4 +1,4 @@
-// The kinds of records and the marks that they stand for.
+//! The kinds of records and the marks that they stand for.
 ghost use Rattle.std.specs.Prelude.{◌≡◌, ◌≤◌, Some};
 ghost use Rattle.user_desk.specs.Entries.{kind_of, mark_of};
 

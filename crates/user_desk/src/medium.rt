@@ -1,4 +1,4 @@
-// A disk under a journal, or as it is where the journal was refused.
+//! A disk under a journal, or as it is where the journal was refused.
 ghost use Rattle.std.specs.Prelude.{◌≡◌, ◌≤◌, List, ℕ, true, false, length, OnOk, OnErr};
 ghost use Rattle.outside.specs.Disk.{Elapses};
 ghost use Rattle.outside.specs.Faults.{Rose};
@@ -43,10 +43,15 @@ impl<D: Disk> Medium<D> {
         requires high { kind ≤ 4 }
         requires short { length text.now ≤ 4096 }
         ensures journal { is_journal self.new ≡ true }
-        ensures added { D.told → OnOk result ((c : List ℕ) → D.image (medium_disk self.new) c → Adds (D.reads (medium_disk self.old)) (kind, text.now) c) }
-        ensures either { D.told → OnErr result ((c : List ℕ) → D.image (medium_disk self.new) c → KeepsOrAdds (D.reads (medium_disk self.old)) (kind, text.now) c) }
-        ensures moments { D.told → (c : List ℕ) → D.image_since (medium_disk self.new) (D.moment (medium_disk self.old)) c → KeepsOrAdds (D.reads (medium_disk self.old)) (kind, text.now) c }
-        ensures time { Elapses (D.moment (medium_disk self.old)) (D.moment (medium_disk self.new)) (D.image_since (medium_disk self.old)) (D.image_since (medium_disk self.new)) }
+        ensures added { D.told → OnOk result ((c : List ℕ) → D.image (medium_disk self.new) c
+            → Adds (D.reads (medium_disk self.old)) (kind, text.now) c) }
+        ensures either { D.told → OnErr result ((c : List ℕ) → D.image (medium_disk self.new) c
+            → KeepsOrAdds (D.reads (medium_disk self.old)) (kind, text.now) c) }
+        ensures moments { D.told → (c : List ℕ)
+            → D.image_since (medium_disk self.new) (D.moment (medium_disk self.old)) c
+            → KeepsOrAdds (D.reads (medium_disk self.old)) (kind, text.now) c }
+        ensures time { Elapses (D.moment (medium_disk self.old)) (D.moment (medium_disk self.new))
+            (D.image_since (medium_disk self.old)) (D.image_since (medium_disk self.new)) }
         ensures whole { OnOk result (is_failed self.new ≡ false) }
         ensures failed { OnErr result (is_failed self.new ≡ true) }
         ensures count { D.faults (medium_disk self.old) ≤ D.faults (medium_disk self.new) }

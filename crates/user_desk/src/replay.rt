@@ -1,4 +1,4 @@
-// The records of a journal, gone through as the entries of a user.
+//! The records of a journal, gone through as the entries of a user.
 ghost use Rattle.std.specs.Prelude.{◌≡◌, ◌≤◌, true, IfOk, Some, All, map, ◌↔◌, IsTrue};
 ghost use Rattle.cqe_base.specs.History.{profile_of};
 ghost use Rattle.cqe_base.specs.Limits.{KeepsLimits};
@@ -30,7 +30,8 @@ pub(crate) fn replay<'w>(
     requires limits { KeepsLimits schema.now (profile_of user.now) }
     requires each { All IsRecord records.now }
     ensures log { IfOk result (λ r. IsLogOf schema.now world.now (profile_of user.now) r.0) }
-    ensures replay { IfOk result (λ r. IsReplay schema.now world.now (profile_of user.now) (map recorded records.now) (kept_history r.0) r.1) }
+    ensures replay { IfOk result (λ r. IsReplay schema.now world.now (profile_of user.now) (map recorded records.now)
+        (kept_history r.0) r.1) }
 {
     let admission = admit(alloc, schema, world, user)?;
     if admission == Admission::Open {
@@ -55,7 +56,8 @@ fn replay_records<'w>(
     requires each { All IsRecord records.now }
     requires admitted { admitted schema.now world.now (profile_of user.now) ≡ true }
     ensures log { IfOk result (λ r. IsLogOf schema.now world.now (profile_of user.now) r.0) }
-    ensures replay { IfOk result (λ r. IsReplay schema.now world.now (profile_of user.now) (map recorded records.now) (kept_history r.0) r.1) }
+    ensures replay { IfOk result (λ r. IsReplay schema.now world.now (profile_of user.now) (map recorded records.now)
+        (kept_history r.0) r.1) }
 {
     let mut log = UserLog::new(alloc, schema, world, user)?;
     for next in records {
@@ -76,7 +78,8 @@ fn take_record(
 ) -> Result<Option<DeskError>, AllocError>
     requires { IsRecord next.now }
     ensures same { IsOfSame log.old log.new }
-    ensures taken { IfOk result (IsTaken (kept_schema log.old) (kept_world log.old) (kept_user log.old) (kept_history log.old) (kept_history log.new) (recorded next.now)) }
+    ensures taken { IfOk result (IsTaken (kept_schema log.old) (kept_world log.old) (kept_user log.old)
+        (kept_history log.old) (kept_history log.new) (recorded next.now)) }
 {
     law_sentences_are_ascii();
     log.known();

@@ -1,4 +1,4 @@
-// Whether a user is served, and why his journal is refused.
+//! Whether a user is served, and why his journal is refused.
 use censors::Admission;
 use cqe_base::user::Mark;
 use log_journal::OpenError;

@@ -1,4 +1,4 @@
-// Where a desk keeps its disk, and what that disk was at the desk's opening.
+//! Where a desk keeps its disk, and what that disk was at the desk's opening.
 ghost use Rattle.std.specs.Prelude.{◌≡◌, ◌≤◌, List, ℕ, true, false, length, OnOk, OnErr};
 ghost use Rattle.outside.specs.Disk.{Elapses};
 ghost use Rattle.outside.specs.Faults.{Rose};
@@ -73,10 +73,15 @@ impl<D: Disk> Store<D> {
         requires high { kind ≤ 4 }
         requires short { length text.now ≤ 4096 }
         ensures journal { has_journal self.new ≡ true }
-        ensures added { D.told → OnOk result ((c : List ℕ) → D.image (stored_disk self.new) c → Adds (D.reads (stored_disk self.old)) (kind, text.now) c) }
-        ensures either { D.told → OnErr result ((c : List ℕ) → D.image (stored_disk self.new) c → KeepsOrAdds (D.reads (stored_disk self.old)) (kind, text.now) c) }
-        ensures moments { D.told → (c : List ℕ) → D.image_since (stored_disk self.new) (D.moment (stored_disk self.old)) c → KeepsOrAdds (D.reads (stored_disk self.old)) (kind, text.now) c }
-        ensures time { Elapses (D.moment (stored_disk self.old)) (D.moment (stored_disk self.new)) (D.image_since (stored_disk self.old)) (D.image_since (stored_disk self.new)) }
+        ensures added { D.told → OnOk result ((c : List ℕ) → D.image (stored_disk self.new) c
+            → Adds (D.reads (stored_disk self.old)) (kind, text.now) c) }
+        ensures either { D.told → OnErr result ((c : List ℕ) → D.image (stored_disk self.new) c
+            → KeepsOrAdds (D.reads (stored_disk self.old)) (kind, text.now) c) }
+        ensures moments { D.told → (c : List ℕ)
+            → D.image_since (stored_disk self.new) (D.moment (stored_disk self.old)) c
+            → KeepsOrAdds (D.reads (stored_disk self.old)) (kind, text.now) c }
+        ensures time { Elapses (D.moment (stored_disk self.old)) (D.moment (stored_disk self.new))
+            (D.image_since (stored_disk self.old)) (D.image_since (stored_disk self.new)) }
         ensures whole { OnOk result (has_failed self.new ≡ false) }
         ensures failed { OnErr result (has_failed self.new ≡ true) }
         ensures count { D.faults (stored_disk self.old) ≤ D.faults (stored_disk self.new) }

@@ -1,4 +1,6 @@
 -- Sums over the hands of all drawers, and over the numbers below one.
+-- `set_there`, `sum_set` and `sum_at` stand in `turnstile` too: std says them by `get_or` below a length, not by `get_elem?`,
+-- and no crate of this repository stands below both.
 use Rattle.std.proofs.Common.{◌≡◌, ℕ, zero, suc, ◌+◌, ◌≤◌, cond, lt-ltb, min, Bool, List, [], ◌∷◌, ◌++◌, set, sum_by, refl, sym, ap, arith}
 use Rattle.std.proofs.lemmas.List.Sums.{sum_by-cons, sum_by-append}
 use Rattle.std.proofs.lemmas.Bool.{le-ltb}

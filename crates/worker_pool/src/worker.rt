@@ -1,7 +1,7 @@
 //! A worker: what it does with a connection, and how it ends.
 ghost use Rattle.std.specs.Prelude.{◌≡◌, ◌≤◌, ◌<◌, ◌+◌, ◌++◌, ◌∷◌, ◌^◌, [], List, ℕ};
 ghost use Rattle.outside.specs.Visits.{Visit, visit_of};
-ghost use Rattle.worker_pool.specs.Jobs.{IsUntouched};
+ghost use Rattle.worker_pool.specs.Jobs.{AreUntouchedEnds};
 
 use outside::{Sink, Source};
 use std::alloc::Global;
@@ -21,7 +21,7 @@ pub trait Job<Src: Source, Snk: Sink> {
     /// The numbers that it was run with, in order, where clauses are told.
     ghost numbers: { Self → List ℕ };
 
-    /// What it says of the finished connections that it served, in order, since it was as it first is here.
+    /// What it says of these finished connections, which it served, in order, since it was as the first job here is.
     ghost stands: { Self → Self → List Visit → Type 0 };
 
     /// What each run keeps: the job before and after.
@@ -38,9 +38,13 @@ pub trait Job<Src: Source, Snk: Sink> {
         ensures answers { Snk.answers sink.new ≡ Snk.answers sink.old }
         ensures keeps { keeps self.old self.new }
 
-        // Where both ends tell their bytes and are untouched as it begins, the visit stands with the job behind all before.
-        ensures visit { IsUntouched Src.told Snk.told (Src.held source.old) (Src.left source.old) (Snk.written sink.old) (Src.faults source.old) (Snk.faults sink.old) → (first : Self) (visits : List Visit) → stands first self.old visits
-            → stands first self.new (visits ++ visit_of (Src.held source.new) (Snk.written sink.new) (Src.faults source.new) (Snk.faults sink.new) ∷ []) };
+        // Where both ends tell their bytes and are untouched as it begins, the visit stands with the job behind all
+        // before.
+        ensures visit { AreUntouchedEnds Src.told Snk.told (Src.held source.old) (Src.left source.old)
+            (Snk.written sink.old) (Src.faults source.old) (Snk.faults sink.old) → (first : Self) (visits : List Visit)
+            → stands first self.old visits
+            → stands first self.new (visits ++ visit_of (Src.held source.new) (Snk.written sink.new)
+            (Src.faults source.new) (Snk.faults sink.new) ∷ []) };
 
     /// What it says where it has served none since.
     ghost stands_none: { (job : Self) → stands job job [] };
@@ -48,7 +52,8 @@ pub trait Job<Src: Source, Snk: Sink> {
     /// What each run keeps, no runs keep and several runs keep.
     ghost keeps_none: { (job : Self) → keeps job job };
 
-    ghost keeps_more: { (before between after : Self) → keeps before between → keeps between after → keeps before after };
+    ghost keeps_more: { (before between after : Self) → keeps before between → keeps between after
+        → keeps before after };
 }
 
 /// How a worker ended.

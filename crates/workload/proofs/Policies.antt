@@ -25,14 +25,14 @@ use Rattle.sentence_text.specs.Laws.{CanonicalFormsRead}
 use Rattle.policy_files.specs.declared.error.PolicyError.TheVariants.{NotToml, WrongKind, Limit, DuplicateUser}
 use Rattle.policy_files.specs.Tree.{is_table, tables_in, declarations}
 use Rattle.policy_files.specs.Keys.{◌>>=◌, key_place, text_place, of_kind, required, within}
-use Rattle.policy_files.specs.Policies.{NamedUser}
+use Rattle.policy_files.specs.Policies.{PolicyUser}
 use Rattle.policy_files.specs.Policy.{policy_of, policy_in, tree_of, schema_in}
 use Rattle.policy_files.specs.Users.{user_of, users_behind, sentence_of, sentences_of, names_of, small_sentence, name_of, method_of, with_small_view, user_place}
 use Rattle.policy_files.proofs.Trees.{listed-items_of}
 use Rattle.workload.specs.Draws.{state_after, drawn}
 use Rattle.workload.specs.Stated.{workload_schema}
 use Rattle.workload.specs.Policies.{user_name, method_at, drug_means_illness, has_first_illness, secret_person, workload_user, workload_policy}
-use Rattle.workload.specs.Trees.{known_text, secret_text, method_word, user_tree, domain_members, relation_members, root_members, user_trees, ReadsAs}
+use Rattle.workload.specs.Trees.{known_text, secret_text, method_text, user_tree, domain_members, relation_members, root_members, user_trees, ReadsAs}
 use Rattle.workload.proofs.Drawing.{range_to}
 use Rattle.workload.proofs.Lining.{all_at}
 use Rattle.workload.proofs.Stating.{has_read}
@@ -108,7 +108,7 @@ module _ (law : CanonicalFormsRead) where
   name_step earlier number k low new =
       λ i. if has_form k low i then (if new i then Err (DuplicateUser (user_place number (codes "name"))) else Ok (user_name k)) else Err (WrongKind (user_place number (codes "name")))
 
-  method_step : (number k : ℕ) → method_of number (Some (string (method_word k))) ≡ Ok (method_at k)
+  method_step : (number k : ℕ) → method_of number (Some (string (method_text k))) ≡ Ok (method_at k)
   method_step number k = by (k % 3 == 0) (k % 3 == 1)
     where
       by : (first second : Bool) → method_of number (Some (string (if first then codes "lying" else if second then codes "refusal" else codes "combined"))) ≡ Ok (if first then methods.Lying else if second then methods.Refusal else methods.Combined)
@@ -116,7 +116,7 @@ module _ (law : CanonicalFormsRead) where
       by false true = refl
       by false false = refl
 
-  small : (number : ℕ) (name : Text) (method : Method) (a b c : ℕ) (user : NamedUser)
+  small : (number : ℕ) (name : Text) (method : Method) (a b c : ℕ) (user : PolicyUser)
       → user ≡ record { name = name; profile = record { method = method; know = drug_means_illness ∷ []; secrets = has_first_illness a ∷ has_first_illness b ∷ has_first_illness c ∷ []; budget = 1000000 }; token = None }
       → with_small_view workload_schema number user ≡ Ok user
   unfolding view_size log known told digits

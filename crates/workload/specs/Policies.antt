@@ -6,7 +6,7 @@ use Rattle.cqe_base.specs.declared.user.Method.TheVariants.{Lying, Refusal, Comb
 use Rattle.cqe_base.specs.declared.sentence.Term.TheVariants as terms
 use Rattle.cqe_base.specs.Formula.{Formula, atom, implication, universal}
 use Rattle.cqe_base.specs.Schema.{Text}
-use Rattle.policy_files.specs.Policies.{NamedUser, PolicyValue}
+use Rattle.policy_files.specs.Policies.{PolicyUser, PolicyValue}
 use Rattle.workload.specs.Draws.{drawn}
 use Rattle.workload.specs.Stated.{workload_schema}
 
@@ -31,7 +31,7 @@ abbrev pub secret_person : ℕ → ℕ → ℕ → ℕ
 secret_person seed number secret = drawn seed (620 + 3 * number + secret) 40
 
 -- the user of a number: his secrets are that three persons have the first disease
-abbrev pub workload_user : ℕ → ℕ → NamedUser
+abbrev pub workload_user : ℕ → ℕ → PolicyUser
 workload_user seed number = record {
   name = user_name number;
   profile = record {

@@ -10,11 +10,11 @@ abbrev pub statement_text : Statement → List ℕ
 statement_text (Drug person) = codes "drug(p" ++ (decimal person ++ codes ")")
 statement_text (Has person disease) = codes "has(p" ++ (decimal person ++ (codes ", d" ++ (decimal disease ++ codes ")")))
 
--- somebody has a disease
+-- the illness of this number: a person that is drawn has a disease that is drawn
 abbrev pub illness : ℕ → ℕ → Statement
 illness seed n = Has (drawn seed (2 * n) 40) (drawn seed (2 * n + 1) 12)
 
--- somebody takes the drug and has the first disease
+-- the treatment of this number: a person that is drawn takes the drug, and has the first disease
 abbrev pub treatment : ℕ → ℕ → List Statement
 treatment seed n = Drug (drawn seed (600 + n) 40) ∷ Has (drawn seed (600 + n) 40) 0 ∷ []
 

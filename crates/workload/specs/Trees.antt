@@ -20,9 +20,9 @@ insert_member key value (member other old rest) =
 abbrev pub texts_data : List Text → Data
 texts_data texts = array (items_of (map string texts))
 
--- the word of the method of a user
-abbrev pub method_word : ℕ → Text
-method_word number = if number % 3 == 0 then codes "lying" else if number % 3 == 1 then codes "refusal" else codes "combined"
+-- the word of the method of the user of a number
+abbrev pub method_text : ℕ → Text
+method_text number = if number % 3 == 0 then codes "lying" else if number % 3 == 1 then codes "refusal" else codes "combined"
 
 -- what each user knows
 abbrev pub known_text : Text
@@ -36,7 +36,7 @@ secret_text person = codes "has(p" ++ (decimal person ++ codes ", d0)")
 abbrev pub user_members : ℕ → List ℕ → Members
 user_members number persons =
     member (codes "know") (texts_data (known_text ∷ []))
-    (member (codes "method") (string (method_word number))
+    (member (codes "method") (string (method_text number))
     (member (codes "name") (string (user_name number))
     (member (codes "secrets") (texts_data (map secret_text persons)) no_members)))
 

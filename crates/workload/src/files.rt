@@ -1,4 +1,4 @@
-// A workload as texts.
+//! A workload as texts.
 ghost use Rattle.std.specs.Prelude.{◌≡◌, ◌≤◌, ◌+◌, ◌*◌, map, Some, Ok, IfOk};
 ghost use Rattle.workload.specs.Statements.{statements, facts_text};
 ghost use Rattle.workload.specs.Stated.{stated_facts, meant_fact, workload_schema, workload_world};

@@ -1,4 +1,4 @@
-// The policy of a workload.
+//! The policy of a workload.
 ghost use Rattle.std.specs.Prelude.{◌≡◌, ◌+◌, ◌*◌, ◌≤◌, ◌∷◌, [], ℕ, Ok, map, pos, IfOk, OnOk, string_bytes};
 ghost use Rattle.toml.specs.Data.{no_members, table, array, string};
 ghost use Rattle.toml.specs.View.{view, table_view};
@@ -7,7 +7,7 @@ ghost use Rattle.sentence_text.specs.Laws.{CanonicalFormsRead};
 ghost use Rattle.workload.specs.Draws.{state_after, state_of, drawn};
 ghost use Rattle.workload.specs.Stated.{numbered};
 ghost use Rattle.workload.specs.Policies.{user_name, workload_policy};
-ghost use Rattle.workload.specs.Trees.{insert_member, texts_data, method_word, secret_text, user_members, domain_members, relation_members, root_members, user_trees, ReadsAs};
+ghost use Rattle.workload.specs.Trees.{insert_member, texts_data, method_text, secret_text, user_members, domain_members, relation_members, root_members, user_trees, ReadsAs};
 
 use crate::draws::Draws;
 use sentence_text::laws::law_canonical_forms_read;
@@ -132,7 +132,7 @@ fn user_table(alloc: Global, number: u32, persons: [u32; 3]) -> Result<Table, Al
     ensures { IfOk result (λ user. table_view user ≡ user_members number persons) }
 {
     let name = format!(in alloc; "u{number}")?;
-    let method = String::from_str(alloc, method_word(number))?;
+    let method = String::from_str(alloc, method_text(number))?;
     let mut user = Table::new(alloc);
     put(alloc, &mut user, "name", Value::String(name))?;
     put(alloc, &mut user, "method", Value::String(method))?;
@@ -142,8 +142,8 @@ fn user_table(alloc: Global, number: u32, persons: [u32; 3]) -> Result<Table, Al
 }
 
 // The word of the method of the user of this number.
-fn method_word(number: u32) -> &'static str
-    ensures { result.now ≡ method_word number }
+fn method_text(number: u32) -> &'static str
+    ensures { result.now ≡ method_text number }
 {
     match number % 3 {
         0 => "lying",

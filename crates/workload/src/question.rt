@@ -1,4 +1,4 @@
-// The asks of a workload.
+//! The asks of a workload.
 ghost use Rattle.std.specs.Prelude.{◌≡◌, ◌<◌, ◌+◌, ◌*◌, ℕ, Some, IfOk, string_bytes};
 ghost use Rattle.workload.specs.Draws.{state_after, state_of};
 ghost use Rattle.workload.specs.Questions.{question_text, question_of, question_at, script_lines};

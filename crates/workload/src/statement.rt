@@ -1,4 +1,4 @@
-// The facts of a workload.
+//! The facts of a workload.
 ghost use Rattle.std.specs.Prelude.{◌≡◌, ◌++◌, ℕ, Some, IfOk, OnOk, string_bytes};
 ghost use Rattle.workload.specs.Draws.{state_after, state_of};
 ghost use Rattle.workload.specs.Statements.{statement_text, statements, illnesses, treatments, facts_text};

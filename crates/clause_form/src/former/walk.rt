@@ -1,4 +1,6 @@
-// The walk of a formula, children before their parent. What is refused leaves the clauses and the facts that were there in front.
+//! The walk of a formula, children before their parent. Where it is refused, the clauses and the facts that were there still
+//! stand in front.
+
 ghost use Rattle.std.specs.Prelude.{◌≡◌, ◌<◌, ◌≤◌, ◌^◌, ◌+◌, [], ◌∷◌, ◌++◌, map, IfOk, OnOk, if◌then◌else◌};
 ghost use Rattle.cqe_base.specs.Literal.{Positive, opposite};
 ghost use Rattle.cqe_base.specs.Ground.{parts_of, ground_of, ground_nodes, part_nodes};
@@ -54,7 +56,8 @@ impl Former {
     #[cycle(walk)]
     fn walk_parts(&mut self, alloc: Global, parts: &[Prop]) -> Result<Vec<Lit>, AllocError>
         requires { self.old.numbering.variables + part_nodes (parts_of (map ground_of parts.now)) < 2 ^ 31 }
-        ensures walked { IfOk result (λ literals. WalkedParts (parts_of (map ground_of parts.now)) self.old literals.items self.new) }
+        ensures walked { IfOk result
+            (λ literals. WalkedParts (parts_of (map ground_of parts.now)) self.old literals.items self.new) }
         ensures goes_on { GoesOn self.old self.new }
     {
         let mut literals = Vec::new(alloc);
@@ -93,7 +96,8 @@ impl Former {
     /// The literal of a fact, which gets the next free number at its first appearance.
     fn number_fact(&mut self, fact: &Fact) -> Result<Lit, AllocError>
         requires { self.old.numbering.variables + 1 < 2 ^ 31 }
-        ensures literal { IfOk result (λ l. l ≡ Positive (number_of self.old.numbering.facts fact.now self.old.numbering.variables)) }
+        ensures literal { IfOk result
+            (λ l. l ≡ Positive (number_of self.old.numbering.facts fact.now self.old.numbering.variables)) }
         ensures numbered { OnOk result (self.new ≡ with_numbering self.old (with_fact self.old.numbering fact.now)) }
         ensures goes_on { GoesOn self.old self.new }
     {
@@ -106,11 +110,13 @@ impl Former {
         Ok(Lit::positive(number))
     }
 
-    /// A conjunction takes the next variable.
+    /// A conjunction of literals: it takes the next variable and appends the clauses that say what it is.
     fn and_node(&mut self, alloc: Global, literals: &[Lit]) -> Result<Lit, AllocError>
         requires { self.old.numbering.variables + 1 < 2 ^ 31 }
         ensures literal { IfOk result (λ l. l ≡ Positive self.old.numbering.variables) }
-        ensures pushed { OnOk result (self.new ≡ with_clauses (with_numbering self.old (with_node self.old.numbering)) (and_clauses self.old.numbering.variables literals.now)) }
+        ensures pushed { OnOk result (self.new ≡
+            with_clauses (with_numbering self.old (with_node self.old.numbering))
+            (and_clauses self.old.numbering.variables literals.now)) }
         ensures goes_on { GoesOn self.old self.new }
     {
         let variable = self.variables;
@@ -119,11 +125,13 @@ impl Former {
         Ok(Lit::positive(variable))
     }
 
-    /// A disjunction takes the next variable.
+    /// The same for a disjunction.
     fn or_node(&mut self, alloc: Global, literals: &[Lit]) -> Result<Lit, AllocError>
         requires { self.old.numbering.variables + 1 < 2 ^ 31 }
         ensures literal { IfOk result (λ l. l ≡ Positive self.old.numbering.variables) }
-        ensures pushed { OnOk result (self.new ≡ with_clauses (with_numbering self.old (with_node self.old.numbering)) (or_clauses self.old.numbering.variables literals.now)) }
+        ensures pushed { OnOk result (self.new ≡
+            with_clauses (with_numbering self.old (with_node self.old.numbering))
+            (or_clauses self.old.numbering.variables literals.now)) }
         ensures goes_on { GoesOn self.old self.new }
     {
         let variable = self.variables;
@@ -132,11 +140,13 @@ impl Former {
         Ok(Lit::positive(variable))
     }
 
-    /// An equivalence takes the next variable.
+    /// The same for an equivalence of two literals.
     fn iff_node(&mut self, alloc: Global, a: Lit, b: Lit) -> Result<Lit, AllocError>
         requires { self.old.numbering.variables + 1 < 2 ^ 31 }
         ensures literal { IfOk result (λ l. l ≡ Positive self.old.numbering.variables) }
-        ensures pushed { OnOk result (self.new ≡ with_clauses (with_numbering self.old (with_node self.old.numbering)) (iff_clauses self.old.numbering.variables a b)) }
+        ensures pushed { OnOk result (self.new ≡
+            with_clauses (with_numbering self.old (with_node self.old.numbering))
+            (iff_clauses self.old.numbering.variables a b)) }
         ensures goes_on { GoesOn self.old self.new }
     {
         let variable = self.variables;

@@ -1,4 +1,4 @@
-// The analysis of a conflict.
+//! The analysis of a conflict.
 
 ghost use Rattle.std.specs.Prelude.{◌≡◌, ◌<◌, ◌≤◌, ◌^◌, ◌+◌, ℕ, [], ◌∷◌, ◌++◌, length, reverse, take, map, IfOk, slice_index_or};
 ghost use Rattle.std.specs.List.{filter};
@@ -7,7 +7,7 @@ ghost use Rattle.cqe_base.specs.Refutation.{resolvent};
 ghost use Rattle.cqe_base.specs.Machine.{Assigned, level, kept_count, latest_against, resolved_with, analysis, resolved_line, conflict_line};
 ghost use Rattle.clause_store.specs.PlainLines.{line_of};
 
-use crate::entry::Entry;
+use crate::entry::TrailEntry;
 use crate::plain::trail::{current_count, level};
 use clause_store::clauses::Clauses;
 use clause_store::literal::{Lit, has_literal};
@@ -54,7 +54,7 @@ fn resolve(
 }
 
 /// The latest literal of the trail whose opposite the clause has.
-fn latest_against(trail: &[Entry], clause: &[Lit]) -> Option<Entry>
+fn latest_against(trail: &[TrailEntry], clause: &[Lit]) -> Option<TrailEntry>
     ensures { result ≡ latest_against (reverse trail.now) clause.now }
 {
     trail
@@ -68,7 +68,7 @@ fn latest_against(trail: &[Entry], clause: &[Lit]) -> Option<Entry>
 fn resolve_with(
     alloc: Global,
     clauses: &Clauses,
-    latest: Option<Entry>,
+    latest: Option<TrailEntry>,
     line: &mut Line,
 ) -> Result<(), AllocError>
     ensures { IfOk result (λ _. line_of line.new ≡ resolved_with clauses.now latest (line_of line.old)) }
@@ -86,7 +86,7 @@ fn resolve_with(
 fn analyse(
     alloc: Global,
     clauses: &Clauses,
-    trail: &[Entry],
+    trail: &[TrailEntry],
     keep: usize,
     line: &mut Line,
 ) -> Result<(), AllocError>
@@ -103,7 +103,7 @@ fn analyse(
 }
 
 /// How many literals of the current level a conflict's clause keeps.
-fn kept_count(trail: &[Entry]) -> usize
+fn kept_count(trail: &[TrailEntry]) -> usize
     ensures { result ≡ kept_count (reverse trail.now) }
 {
     if level(trail) == 0 { 0 } else { 1 }
@@ -113,7 +113,7 @@ fn kept_count(trail: &[Entry]) -> usize
 pub fn conflict_line(
     alloc: Global,
     clauses: &Clauses,
-    trail: &[Entry],
+    trail: &[TrailEntry],
     number: usize,
 ) -> Result<Line, AllocError>
     requires number { number < length clauses.now }

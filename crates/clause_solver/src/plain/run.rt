@@ -1,4 +1,5 @@
-// The run of the machine within a budget.
+//! The run of the machine within a budget.
+
 ghost use Rattle.std.specs.Prelude.{◌≡◌, ◌<◌, ◌^◌, ◌+◌, length, IfOk};
 ghost use Rattle.cqe_base.specs.Literal.{ClausesBelow, HaveNoRepeat};
 ghost use Rattle.cqe_base.specs.Machine.{end_within_budget};

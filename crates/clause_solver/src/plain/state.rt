@@ -1,4 +1,4 @@
-// The state of the machine, and its steps.
+//! The state of the machine, and its steps.
 
 ghost use Rattle.std.specs.Prelude.{◌≡◌, ◌<◌, ◌≤◌, ◌^◌, ◌+◌, ℕ, [], ◌∷◌, ◌++◌, length, reverse, map, IfOk, not};
 ghost use Rattle.cqe_base.specs.Literal.{Literal, Negative};
@@ -8,7 +8,7 @@ ghost use Rattle.clause_store.specs.PlainLines.{line_of};
 ghost use Rattle.clause_solver.specs.PlainStates.{state_of, StepIs};
 
 use crate::ends::Advance;
-use crate::entry::Entry;
+use crate::entry::TrailEntry;
 use crate::plain::conflict::conflict_line;
 use crate::plain::scan::{first_conflict, first_unassigned, first_unit, signs_of};
 use crate::plain::trail::{cut, first_current, highest_level, level, others};
@@ -21,20 +21,20 @@ use std::alloc::{AllocError, Global};
 #[derive(Drop)]
 pub struct State {
     pub clauses: Clauses,
-    pub trail: Vec<Entry>,
+    pub trail: Vec<TrailEntry>,
     pub lines: Vec<Line>,
 }
 
 /// A literal joins the trail because of a clause.
 fn assert_literal(
-    trail: &mut Vec<Entry>,
+    trail: &mut Vec<TrailEntry>,
     number: u32,
     literal: Option<Lit>,
 ) -> Result<(), AllocError>
     ensures { IfOk result (λ _. reverse trail.new.items ≡ with_asserted number literal (reverse trail.old.items)) }
 {
     if let Some(l) = literal {
-        trail.push(Entry::because(number, l))?;
+        trail.push(TrailEntry::because(number, l))?;
     }
     Ok(())
 }
@@ -42,7 +42,7 @@ fn assert_literal(
 /// The trail is cut, and the remaining literal joins it because of the clause of this number.
 fn jump_back(
     alloc: Global,
-    trail: &mut Vec<Entry>,
+    trail: &mut Vec<TrailEntry>,
     number: u32,
     clause: &[Lit],
 ) -> Result<(), AllocError>
@@ -94,7 +94,7 @@ fn decide_step(alloc: Global, state: &mut State, variables: u32) -> Result<Advan
 {
     match first_unassigned(&state.trail, variables) {
         Some(v) => {
-            state.trail.push(Entry::decided(Lit::negative(v)))?;
+            state.trail.push(TrailEntry::decided(Lit::negative(v)))?;
             Ok(Advance::Went(1))
         }
         None => {
@@ -113,7 +113,9 @@ fn unit_step(alloc: Global, state: &mut State, variables: u32) -> Result<Advance
 {
     match first_unit(alloc, &state.clauses, &state.trail)? {
         Some((number, literal)) => {
-            state.trail.push(Entry::because(number as u32, literal))?;
+            state
+                .trail
+                .push(TrailEntry::because(number as u32, literal))?;
             Ok(Advance::Went(1))
         }
         None => decide_step(alloc, state, variables),

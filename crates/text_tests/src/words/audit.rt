@@ -1,4 +1,4 @@
-// The words of `audit`.
+//! The words of `audit`.
 use super::spoken;
 use command_words::{AuditWords, Command, Files, read_words};
 use std::test::Fail;

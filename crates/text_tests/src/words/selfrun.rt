@@ -1,4 +1,4 @@
-// The words of `selfrun`.
+//! The words of `selfrun`.
 use super::{behind, spoken};
 use command_words::{Command, SelfrunWords, read_words};
 use std::test::Fail;

@@ -1,4 +1,4 @@
-// The words of `serve`.
+//! The words of `serve`.
 use super::spoken;
 use command_words::{Command, Files, ServeWords, read_words};
 use std::test::Fail;

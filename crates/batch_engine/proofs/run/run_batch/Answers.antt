@@ -7,13 +7,17 @@ use Rattle.batch_engine.specs.Batch.{AppendsAll}
 use Rattle.desk_crew.specs.Crew.{named_user}
 use Rattle.desk_crew.specs.Shelved.{is_among, journals, journals_on, SameBeside, AllOut, AreLater, AreOut}
 use Rattle.batch_engine.proofs.Running.{stay_run}
+use Rattle.batch_engine.proofs.Failing.{run_broken, all_weaker}
+use Rattle.desk_crew.proofs.Rising.{some_rose}
 use Rattle.desk_crew.proofs.Opening.{seat_journals, seats_distinct, seats_later, seats_served, seats_limits, same_length, length-journals, all_out, none_out, none_fell}
 use Rattle.batch_engine.proofs.Ending.{batch_begins, all_of, finish_all, finish_some, finish_to}
 use Rattle.batch_engine.proofs.run.run_batch.Goals as goal
 
 pub returns-in-Refused-clause-ends : goal.returns-in-Refused-clause-ends
 returns-in-Refused-clause-ends g c =
-    λ shelf_told source_told sink_told. (sym (batch_begins _ _ c.new.ensures) ∙ (c.in-Refused.ensures.reads source_told).0, (refl, λ name. (refl, λ crash left. left)))
+    λ shelf_told source_told sink_told.
+    let reads = c.in-Refused.ensures.reads source_told in
+    (sym (batch_begins _ _ c.new.ensures) ∙ reads.0, (refl, λ name. (refl, λ crash left. left)), reads.1)
 
 pub answer_all-requires-clause-limits : goal.answer_all-requires-clause-limits
 answer_all-requires-clause-limits g c =
@@ -172,3 +176,13 @@ returns-clause-counts g c =
     let first = c.in-Ok-open_all.ensures.counts name in
     let third = none_fell c.args.registry.now.directory.now c.args.registry.now.schema.now c.args.registry.now.world.now (header_bytes c.args.registry.now.header.now) g.F.Shelf.told g.F.D.Disk.told g.F.D.Disk.reads g.F.D.Disk.image g.F.D.Disk.faults (g.F.Shelf.disk c.args.shelf.now) (g.F.Shelf.disk_faults c.args.shelf.now) (g.F.Shelf.disk_faults c.open_all.new.shelf) (g.F.Shelf.disk_faults c.answer_all.new.shelf) left.0 (stay.later (g.F.Shelf.disk_faults c.open_all.new.shelf) (seats_later c.args.registry.now.directory.now c.args.registry.now.schema.now c.args.registry.now.world.now (header_bytes c.args.registry.now.header.now) g.F.Shelf.told g.F.D.Disk.told g.F.D.Disk.reads g.F.D.Disk.image g.F.D.Disk.faults (g.F.Shelf.disk c.args.shelf.now) (g.F.Shelf.disk_faults c.args.shelf.now) (g.F.Shelf.disk_faults c.open_all.new.shelf) c.args.registry.now.users.now c.in-Ok-open_all.seats.items c.in-Ok-open_all.ensures.counts c.in-Ok-open_all.ensures.opened)) (g.F.Shelf.disk c.answer_all.new.shelf) left.2 (subst (λ ns. SameBeside ns (g.F.Shelf.disk_faults c.open_all.new.shelf) (g.F.Shelf.disk_faults c.answer_all.new.shelf)) (sym stay.names) c.in-Memory-answer_all.ensures.counts) name in
     omega (arith, first, third)
+
+pub returns-in-All-clause-disk_cause : goal.returns-in-All-clause-disk_cause
+returns-in-All-clause-disk_cause g c =
+    λ broken.
+    let all = c.in-All.ensures.answered in
+    let stay = stay_run _ _ _ _ _ _ _ _ _ _ _ _ all.runs in
+    let count = g.F.Shelf.disk_faults c.args.shelf.now in
+    let first = seats_later c.args.registry.now.directory.now c.args.registry.now.schema.now c.args.registry.now.world.now (header_bytes c.args.registry.now.header.now) g.F.Shelf.told g.F.D.Disk.told g.F.D.Disk.reads g.F.D.Disk.image g.F.D.Disk.faults (g.F.Shelf.disk c.args.shelf.now) count count c.args.registry.now.users.now c.in-Ok-open_all.seats.items (λ name. refl) c.in-Ok-open_all.ensures.opened in
+    some_rose g.F.Shelf.told g.F.D.Disk.reads g.F.D.Disk.image g.F.D.Disk.faults count (g.F.Shelf.disk_faults c.give_back.new.shelf) (g.F.Shelf.disk c.give_back.new.shelf) c.in-All.seats.items (stay.later count first) c.give_back.ensures.back
+    (all_weaker c.args.registry.now.schema.now c.args.registry.now.world.now (header_bytes c.args.registry.now.header.now) g.F.D.Disk.told g.F.D.Disk.reads g.F.D.Disk.image g.F.D.Disk.faults count g.F.Shelf.told (g.F.Shelf.disk_faults c.give_back.new.shelf) (g.F.Shelf.disk c.give_back.new.shelf) c.in-All.seats.items (run_broken c.args.registry.now.schema.now c.args.registry.now.world.now (header_bytes c.args.registry.now.header.now) g.F.D.Disk.told g.F.D.Disk.reads g.F.D.Disk.image g.F.D.Disk.faults count (items_of c.in-Whole.batch) c.in-Ok-open_all.seats.items c.in-All.seats.items all.output c.in-All.is_broken all.runs first broken))

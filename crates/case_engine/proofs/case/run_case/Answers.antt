@@ -5,7 +5,8 @@ use Rattle.case_engine.proofs.case.run_case.Goals as goal
 
 pub returns-in-Refused-clause-ends : goal.returns-in-Refused-clause-ends
 returns-in-Refused-clause-ends g c = λ source_told. λ sink_told.
-    (sym (script_begins _ _ c.in-Ok.ensures) ∙ (c.in-Refused.ensures.reads source_told).0, refl)
+    let reads = c.in-Refused.ensures.reads source_told in
+    (sym (script_begins _ _ c.in-Ok.ensures) ∙ reads.0, refl, reads.1)
 
 pub returns-clause-ends : goal.returns-clause-ends
 returns-clause-ends g c = λ source_told. λ sink_told.

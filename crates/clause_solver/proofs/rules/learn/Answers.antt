@@ -4,14 +4,12 @@ use Rattle.std.specs.List.{find, filter}
 use Rattle.std.proofs.lemmas.List.{map_push}
 use Rattle.cqe_base.specs.Literal.{variable_of}
 use Rattle.cqe_base.specs.Machine.{State, Because, assigned_literal, is_current, highest_level, cut, with_asserted}
-use Rattle.cqe_base.specs.MachineStates.{IsReached}
+use Rattle.cqe_base.specs.MachineStates.{is_assigned, IsReached}
 use Rattle.cqe_base.proofs.Conflicts.{GoesBack, goes_back, find_counted, learnt_reached}
 use Rattle.clause_store.specs.PlainLines.{line_of}
-use Rattle.clause_solver.specs.Assigning.{is_assigned}
 use Rattle.clause_solver.specs.Watching.{IsWatched}
 use Rattle.clause_solver.specs.IndexedStates.{plain_of, IsHighestBeside}
-use Rattle.clause_solver.proofs.Learning.{back_low}
-use Rattle.clause_solver.proofs.Looks.{same_assigned}
+use Rattle.cqe_base.proofs.MachineBound.{back_low}
 use Rattle.clause_solver.proofs.Learnt.{learnt_watched}
 use Rattle.clause_solver.proofs.rules.learn.Goals as goal
 use Rattle.clause_solver.proofs.rules.learn.Goals.{In-Some, After-because}
@@ -54,9 +52,7 @@ assign-requires-clause-below c =
 pub assign-requires-clause-free : goal.assign-requires-clause-free
 assign-requires-clause-free c =
     let d = (goal.at.assign-requires-clause-below c).In-Some in
-    let t = c.args.state.now.assignment.trail in
-    let v = variable_of c.in-Some.asserting in
-    (λ i. is_assigned (shorter c i) (variable_of (assigned_literal (c.because.ensures i)))) ∙ same_assigned (cut (back d) t) v ∙ (gone_back d).free
+    (λ i. is_assigned (shorter c i) (variable_of (assigned_literal (c.because.ensures i)))) ∙ (gone_back d).free
 
 pub enter-requires-clause-watched : goal.enter-requires-clause-watched
 enter-requires-clause-watched c =

@@ -3,9 +3,10 @@ use Rattle.std.specs.Prelude.{position}
 use Rattle.outside.proofs.Rises.{rose_since}
 use Rattle.log_journal.specs.Opening.{header_bytes}
 use Rattle.desk_crew.specs.Shelved.{journals_on}
-use Rattle.policy_files.specs.Memory.{named_user_of, policy_value_of}
+use Rattle.policy_files.specs.Memory.{policy_user_of, policy_value_of}
 use Rattle.cqe_top.specs.Files.{files_say}
-use Rattle.cqe_top.proofs.Auditing.{is_named, audit_over, nobody_over, one_named, named_at, looked_over, not_usage, not_read, not_links, write_fault, shelf_fault}
+use Rattle.cqe_top.specs.Refusals.{IsFileEnd}
+use Rattle.cqe_top.proofs.Auditing.{is_named, audit_over, nobody_over, one_named, named_at, looked_over, not_usage, nobody_named, not_read, not_links, not_disk, write_fault, shelf_fault}
 use Rattle.cqe_top.proofs.audit.audit.Goals as goal
 
 pub returns-clause-reaches : goal.returns-clause-reaches
@@ -31,7 +32,7 @@ returns-clause-looks g c = λ told.
     let found = c.in-Some.ensures.place ∙ ap (position (is_named name)) c.as_slice.ensures.value in
     let within = subst (λ users. c.in-Some.place < length users) c.as_slice.ensures.value c.in-Some.ensures.within in
     inr (
-      (policy_value_of policy, read.inputs.world, header_bytes read.inputs.header, read.ensures.read told, (named_user_of user, one_named name policy.users.items c.in-Some.place user user found c.index-user.ensures within)),
+      (policy_value_of policy, read.inputs.world, header_bytes read.inputs.header, read.ensures.read told, (policy_user_of user, one_named name policy.users.items c.in-Some.place user user found c.index-user.ensures within)),
       looked_over g.F.D.Disk.reads g.F.D.Disk.image (g.F.Shelf.disk c.args.shelf.now) (g.F.Shelf.disk c.read_files.new.shelf) (g.F.Shelf.disk c.run_audit-end.new.shelf) read.ensures.disks
           c.args.files.now.journals.now name (string_bytes user.name) (named_at name policy.users.items c.in-Some.place user found within c.index-user.ensures)
           c.run_audit-end.ensures.disks (c.run_audit-end.ensures.bytes told) (c.run_audit-end.ensures.images told),
@@ -45,6 +46,20 @@ returns-clause-read g c = λ is. not_read c.in-Ok.inputs.policy.users.items c.in
 
 pub returns-clause-links : goal.returns-clause-links
 returns-clause-links g c = λ is. not_links c.in-Ok.inputs.policy.users.items c.in-Some.place c.run_audit-end.result c.end_of_audit.result c.end_of_audit.ensures is
+
+pub returns-clause-disk : goal.returns-clause-disk
+returns-clause-disk g c = λ is. not_disk c.in-Ok.inputs.policy.users.items c.in-Some.place c.run_audit-end.result c.end_of_audit.result c.end_of_audit.ensures is
+
+pub returns-in-Err-clause-names_nobody : goal.returns-in-Err-clause-names_nobody
+returns-in-Err-clause-names_nobody g c = λ told is. absurd (subst IsFileEnd is c.in-Err.ensures.ends)
+
+pub returns-clause-names_nobody : goal.returns-clause-names_nobody
+returns-clause-names_nobody g c = λ told is. absurd (not_usage c.in-Ok.inputs.policy.users.items c.in-Some.place c.run_audit-end.result c.end_of_audit.result c.end_of_audit.ensures is)
+
+pub returns-in_default-clause-names_nobody : goal.returns-in_default-clause-names_nobody
+returns-in_default-clause-names_nobody g c = λ told is.
+    let read = c.in-Ok in
+    (policy_value_of read.inputs.policy, read.inputs.world, header_bytes read.inputs.header, read.ensures.read told, nobody_named c.args.name.now read.inputs.policy.users.items (c.in_default.ensures.place ∙ ap (position (is_named c.args.name.now)) c.as_slice.ensures.value))
 
 pub returns-clause-write_cause : goal.returns-clause-write_cause
 returns-clause-write_cause g c = λ is. c.run_audit-end.ensures.write_cause (write_fault c.in-Ok.inputs.policy.users.items c.in-Some.place c.run_audit-end.result c.end_of_audit.result c.end_of_audit.ensures is)

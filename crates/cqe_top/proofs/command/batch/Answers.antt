@@ -7,7 +7,7 @@ use Rattle.policy_files.specs.Memory.{policy_value_of}
 use Rattle.cqe_top.specs.Files.{files_say}
 use Rattle.cqe_top.specs.Reaches.{BatchReaches}
 use Rattle.cqe_top.proofs.Users.{names_are, batch_names_are, new_users_are}
-use Rattle.cqe_top.proofs.Reaching.{batch_over, touches_over}
+use Rattle.cqe_top.proofs.Reaching.{batch_over, touches_over, batch_broken, rose_over}
 use Rattle.cqe_top.proofs.command.batch.Goals as goal
 
 pub run_batch-end-requires-clause-names : goal.run_batch-end-requires-clause-names
@@ -34,3 +34,8 @@ returns-clause-touches g c = λ told.
     (policy_value_of c.in-Ok.inputs.policy) c.in-Ok.inputs.world (header_bytes c.in-Ok.inputs.header) _ (g.F.Shelf.disk c.args.shelf.now) (g.F.Shelf.disk c.read_files.new.shelf) (g.F.Shelf.disk c.run_batch-end.new.shelf)
     (c.in-Ok.ensures.read told) (ap (λ users. map (λ user. user.name) (map named_user users)) c.as_slice.ensures.value ∙ batch_names_are c.in-Ok.inputs.policy.users.items ∙ names_are c.in-Ok.inputs.policy.users.items)
     c.in-Ok.ensures.disks c.run_batch-end.ensures.disks
+
+pub returns-clause-disk_cause : goal.returns-clause-disk_cause
+returns-clause-disk_cause g c = λ is.
+    rose_over (g.F.Shelf.disk_faults c.args.shelf.now) (g.F.Shelf.disk_faults c.read_files.new.shelf) (g.F.Shelf.disk_faults c.run_batch-end.new.shelf) c.in-Ok.ensures.counts
+    (c.run_batch-end.ensures.disk_cause (batch_broken c.in-Ok.inputs.policy.users c.run_batch-end.result (sym c.end_of_batch.ensures ∙ is)))

@@ -6,7 +6,8 @@ use Rattle.policy_files.specs.Memory.{policy_value_of}
 use Rattle.cqe_top.specs.Files.{files_say}
 use Rattle.cqe_top.specs.Reaches.{change_of}
 use Rattle.cqe_top.proofs.Users.{names_are}
-use Rattle.cqe_top.proofs.Making.{init_over, init_reaches}
+use Rattle.cqe_top.proofs.Making.{init_over, init_reaches, disk_rose}
+use Rattle.cqe_top.proofs.Reaching.{rose_over}
 use Rattle.cqe_top.proofs.command.init.Goals as goal
 
 pub returns-clause-reaches : goal.returns-clause-reaches
@@ -21,7 +22,18 @@ returns-clause-reaches g c = λ told.
     (g.F.Shelf.disk_faults c.args.shelf.now) (g.F.Shelf.disk_faults c.read_files.new.shelf) (g.F.Shelf.disk_faults c.run_init-end.new.shelf)
     (g.F.Shelf.faults c.args.shelf.now) (g.F.Shelf.faults c.read_files.new.shelf) (g.F.Shelf.faults c.run_init-end.new.shelf) c.run_init-end.result
     c.in-Ok.ensures.disks c.in-Ok.ensures.counts c.in-Ok.ensures.later
-    (subst (λ users. IsEnd g.F.Shelf.told g.F.D.Disk.reads g.F.D.Disk.image (header_bytes c.in-Ok.inputs.header) c.args.journals.now (init.names_of users)
+    (subst (λ users. IsEnd g.F.Shelf.told g.F.D.Disk.reads g.F.D.Disk.image (header_bytes c.in-Ok.inputs.header) c.args.journals.now (init.user_names users)
     (change_of (g.F.Shelf.disk c.read_files.new.shelf) (g.F.Shelf.disk c.run_init-end.new.shelf) (g.F.Shelf.disk_faults c.read_files.new.shelf) (g.F.Shelf.disk_faults c.run_init-end.new.shelf)
     (g.F.Shelf.faults c.read_files.new.shelf) (g.F.Shelf.faults c.run_init-end.new.shelf)) c.run_init-end.result) c.as_slice.ensures.value c.run_init-end.ensures.ends))
     c.end_of_init.ensures
+
+pub returns-clause-disk_cause : goal.returns-clause-disk_cause
+returns-clause-disk_cause g c = λ is.
+    rose_over (g.F.Shelf.disk_faults c.args.shelf.now) (g.F.Shelf.disk_faults c.read_files.new.shelf) (g.F.Shelf.disk_faults c.run_init-end.new.shelf) c.in-Ok.ensures.counts
+    (disk_rose g.F.Shelf.told g.F.D.Disk.reads g.F.D.Disk.image (header_bytes c.in-Ok.inputs.header) c.args.journals.now c.in-Ok.inputs.policy.users.items
+    (change_of (g.F.Shelf.disk c.read_files.new.shelf) (g.F.Shelf.disk c.run_init-end.new.shelf) (g.F.Shelf.disk_faults c.read_files.new.shelf) (g.F.Shelf.disk_faults c.run_init-end.new.shelf)
+    (g.F.Shelf.faults c.read_files.new.shelf) (g.F.Shelf.faults c.run_init-end.new.shelf)) c.run_init-end.result c.end_of_init.result
+    (subst (λ users. IsEnd g.F.Shelf.told g.F.D.Disk.reads g.F.D.Disk.image (header_bytes c.in-Ok.inputs.header) c.args.journals.now (init.user_names users)
+    (change_of (g.F.Shelf.disk c.read_files.new.shelf) (g.F.Shelf.disk c.run_init-end.new.shelf) (g.F.Shelf.disk_faults c.read_files.new.shelf) (g.F.Shelf.disk_faults c.run_init-end.new.shelf)
+    (g.F.Shelf.faults c.read_files.new.shelf) (g.F.Shelf.faults c.run_init-end.new.shelf)) c.run_init-end.result) c.as_slice.ensures.value c.run_init-end.ensures.ends)
+    c.end_of_init.ensures is)

@@ -1,13 +1,13 @@
-use Rattle.std.proofs.Common.{inr, sym, ap, ◌∙◌, subst, map, string_bytes}
+use Rattle.std.proofs.Common.{inr, refl, sym, ap, ◌∙◌, map, string_bytes}
 use Rattle.std.specs.Prelude.{Some, option_map}
 use Rattle.desk_crew.specs.Shelved.{journals_on}
-use Rattle.command_words.specs.Readings.{reading_of, reading_in, names_of_files, runs_selfrun, runs_serve}
-use Rattle.cqe_top.specs.Files.{files_say}
+use Rattle.command_words.specs.Readings.{reading_of, reading_in, names_of_files, runs_init, runs_batch, runs_audit, runs_selfrun, runs_serve}
+use Rattle.cqe_top.specs.Files.{files_say, LooksAt}
 use Rattle.cqe_top.specs.Reaches.{TouchesJournals}
 use Rattle.cqe_top.specs.Serves.{ListensOver}
 use Rattle.cqe_top.specs.Audited.{AuditReaches, LooksFor}
 use Rattle.cqe_top.proofs.Numbers.{kept}
-use Rattle.cqe_top.proofs.Saying.{by_batch, by_audit, by_serve}
+use Rattle.cqe_top.proofs.Saying.{by_batch, by_audit, by_serve, by_files}
 use Rattle.cqe_top.proofs.command.run.Goals as goal
 
 pub selfrun-requires-clause-some_user : goal.selfrun-requires-clause-some_user
@@ -113,8 +113,33 @@ returns-in-Ok-Some-Audit-clause-usage g c = λ is.
       audit.user.now,
       audit.json,
       sym c.in-Ok-Some-Audit.ensures ∙ ap (option_map reading_in) (c.in-Ok-Some-Audit.field-0-is ∙ ap Some c.in-Ok-Some-Audit.field-0-0-is),
-      λ both.
-          (subst (AuditReaches (journals_on g.F.D.Disk.reads g.F.D.Disk.image journals (g.F.Shelf.disk c.args.shelf.now) (g.F.Shelf.disk c.audit.new.shelf) (g.F.Shelf.disk_faults c.args.shelf.now) (g.F.Shelf.disk_faults c.audit.new.shelf))
-          audit.json (g.K.Sink.written c.args.sink.now) (g.K.Sink.written c.audit.new.sink) policy facts audit.user.now (files_say (g.F.Shelf.file c.args.shelf.now policy) (g.F.Shelf.file c.args.shelf.now facts))) is
-          (c.audit.ensures.reaches both.0 both.1)).0,
+      λ told. c.audit.ensures.names_nobody told is,
     )
+
+pub returns-in-Ok-Some-Init-clause-looked : goal.returns-in-Ok-Some-Init-clause-looked
+returns-in-Ok-Some-Init-clause-looked g c = λ told policy facts journals is.
+    let files = c.in-Ok-Some-Init.files in
+    by_files (λ p f. LooksAt p f (g.F.Shelf.looked c.args.shelf.now) (g.F.Shelf.looked c.init.new.shelf)) (reading_of (map string_bytes c.args.words.now)) (runs_init (names_of_files c.in-Ok-Some-Init.files))
+    files.policy.now files.facts.now files.journals.now policy facts journals
+    (ap (option_map reading_in) (sym (c.in-Ok-Some-Init.field-0-is ∙ ap Some c.in-Ok-Some-Init.field-0-0-is)) ∙ c.in-Ok-Some-Init.ensures) refl is (c.init.ensures.looked told)
+
+pub returns-in-Ok-Some-Batch-clause-looked : goal.returns-in-Ok-Some-Batch-clause-looked
+returns-in-Ok-Some-Batch-clause-looked g c = λ told policy facts journals is.
+    let files = c.in-Ok-Some-Batch.files in
+    by_files (λ p f. LooksAt p f (g.F.Shelf.looked c.args.shelf.now) (g.F.Shelf.looked c.batch.new.shelf)) (reading_of (map string_bytes c.args.words.now)) (runs_batch (names_of_files c.in-Ok-Some-Batch.files))
+    files.policy.now files.facts.now files.journals.now policy facts journals
+    (ap (option_map reading_in) (sym (c.in-Ok-Some-Batch.field-0-is ∙ ap Some c.in-Ok-Some-Batch.field-0-0-is)) ∙ c.in-Ok-Some-Batch.ensures) refl is (c.batch.ensures.looked told)
+
+pub returns-in-Ok-Some-Audit-clause-looked : goal.returns-in-Ok-Some-Audit-clause-looked
+returns-in-Ok-Some-Audit-clause-looked g c = λ told policy facts journals is.
+    let files = c.in-Ok-Some-Audit.words.files in
+    by_files (λ p f. LooksAt p f (g.F.Shelf.looked c.args.shelf.now) (g.F.Shelf.looked c.audit.new.shelf)) (reading_of (map string_bytes c.args.words.now)) (runs_audit (names_of_files c.in-Ok-Some-Audit.words.files) c.in-Ok-Some-Audit.words.user.now c.in-Ok-Some-Audit.words.json)
+    files.policy.now files.facts.now files.journals.now policy facts journals
+    (ap (option_map reading_in) (sym (c.in-Ok-Some-Audit.field-0-is ∙ ap Some c.in-Ok-Some-Audit.field-0-0-is)) ∙ c.in-Ok-Some-Audit.ensures) refl is (c.audit.ensures.looked told)
+
+pub returns-in-Ok-Some-Serve-clause-looked : goal.returns-in-Ok-Some-Serve-clause-looked
+returns-in-Ok-Some-Serve-clause-looked g c = λ told policy facts journals is.
+    let files = c.in-Ok-Some-Serve.words.files in
+    by_files (λ p f. LooksAt p f (g.F.Shelf.looked c.args.shelf.now) (g.F.Shelf.looked c.serve.new.shelf)) (reading_of (map string_bytes c.args.words.now)) (runs_serve (names_of_files c.in-Ok-Some-Serve.words.files) c.in-Ok-Some-Serve.words.listen.now c.in-Ok-Some-Serve.words.workers c.in-Ok-Some-Serve.words.sessions)
+    files.policy.now files.facts.now files.journals.now policy facts journals
+    (ap (option_map reading_in) (sym (c.in-Ok-Some-Serve.field-0-is ∙ ap Some c.in-Ok-Some-Serve.field-0-0-is)) ∙ c.in-Ok-Some-Serve.ensures) refl is (c.serve.ensures.looked told)

@@ -7,8 +7,8 @@ use Rattle.cqe_top.specs.Files.{files_say}
 use Rattle.cqe_top.specs.Serves.{ServeReaches}
 use Rattle.policy_files.specs.Memory.{policy_value_of}
 use Rattle.cqe_top.proofs.Users.{names_are, batch_names_are}
-use Rattle.cqe_top.proofs.Reaching.{touches_over}
-use Rattle.cqe_top.proofs.Serving.{serve_over, listens_over}
+use Rattle.cqe_top.proofs.Reaching.{touches_over, rose_over}
+use Rattle.cqe_top.proofs.Serving.{serve_over, listens_over, serve_broken}
 use Rattle.cqe_top.proofs.serve.serve.Goals as goal
 
 pub run_serve-end-requires-clause-names : goal.run_serve-end-requires-clause-names
@@ -46,3 +46,8 @@ returns-clause-touches g c = λ told.
     (policy_value_of read.inputs.policy) read.inputs.world (header_bytes read.inputs.header) _ (g.F.Shelf.disk c.args.shelf.now) (g.F.Shelf.disk c.read_files.new.shelf) (g.F.Shelf.disk c.run_serve-end.new.shelf)
     (read.ensures.read told) (ap (λ users. map (λ user. user.name) (map named_user users)) c.as_slice.ensures.value ∙ batch_names_are read.inputs.policy.users.items ∙ names_are read.inputs.policy.users.items)
     read.ensures.disks c.run_serve-end.ensures.disks
+
+pub returns-clause-disk_cause : goal.returns-clause-disk_cause
+returns-clause-disk_cause g c = λ is.
+    rose_over (g.F.Shelf.disk_faults c.args.shelf.now) (g.F.Shelf.disk_faults c.read_files.new.shelf) (g.F.Shelf.disk_faults c.run_serve-end.new.shelf) c.in-Ok.ensures.counts
+    (c.run_serve-end.ensures.disk_cause (serve_broken c.in-Ok.inputs.policy.users c.run_serve-end.result (sym c.end_of_serve.ensures ∙ is)))

@@ -11,7 +11,7 @@ use Rattle.desk_crew.proofs.crew.answer.Goals as goal
 
 pub returns-in_err-place : goal.returns-in_err-place
 returns-in_err-place g c = record {
-  told = λ schema world header served.
+  replied = λ schema world header served.
       let seats = c.args.seats.now.items in
       let found : position (is_named c.args.name.now) seats ≡ None = ap (position (is_named c.args.name.now)) (sym c.as_slice.ensures.value) ∙ sym c.in_err-place.ensures.place in
       subst (λ told. Tells schema world c.args.name.now c.args.text.now seats seats (option_map reply_of told)) (sym c.from_residual.ensures)
@@ -27,7 +27,7 @@ settle_at-requires-clause-user g c =
 
 pub returns : goal.returns
 returns g c = record {
-  told = λ schema world header served.
+  replied = λ schema world header served.
       let seats = c.args.seats.now.items in
       let found : position (is_named c.args.name.now) seats ≡ Some c.in_ok-place.place = ap (position (is_named c.args.name.now)) (sym c.as_slice.ensures.value) ∙ sym c.in_ok-place.ensures.place in
       told_seat schema world c.args.name.now c.args.text.now header seats c.in_ok-place.place c.index_mut-seat.result.now c.settle_at.new.seat (reply_of c.settle_at.result)

@@ -12,6 +12,7 @@ invariant-loop-seat g l = record {
       l.seats.items (g.F.Shelf.disk l.shelf) (g.F.Shelf.is_out l.shelf) (g.F.Shelf.disk_faults l.shelf);
   broke : list_any seat_broke l.fn.seats.items ≡ (list_any seat_broke l.seats.items || l.is_broken);
   faults : g.F.Shelf.faults l.shelf ≡ g.F.Shelf.faults l.fn.shelf;
+  looked : g.F.Shelf.looked l.shelf ≡ g.F.Shelf.looked l.fn.shelf;
 }
 
 abbrev pub decreases-loop-seat : goal.decreases-loop-seat

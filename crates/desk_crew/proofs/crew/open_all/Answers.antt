@@ -1,4 +1,4 @@
-use Rattle.std.proofs.Common.{◌≡◌, ◌+◌, length, take, map, sym, ap, subst, ◌∙◌, arith}
+use Rattle.std.proofs.Common.{◌≡◌, ◌+◌, length, take, map, refl, sym, ap, subst, ◌∙◌, arith}
 use Rattle.std.specs.Prelude.{Err}
 use Rattle.std.proofs.lemmas.List.{take_all}
 use Rattle.outside.proofs.Rises.{rose_wide}
@@ -110,6 +110,7 @@ loop-user-preserved g c =
       room = omega (arith, room, space);
       count = omega (arith, count, grown);
       later = omega (arith, before, on);
+      looked = c.open_seat.ensures.looked ∙ so_far.looked;
     }
 
 pub loop-user-init : goal.loop-user-init
@@ -122,4 +123,5 @@ loop-user-init g c =
       room = c.in-Ok.ensures.room;
       count = omega (arith, len, none);
       later = omega arith;
+      looked = refl;
     }

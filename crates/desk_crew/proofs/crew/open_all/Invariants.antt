@@ -12,4 +12,5 @@ invariant-loop-user g l = record {
   room : length l.registry.users.now ≤ vec_capacity l.seats;
   count : vec_len l.seats ≡ l.user-index;
   later : g.F.Shelf.faults l.fn.shelf ≤ g.F.Shelf.faults l.shelf;
+  looked : g.F.Shelf.looked l.shelf ≡ g.F.Shelf.looked l.fn.shelf;
 }

@@ -6,7 +6,7 @@ use Rattle.outside.specs.MemoryShelves.{disk_named, disk_faults_of}
 use Rattle.outside.specs.MemoryStreams.{sink_written, source_left}
 use Rattle.cqe_base.specs.Schema.{has_duplicate}
 use Rattle.log_journal.specs.Opening.{header_bytes}
-use Rattle.init_engine.specs.Disks.{names_of, Readies}
+use Rattle.init_engine.specs.Disks.{user_names, Readies}
 use Rattle.desk_crew.specs.Crew.{named_user}
 use Rattle.desk_crew.specs.Shelved.{journals_on}
 use Rattle.selfrun_engine.proofs.Workloads.{batch_names_are, all_empty}
@@ -25,7 +25,7 @@ returns-in-Done-run_batch g c = λ items read named.
     let header = header_bytes c.args.header.now in
     let made = disk_named c.run_init.new.shelf in
     let journals = journals_on memory_bytes IsMemoryImage (codes "journals") made (disk_named c.run_batch.new.shelf) (disk_faults_of c.run_init.new.shelf) (disk_faults_of c.run_batch.new.shelf) in
-    let ready = subst (λ us. Readies memory_bytes IsMemoryImage header (codes "journals") (names_of us) (disk_named c.new-shelf.result) made (length (names_of us)) (length (names_of us))) same (c.in-Done.ensures.ends tt) in
+    let ready = subst (λ us. Readies memory_bytes IsMemoryImage header (codes "journals") (user_names us) (disk_named c.new-shelf.result) made (length (user_names us)) (length (user_names us))) same (c.in-Done.ensures.ends tt) in
     let none : list_any is_some c.in-Done-run_batch.refusals.items ≡ false = ap (list_any is_some) (sym c.deref.ensures.value) ∙ sym c.has_refusal.ensures ∙ c.if-has_refusal.false in
     batch_undisturbed policy.schema c.args.world.now header journals (map named_user users) items c.args.script.items (source_left c.new-source.result) (source_left c.run_batch.new.source)
     (sink_written c.new-output.result) (sink_written c.run_batch.new.sink) (map named_user c.as_slice-users.result.now) c.in-Done-run_batch.refusals.items c.in-Done-run_batch.is_broken

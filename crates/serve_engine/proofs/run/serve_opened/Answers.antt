@@ -1,13 +1,14 @@
-use Rattle.std.proofs.Common.{◌∙◌, length, map, sym, ap, subst, arith}
+use Rattle.std.proofs.Common.{◌∙◌, length, map, refl, sym, ap, subst, arith}
 use Rattle.cqe_base.specs.Schema.{has_duplicate}
 use Rattle.log_journal.specs.Opening.{header_bytes}
 use Rattle.desk_crew.specs.Shelved.{is_among, journals_on, AllOut, AreOut}
+use Rattle.desk_crew.proofs.Rising.{some_rose, any_failed}
 use Rattle.desk_crew.proofs.Opening.{seat_journals, seats_distinct, seats_later, same_length, all_out, none_out, none_fell}
-use Rattle.serve_engine.specs.Serving.{HaveServed, EndsAt, IsDone}
+use Rattle.serve_engine.specs.Serving.{HaveServed, EndsAt, IsDone, IsBroken}
 use Rattle.serve_engine.specs.Served.{Served}
 use Rattle.serve_engine.specs.Sharing.{seat_member, IsServedAt}
 use Rattle.serve_engine.proofs.Apart.{served_still, apart_own}
-use Rattle.serve_engine.proofs.Histories.{have_served, all_in_world, broke_at, journals_on_same, later_on_seats, doors_many, doors_gave, ended_at, failed_at, ends_at, seats_fresh, seats_turns, seats_own, own_from, all_told}
+use Rattle.serve_engine.proofs.Histories.{broken_end, have_served, all_in_world, broke_at, journals_on_same, later_on_seats, doors_many, doors_gave, ended_at, failed_at, ends_at, seats_fresh, seats_turns, seats_own, own_from, all_told}
 use Rattle.serve_engine.proofs.run.serve_opened.Goals as goal
 
 pub refusals_of-refusals-requires-clause-room : goal.refusals_of-refusals-requires-clause-room
@@ -95,3 +96,14 @@ returns-clause-counts g c name =
     let first = c.in-Ok-open_all.ensures.counts name in
     let third = none_fell c.args.registry.now.directory.now c.args.registry.now.schema.now c.args.registry.now.world.now (header_bytes c.args.registry.now.header.now) g.F.Shelf.told g.F.D.Disk.told g.F.D.Disk.reads g.F.D.Disk.image g.F.D.Disk.faults (g.F.Shelf.disk c.args.shelf.now) (g.F.Shelf.disk_faults c.args.shelf.now) (g.F.Shelf.disk_faults c.open_all.new.shelf) (g.F.Shelf.disk_faults c.give_back-is_broken.new.shelf) c.serve_seats-outcome.result.1.items (later_on_seats g.F.D.Disk.faults (g.F.Shelf.disk_faults c.open_all.new.shelf) c.in-Ok-open_all.seats.items c.serve_seats-outcome.result.1.items c.serve_seats-outcome.ensures.on (seats_later c.args.registry.now.directory.now c.args.registry.now.schema.now c.args.registry.now.world.now (header_bytes c.args.registry.now.header.now) g.F.Shelf.told g.F.D.Disk.told g.F.D.Disk.reads g.F.D.Disk.image g.F.D.Disk.faults (g.F.Shelf.disk c.args.shelf.now) (g.F.Shelf.disk_faults c.args.shelf.now) (g.F.Shelf.disk_faults c.open_all.new.shelf) c.args.registry.now.users.now c.in-Ok-open_all.seats.items c.in-Ok-open_all.ensures.counts c.in-Ok-open_all.ensures.opened)) (g.F.Shelf.disk c.give_back-is_broken.new.shelf) c.give_back-is_broken.ensures.back c.give_back-is_broken.ensures.counts name in
     omega (arith, first, third)
+
+pub returns-clause-disk_cause : goal.returns-clause-disk_cause
+returns-clause-disk_cause g c broken =
+    let count = g.F.Shelf.disk_faults c.args.shelf.now in
+    let count' = g.F.Shelf.disk_faults c.give_back-is_broken.new.shelf in
+    let disk' = g.F.Shelf.disk c.give_back-is_broken.new.shelf in
+    let seats = c.serve_seats-outcome.result.1.items in
+    let first = seats_later c.args.registry.now.directory.now c.args.registry.now.schema.now c.args.registry.now.world.now (header_bytes c.args.registry.now.header.now) g.F.Shelf.told g.F.D.Disk.told g.F.D.Disk.reads g.F.D.Disk.image g.F.D.Disk.faults (g.F.Shelf.disk c.args.shelf.now) count count c.args.registry.now.users.now c.in-Ok-open_all.seats.items (λ name. refl) c.in-Ok-open_all.ensures.opened in
+    some_rose g.F.Shelf.told g.F.D.Disk.reads g.F.D.Disk.image g.F.D.Disk.faults count count' disk' seats (later_on_seats g.F.D.Disk.faults count c.in-Ok-open_all.seats.items seats c.serve_seats-outcome.ensures.on first) c.give_back-is_broken.ensures.back
+    (any_failed g.F.Shelf.told g.F.D.Disk.reads g.F.D.Disk.image g.F.D.Disk.faults count count' disk' seats
+    (sym c.give_back-is_broken.ensures.broke ∙ broken_end c.serve_seats-outcome.result.0 c.refusals_of-refusals.result c.give_back-is_broken.result (subst IsBroken c.end_of.ensures broken)))

@@ -1,7 +1,8 @@
 use Rattle.std.proofs.Common.{◌≡◌, reverse, sym, ap, ◌∙◌, subst}
 use Rattle.std.specs.Prelude.{IfSome, ◌<◌, false}
 use Rattle.cqe_base.specs.Machine.{first_unassigned}
-use Rattle.clause_solver.specs.Assigning.{Assigning, IsFirstZero, IsKept, is_assigned}
+use Rattle.cqe_base.specs.MachineStates.{is_assigned}
+use Rattle.clause_solver.specs.Assigning.{Assigning, IsFirstZero, IsKept}
 use Rattle.clause_solver.proofs.Kept.{first_open, first_kept, first_below, first_free}
 use Rattle.clause_solver.proofs.assignment.Assignment.first_unassigned.Goals as goal
 use Rattle.clause_solver.proofs.assignment.Assignment.first_unassigned.Goals.{After-first_zero-found}

@@ -1,13 +1,14 @@
 use Rattle.std.proofs.Common.{◌≡◌, cond, ap, ◌∙◌, sym, subst}
 use Rattle.cqe_base.specs.Literal.{variable_of}
 use Rattle.cqe_base.specs.Machine.{is_false}
-use Rattle.clause_solver.specs.Assigning.{Assigning, AssignsOnce, place_of, place_against}
+use Rattle.cqe_base.specs.MachineStates.{IsDistinct}
+use Rattle.clause_solver.specs.Assigning.{Assigning, place_of, place_against}
 use Rattle.clause_solver.proofs.Latest.{place_against-is}
 use Rattle.clause_solver.proofs.assignment.Assignment.place_against.Goals as goal
 use Rattle.clause_solver.proofs.assignment.Assignment.place_against.Goals.{After-is_false}
 
 place : (c : After-is_false) → place_against c.args.self.now.trail c.args.literal ≡ cond (is_false c.args.self.now.trail c.args.literal) (place_of c.args.self.now.trail (variable_of c.args.literal)) 0
-place c = place_against-is c.args.self.now.variables c.args.self.now.trail c.args.literal (subst (λ (s : Assigning). AssignsOnce s.variables s.trail) c.self.view_is c.self.invariant.once)
+place c = place_against-is c.args.self.now.variables c.args.self.now.trail c.args.literal (subst (λ (s : Assigning). IsDistinct s.variables s.trail) c.self.view_is c.self.invariant.once)
 
 pub returns-then-is_false : goal.returns-then-is_false
 returns-then-is_false c =

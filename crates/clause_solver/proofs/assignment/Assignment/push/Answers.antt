@@ -2,8 +2,9 @@ use Rattle.std.proofs.Common.{◌≡◌, ◌<◌, ◌+◌, false, length, revers
 use Rattle.std.proofs.lemmas.List.{length-reverse}
 use Rattle.cqe_base.specs.Literal.{variable_of}
 use Rattle.cqe_base.specs.Machine.{assigned_literal, level}
+use Rattle.cqe_base.specs.MachineStates.{is_assigned}
 use Rattle.clause_solver.specs.Entries.{is_decided}
-use Rattle.clause_solver.specs.Assigning.{Assigning, is_assigned, code_of}
+use Rattle.clause_solver.specs.Assigning.{Assigning, code_of}
 use Rattle.clause_solver.proofs.Trails.{level-cons}
 use Rattle.cqe_base.proofs.MachineBound.{level_length}
 use Rattle.clause_solver.proofs.Kept.{push_kept, reverse_push}

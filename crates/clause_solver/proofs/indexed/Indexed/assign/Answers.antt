@@ -1,16 +1,16 @@
 use Rattle.std.proofs.Common.{◌≡◌, ◌∷◌, [], get_or, sym, ap, ◌∙◌, subst}
-use Rattle.cqe_base.specs.Literal.{Positive, variable_of, opposite}
+use Rattle.cqe_base.specs.Literal.{Positive, opposite}
 use Rattle.cqe_base.specs.Machine.{assigned_literal}
 use Rattle.cqe_base.specs.MachineStates.{IsDistinct}
 use Rattle.clause_solver.specs.Assigning.{Assigning, code_of}
 use Rattle.clause_solver.specs.Watching.{IsWatching, HaveSameLiterals}
 use Rattle.clause_solver.specs.WatchesInside.{lists_of, units_of}
-use Rattle.clause_solver.proofs.Looks.{looks_begin, same_assigned}
+use Rattle.clause_solver.proofs.Looks.{looks_begin}
 use Rattle.clause_solver.proofs.indexed.Indexed.assign.Goals as goal
 use Rattle.clause_solver.proofs.indexed.Indexed.assign.Goals.{After-push}
 
 distinct : (c : After-push) → IsDistinct c.args.self.now.assignment.variables (c.args.entry ∷ c.args.self.now.assignment.trail)
-distinct c = (c.requires.below, sym (same_assigned c.args.self.now.assignment.trail (variable_of (assigned_literal c.args.entry))) ∙ c.requires.free, c.requires.looked.distinct)
+distinct c = (c.requires.below, c.requires.free, c.requires.looked.distinct)
 
 pub visit_all-requires-clause-watching : goal.visit_all-requires-clause-watching
 visit_all-requires-clause-watching c =

@@ -3,12 +3,13 @@ use Rattle.std.specs.List.{find}
 use Rattle.std.proofs.lemmas.List.{get_or_read}
 use Rattle.cqe_base.specs.Literal.{Positive, variable_of}
 use Rattle.cqe_base.specs.Machine.{is_true, first_unit}
+use Rattle.cqe_base.specs.MachineStates.{is_assigned}
 use Rattle.cqe_base.proofs.MachineRules.{each_has, is_unit}
-use Rattle.clause_solver.specs.Assigning.{Assigning, is_assigned}
+use Rattle.clause_solver.specs.Assigning.{Assigning}
 use Rattle.clause_solver.specs.Watching.{has_number, HaveSameLiterals}
 use Rattle.clause_solver.specs.WatchesInside.{lists_of, units_of}
 use Rattle.clause_solver.proofs.Learning.{clause_below}
-use Rattle.clause_solver.proofs.Looks.{same_watching, same_assigned}
+use Rattle.clause_solver.proofs.Looks.{same_watching}
 use Rattle.clause_solver.proofs.Noting.{number_at, number_place}
 use Rattle.clause_solver.proofs.States.{unit_within, is_first_unit, is_unit_literal, has_true, has_open, no_unit_clause, unit_dropped, not_false, found_open}
 use Rattle.clause_solver.proofs.indexed.Indexed.first_unit.Goals as goal
@@ -69,7 +70,7 @@ returns-in-Some-open_literal-clause-free c =
     let l = c.in-Some-open_literal.literal in
     let unit = is_unit_literal s.assignment.variables s.assignment.trail k.distinct s.clauses s.watches.sorted k.same (lists_of s.watches) s.watches.pairs.items (units_of s.watches) s.watches.falsified (Positive 0) k.watches v.falsified v.indexed.reached.no_repeat c.index.result.now (has (at c)) (least (at c)) l (found c) c.in-Some-open_literal.ensures.open_literal.1 in
     subst (λ (a : Assigning). is_assigned a.trail (variable_of l) ≡ false) v.assignment
-    (same_assigned s.assignment.trail (variable_of l) ∙ (is_unit s.assignment.trail (get_or s.clauses c.index.result.now []) l unit).unassigned)
+    (is_unit s.assignment.trail (get_or s.clauses c.index.result.now []) l unit).unassigned
 
 pub loop-place-preserved : goal.loop-place-preserved
 loop-place-preserved c =

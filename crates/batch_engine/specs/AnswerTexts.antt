@@ -5,6 +5,6 @@ use Rattle.cqe_base.specs.Run.{Reply}
 use Rattle.cqe_base.specs.Transcript.{reply_text}
 
 -- the text of a reply, or that no user has the name
-abbrev pub told_text : Option Reply → Text
-told_text (Some told) = reply_text told
-told_text None = codes "error 23"
+abbrev pub answer_text : Option Reply → Text
+answer_text (Some reply) = reply_text reply
+answer_text None = codes "error 23"

@@ -1,3 +1,0 @@
-// The plain program of the machine.
-
-pub use crate::plain::run::search_plain;
