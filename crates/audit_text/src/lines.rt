@@ -1,4 +1,4 @@
-// The lines of an audit.
+//! The lines of an audit.
 ghost use Rattle.std.specs.Prelude.{◌≡◌, ◌++◌, map, option_map, string_bytes, Some, IfOk, OnOk};
 ghost use Rattle.cqe_base.specs.Transcript.{mark_text};
 ghost use Rattle.audit_text.specs.Text.{user_line, entry_line, entry_lines, secret_line, world_text, more_facts, text_lines};

@@ -1,4 +1,4 @@
-// What an audit says, in memory.
+//! What an audit says, in memory.
 ghost use Rattle.std.specs.Prelude.{◌≡◌, map, string_bytes, IfOk};
 ghost use Rattle.audit_text.specs.Json.{lines_of};
 ghost use Rattle.audit_text.specs.Rows.{said_in};

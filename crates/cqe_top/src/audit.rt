@@ -1,4 +1,4 @@
-// The command `audit`.
+//! The command `audit`.
 ghost use Rattle.std.specs.Prelude.{◌≡◌, ◌≤◌, ◌<◌, List, ℕ, bytes_eq, length, position, string_bytes, IfSome};
 ghost use Rattle.outside.specs.Faults.{Rose};
 ghost use Rattle.desk_crew.specs.Shelved.{journals_on, NoneOut, NoneFell};

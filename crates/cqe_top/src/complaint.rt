@@ -1,4 +1,4 @@
-// What is said where a command didn't do all that it does.
+//! What is said where a command didn't do all that it does.
 ghost use Rattle.std.specs.Prelude.{◌≡◌, ◌≤◌, ◌++◌, length, codes, decimal, OnOk, OnErr};
 ghost use Rattle.cqe_base.specs.Transcript.{mark_text};
 ghost use Rattle.outside.specs.Faults.{Rose, HasCause};

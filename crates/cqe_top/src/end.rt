@@ -1,4 +1,4 @@
-// How a command ends.
+//! How a command ends.
 ghost use Rattle.std.specs.Prelude.{◌≡◌, ◌<◌, length, string_bytes};
 ghost use Rattle.cqe_top.specs.Statuses.{end_of_case, end_of_answers, end_of_batch, end_of_serve, has_refusal, IsAt, IsEndOfInit, IsEndOfAudit, InRange, status_of};
 ghost use Rattle.init_engine.specs.Disks.{user_names};

@@ -1,4 +1,4 @@
-// The policy file and the facts file of a command, and the header that they give to journals.
+//! The policy file and the facts file of a command, and the header that they give to journals.
 ghost use Rattle.std.specs.Prelude.{◌≡◌, ◌≤◌, ◌++◌, ◌∷◌, [], List, ℕ, false, All, Some, Ok, IfOk, IfErr, OnErr, OnOk};
 ghost use Rattle.cqe_base.specs.Schema.{has_duplicate};
 ghost use Rattle.cqe_base.specs.History.{profile_of};

@@ -1,4 +1,4 @@
-// The command `selfrun`.
+//! The command `selfrun`.
 ghost use Rattle.std.specs.Prelude.{◌≡◌, ◌≤◌};
 ghost use Rattle.outside.specs.Faults.{Rose};
 ghost use Rattle.cqe_top.specs.declared.end.CommandEnd.{CommandEnd};

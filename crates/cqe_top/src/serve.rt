@@ -1,4 +1,4 @@
-// The command `serve`.
+//! The command `serve`.
 ghost use Rattle.std.specs.Prelude.{◌≡◌, ◌≤◌, ◌+◌, ◌⊎◌, ◌^◌, List, ℕ};
 ghost use Rattle.outside.specs.Faults.{Rose};
 ghost use Rattle.desk_crew.specs.Shelved.{journals_on, NoneOut, NoneFell, SomeRose};

@@ -1,4 +1,4 @@
-// One user's desk on disks in memory, with bytes and replies that were worked out by hand.
+//! One user's desk on disks in memory, with bytes and replies that were worked out by hand.
 ghost use Rattle.std.specs.Prelude.{◌≤◌, length, IfOk};
 ghost use Rattle.cqe_base.specs.History.{profile_of};
 ghost use Rattle.cqe_base.specs.Limits.{KeepsLimits};

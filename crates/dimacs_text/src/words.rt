@@ -47,11 +47,8 @@ pub fn signed_number_in(word: &[u8]) -> Option<SignedNumber>
 fn signed(is_negative: bool, number: Option<u64>) -> Option<SignedNumber>
     ensures { result ≡ option_map (signed_number is_negative) number }
 {
-    match number {
-        Some(number) => Some(SignedNumber {
-            is_negative,
-            number,
-        }),
-        None => None,
-    }
+    number.map(|number| SignedNumber {
+        is_negative,
+        number,
+    })
 }

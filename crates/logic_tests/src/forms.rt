@@ -1,4 +1,4 @@
-// Clause forms as an independent program gave them, the shorter ones worked out by hand too.
+//! Clause forms as an independent program gave them, the shorter ones worked out by hand too.
 ghost use Rattle.std.specs.Prelude.{◌≡◌, ◌<◌, ◌+◌, ◌^◌, true, [], ◌∷◌, map, IfOk, IfSome, IsTrue};
 ghost use Rattle.cqe_base.specs.Ground.{parts_of, ground_of, ground_nodes, part_nodes};
 ghost use Rattle.clause_form.specs.Forms.{form_of};

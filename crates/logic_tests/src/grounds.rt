@@ -1,4 +1,4 @@
-// Sentences that were grounded by hand, and the limit on nodes.
+//! Sentences that were grounded by hand, and the limit on nodes.
 use cqe_base::prop::Prop;
 use cqe_base::schema::Schema;
 use cqe_base::sentence::{Constant, Sentence, Term, Terms, nodes};

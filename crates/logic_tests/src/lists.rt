@@ -1,4 +1,4 @@
-// Literals, clauses and resolvents that were worked out by hand.
+//! Literals, clauses and resolvents that were worked out by hand.
 use clause_store::clauses::Clauses;
 use clause_store::literal::{Lit, has_literal};
 use clause_store::resolution::{resolvent, unite};

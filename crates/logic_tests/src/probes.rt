@@ -1,4 +1,4 @@
-// Probes of the hospital's rule, with verdicts, worlds and costs that were worked out by hand.
+//! Probes of the hospital's rule, with verdicts, worlds and costs that were worked out by hand.
 ghost use Rattle.std.specs.Prelude.{◌≡◌, ◌≤◌, true, nat_le, IfOk, IsTrue};
 ghost use Rattle.std.specs.List.{list_all};
 ghost use Rattle.cqe_base.specs.Formula.{formula_of, nodes, is_sentence_of};

@@ -1,4 +1,4 @@
-// Refutations and models whose rightness was worked out by hand.
+//! Refutations and models whose rightness was worked out by hand.
 use clause_store::clauses::Clauses;
 use clause_store::literal::Lit;
 use clause_store::refutation::{Line, Refutation, Signs};

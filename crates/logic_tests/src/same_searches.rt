@@ -1,5 +1,5 @@
-// Clause lists on which both bodies of the search give the same answer, at the budgets of their whole cost and one less. The costs
-// and ends come from an independent program for the machine.
+//! Clause lists on which both bodies of the search give the same answer, at the budgets of their whole cost and one less. The costs
+//! and ends come from an independent program for the machine.
 use clause_solver::plain::search_plain;
 use clause_solver::{Found, is_searchable, search};
 use clause_store::clauses::Clauses;

@@ -1,4 +1,4 @@
-// Searches whose ends and whole costs an independent program gave, the shorter ones worked out by hand too.
+//! Searches whose ends and whole costs an independent program gave, the shorter ones worked out by hand too.
 
 use clause_solver::{Found, is_searchable, search, search_with_cost};
 use clause_store::clauses::Clauses;

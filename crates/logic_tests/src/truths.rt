@@ -1,4 +1,4 @@
-// Sentences whose truth was worked out by hand.
+//! Sentences whose truth was worked out by hand.
 use cqe_base::schema::Schema;
 use cqe_base::sentence::{Constant, Sentence, Term, Terms, nodes};
 use cqe_base::well_formed::is_sentence_of;

@@ -1,4 +1,4 @@
-// A file of the system as a disk. Clauses aren't told what it holds.
+//! A file of the system as a disk. Clauses aren't told what it holds.
 ghost use Rattle.std.specs.Prelude.{◌≡◌, ◌≤◌, [], length, IfOk, OnOk, Ok};
 ghost use Rattle.std.specs.Fs.{metadata_len, file_type, IsFile};
 ghost use Rattle.outside.specs.Faults.{HasCause};

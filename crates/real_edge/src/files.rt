@@ -1,4 +1,4 @@
-// The files of the system as a shelf. Clauses aren't told what they hold.
+//! The files of the system as a shelf. Clauses aren't told what they hold.
 ghost use Rattle.std.specs.Prelude.{◌≡◌, ◌≢◌, ◌≤◌, [], List, ℕ, Some, None, true, false, IfOk, IfErr, IfSome};
 ghost use Rattle.outside.specs.Faults.{Rose};
 ghost use Rattle.outside.specs.Places.{at_name};

@@ -1,4 +1,4 @@
-// Sockets as connections: a listening socket as a door, and what opens such doors. Clauses aren't told what comes in.
+//! Sockets as connections: a listening socket as a door, and what opens such doors. Clauses aren't told what comes in.
 ghost use Rattle.std.specs.Prelude.{◌≡◌, ◌≤◌, [], None, All, length, vec_capacity, IfOk};
 ghost use Rattle.outside.specs.Faults.{Rose};
 ghost use Rattle.real_edge.specs.Counts.{door_faults};

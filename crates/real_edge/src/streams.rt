@@ -1,5 +1,5 @@
-// The standard streams as a source and as sinks. They aren't told to clauses, since nobody knows what they will give
-// and what becomes of what they take.
+//! The standard streams as a source and as sinks. They aren't told to clauses, since nobody knows what they will give
+//! and what becomes of what they take.
 ghost use Rattle.std.specs.Prelude.{◌≡◌, []};
 
 use outside::{Failed, Sink, Source};

@@ -1,4 +1,4 @@
-// How a run of a workload ends.
+//! How a run of a workload ends.
 
 /// How `run_selfrun` ends.
 #[derive(Clone, Copy, Debug, PartialEq, Eq)]

@@ -1,4 +1,4 @@
-// The run of a workload.
+//! The run of a workload.
 ghost use Rattle.std.specs.Prelude.{◌≡◌, ◌≤◌, List, false, map, All, Ok, IfOk, is_some};
 ghost use Rattle.std.specs.List.{AllByRecursion, list_any};
 ghost use Rattle.cqe_base.specs.Schema.{has_duplicate};

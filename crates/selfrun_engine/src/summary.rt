@@ -1,4 +1,4 @@
-// The summary of a run.
+//! The summary of a run.
 ghost use Rattle.std.specs.Prelude.{◌≡◌, map, string_bytes, IfOk};
 ghost use Rattle.selfrun_engine.specs.Tallies.{summary_line, summary_lines};
 

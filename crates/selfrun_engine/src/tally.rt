@@ -1,4 +1,4 @@
-// How often each reply stands in lines.
+//! How often each reply stands in lines.
 ghost use Rattle.std.specs.Prelude.{◌≡◌, ◌≤◌, ◌<◌, ◌+◌};
 ghost use Rattle.selfrun_engine.specs.Counting.{after_byte, with_first, tally_in, total};
 

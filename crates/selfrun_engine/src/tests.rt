@@ -1,4 +1,4 @@
-// Lines that are counted, and the summary of a count.
+//! Lines that are counted, and the summary of a count.
 use crate::summary::summary_lines;
 use crate::tally::{Tally, tally_in};
 use std::test::Fail;

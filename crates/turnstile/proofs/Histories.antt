@@ -4,7 +4,7 @@ use Rattle.std.proofs.lemmas.List.Elements.{filter-append, All-nil, All-cons, Al
 use mathlib.Core.Logic.{dite}
 use native.Mathlib.Decide.{ℕ_discrete}
 use Rattle.turnstile.specs.History.{Entries, count_of, entries_with, turn_entries, NoneWith, IsOpening, IsRising, Interleaves}
-use Rattle.turnstile.proofs.Sums.{count_of-append, count_of-else}
+use Rattle.turnstile.proofs.Counts.{count_of-append, count_of-else}
 
 module _ {X : Type 0} (P : X → Type 0) where
   all_front : (xs ys : List X) → All P (xs ++ ys) → All P xs

@@ -12,8 +12,8 @@ use Rattle.turnstile.specs.History.{Entries, count_of, OnceBetween, NoneWith, Is
 use Rattle.turnstile.specs.Views.{tickets_at, held_tickets, spent_view, opening_view, waiting_view, inside_view, outside_view, remaining_view, split_off_view, known_by, joined_view, compared_view, AllKnown, DrewEachOnce}
 use Rattle.turnstile.specs.Rule.{Fits, HasTurn, IsHome, IsOut, TurnstileRule}
 use Rattle.turnstile.specs.Plays.{Drew, Looked, WentOn, Compared}
-use Rattle.turnstile.proofs.Sums.{set_there, sum_set, sum_at, sum_two, sum_some, count_of-append, count_of-here, counts_more, counts_less, counts_same, counted_within, counted_most}
-use Rattle.std.proofs.lemmas.List.Sums.{sum_by_push}
+use Rattle.list_sums.proofs.Sums.{set_there, sum_set, sum_at, sum_two, sum_some, sum_cut, sum_joined}
+use Rattle.turnstile.proofs.Counts.{count_of-append, count_of-here, counts_more, counts_less, counts_same, counted_within, counted_most}
 use Rattle.std.proofs.lemmas.List.Elements.{All-nil, All-cons, All-append}
 use Rattle.std.proofs.lemmas.Bool.{lt-leb}
 use Rattle.turnstile.proofs.Histories.{AllBelow, Lacks, rising_below, below_end, below_more, rising_more, rising_on, rising_under, rising_front, rising_opening, none_more, none_of_none, none_both, none_front, none_end, begins_longer, begins_whole, entries_with_seen, entries_with_all, turned_more, none_of_opening}
@@ -314,10 +314,6 @@ module _ {V I F : Type 0} (entries_of : V → Entries I) (fixed_of : V → F) (f
       hand_same : (a b : V) → ◌≡◌ {A = List (ℕ × Option V)} ((0, Some a) ∷ []) ((0, Some b) ∷ []) → a ≡ b
       hand_same a b e = value_same a b (ap (λ (p : ℕ × Option V). p.1) (pair_same (0, Some a) (0, Some b) e))
 
-  -- what a sum becomes where one view is cut in two
-  sum_cut : (f : W → ℕ) (views : List W) (id : ℕ) (v left right : W) → get_elem? views id ≡ some v → sum_by f (set views id left ++ right ∷ []) + f v ≡ sum_by f views + (f left + f right)
-  sum_cut f views id v left right at = omega (arith, sum_set f views id v left at, sum_by_push f (set views id left) right)
-
   -- what holds of each view holds of each once one is cut in two
   each_cut : (P : W → Type 0) (views : List W) (id : ℕ) (left right : W) → ((k : ℕ) (u : W) → get_elem? views k ≡ some u → P u) → P left → P right → (k : ℕ) (u : W) → get_elem? (set views id left ++ right ∷ []) k ≡ some u → P u
   each_cut P views id left right others one two k u e = ⊎_elim
@@ -390,10 +386,6 @@ module _ {V I F : Type 0} (entries_of : V → Entries I) (fixed_of : V → F) (f
       let n = ap length is in omega arith)) in
       sym (t.1 ∙ (ap (λ (l : Entries I). longer v.seen w.seen ++ l) whole ∙ append-nil (longer v.seen w.seen)))
 
-  -- what a sum becomes where two views are made one
-  sum_joined : (f : W → ℕ) (views : List W) (id : ℕ) (v : W) (other : ℕ) (w both : W) → get_elem? views id ≡ some v → get_elem? (set views id both) other ≡ some w → sum_by f (set (set views id both) other spent_view) + (f v + f w) ≡ sum_by f views + (f both + f spent_view)
-  sum_joined f views id v other w both at there = omega (arith, sum_set f views id v both at, sum_set f (set views id both) other w spent_view there)
-
   pub meets : (id : ℕ) (v : W) (other : ℕ) (w : W) → v.stage ≡ Outside → w.stage ≡ Outside → 0 < v.shares → 0 < w.shares → Joins Rule id v other w (joined_view v w) spent_view
   meets id v other w stage stage' pos pos' s r at apart there =
       let both : W = joined_view v w in
@@ -414,10 +406,10 @@ module _ {V I F : Type 0} (entries_of : V → Entries I) (fixed_of : V → F) (f
         history = r.history;
         words = r.words;
         ordered = r.ordered;
-        held = counts_same r.serving r.ticket _ _ r.held (λ x. let e = sum_joined (λ (u : W). count_of x (held_tickets u)) s.views id v other w both at there in let z : count_of x (held_tickets w) ≡ 0 = ap (count_of x) held_w in omega arith);
-        drawn = counts_same 1 r.ticket _ _ r.drawn (λ x. let e = sum_joined (λ (u : W). count_of x u.drawn) s.views id v other w both at there in let z = count_of-append x v.drawn w.drawn in omega arith);
-        shares = let e = sum_joined (λ (u : W). u.shares) s.views id v other w both at there in let sum = r.shares in omega arith;
-        turns = let e = sum_joined (λ (u : W). u.turns) s.views id v other w both at there in let sum = r.turns in omega arith;
+        held = counts_same r.serving r.ticket _ _ r.held (λ x. let e = sum_joined (λ (u : W). count_of x (held_tickets u)) s.views id v other w both spent_view at there in let z : count_of x (held_tickets w) ≡ 0 = ap (count_of x) held_w in omega arith);
+        drawn = counts_same 1 r.ticket _ _ r.drawn (λ x. let e = sum_joined (λ (u : W). count_of x u.drawn) s.views id v other w both spent_view at there in let z = count_of-append x v.drawn w.drawn in omega arith);
+        shares = let e = sum_joined (λ (u : W). u.shares) s.views id v other w both spent_view at there in let sum = r.shares in omega arith;
+        turns = let e = sum_joined (λ (u : W). u.turns) s.views id v other w both spent_view at there in let sum = r.turns in omega arith;
         each = each_set (λ _ u. Fits fixed r.history u) one other spent_view
             (λ k u _ e. each_set (λ _ u. Fits fixed r.history u) s.views id both (λ j u _. r.each j u)
             record { behind = t.0; seen = t.1; missed = t.2; own = λ x. let z : count_of x (held_tickets v) ≡ 0 = ap (count_of x) held_v in omega arith; live = inl (omega arith, live.1); joined = longer_known r.history v w fit fit'; agreed = (refl, (live'.1 ∙ sym live.1, tt)) } k u e)

@@ -8,7 +8,8 @@ use Rattle.atomic_table.proofs.Lists.{at_set, at_snoc}
 use Rattle.worker_pool.specs.declared.hand.Hand.{Hand}
 use Rattle.worker_pool.specs.Hands.{sum_below, is_below, first_hand, spent_hand, drawing_hand, remaining_hand, split_off_hand, joined_hand}
 use Rattle.worker_pool.specs.NumberRule.{NumberRule, Drew}
-use Rattle.worker_pool.proofs.Sums.{set_there, sum_set, sum_at, sum_cut, sum_joined, sum_idle, below_min}
+use Rattle.list_sums.proofs.Sums.{set_there, sum_set, sum_at, sum_cut, sum_joined}
+use Rattle.worker_pool.proofs.Sums.{sum_idle, below_min}
 
 abbrev St : Type 0
 St = State (Unit {0}) Hand

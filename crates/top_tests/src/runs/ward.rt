@@ -1,4 +1,4 @@
-// The ward: a policy of six users, facts, and a shelf with both; and the commands over it.
+//! The ward: a policy of six users, facts, and a shelf with both; and the commands over it.
 ghost use Rattle.std.specs.Prelude.{◌≡◌, List, ℕ, false, IfOk};
 ghost use Rattle.outside.specs.MemoryShelves.{is_disk_out};
 

@@ -1,14 +1,14 @@
 use Rattle.std.proofs.Common.{◌≡◌, ◌<◌, ◌≤◌, ℕ, true, false, [], Some, length, get_or, map, refl, sym, ap, ◌∙◌, subst, arith}
 use Rattle.std.specs.List.{find}
 use Rattle.std.proofs.lemmas.List.{get_or_read}
-use Rattle.cqe_base.specs.Literal.{Positive, variable_of}
+use Rattle.cqe_base.specs.Literal.{Positive, variable_of, ClauseBelow}
 use Rattle.cqe_base.specs.Machine.{is_true, first_unit}
 use Rattle.cqe_base.specs.MachineStates.{is_assigned}
+use Rattle.cqe_base.proofs.Analysis.{each_at}
 use Rattle.cqe_base.proofs.MachineRules.{each_has, is_unit}
 use Rattle.clause_solver.specs.Assigning.{Assigning}
 use Rattle.clause_solver.specs.Watching.{has_number, HaveSameLiterals}
 use Rattle.clause_solver.specs.WatchesInside.{lists_of, units_of}
-use Rattle.clause_solver.proofs.Learning.{clause_below}
 use Rattle.clause_solver.proofs.Looks.{same_watching}
 use Rattle.clause_solver.proofs.Noting.{number_at, number_place}
 use Rattle.clause_solver.proofs.States.{unit_within, is_first_unit, is_unit_literal, has_true, has_open, no_unit_clause, unit_dropped, not_false, found_open}
@@ -60,7 +60,7 @@ returns-in-Some-open_literal-clause-below c =
     let s = c.loop-place.self in
     let v = c.loop-place.invariant in
     subst (λ (a : Assigning). variable_of c.in-Some-open_literal.literal < a.variables) v.assignment
-    (each_has (λ m. variable_of m < s.assignment.variables) (get_or s.clauses c.index.result.now []) c.in-Some-open_literal.literal (clause_below s.assignment.variables s.clauses c.index.result.now v.indexed.reached.below) (found_open s.assignment.trail (get_or s.clauses c.index.result.now []) c.in-Some-open_literal.literal (found c)).0)
+    (each_has (λ m. variable_of m < s.assignment.variables) (get_or s.clauses c.index.result.now []) c.in-Some-open_literal.literal (each_at (ClauseBelow s.assignment.variables) s.clauses c.index.result.now v.indexed.reached.below tt) (found_open s.assignment.trail (get_or s.clauses c.index.result.now []) c.in-Some-open_literal.literal (found c)).0)
 
 pub returns-in-Some-open_literal-clause-free : goal.returns-in-Some-open_literal-clause-free
 returns-in-Some-open_literal-clause-free c =

@@ -1,15 +1,15 @@
 use Rattle.std.proofs.Common.{◌≡◌, ◌<◌, Bool, true, false, List, [], ◌∷◌, ◌++◌, length, get_or, set, map, refl, sym, ap, ◌∙◌, arith}
 use Rattle.std.specs.List.{find}
 use Rattle.std.proofs.lemmas.List.{get_or_read}
-use Rattle.cqe_base.specs.Literal.{variable_of}
+use Rattle.cqe_base.specs.Literal.{variable_of, ClauseBelow}
 use Rattle.cqe_base.specs.Machine.{is_false}
+use Rattle.cqe_base.proofs.Analysis.{each_at}
 use Rattle.cqe_base.proofs.MachineRules.{each_has}
 use Rattle.clause_solver.specs.declared.watches.Watch.{Watch}
 use Rattle.clause_solver.specs.Assigning.{code_of}
 use Rattle.clause_solver.specs.Watching.{IsWatching, AllFalseBut}
 use Rattle.clause_solver.specs.WatchesInside.{lists_of, units_of}
 use Rattle.clause_solver.proofs.Kept.{code_of-below}
-use Rattle.clause_solver.proofs.Learning.{clause_below}
 use Rattle.clause_solver.proofs.Looks.{same_watching, low_listed}
 use Rattle.clause_solver.proofs.Visits.{next_test, IsNext, found_next, none_next, visited_other, visited_unit, visited_falsified, visited_next}
 use Rattle.clause_solver.proofs.watches.Watches.visit_beside.Goals as goal
@@ -28,7 +28,7 @@ only c =
 room : (c : In-Some) → code_of c.in-Some.next < length c.args.self.now.lists.items
 room c =
     let n = c.args.assignment.now.variables in
-    let below = each_has (λ l. variable_of l < n) (get_or c.args.self.now.sorted c.args.clause []) c.in-Some.next (clause_below n c.args.self.now.sorted c.args.clause c.requires.below) (found c).has in
+    let below = each_has (λ l. variable_of l < n) (get_or c.args.self.now.sorted c.args.clause []) c.in-Some.next (each_at (ClauseBelow n) c.args.self.now.sorted c.args.clause c.requires.below tt) (found c).has in
     let code = code_of-below n c.in-Some.next below in
     let all = c.requires.lists_room in
     omega arith
