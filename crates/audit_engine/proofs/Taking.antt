@@ -1,23 +1,10 @@
--- A disk that was taken and given back is what stood under its name.
--- `taken_bytes` and `taken_images` say what `taken_reads` and `taken_images` of `outside`'s `Taken` do. They stand here
--- because the tactics try the lemmas of a function's own crate, and so need no answers.
-use Rattle.std.proofs.Common.{◌≡◌, ℕ, Bool, true, false, List, Option, None, Some, refl, sym, ap, subst}
+-- A disk that was taken and given back, among those of all names.
+use Rattle.std.proofs.Common.{◌≡◌, ℕ, Bool, true, false, List, Option, refl, sym, ap, subst}
 use Rattle.std.specs.Prelude.{bytes_eq}
 use Rattle.std.proofs.lemmas.Slice.Eq.{bytes_eq-Decides}
-use Rattle.outside.specs.Shelf.{IsTaken, SameOthers, bytes_on, image_on}
+use Rattle.outside.specs.Shelf.{SameOthers, bytes_on, image_on}
 use Rattle.cqe_base.specs.Schema.{Text}
 use Rattle.desk_crew.specs.Shelved.{SameBytes, NoNewImages}
-
-module _ {D : Type 0} (reads : D → List ℕ) (image : D → List ℕ → Type 0) where
-  -- it had the bytes
-  pub taken_bytes : (held : Option D) (disk : D) → IsTaken reads image held disk → reads disk ≡ bytes_on reads held
-  taken_bytes (Some held) disk is = ap reads is
-  taken_bytes None disk is = is.0
-
-  -- and its images are those that were left
-  pub taken_images : (held : Option D) (disk : D) (c : List ℕ) → IsTaken reads image held disk → image disk c → image_on image held c
-  taken_images (Some held) disk c is left = subst (λ d. image d c) is left
-  taken_images None disk c is left = is.1 c left
 
 -- what holds of one name and stays under all others holds of all
 module _ {D : Type 0} (reads : D → List ℕ) (image : D → List ℕ → Type 0) (journal : Text) (old new : Text → Option D) (others : SameOthers journal old new) where

@@ -130,8 +130,9 @@ where
     ensures serve_heard { L.told → (policy facts journals address : List ℕ) (workers sessions : ℕ) → IsServe words.now policy facts journals address workers sessions → IsComplete result
         → ListenAt address workers (L.listened links.old) (L.listened links.new) }
 
-    // A server ends where no connection is at hand, or where those that were given in this call and the workers together are
-    // more than the greatest number of sessions, which are never exceeded. All its doors are back.
+    // A server ends where no connection is at hand, or where those that were given in this call and the doors that answered
+    // that no further one comes are together at least the greatest number of sessions, which are never exceeded. All its
+    // doors are back.
     ensures serve_ends { L.told → (policy facts journals address : List ℕ) (workers sessions : ℕ) → IsServe words.now policy facts journals address workers sessions → IsComplete result
         → (L.at_hand links.new ≡ 0) ⊎ (L.given links.old + sessions + L.ended links.old ≤ L.given links.new + L.ended links.new) }
     ensures serve_limited { L.told → (policy facts journals address : List ℕ) (workers sessions : ℕ) → IsServe words.now policy facts journals address workers sessions → L.given links.new ≤ L.given links.old + sessions }
