@@ -1,17 +1,34 @@
 //! A small clinic: two persons, each of whom may be infected and take a drug, and Ann is and does.
-ghost use Rattle.std.specs.Prelude.{◌≡◌, ◌≤◌, true, length, IfOk};
+ghost use Rattle.std.specs.Prelude.{◌≡◌, ◌≤◌, ◌*◌, ◌^◌, true, length, IfOk};
 ghost use Rattle.cqe_base.specs.Formula.{formula_of, nodes, is_sentence_of};
 ghost use Rattle.cqe_base.specs.History.{profile_of};
 ghost use Rattle.cqe_base.specs.Limits.{KeepsLimits};
+ghost use Rattle.turnstile.specs.Passes.{seen, shares as shares_of, turns};
+ghost use Rattle.desk_counter.specs.Items.{history_of};
+ghost use Rattle.desk_counter.specs.Counters.{kept_by, IsPassOf};
 
 use cqe_base::laws::law_views_without_entries;
 use cqe_base::schema::Schema;
 use cqe_base::sentence::{Sentence, nodes};
 use cqe_base::user::{Method, User};
 use cqe_base::world::{Fact, World};
+use desk_counter::{Counter, DeskPass};
+use log_journal::{Header, format};
+use outside::MemoryDisk;
 use sentence_text::read_sentence;
 use std::alloc::Global;
+use std::process::Abort;
 use std::test::Fail;
+use user_desk::open_desk;
+
+/// The header of the clinic's journals.
+pub const HEADER: Header = Header {
+    policy: [7; 32],
+    facts: [9; 32],
+};
+
+/// Who takes the drug is infected.
+pub const RULE: &str = "forall x: person . drug(x) -> hiv(x)";
 
 /// The SHA-256 of `abc`, as the standard gives it.
 pub const TOKEN: [u8; 32] = [
@@ -86,6 +103,39 @@ pub fn make_user(
         budget: 1_000_000,
         token: None,
     })
+}
+
+/// A user of this name and method who knows the rule, and from whom Ann's infection is kept.
+pub fn user_by(alloc: Global, clinic: &Clinic, name: &str, method: Method) -> Result<User, Fail>
+    ensures { IfOk result (λ user. KeepsLimits clinic.now.schema (profile_of user)) }
+{
+    let user = make_user(alloc, &clinic.schema, name, method, RULE, "hiv(ann)")?;
+    Ok(user)
+}
+
+/// A user's desk on an empty journal, under a counter, with the pass that has all shares.
+pub fn counter_of<'w>(
+    rt: &impl Abort,
+    alloc: Global,
+    clinic: &'w Clinic,
+    user: &'w User,
+) -> Result<(Counter<'w, MemoryDisk>, DeskPass<MemoryDisk>), Fail>
+    requires { KeepsLimits clinic.now.schema (profile_of user.now) }
+    ensures pass { IfOk result (λ c. IsPassOf c.1 c.0) }
+    ensures opened { IfOk result (λ c. length (kept_by c.0).opening ≤ length (history_of (seen c.1))) }
+    ensures all { IfOk result (λ c. shares_of c.1 ≡ 65) }
+    ensures turns { IfOk result (λ c. turns c.1 ≡ 65 * 2 ^ 57) }
+{
+    let mut disk = MemoryDisk::new(alloc, Vec::new(alloc))?;
+    format(&mut disk, &HEADER)?;
+    let opened = open_desk(alloc, &clinic.schema, &clinic.world, user, &HEADER, disk);
+    let Ok(desk) = opened else {
+        panic!(rt; "no memory for a desk");
+    };
+    match Counter::new(alloc, desk) {
+        Ok(counter) => Ok(counter),
+        Err(_) => panic!(rt; "no memory for a counter"),
+    }
 }
 
 /// A small sentence of the schema.

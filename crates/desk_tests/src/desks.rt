@@ -3,21 +3,16 @@ ghost use Rattle.std.specs.Prelude.{◌≤◌, length, IfOk};
 ghost use Rattle.cqe_base.specs.History.{profile_of};
 ghost use Rattle.cqe_base.specs.Limits.{KeepsLimits};
 
-use crate::clinic::{Clinic, make_clinic, make_user};
+use crate::clinic::{Clinic, HEADER, RULE, make_clinic, make_user};
 use censors::Admission;
 use cqe_base::user::{Mark, Method, User};
-use log_journal::{Header, OpenError, format};
+use log_journal::{OpenError, format};
 use outside::{MemoryDisk, Plan};
 use std::alloc::Global;
 use std::process::Abort;
 use std::test::Fail;
 use user_desk::{Desk, DeskError, Standing, open_desk};
 use user_log::Reply;
-
-const HEADER: Header = Header {
-    policy: [7; 32],
-    facts: [9; 32],
-};
 
 // What stands from the first gate on after `drug(ann)` was answered by no.
 const FROM_THE_GATE: [u8; 14] = [
@@ -26,9 +21,6 @@ const FROM_THE_GATE: [u8; 14] = [
 
 // The device calls of an opening: a sync, the length and one read.
 const OPENING: u64 = 3;
-
-/// Who takes the drug is infected.
-const RULE: &str = "forall x: person . drug(x) -> hiv(x)";
 
 /// The clinic, with a user from whom Ann's infection is kept by lies.
 #[derive(Drop)]

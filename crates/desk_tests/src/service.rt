@@ -1,29 +1,17 @@
 //! A job over streams in memory. Replies were worked out by hand.
-ghost use Rattle.std.specs.Prelude.{◌≡◌, ◌<◌, ◌≤◌, ◌+◌, ◌*◌, ◌^◌, length, IfOk};
+ghost use Rattle.std.specs.Prelude.{◌≡◌, ◌<◌, ◌≤◌, ◌+◌, ◌^◌, IfOk};
 ghost use Rattle.cqe_base.specs.History.{profile_of};
 ghost use Rattle.cqe_base.specs.Limits.{KeepsLimits};
-ghost use Rattle.turnstile.specs.Passes.{seen, turns};
-ghost use Rattle.desk_counter.specs.Items.{history_of};
-ghost use Rattle.desk_counter.specs.Counters.{kept_by, IsPassOf};
 
-use crate::clinic::{Clinic, TOKEN, make_clinic, make_user};
+use crate::clinic::{Clinic, TOKEN, counter_of, make_clinic, make_user};
 use cqe_base::user::{Method, User};
-use desk_counter::{Counter, DeskPass};
-use log_journal::{Header, format};
-use outside::{MemoryDisk, MemorySink, MemorySource, OpenGate};
+use outside::{MemorySink, MemorySource, OpenGate};
 use serve_engine::SessionJob;
 use session_core::Counters;
 use std::alloc::Global;
-use std::process::Abort;
 use std::sync::Wait;
 use std::test::Fail;
-use user_desk::open_desk;
 use worker_pool::Job;
-
-const HEADER: Header = Header {
-    policy: [7; 32],
-    facts: [9; 32],
-};
 
 /// A user who knows that Ann is infected or takes the drug, and from whom it is kept that both are so.
 fn user(alloc: Global, clinic: &Clinic) -> Result<User, Fail>
@@ -34,30 +22,6 @@ fn user(alloc: Global, clinic: &Clinic) -> Result<User, Fail>
     let mut user = make_user(alloc, &clinic.schema, "eve", Method::Lying, known, secret)?;
     user.token = Some(TOKEN);
     Ok(user)
-}
-
-/// A user's desk on an empty journal, under a counter.
-fn counter_of<'w>(
-    rt: &impl Abort,
-    alloc: Global,
-    clinic: &'w Clinic,
-    user: &'w User,
-) -> Result<(Counter<'w, MemoryDisk>, DeskPass<MemoryDisk>), Fail>
-    requires { KeepsLimits clinic.now.schema (profile_of user.now) }
-    ensures pass { IfOk result (λ c. IsPassOf c.1 c.0) }
-    ensures opened { IfOk result (λ c. length (kept_by c.0).opening ≤ length (history_of (seen c.1))) }
-    ensures all { IfOk result (λ c. turns c.1 ≡ 65 * 2 ^ 57) }
-{
-    let mut disk = MemoryDisk::new(alloc, Vec::new(alloc))?;
-    format(&mut disk, &HEADER)?;
-    let opened = open_desk(alloc, &clinic.schema, &clinic.world, user, &HEADER, disk);
-    let Ok(desk) = opened else {
-        panic!(rt; "no memory for a desk");
-    };
-    match Counter::new(alloc, desk) {
-        Ok(counter) => Ok(counter),
-        Err(_) => panic!(rt; "no memory for a counter"),
-    }
 }
 
 /// What a client is told who says this.

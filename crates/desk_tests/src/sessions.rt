@@ -1,58 +1,13 @@
 //! Sessions over streams in memory. Replies were worked out by hand.
-ghost use Rattle.std.specs.Prelude.{◌≡◌, ◌*◌, ◌^◌, IfOk};
-ghost use Rattle.cqe_base.specs.History.{profile_of};
-ghost use Rattle.cqe_base.specs.Limits.{KeepsLimits};
-ghost use Rattle.turnstile.specs.Passes.{turns};
-ghost use Rattle.desk_counter.specs.Counters.{IsPassOf};
 
-use crate::clinic::{Clinic, TOKEN, make_clinic, make_user};
-use cqe_base::user::{Method, User};
-use desk_counter::{Counter, DeskPass};
-use log_journal::{Header, format};
-use outside::{MemoryDisk, MemorySink, MemorySource, OpenGate, Pieces, Plan};
+use crate::clinic::{TOKEN, counter_of, make_clinic, user_by};
+use cqe_base::user::Method;
+use outside::{MemorySink, MemorySource, OpenGate, Pieces, Plan};
 use session_core::{Counters, Ended, serve_session};
 use std::alloc::Global;
 use std::process::Abort;
 use std::sync::Wait;
 use std::test::Fail;
-use user_desk::open_desk;
-
-const HEADER: Header = Header {
-    policy: [7; 32],
-    facts: [9; 32],
-};
-
-/// A user who knows that who takes the drug is infected, and from whom Ann's infection is kept.
-fn user_by(alloc: Global, clinic: &Clinic, name: &str, method: Method) -> Result<User, Fail>
-    ensures { IfOk result (λ user. KeepsLimits clinic.now.schema (profile_of user)) }
-{
-    let known = "forall x: person . drug(x) -> hiv(x)";
-    let user = make_user(alloc, &clinic.schema, name, method, known, "hiv(ann)")?;
-    Ok(user)
-}
-
-/// A user's desk on an empty journal, under a counter.
-fn counter_of<'w>(
-    rt: &impl Abort,
-    alloc: Global,
-    clinic: &'w Clinic,
-    user: &'w User,
-) -> Result<(Counter<'w, MemoryDisk>, DeskPass<MemoryDisk>), Fail>
-    requires { KeepsLimits clinic.now.schema (profile_of user.now) }
-    ensures pass { IfOk result (λ c. IsPassOf c.1 c.0) }
-    ensures all { IfOk result (λ c. turns c.1 ≡ 65 * 2 ^ 57) }
-{
-    let mut disk = MemoryDisk::new(alloc, Vec::new(alloc))?;
-    format(&mut disk, &HEADER)?;
-    let opened = open_desk(alloc, &clinic.schema, &clinic.world, user, &HEADER, disk);
-    let Ok(desk) = opened else {
-        panic!(rt; "no memory for a desk");
-    };
-    match Counter::new(alloc, desk) {
-        Ok(counter) => Ok(counter),
-        Err(_) => panic!(rt; "no memory for a counter"),
-    }
-}
 
 /// A session over these streams: how it ended, what was written, and how often a read failed.
 fn talk<R: Abort + Wait>(

@@ -1,4 +1,5 @@
 //! Sentences that were grounded by hand, and the limit on nodes.
+use crate::pharmacy::{DRUG, PERSON, TAKES, boxed, schema};
 use cqe_base::prop::Prop;
 use cqe_base::schema::Schema;
 use cqe_base::sentence::{Constant, Sentence, Term, Terms, nodes};
@@ -7,38 +8,6 @@ use grounding::{GroundError, ground};
 use std::alloc::{AllocError, Global};
 use std::process::Abort;
 use std::test::Fail;
-
-const PERSON: u32 = 0;
-
-const DRUG: u32 = 1;
-
-const TAKES: u32 = 0;
-
-/// A domain of this name with so many constants.
-fn domain(alloc: Global, name: &str, size: u32) -> Result<(String, Vec<String>), AllocError> {
-    let mut constants = Vec::new(alloc);
-    for number in 0..size {
-        constants.push(format!(in alloc; "{name}{number}")?)?;
-    }
-    Ok((String::from_str(alloc, name)?, constants))
-}
-
-/// The schema of so many persons, so many drugs, and who takes which.
-fn schema(alloc: Global, persons: u32, drugs: u32) -> Result<Schema, Fail> {
-    let mut domains = Vec::new(alloc);
-    domains.push(domain(alloc, "person", persons)?)?;
-    domains.push(domain(alloc, "drug", drugs)?)?;
-    let mut columns = Vec::new(alloc);
-    columns.push(String::from_str(alloc, "person")?)?;
-    columns.push(String::from_str(alloc, "drug")?)?;
-    let mut relations = Vec::new(alloc);
-    relations.push((String::from_str(alloc, "takes")?, columns))?;
-    Ok(Schema::new(alloc, domains, relations)?)
-}
-
-fn boxed(alloc: Global, sentence: Sentence) -> Result<Box<Sentence>, AllocError> {
-    Ok(Box::new(alloc, sentence)?)
-}
 
 fn takes(alloc: Global, person: Term, drug: Term) -> Result<Sentence, AllocError> {
     let terms = Vec::from_array(alloc, [person, drug])?;

@@ -1,32 +1,10 @@
 //! Refutations and models whose rightness was worked out by hand.
-use clause_store::clauses::Clauses;
-use clause_store::literal::Lit;
+use crate::numbered::{clauses, literals};
 use clause_store::refutation::{Line, Refutation, Signs};
 use proof_check::model::check_model;
 use proof_check::refutation::check_refutation;
 use std::alloc::Global;
 use std::test::Fail;
-
-/// The literals of these numbers.
-fn literals(alloc: Global, text: &str) -> Result<Vec<Lit>, Fail> {
-    let mut literals = Vec::new(alloc);
-    for word in text.split_whitespace() {
-        literals.push(Lit::from_number(word.parse::<i32>()?).ok_or("no literal")?)?;
-    }
-    Ok(literals)
-}
-
-/// The clauses of these numbers, with a comma between them.
-fn clauses(alloc: Global, text: &str) -> Result<Clauses, Fail> {
-    let mut clauses = Clauses::new(alloc);
-    if text.is_empty() {
-        return Ok(clauses);
-    }
-    for clause in text.split(',') {
-        let _number = clauses.push(&literals(alloc, clause)?)?;
-    }
-    Ok(clauses)
-}
 
 /// The lines of these numbers, with a comma between them: each a clause, `by` and a chain.
 fn refutation(alloc: Global, text: &str) -> Result<Refutation, Fail> {

@@ -1,29 +1,13 @@
 //! Clause lists on which both bodies of the search give the same answer, at the budgets of their whole cost and one less. The costs
 //! and ends come from an independent program for the machine.
+use crate::numbered::clauses;
 use clause_solver::plain::search_plain;
 use clause_solver::{Found, is_searchable, search};
 use clause_store::clauses::Clauses;
-use clause_store::literal::Lit;
 use clause_store::refutation::{Line, Refutation};
 use std::alloc::Global;
 use std::process::Abort;
 use std::test::Fail;
-
-/// The clauses of these numbers, with a comma between them.
-fn clauses(alloc: Global, text: &str) -> Result<Clauses, Fail> {
-    let mut clauses = Clauses::new(alloc);
-    if text.is_empty() {
-        return Ok(clauses);
-    }
-    for words in text.split(',') {
-        let mut clause = Vec::new(alloc);
-        for word in words.split_whitespace() {
-            clause.push(Lit::from_number(word.parse::<i32>()?).ok_or("no literal")?)?;
-        }
-        let _number = clauses.push(&clause)?;
-    }
-    Ok(clauses)
-}
 
 /// Whether two lines are the same.
 fn is_same_line(first: &Line, second: &Line) -> bool {

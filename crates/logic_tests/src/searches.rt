@@ -1,5 +1,6 @@
 //! Searches whose ends and whole costs an independent program gave, the shorter ones worked out by hand too.
 
+use crate::numbered::clauses;
 use clause_solver::{Found, is_searchable, search, search_with_cost};
 use clause_store::clauses::Clauses;
 use clause_store::literal::Lit;
@@ -98,27 +99,6 @@ const SEARCHES: [(&str, u32, u64, &str); 29] = [
         "refuted 5 3 1 by 8 3, 1 5 by 5 0 12, 5 3 by 8 4, by 10 5 14 13 6",
     ),
 ];
-
-/// The literals of these numbers.
-fn literals(alloc: Global, text: &str) -> Result<Vec<Lit>, Fail> {
-    let mut literals = Vec::new(alloc);
-    for word in text.split_whitespace() {
-        literals.push(Lit::from_number(word.parse::<i32>()?).ok_or("no literal")?)?;
-    }
-    Ok(literals)
-}
-
-/// The clauses of these numbers, with a comma between them.
-fn clauses(alloc: Global, text: &str) -> Result<Clauses, Fail> {
-    let mut clauses = Clauses::new(alloc);
-    if text.is_empty() {
-        return Ok(clauses);
-    }
-    for clause in text.split(',') {
-        let _number = clauses.push(&literals(alloc, clause)?)?;
-    }
-    Ok(clauses)
-}
 
 /// Appends numbers, with a blank between them.
 fn push_literals(text: &mut String, literals: &[Lit]) -> Result<(), AllocError> {

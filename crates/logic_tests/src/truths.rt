@@ -1,40 +1,13 @@
 //! Sentences whose truth was worked out by hand.
+use crate::pharmacy::{DRUG, PERSON, TAKES, boxed, schema};
 use cqe_base::schema::Schema;
 use cqe_base::sentence::{Constant, Sentence, Term, Terms, nodes};
 use cqe_base::well_formed::is_sentence_of;
 use cqe_base::world::{Fact, World};
-use std::alloc::{AllocError, Global};
+use std::alloc::Global;
 use std::process::Abort;
 use std::test::Fail;
 use truth_eval::holds;
-
-const PERSON: u32 = 0;
-
-const DRUG: u32 = 1;
-
-const TAKES: u32 = 0;
-
-/// A domain of this name with so many constants.
-fn domain(alloc: Global, name: &str, size: u32) -> Result<(String, Vec<String>), AllocError> {
-    let mut constants = Vec::new(alloc);
-    for number in 0..size {
-        constants.push(format!(in alloc; "{name}{number}")?)?;
-    }
-    Ok((String::from_str(alloc, name)?, constants))
-}
-
-/// The schema of so many persons, so many drugs, and who takes which.
-fn schema(alloc: Global, persons: u32, drugs: u32) -> Result<Schema, Fail> {
-    let mut domains = Vec::new(alloc);
-    domains.push(domain(alloc, "person", persons)?)?;
-    domains.push(domain(alloc, "drug", drugs)?)?;
-    let mut columns = Vec::new(alloc);
-    columns.push(String::from_str(alloc, "person")?)?;
-    columns.push(String::from_str(alloc, "drug")?)?;
-    let mut relations = Vec::new(alloc);
-    relations.push((String::from_str(alloc, "takes")?, columns))?;
-    Ok(Schema::new(alloc, domains, relations)?)
-}
 
 /// The world in which these persons take these drugs, and nobody takes anything else.
 fn world(alloc: Global, schema: &Schema, taken: &[(u32, u32)]) -> Result<World, Fail> {
@@ -69,10 +42,6 @@ use Part::{And, Differs, Equal, Exists, Forall, Iff, Implies, Not, Takes};
 fn last(alloc: Global, built: &mut Vec<Sentence>) -> Result<Box<Sentence>, Fail> {
     let sentence = built.pop().ok_or("a part is missing")?;
     Ok(boxed(alloc, sentence)?)
-}
-
-fn boxed(alloc: Global, sentence: Sentence) -> Result<Box<Sentence>, AllocError> {
-    Ok(Box::new(alloc, sentence)?)
 }
 
 /// The sentence that is built of these parts.

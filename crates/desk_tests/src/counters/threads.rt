@@ -3,7 +3,8 @@ ghost use Rattle.std.specs.Prelude.{◌≡◌, ◌+◌, ◌*◌, ◌^◌, ◌≤
 ghost use Rattle.turnstile.specs.Passes.{IsOf, IsReady, first_value, fixed, shares as shares_of, turns};
 ghost use Rattle.desk_counter.specs.Counters.{IsPassOf};
 
-use super::{HEADER, counter_of, make_ward};
+use super::make_ward;
+use crate::clinic::{HEADER, counter_of};
 use cqe_base::sentence::Sentence;
 use cqe_base::user::Mark;
 use desk_counter::{Counter, CounterOf, DeskPass, Owned, TicketedDesk};
