@@ -1,9 +1,14 @@
 """A server on the loopback address that says what a test wants, also what no server should."""
 
 import contextlib
+import pathlib
+import shutil
 import socket
+import ssl
 import struct
+import subprocess
 import threading
+import unittest
 from collections.abc import Callable, Iterator
 
 PATIENCE = 10  # seconds after which a test's thread gives up
@@ -35,6 +40,21 @@ class Line:
         self._connection.close()
 
 
+tls_needed = unittest.skipUnless(shutil.which("openssl"), "needs openssl, which makes a certificate")
+
+
+def front_in(place: pathlib.Path) -> tuple[ssl.SSLContext, str]:
+    """A front of 127.0.0.1 with TLS, and the file with its certificate, which vouches for itself."""
+    certificate, key = str(place / "certificate"), str(place / "key")
+    words = ["openssl", "req", "-x509", "-newkey", "ec", "-pkeyopt", "ec_paramgen_curve:P-256", "-nodes",
+             "-days", "2", "-subj", "/CN=front", "-addext", "subjectAltName=IP:127.0.0.1",
+             "-out", certificate, "-keyout", key]
+    subprocess.run(words, check=True, capture_output=True, timeout=30)
+    front = ssl.SSLContext(ssl.PROTOCOL_TLS_SERVER)
+    front.load_cert_chain(certificate, key)
+    return front, certificate
+
+
 Visit = Callable[[Line], object]
 
 
@@ -52,21 +72,23 @@ def answering(*replies: str, heard: list[str] | None = None) -> Visit:
 
 
 @contextlib.contextmanager
-def serving(*visits: Visit) -> Iterator[str]:
+def serving(*visits: Visit, tls: ssl.SSLContext | None = None) -> Iterator[str]:
     """The address of a server that takes as many connections as there are visits, one after the other."""
     with socket.create_server(("127.0.0.1", 0)) as listener:
         listener.settimeout(PATIENCE)
-        thread = threading.Thread(target=_serve, args=(listener, visits), daemon=True)
+        thread = threading.Thread(target=_serve, args=(listener, visits, tls), daemon=True)
         thread.start()
         yield f"127.0.0.1:{listener.getsockname()[1]}"
         thread.join(PATIENCE)
 
 
-def _serve(listener: socket.socket, visits: tuple[Visit, ...]) -> None:
+def _serve(listener: socket.socket, visits: tuple[Visit, ...], tls: ssl.SSLContext | None) -> None:
     for visit in visits:
         with contextlib.suppress(OSError):
             connection, _ = listener.accept()
             connection.settimeout(PATIENCE)
+            if tls is not None:
+                connection = tls.wrap_socket(connection, server_side=True)
             line = Line(connection)
             try:
                 visit(line)

@@ -4,6 +4,7 @@ import contextlib
 import hashlib
 import pathlib
 import socket
+import ssl
 import subprocess
 import sys
 import tempfile
@@ -17,7 +18,7 @@ sys.path[:0] = [str(TOP / "clients" / "python"), str(pathlib.Path(__file__).pare
 
 import cqe  # noqa: E402
 import program  # noqa: E402
-from fake_server import Line, answering, serving  # noqa: E402
+from fake_server import Line, answering, front_in, serving, tls_needed  # noqa: E402
 
 
 class Lines(unittest.TestCase):
@@ -194,6 +195,25 @@ class Sessions(unittest.TestCase):
                 session.ask("true")
                 raise ZeroDivisionError
         self.assertEqual(heard, ["ask true", ""])
+
+
+@tls_needed
+class Encrypted(unittest.TestCase):
+    """A server behind a front that has TLS."""
+
+    def setUp(self) -> None:
+        self.front, self.certificate = front_in(pathlib.Path(self.enterContext(tempfile.TemporaryDirectory())))
+
+    def test_a_session(self) -> None:
+        trusting = ssl.create_default_context(cafile=self.certificate)
+        with serving(answering("welcome", "no", "bye"), tls=self.front) as address:
+            with cqe.connect(address, tls=trusting) as session:
+                session.login("nurse", "night shift")
+                self.assertIs(session.ask("hiv(ann)"), cqe.Reply.NO)
+
+    def test_a_front_that_nobody_vouches_for(self) -> None:
+        with serving(answering("welcome"), tls=self.front) as address, self.assertRaises(cqe.CannotConnect):
+            cqe.connect(address, tls=ssl.create_default_context())
 
 
 class Lists(unittest.TestCase):

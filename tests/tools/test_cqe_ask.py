@@ -16,7 +16,7 @@ TOP = pathlib.Path(__file__).resolve().parents[2]
 ASK = str(TOP / "clients" / "python" / "cqe-ask")
 sys.path.insert(0, str(pathlib.Path(__file__).parent))
 
-from fake_server import Line, answering, serving  # noqa: E402
+from fake_server import Line, answering, front_in, serving, tls_needed  # noqa: E402
 
 PHRASE = "night shift"
 
@@ -86,6 +86,18 @@ class Pipe(unittest.TestCase):
             done = ask(address, "true\nfalse\n", "--reply-timeout", "0.3")
         self.assertEqual((done.stdout, done.returncode), ("", 3))
         self.assertIn("line 1 has no reply", done.stderr)
+
+    def test_without_standard_input_nothing_is_asked(self) -> None:
+        words = ["sh", "-c", 'exec "$@" <&-', "sh", sys.executable, ASK, "127.0.0.1:1", "nurse"]
+        done = subprocess.run(words, capture_output=True, text=True, timeout=30)
+        self.assertEqual((done.stderr, done.returncode), ("cqe-ask: there is no standard input\n", 2))
+
+    @tls_needed
+    def test_a_front_with_tls(self) -> None:
+        front, certificate = front_in(pathlib.Path(self.enterContext(tempfile.TemporaryDirectory())))
+        with serving(answering("welcome", "no", "bye"), tls=front) as address:
+            done = ask(address, "hiv(ann)\n", "--tls", "--ca", certificate)
+        self.assertEqual((done.stdout, done.returncode), ("no\n", 0))
 
     def test_no_session(self) -> None:
         with serving(answering("error 25")) as address:
