@@ -263,9 +263,20 @@ class Lists(unittest.TestCase):
         self.assertIsInstance(first[0].reply, cqe.OutOfMemory)
         self.assertIsInstance(later[1].reply, cqe.OutOfMemory)
 
+    def test_the_session_goes_on_behind_a_list(self) -> None:
+        replies = ["error 50\nbob no\ndone 2", "error 26", "error 28 3", "ann yes\n" * 256 + "done 256", "no"]
+        with serving(answering(*replies)) as address:
+            session = cqe.connect(address, reply_timeout=2)
+            self.assertEqual(len(session.list(1, "exists x: person . hiv(x)")), 2)
+            with self.assertRaises(cqe.CannotList):
+                session.list(1, "exists x: person . hiv(x)")
+            self.assertEqual(len(session.list(1, "exists x: person . hiv(x)")), 256)
+            self.assertIs(session.ask("true"), cqe.Reply.NO)
+            session.close()
+
     def test_lines_that_are_no_list(self) -> None:
         for reply in ["ann no\ndone 1\nno", "ann no\ndone 2", "no", "ann bob no", "ann no\nerror 25", "1 no",
-                      "ann no\n" * 257]:
+                      "ann no\n" * 257 + "done 257"]:
             with self.subTest(reply[:20]), serving(answering(reply)) as address:
                 session = cqe.connect(address, reply_timeout=2)
                 with self.assertRaises(cqe.ProtocolError):

@@ -56,10 +56,13 @@ class Pipe(unittest.TestCase):
         self.assertLess(len(shown), 81)
 
     def test_lists(self) -> None:
-        with serving(answering("welcome", "ann no\nbob error 22\ndone 2", "error 26", "bye")) as address:
-            done = ask(address, "list 1 exists x: person . hiv(x)\nlist 2 true\n")
-        self.assertEqual((done.stdout, done.returncode), ("ann no\nbob error 22\ndone 2\nerror 26\n", 1))
-        self.assertIn("this server can't list", done.stderr)
+        table = [("ann no\nbob refused\ndone 2", 0, ""), ("ann no\nbob error 22\ndone 2", 1, ""),
+                 ("error 26", 1, "this server can't list")]
+        for reply, status, said in table:
+            with self.subTest(reply), serving(answering("welcome", reply, "bye")) as address:
+                done = ask(address, "list 1 exists x: person . hiv(x)\n")
+                self.assertEqual((done.stdout, done.returncode), (reply + "\n", status))
+                self.assertIn(said, done.stderr)
 
     def test_a_lost_connection_is_made_again(self) -> None:
         heard: list[str] = []
@@ -86,6 +89,7 @@ class Pipe(unittest.TestCase):
             done = ask(address, "true\nfalse\n", "--reply-timeout", "0.3")
         self.assertEqual((done.stdout, done.returncode), ("", 3))
         self.assertIn("line 1 has no reply", done.stderr)
+        self.assertNotIn("connecting", done.stderr)
 
     def test_without_standard_input_nothing_is_asked(self) -> None:
         words = ["sh", "-c", 'exec "$@" <&-', "sh", sys.executable, ASK, "127.0.0.1:1", "nurse"]
@@ -101,7 +105,9 @@ class Pipe(unittest.TestCase):
 
     def test_no_session(self) -> None:
         with serving(answering("error 25")) as address:
-            self.assertEqual(ask(address, "true\n").returncode, 3)
+            done = ask(address, "true\n")
+        self.assertEqual((done.stdout, done.returncode), ("", 3))
+        self.assertEqual(done.stderr, "cqe-ask: the name and the pass phrase don't fit (error 25)\n")
         self.assertEqual(ask(address, "true\n").returncode, 3)  # nobody listens there any more
         self.assertEqual(ask("nowhere", "true\n").returncode, 2)
 

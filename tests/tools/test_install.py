@@ -11,7 +11,7 @@ import unittest
 import program
 
 TOP = pathlib.Path(__file__).resolve().parents[2]
-PREFIX = "/opt/cqe here"  # a blank in it has to do no harm
+PREFIX = "/opt/cqe here & there"  # neither a blank nor what sed knows may do harm
 CLEAN = {"PATH": os.environ["PATH"], "PYTHONDONTWRITEBYTECODE": "1"}
 
 
@@ -75,10 +75,12 @@ class Installed(Temporary):
             is_run = path.is_dir() or path.parent.name == "bin" or os.access(path, os.X_OK)
             self.assertEqual(oct(mode), oct(0o755 if is_run else 0o644), path)
 
-    def test_units_name_the_prefix(self) -> None:
+    def test_pages_and_units_name_the_prefix(self) -> None:
         self.make("install")
-        for unit in self.root.glob("lib/systemd/system/*"):
-            self.assertNotIn("/usr/local/", unit.read_text())
+        for place, sources in [("lib/systemd/system", "contrib/systemd/*.*"), ("share/man/man1", "docs/*.1")]:
+            for source in TOP.glob(sources):
+                self.assertEqual((self.root / place / source.name).read_text(),
+                                 source.read_text().replace("/usr/local", PREFIX))
 
     def test_uninstall_takes_away_its_own_files_alone(self) -> None:
         self.make("install")
