@@ -61,12 +61,15 @@ class Installed(Temporary):
         self.make("install")
         self.assertEqual(self.run_at(self.root / "bin/cqe", "case").stdout, "stand-in case\n")
         self.assertIn("usage: cqe-ask", self.run_at(self.root / "bin/cqe-ask", "--help").stdout)
-        for tool in TOP.glob("tools/cqe-*"):  # without words each says how it is called
+        for tool in TOP.glob("tools/cqe-*"):
             with self.subTest(tool.name):
+                if "python" not in tool.read_text().partition("\n")[0]:
+                    self.run_at("bash", "-n", self.root / "bin" / tool.name)
+                    continue
                 done = subprocess.run([self.root / "bin" / tool.name], cwd=self.place, env=CLEAN, capture_output=True,
                                       stdin=subprocess.DEVNULL, text=True, timeout=60)
                 self.assertNotIn("Traceback", done.stderr)
-                self.assertIn(done.returncode, {0, 2})
+                self.assertIn(done.returncode, {0, 2})  # without words: nothing to do, or how it is called
 
     def test_anybody_can_read_it(self) -> None:
         self.make("install")
