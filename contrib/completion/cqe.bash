@@ -1,0 +1,75 @@
+# Completion of the commands cqe and cqe-ask for bash.
+
+# The options of a command of cqe.
+_cqe_options() {
+    case $1 in
+        init | batch) echo --policy --facts --journals ;;
+        audit) echo --policy --facts --journals --user --json ;;
+        selfrun) echo --seed --users --asks ;;
+        serve) echo --policy --facts --journals --listen --workers --sessions ;;
+    esac
+}
+
+# The users of the policy that the words name so far.
+_cqe_users() {
+    local place file=
+    for ((place = 2; place < COMP_CWORD; place++)); do
+        [[ ${COMP_WORDS[place]} == --policy ]] || continue
+        file=${COMP_WORDS[place + 1]}
+        [[ $file == = ]] && file=${COMP_WORDS[place + 2]}
+    done
+    file=${file/#\~\//$HOME/}
+    [[ -r $file ]] && sed -n 's/^[[:blank:]]*name[[:blank:]]*=[[:blank:]]*"\([A-Za-z][A-Za-z0-9_]*\)".*/\1/p' "$file"
+}
+
+# Those of the options that don't stand among the words yet.
+_cqe_unused() {
+    local option word
+    for option; do
+        for word in "${COMP_WORDS[@]:2}"; do
+            [[ $word == "$option" ]] && continue 2
+        done
+        echo "$option"
+    done
+}
+
+# The value of an option, or status 1 where the option has none. An = is a word of its own here.
+_cqe_value() {
+    case $1 in
+        --policy | --facts | --phrase-file | --history | --ca | --cert | --key)
+            compopt -o filenames 2> /dev/null
+            mapfile -t COMPREPLY < <(compgen -f -- "$2")
+            ;;
+        --journals)
+            compopt -o filenames 2> /dev/null
+            mapfile -t COMPREPLY < <(compgen -d -- "$2")
+            ;;
+        --user) mapfile -t COMPREPLY < <(compgen -W "$(_cqe_users)" -- "$2") ;;
+        --listen) mapfile -t COMPREPLY < <(compgen -W 127.0.0.1:7007 -- "$2") ;;
+        --seed | --users | --asks | --workers | --sessions | --connect-timeout | --reply-timeout) ;;
+        *) return 1 ;;
+    esac
+}
+
+_cqe() {
+    local current=${COMP_WORDS[COMP_CWORD]} option=${COMP_WORDS[COMP_CWORD - 1]} choices
+    COMPREPLY=()
+    if [[ $current == = ]]; then
+        current=
+    elif [[ $option == = ]]; then
+        option=${COMP_WORDS[COMP_CWORD - 2]}
+    fi
+    _cqe_value "$option" "$current" && return
+    if [[ ${COMP_WORDS[0]##*/} == cqe-ask ]]; then
+        choices="--phrase-file --history --connect-timeout --reply-timeout --tls --ca --cert --key --help"
+        [[ $current == -* ]] || return
+    elif ((COMP_CWORD == 1)); then
+        choices="case init batch audit selfrun serve"
+    else
+        choices=$(_cqe_options "${COMP_WORDS[1]}")
+    fi
+    # shellcheck disable=SC2086 # each choice is a word of its own
+    mapfile -t COMPREPLY < <(compgen -W "$(_cqe_unused $choices)" -- "$current")
+}
+
+complete -F _cqe cqe cqe-ask

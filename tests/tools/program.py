@@ -1,0 +1,33 @@
+"""The one place that finds the program, and says which tests need it."""
+
+import os
+import subprocess
+import unittest
+from pathlib import Path
+
+TOP = Path(__file__).resolve().parents[2]
+
+# tests/run sets this where only the tests are wanted that need no built program.
+WITHOUT = "CQE_TESTS_WITHOUT_PROGRAM"
+
+
+def path():
+    """The program's path: that of the environment variable CQE, else the built one; None where there is none."""
+    named = os.environ.get("CQE")
+    found = Path(named) if named else TOP / "crates/cqe/out/cqe"
+    return str(found.resolve()) if found.is_file() and os.access(found, os.X_OK) else None
+
+
+def wanted():
+    """Whether tests that need the program are to run."""
+    return not os.environ.get(WITHOUT)
+
+
+def needed(test):
+    """A decorator of a test or of a class of tests: skipped where the program isn't there or isn't wanted."""
+    return unittest.skipUnless(wanted() and path(), "needs the program")(test)
+
+
+def run(*words, given=b"", **more):
+    """A run of the program with these words, with this on standard input."""
+    return subprocess.run([path(), *map(str, words)], input=given, capture_output=True, timeout=120, **more)

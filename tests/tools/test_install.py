@@ -1,0 +1,182 @@
+"""make install and make uninstall, the Debian package, and the completion for bash."""
+
+import os
+import pathlib
+import re
+import shutil
+import subprocess
+import tempfile
+import unittest
+
+import program
+
+TOP = pathlib.Path(__file__).resolve().parents[2]
+PREFIX = "/opt/cqe here & there"  # neither a blank nor what sed knows may do harm
+CLEAN = {"PATH": os.environ["PATH"], "PYTHONDONTWRITEBYTECODE": "1"}
+
+
+def files_below(place: pathlib.Path) -> set[str]:
+    return {str(path.relative_to(place)) for path in place.rglob("*") if path.is_symlink() or not path.is_dir()}
+
+
+class Temporary(unittest.TestCase):
+    def setUp(self) -> None:
+        self.place = pathlib.Path(self.enterContext(tempfile.TemporaryDirectory()))
+        self.program = self.place / "program"
+        self.program.write_text('#!/bin/sh\necho "stand-in $*"\n')
+
+    def run_at(self, *words: object, status: int = 0, **more: object) -> subprocess.CompletedProcess[str]:
+        done = subprocess.run([str(word) for word in words], cwd=self.place, env=CLEAN, capture_output=True, text=True,
+                              timeout=60, **more)
+        self.assertEqual(done.returncode, status, done.stderr)
+        return done
+
+
+@unittest.skipUnless(shutil.which("make"), "needs make")
+class Installed(Temporary):
+    def make(self, goal: str, *settings: str, status: int = 0) -> str:
+        words = ["make", "-s", "-C", TOP, goal, f"PREFIX={PREFIX}", f"DESTDIR={self.place}/tree",
+                 f"PROGRAM={self.program}", *settings]
+        return self.run_at(*words, status=status).stderr
+
+    @property
+    def root(self) -> pathlib.Path:
+        return self.place / f"tree{PREFIX}"
+
+    def test_each_file_is_at_its_place_and_in_the_list(self) -> None:
+        self.make("install")
+        commands = {"bin/cqe", "bin/cqe-ask"} | {f"bin/{tool.name}" for tool in TOP.glob("tools/cqe-*")}
+        pages = {f"share/man/man{page.suffix[1]}/{page.name}" for page in TOP.glob("docs/*.[17]")}
+        modules = {f"share/cqe/tools/cqe_tools/{module.name}" for module in TOP.glob("tools/cqe_tools/*.py")}
+        units = {f"lib/systemd/system/{unit.name}" for unit in TOP.glob("contrib/systemd/*.service")}
+        examples = {f"share/doc/cqe/examples/{example.name}" for example in TOP.glob("examples/*")}
+        found = files_below(self.root)
+        self.assertLessEqual(commands | pages | modules | units | examples, found)
+        self.assertLessEqual({"share/man/man1/cqe-ask.1", "share/bash-completion/completions/cqe-ask"}, found)
+        self.assertEqual({path for path in found if path.startswith("bin/")}, commands)
+        listed = (self.root / "share/cqe/installed-files").read_text().splitlines()
+        self.assertEqual(sorted(listed), sorted(found - {"share/cqe/installed-files"}))
+
+    def test_commands_start_at_their_place(self) -> None:
+        self.make("install")
+        self.assertEqual(self.run_at(self.root / "bin/cqe", "case").stdout, "stand-in case\n")
+        self.assertIn("usage: cqe-ask", self.run_at(self.root / "bin/cqe-ask", "--help").stdout)
+        for tool in TOP.glob("tools/cqe-*"):
+            with self.subTest(tool.name):
+                if "python" not in tool.read_text().partition("\n")[0]:
+                    self.run_at("bash", "-n", self.root / "bin" / tool.name)
+                    continue
+                done = subprocess.run([self.root / "bin" / tool.name], cwd=self.place, env=CLEAN, capture_output=True,
+                                      stdin=subprocess.DEVNULL, text=True, timeout=60)
+                self.assertNotIn("Traceback", done.stderr)
+                self.assertIn(done.returncode, {0, 2})  # without words: nothing to do, or how it is called
+
+    def test_anybody_can_read_it(self) -> None:
+        self.make("install")
+        for path in self.root.rglob("*"):
+            mode = path.stat().st_mode & 0o777
+            is_run = path.is_dir() or path.parent.name == "bin" or os.access(path, os.X_OK)
+            self.assertEqual(oct(mode), oct(0o755 if is_run else 0o644), path)
+
+    def test_pages_and_units_name_the_prefix(self) -> None:
+        self.make("install")
+        for place, sources in [("lib/systemd/system", "contrib/systemd/*.*"), ("share/man/man1", "docs/*.1")]:
+            for source in TOP.glob(sources):
+                self.assertEqual((self.root / place / source.name).read_text(),
+                                 source.read_text().replace("/usr/local", PREFIX))
+
+    def test_uninstall_takes_away_its_own_files_alone(self) -> None:
+        self.make("install")
+        other = self.root / "bin" / "other"
+        other.write_text("")
+        (self.root / "share/cqe/client/__pycache__").mkdir()
+        (self.root / "share/cqe/client/__pycache__/cqe.pyc").write_text("")
+        self.make("uninstall")
+        self.assertEqual(files_below(self.root), {"bin/other"})
+        self.assertFalse((self.root / "share/cqe").exists())
+        self.assertIn("nothing was installed", self.make("uninstall", status=2))
+
+    def test_a_second_install_drops_what_is_gone(self) -> None:
+        self.make("install")
+        before = files_below(self.root)
+        (self.root / "bin/cqe-gone").write_text("")
+        with (self.root / "share/cqe/installed-files").open("a") as listed:
+            listed.write("bin/cqe-gone\n")
+        self.make("install")
+        self.assertEqual(files_below(self.root), before)
+
+    def test_without_a_program_nothing_is_installed(self) -> None:
+        self.assertIn("there is no program", self.make("install", "PROGRAM=nothing", status=2))
+        self.assertEqual(files_below(self.root), set())
+
+    @program.needed
+    def test_the_program_answers_the_installed_example(self) -> None:
+        self.make("install", f"PROGRAM={program.path()}")
+        with (self.root / "share/doc/cqe/examples/clinic.case").open() as script:
+            done = self.run_at(self.root / "bin/cqe", "case", stdin=script)
+        self.assertEqual(done.stdout, "no\nno\nno\n")
+
+
+@unittest.skipUnless(shutil.which("dpkg-deb") and shutil.which("make"), "needs dpkg-deb and make")
+class Package(Temporary):
+    def test_the_package_has_what_is_installed(self) -> None:
+        words = ["env", f"PROGRAM={self.program}", "VERSION=1.2", TOP / "contrib/debian/build-deb", self.place]
+        self.run_at(*words)
+        (package,) = self.place.glob("cqe_1.2_*.deb")
+        fields = self.run_at("dpkg-deb", "--field", package, "Package", "Version", "Depends").stdout
+        self.assertEqual(fields, "Package: cqe\nVersion: 1.2\nDepends: libc6, libgcc-s1\n")
+        owners = {line.split()[1] for line in self.run_at("dpkg-deb", "--contents", package).stdout.splitlines()}
+        self.assertEqual(owners, {"root/root"})
+        self.run_at("dpkg-deb", "--extract", package, "tree")
+        self.assertEqual((self.place / "tree").stat().st_mode & 0o777, 0o755)
+        self.assertIn("usage: cqe-ask", self.run_at("tree/usr/bin/cqe-ask", "--help").stdout)
+        self.assertLessEqual({"usr/bin/cqe", "usr/share/man/man1/cqe-ask.1.gz"}, files_below(self.place / "tree"))
+
+
+@unittest.skipUnless(shutil.which("bash"), "needs bash")
+class Completion(Temporary):
+    def completed(self, *words: str) -> list[str]:
+        """What is offered for the last of the words; an = is a word of its own, as bash has it."""
+        script = ('source "$0"; COMP_WORDS=("$@"); COMP_CWORD=$(($# - 1)); _cqe; '
+                  '[[ ${#COMPREPLY[@]} == 0 ]] || printf "%s\\n" "${COMPREPLY[@]}"')
+        return self.run_at("bash", "-c", script, TOP / "contrib/completion/cqe.bash", *words).stdout.splitlines()
+
+    def test_commands_and_options_are_those_of_the_formats(self) -> None:
+        table = re.findall(r"^\| `(\w+)` \|(.*)\|$", (TOP / "docs/FORMATS.md").read_text().partition("## The words")[2]
+                           .partition("## Replies")[0], re.MULTILINE)
+        commands = {command: re.findall(r"--\w+", options) for command, options in table}
+        self.assertEqual(set(commands), {"case", "init", "batch", "audit", "selfrun", "serve"})
+        self.assertEqual(set(self.completed("cqe", "")), set(commands))
+        for command, options in commands.items():
+            self.assertEqual(set(self.completed("cqe", command, "")), set(options), command)
+
+    def test_a_beginning_is_completed(self) -> None:
+        self.assertEqual(self.completed("cqe", "se"), ["selfrun", "serve"])
+        self.assertEqual(self.completed("./cqe", "audit", "--j"), ["--journals", "--json"])
+
+    def test_an_option_is_offered_once(self) -> None:
+        offered = self.completed("cqe", "init", "--policy", "p", "--facts", "=", "f", "")
+        self.assertEqual(offered, ["--journals"])
+
+    def test_values(self) -> None:
+        (self.place / "ward.policy").write_text('[[users]]\nname = "nurse"\n[[users]]\n  name="clerk" # the office\n')
+        (self.place / "ward journals").mkdir()
+        self.assertEqual(self.completed("cqe", "init", "--policy", "ward.p"), ["ward.policy"])
+        self.assertEqual(self.completed("cqe", "init", "--policy", "=", "ward.p"), ["ward.policy"])
+        self.assertEqual(self.completed("cqe", "init", "--journals", "ward"), ["ward journals"])
+        self.assertEqual(self.completed("cqe", "audit", "--policy", "ward.policy", "--user", ""), ["nurse", "clerk"])
+        self.assertEqual(self.completed("cqe", "audit", "--policy", "=", "ward.policy", "--user", "=", "n"), ["nurse"])
+        self.assertEqual(self.completed("cqe", "serve", "--workers", ""), [])
+
+    def test_the_options_of_cqe_ask_are_its_own(self) -> None:
+        said = self.run_at(TOP / "clients/python/cqe-ask", "--help").stdout
+        options = {option for option in re.findall(r"--[a-z-]+", said)}
+        self.assertEqual(set(self.completed("cqe-ask", "127.0.0.1", ":", "7007", "nurse", "--")), options)
+
+    def test_both_commands_have_it(self) -> None:
+        done = self.run_at("bash", "-c", 'source "$0"; complete -p cqe cqe-ask', TOP / "contrib/completion/cqe.bash")
+        self.assertEqual(done.stdout, "complete -F _cqe cqe\ncomplete -F _cqe cqe-ask\n")
+
+
+if __name__ == "__main__":
+    unittest.main()
