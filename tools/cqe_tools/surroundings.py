@@ -105,10 +105,10 @@ def address_fault(address):
     """Why a text is no address, and what to do; None where it has the form of one."""
     match = ADDRESS.fullmatch(address)
     if match is None:
-        if address.count(":") > 1 and not address.startswith("["):
-            return f"{quoted(address)} is an IPv6 address without brackets.", "write it as [::1]:7007"
         if "://" in address:
             return f"{quoted(address)} is a URL.", "write host and port alone, as 127.0.0.1:7007"
+        if address.count(":") > 1 and not address.startswith("["):
+            return f"{quoted(address)} is an IPv6 address without brackets.", "write it as [::1]:7007"
         if re.search(r":[^:\]]*\Z", address) is None or address.endswith("]"):
             return f"{quoted(address)} has no port.", f"write a port behind it, as {address}:7007"
         return f"{quoted(address)} has no port of decimal digits behind the colon.", "write it as 127.0.0.1:7007"
