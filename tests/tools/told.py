@@ -10,7 +10,7 @@ import program
 sys.path.insert(0, str(program.TOP / "tools"))
 sys.dont_write_bytecode = True
 
-from cqe_tools.explaining import Context, Explainer, printed  # noqa: E402
+from cqe_tools.explaining import Context, Explainer, of_status, printed  # noqa: E402
 
 EXPLAIN = program.TOP / "tools/cqe-explain"
 CHECK = program.TOP / "tools/cqe-check"

@@ -47,7 +47,7 @@ def checked(given, asker, journals):
     """Prints what the program will do with files that it accepts."""
     context = Context(os.path.abspath(given.policy), given.facts)
     if context.policy is None or context.policy.root is None:
-        raise Unusable("the program reads the policy, and this tool doesn't: it reads TOML as tomllib does, and simple keys and values are read by both")
+        raise Unusable("the program reads the policy, and this tool can't: write it in plain TOML 1.0, as examples/ward.policy")
     standings = Check(asker, context.policy).standings(journals)
     lines = table(standings) + remarks(standings) + ["", *sizes(context, standings)]
     print("\n".join(lines))

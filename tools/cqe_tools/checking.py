@@ -173,7 +173,7 @@ class Check:
         for index, text in enumerate(know):
             truth = self.truths.get(text)
             if truth == "no":
-                effect = "so he is closed" if result.user["method"] == "refusal" else "so answers agree with it where they can, and not with the facts"
+                effect = "so he is closed" if result.user["method"] == "refusal" else "and his answers agree with it, also where the facts don't"
                 result.notes.append(f"know[{index}] is false in the facts, {effect}: {text}")
             elif truth is None:
                 result.notes.append(f"know[{index}] is too long for a question, so whether the facts contradict it wasn't asked")

@@ -71,14 +71,16 @@ def show(lines, stream):
         for line in lines:
             stream.buffer.write(line.encode("utf-8", "surrogateescape") + b"\n")
         stream.flush()
-    except (BrokenPipeError, ValueError):
-        pass
+    except (OSError, ValueError):
+        os.dup2(os.open(os.devnull, os.O_WRONLY), stream.fileno())
 
 
 def words_of(command):
-    """The words of the program within a command: behind the first word that is called cqe.., else behind the first."""
-    named = [number for number, word in enumerate(command) if os.path.basename(word).startswith("cqe")]
-    return command[(named[0] if named else 0) + 1:]
+    """The words of the program within a command: behind a word cqe.. that a command of it follows, else behind the first."""
+    for number, word in enumerate(command[:-1]):
+        if os.path.basename(word).startswith("cqe") and command[number + 1] in words.COMMANDS:
+            return command[number + 1:]
+    return command[1:]
 
 
 class Wrapped:
@@ -140,7 +142,9 @@ class Wrapped:
                 sys.stdout.buffer.write(line)
                 sys.stdout.buffer.flush()
             except OSError:
+                # Nobody reads any more: the program is to see that, and Python isn't to try again at its end.
                 self.child.stdout.close()
+                os.dup2(os.open(os.devnull, os.O_WRONLY), 1)
                 break
             self.keep(line)
 

@@ -117,7 +117,6 @@ class Explainer:
         self.complete = complete  # whether all replies are given, from the first on
         self.said = []  # of each line that may be explained: its sort and the line
         self.replies = 0
-        self.in_key = False  # whether the last complaint may go on in the next line
 
     def take(self, line):
         """Takes a line without its end, and answers whether it is one of the program's or of a session."""
@@ -143,17 +142,21 @@ class Explainer:
             if sort == "request":
                 requests.append(line)
                 continue
-            finding = None
-            if sort == "complaint":
-                finding = of_complaint(line, self.context)
-            else:
-                finding = self.of_reply(line, number, asked, requests)
-                number += 1
+            finding = self.finding(sort, line, number, asked, requests)
+            number += sort == "reply"
             if finding is not None:
                 key = (finding.meaning, finding.said if sort == "complaint" else None, text_of(finding))
                 result[key] = result.get(key, 0) + 1
                 place.setdefault(key, finding)
         return [(place[key], count) for key, count in result.items()]
+
+    def finding(self, sort, line, number, asked, requests):
+        """The explanation of a line, or None where it needs none."""
+        try:
+            return of_complaint(line, self.context) if sort == "complaint" else self.of_reply(line, number, asked, requests)
+        except Exception as fault:  # a wrapper has to keep the status of the program whatever happens here
+            return Finding(line, f"This can't be explained, by a fault of this tool ({type(fault).__name__}: {fault}).", None,
+                           "man cqe has the meaning; tell who keeps the tool")
 
     def asked_of_script(self):
         """The asks of the script where they belong to the replies, else None."""

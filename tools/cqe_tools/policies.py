@@ -155,7 +155,7 @@ def broken_toml(said, message, source, policy):
     at = min(len(before.encode()) + marked, len(policy.text.data))
     why = message.split(" (at ")[0]
     slip = toml_slip(lines[line - 1] if line <= len(lines) else "", why, lines)
-    return Finding(said, f"The policy file is no TOML document: {why} (line {line}, column {column}).",
+    return Finding(said, f"The policy file is no TOML document: {why} (line {line}, column {column}, as Python reads TOML 1.0).",
                    Spot(policy.text, at, at + 1), slip)
 
 

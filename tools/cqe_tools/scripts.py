@@ -111,12 +111,12 @@ def explain(said, kind, line, sort, text):
     if text is None or not (text.has_line(line) or kind == 3):
         return Finding(said, f"Line {line} of the script is refused: {PLAIN.get(kind, f'kind {kind}, which no format names')}.", None,
                        "give the script by --script, and the reason is shown here" if text is None else None)
-    sort = sort if sort in ("case", "batch") else sort_of(text)
+    sort = "case" if kind > 3 else sort if sort in ("case", "batch") else sort_of(text)
     data, start = text.line(line), text.start_of_line(line)
     maker = {1: not_a_line, 2: too_long, 3: too_many, 4: no_schema, 5: no_fact, 6: no_sentence, 7: above_limit, 8: out_of_order}.get(kind)
     if maker is None:
         return Finding(said, f"Line {line} of the script is refused with the kind {kind}, which no format names.", Spot(text, start, start + len(data)))
-    before = CaseScript(text, line) if sort == "case" else None
+    before = CaseScript(text, line)
     meaning, begin, end, advice = maker(data, sort, before)
     return Finding(said, f"Line {line} of the script {meaning}.", Spot(text, start + begin, start + max(end, begin + 1)), advice)
 
@@ -260,12 +260,13 @@ def no_sentence(data, sort, before):
         return "has a text that is no sentence", len(word) + 1, len(data), texts.ADVICE[2]
     found = texts.about(before.schema(), rest or b"", refused.kind, refused.place)
     begin = len(word) + 1
-    return (f"has no sentence behind '{word.decode()}': {found.meaning} (byte {refused.place} of the text)",
+    return (f"has no sentence behind '{name_of(word)}': {found.meaning} (byte {refused.place} of the text)",
             begin + found.start, begin + found.end, found.advice)
 
 
 def above_limit(data, sort, before):
     word, rest = word_and_rest(data)
+    rest = rest or b""
     begin, end = len(word) + 1, len(data)
     if word == b"budget":
         return f"has the budget {name_of(rest)}, and a budget is from 1 to {schemas.BUDGET:,}", begin, end, "write a number from 1 to 4000000"
@@ -276,7 +277,7 @@ def above_limit(data, sort, before):
         if nodes > schemas.SENTENCE_NODES:
             return f"has a sentence of {nodes:,} nodes, and at most {schemas.SENTENCE_NODES:,} are allowed", begin, end, advice
         if len(have) >= most:
-            return f"is one '{word.decode()}' more than {most}", 0, end, "join several into one by 'and' (know) or 'or' (secret)"
+            return f"is one '{name_of(word)}' more than {most}", 0, end, "join several into one by 'and' (know) or 'or' (secret)"
         user = {"know": [text.decode() for text in before.known], "secrets": [text.decode() for text in before.secrets]}
         user["know" if word == b"know" else "secrets"].append(rest.decode())
         view = view_nodes(before.schema(), user)
