@@ -92,10 +92,12 @@ class Checked(InDirectory):
         self.assertEqual((ran.returncode, ran.stderr), (1, ""))
         rows = self.rows(ran.stdout)
         self.assertEqual({name: row[1] for name, row in rows.items()},
-                         {"eve": "open", "lou": "closed", "max": "open", "tom": "closed", "ida": "closed", "kai": "closed", "con": "closed", "zoe": "open"})
+                         {"eve": "open", "lou": "closed", "max": "open", "tom": "closed", "ida": "closed",
+                          "kai": "closed", "con": "closed", "zoe": "open"})
         self.assertEqual([name for name, row in rows.items() if row[2] == "yes"], ["lou"])
         self.assertIn("3 of 8 users are open", ran.stdout)
-        reasons = {name: [line for line in self.remarks(ran.stdout, name) if "closed (error 24)" in line] for name in rows}
+        reasons = {name: [line for line in self.remarks(ran.stdout,
+                                                        name) if "closed (error 24)" in line] for name in rows}
         self.assertEqual({name: len(found) for name, found in reasons.items()},
                          {"eve": 0, "lou": 1, "max": 0, "tom": 1, "ida": 1, "kai": 1, "con": 1, "zoe": 0})
         for name, words, absent in [
@@ -111,7 +113,9 @@ class Checked(InDirectory):
     @program.needed
     def test_what_the_facts_contradict(self):
         ran = self.check(POLICY + USERS)
-        noted = {name: [line for line in self.remarks(ran.stdout, name) if "is false in the facts" in line] for name in self.rows(ran.stdout)}
+        noted = {name: [line for line in self.remarks(ran.stdout,
+                                                      name) if "is false in the facts" in line]
+                                                      for name in self.rows(ran.stdout)}
         self.assertEqual({name: len(found) for name, found in noted.items()},
                          {"eve": 1, "lou": 0, "max": 0, "tom": 1, "ida": 0, "kai": 0, "con": 1, "zoe": 1})
         self.assertIn("know[0]", noted["zoe"][0])
@@ -172,7 +176,8 @@ class Spent(InDirectory):
             with self.subTest(spent):
                 cqe = self.file("cqe", STAND_IN.format(python=sys.executable, spent=spent))
                 cqe.chmod(cqe.stat().st_mode | stat.S_IXUSR)
-                ran = subprocess.run([CHECK, self.file("policy", POLICY), self.file("facts", FACTS)], capture_output=True, text=True,
+                ran = subprocess.run([CHECK, self.file("policy", POLICY), self.file("facts", FACTS)],
+                                     capture_output=True, text=True,
                                      env={**os.environ, "CQE": str(cqe)}, timeout=60)
                 self.assertEqual((ran.returncode, ran.stderr), (1, ""))
                 self.assertIn("secrets[0] costs too much to test", ran.stdout)

@@ -3,7 +3,7 @@
 import program
 from told import FACTS, POLICY, InDirectory, as_bytes
 
-# A line of facts behind the comment in line 1, the place that is meant (column and piece), and what the explanation names.
+# A line of facts behind the comment in line 1, the place (column and piece), and what the explanation names.
 NO_FACTS = {
     "hiv,ann": (4, ",", ["CSV", "hiv(..)"]),
     "ann;hiv": (1, "ann", ["CSV"]),
@@ -49,7 +49,8 @@ SCRIPTS = {
     "a line of batch": (HEAD + "eve 1 ask hiv(ann)\n", "1 6", (6, 1, "eve 1 ask hiv(ann)"), ["batch"]),
     "a long line": (HEAD + "ask " + "x" * 4093 + "\n", "2 6", (6, 1, "a"), ["4,097 bytes", "4,096"]),
     "many lines": ("\n" * 100_000 + "x", "3 100001", None, ["100,000"]),
-    "a domain that stands below": ("relation hiv(person)\ndomain person = ann\n", "4 1", (1, 14, "person"), ["'person'", "above"]),
+    "a domain that stands below": ("relation hiv(person)\ndomain person = ann\n", "4 1", (1, 14, "person"),
+                                   ["'person'", "above"]),
     "a domain without constants": ("domain person =\n", "4 1", (1, 8, "person"), ["'person'", "no constant"]),
     "a constant twice": ("domain person = ann, bob, ann\n", "4 1", None, ["'ann'", "twice"]),
     "a keyword": ("domain person = ann, not\n", "4 1", (1, 22, "not"), ["'not'", "keyword"]),
@@ -112,7 +113,8 @@ class Facts(InDirectory):
         for line in [*NO_FACTS, b"hiv(j\xf6rg)"]:
             with self.subTest(line[:40]):
                 facts = self.file("facts", b"# mine\n" + as_bytes(line) + b"\nhiv(ann)\n")
-                ran = program.run("init", "--policy", policy, "--facts", facts, "--journals", self.directory / "journals")
+                ran = program.run("init", "--policy", policy, "--facts", facts, "--journals",
+                                  self.directory / "journals")
                 said = "facts 3 0" if isinstance(line, bytes) else "facts 1 2"
                 self.assertEqual((ran.returncode, ran.stderr), (4, f"cqe: {said}\n".encode()))
 
@@ -124,7 +126,8 @@ class Scripts(InDirectory):
                 finding = self.explained_once("cqe: script " + said, script=script, sort=sort)
                 self.assertSays(finding, f"line {said.split()[1]}", *words)
                 if place and place[2].isascii():
-                    self.assertPoints(finding, *place) if place[2] else self.assertEqual((finding.spot.line, finding.spot.column), place[:2])
+                    self.assertPoints(finding, *place) if place[2] else self.assertEqual((finding.spot.line,
+                        finding.spot.column), place[:2])
                 elif place:
                     self.assertEqual((finding.spot.line, finding.spot.column), place[:2])
 
@@ -150,4 +153,5 @@ class Scripts(InDirectory):
             for name, (script, said, _, _) in cases.items():
                 with self.subTest(name):
                     ran = program.run(*words, given=as_bytes(script))
-                    self.assertEqual((ran.returncode, ran.stdout, ran.stderr), (5, b"", f"cqe: script {said}\n".encode()))
+                    self.assertEqual((ran.returncode, ran.stdout, ran.stderr),
+                                     (5, b"", f"cqe: script {said}\n".encode()))

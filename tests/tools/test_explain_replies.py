@@ -68,7 +68,9 @@ class Questions(InDirectory):
                 finding = self.explained_once(said, script=HEAD + f"ask {text}\n", sort="case")
                 self.assertSays(finding, f"byte {place} of the text", *words)
                 if piece:
-                    self.assertPoints(finding, 8, place + 5, piece) if place < 60 else self.assertEqual(finding.spot.column, place + 5)
+                    self.assertEqual((finding.spot.line, finding.spot.column), (8, place + 5))
+                if piece and place < 60:
+                    self.assertPoints(finding, 8, place + 5, piece)
 
     def test_each_kind_has_a_slip(self):
         self.assertEqual({kind for _, kind, _, _, _ in SLIPS}, {1, 2, 3, 4, 5, 6})
@@ -97,18 +99,22 @@ class Questions(InDirectory):
         for line in said:
             explainer.take(line)
         self.assertIn("2 more of this kind", printed(explainer.findings())[-1])
-        self.assertEqual(len(self.explained("error 20 3 4", "error 20 3 4", script="ask hiv(x)\nask hiv(y)\n", sort="session")), 2)
+        self.assertEqual(len(self.explained("error 20 3 4", "error 20 3 4", script="ask hiv(x)\nask hiv(y)\n",
+                                            sort="session")), 2)
 
     @program.needed
     def test_the_program_says_so(self):
         script = HEAD + "".join(f"ask {text}\n" for text, *_ in SLIPS)
         ran = program.run("case", given=as_bytes(script))
-        self.assertEqual(ran.stdout.decode().splitlines(), [f"error 20 {kind} {place}" for _, kind, place, _, _ in SLIPS])
+        self.assertEqual(ran.stdout.decode().splitlines(),
+                         [f"error 20 {kind} {place}" for _, kind, place, _, _ in SLIPS])
 
 
 class Codes(InDirectory):
-    CODES = {20: ["sentence"], 21: ["20,000", "60,000"], 22: ["4,096", "1,048,576"], 23: ["no such user"], 24: ["isn't admitted", "cqe-check"],
-             25: ["logged in", "token"], 26: ["login NAME PHRASE"], 40: ["journal", "disk"], 41: ["journal", "refused"], 50: ["memory"]}
+    CODES = {20: ["sentence"], 21: ["20,000", "60,000"], 22: ["4,096", "1,048,576"], 23: ["no such user"],
+             24: ["isn't admitted", "cqe-check"],
+             25: ["logged in", "token"], 26: ["login NAME PHRASE"], 40: ["journal", "disk"], 41: ["journal", "refused"],
+             50: ["memory"]}
 
     def test_each_code_has_a_sentence(self):
         for code, words in self.CODES.items():
@@ -129,7 +135,8 @@ class Codes(InDirectory):
     def test_how_large_a_question_is(self):
         six = HEAD.replace("= ann, bob", "= a, b, c, d, e, ann")
         # Six quantifiers over six constants: 6^6 instances and (6^6 - 1) / 5 inner nodes.
-        finding = self.explained_once("error 21", script=six + "ask " + "exists x: person . " * 6 + "z()\n", sort="case")
+        finding = self.explained_once("error 21", script=six + "ask " + "exists x: person . " * 6 + "z()\n",
+                                      sort="case")
         self.assertSays(finding, "55,987")
 
     def test_logins(self):
@@ -148,7 +155,8 @@ class Codes(InDirectory):
         self.assertPoints(finding, 1, 1, "hello")
         finding = self.explained_once("error 26", script="Quit\n", sort="session", policy=POLICY)
         self.assertSays(finding, "'Quit'", "small letters")
-        finding = self.explained_once("welcome", "error 26", script="login eve abc\nlogin eve abc\n", sort="session", policy=POLICY)
+        finding = self.explained_once("welcome", "error 26", script="login eve abc\nlogin eve abc\n", sort="session",
+                                      policy=POLICY)
         self.assertSays(finding, "logged in already")
 
     @program.needed
@@ -160,7 +168,9 @@ class Codes(InDirectory):
         words += ["--journals", self.directory / "journals"]
         self.assertEqual(program.run("init", *words).returncode, 0)
         script = b"Eve 1 ask true\ntom 1 ask true\neve 1 ask true\n"
-        self.assertEqual(program.run("batch", *words, given=script).stdout, b"Eve 1 error 23\ntom 1 error 24\neve 1 yes\n")
+        self.assertEqual(program.run("batch", *words, given=script).stdout,
+                         b"Eve 1 error 23\ntom 1 error 24\neve 1 yes\n")
         (self.directory / "journals/eve.log").write_bytes(b"closed\n")
         ran = program.run("batch", *words, given=b"eve 1 ask true\n")
-        self.assertEqual((ran.returncode, ran.stdout, ran.stderr), (10, b"eve 1 error 41\n", b"cqe: journal eve not a journal\n"))
+        self.assertEqual((ran.returncode, ran.stdout, ran.stderr),
+                         (10, b"eve 1 error 41\n", b"cqe: journal eve not a journal\n"))

@@ -43,8 +43,10 @@ def journal(policy, facts, *records):
 
 class Statuses(InDirectory):
     COMPLAINTS = {
-        2: ("usage", ["words"]), 3: ("policy 9", ["version"]), 4: ("facts 3 0", ["UTF-8"]), 5: ("script 3 100001", ["100,000"]),
-        6: ("read fault", ["standard input", "< SCRIPT"]), 7: ("write fault", ["standard output", "asking again is safe"]),
+        2: ("usage", ["words"]), 3: ("policy 9", ["version"]), 4: ("facts 3 0", ["UTF-8"]),
+        5: ("script 3 100001", ["100,000"]),
+        6: ("read fault", ["standard input", "< SCRIPT"]),
+        7: ("write fault", ["standard output", "asking again is safe"]),
         8: ("missing /nowhere/p", ["'/nowhere/p'", "'/nowhere'"]), 9: ("shelf fault", ["directory", "mkdir"]),
         10: ("journal eve not a journal", ["'eve'", "init"]), 11: ("disk fault", ["sync", "error 40"]),
         12: ("links fault", ["listen", "127.0.0.1:7007"]), 13: ("out of memory", ["memory"]),
@@ -99,7 +101,8 @@ class Journals(InDirectory):
     def told(self, cause, data, facts=FACTS):
         (self.directory / "j").mkdir(exist_ok=True)
         self.file("j/eve.log", data)
-        return self.explained_once(f"cqe: journal eve {cause}", policy=POLICY, facts=facts, journals=str(self.directory / "j"))
+        return self.explained_once(f"cqe: journal eve {cause}", policy=POLICY, facts=facts,
+                                   journals=str(self.directory / "j"))
 
     def test_each_cause_is_explained(self):
         good = journal(POLICY, FACTS, (1, b"true"), (2, b"hiv(carl)"))
@@ -148,8 +151,10 @@ class Journals(InDirectory):
 
 class Surroundings(InDirectory):
     def test_addresses(self):
-        cases = {"127.0.0.1": ["no port"], "localhost": ["no port"], "::1:7007": ["brackets", "[::1]:7007"], "127.0.0.1:70000": ["65535"],
-                 "http://localhost:80": ["URL"], "127.0.0.1:http": ["digits"], ":7007": ["no host"], "[::1]": ["no port"]}
+        cases = {"127.0.0.1": ["no port"], "localhost": ["no port"], "::1:7007": ["brackets", "[::1]:7007"],
+                 "127.0.0.1:70000": ["65535"],
+                 "http://localhost:80": ["URL"], "127.0.0.1:http": ["digits"], ":7007": ["no host"],
+                 "[::1]": ["no port"]}
         for address, words in cases.items():
             with self.subTest(address):
                 self.assertSays(self.explained_once("cqe: links fault", listen=address), *words)
@@ -174,7 +179,8 @@ class Surroundings(InDirectory):
         finding = self.explained_once("cqe: shelf fault", journals=str(self.directory))
         self.assertSays(finding, "regular file")
         (self.directory / "eve.log").mkdir()
-        self.assertSays(self.explained_once("cqe: shelf fault", journals=str(self.directory)), "eve.log", "no regular file")
+        self.assertSays(self.explained_once("cqe: shelf fault", journals=str(self.directory)), "eve.log",
+                        "no regular file")
 
     def test_a_file_of_a_similar_name(self):
         self.file("ward.policy", POLICY)
@@ -213,7 +219,8 @@ class Command(InDirectory):
 
     def test_a_wrapper_keeps_replies_and_status(self):
         script = "domain person = ann\nrelation hiv(person)\nmethod lying\nsecret false\nask hiv(carl)\n"
-        cqe = self.stand_in("text = sys.stdin.read(); print('error 20 3 4'); print('cqe: write fault', file=sys.stderr); sys.exit(7)")
+        cqe = self.stand_in("text = sys.stdin.read(); print('error 20 3 4'); print('cqe: write fault', "
+                            "file=sys.stderr); sys.exit(7)")
         for given in ("pipe", "file"):
             with self.subTest(given):
                 words = [EXPLAIN, "--", cqe, "case"]
@@ -229,7 +236,8 @@ class Command(InDirectory):
     def test_a_wrapper_takes_the_files_from_the_words(self):
         policy = self.file("p", POLICY.replace("hiv(bob)", "hiv(carl)"))
         cqe = self.stand_in("print('cqe: policy 6 users[0].know[0] 3 16', file=sys.stderr); sys.exit(3)")
-        ran = subprocess.run([EXPLAIN, "--", cqe, "init", f"--policy={policy}", "--facts", "f", "--journals", "j"], capture_output=True, text=True)
+        ran = subprocess.run([EXPLAIN, "--", cqe, "init", f"--policy={policy}", "--facts", "f", "--journals", "j"],
+                             capture_output=True, text=True)
         self.assertEqual((ran.returncode, ran.stdout), (3, ""))
         self.assertIn(f"{policy}:11:26\n", ran.stderr)
 
@@ -253,7 +261,8 @@ class Command(InDirectory):
 
     @program.needed
     def test_around_the_program(self):
-        ran = subprocess.run([EXPLAIN, "--", program.path(), "case"], input="domain d = a\nrelation r(d)\nfact r(b)\n", capture_output=True, text=True)
+        ran = subprocess.run([EXPLAIN, "--", program.path(), "case"], input="domain d = a\nrelation r(d)\nfact r(b)\n",
+                             capture_output=True, text=True)
         self.assertEqual((ran.returncode, ran.stdout), (5, ""))
         self.assertIn("standard input:3:8", ran.stderr)
         self.assertIn("'b'", ran.stderr)

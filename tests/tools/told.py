@@ -1,4 +1,4 @@
-"""What the tests of the tools share: files in a directory of their own, and the explanations of what was said of them."""
+"""What the tests of the tools share: files in a directory of their own, and the explanations of what was said."""
 
 import sys
 import tempfile

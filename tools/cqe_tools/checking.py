@@ -1,10 +1,10 @@
 """What a policy will do: asked of the program itself, over the same facts and journals in a temporary directory.
 
-Where a user is closed, made-up users over the same schema and facts are asked why: each has a part of his knowledge or of
-his secrets, and whether the program admits them is the answer. No censor is computed here.
+Where a user is closed, made-up users over the same schema and facts are asked why: each has what he knows and a part
+of his secrets. No censor is computed here.
 
-Made-up users stand in a policy, not in a script of `case`: there a domain has to fit into a line of 4,096 bytes, and the
-facts into 100,000 lines.
+Made-up users stand in a policy, not in a script of `case`: there a domain has to fit into a line of 4,096 bytes, and
+the facts into 100,000 lines.
 """
 
 import json
@@ -79,7 +79,8 @@ class Asker:
         """What the program says of a user, as the object of its audit."""
         run = self.call("audit", policy, journals, "--user", name, "--json")
         if run.returncode != 0:
-            raise Unusable(f"the audit of {name} ends with status {run.returncode}: {run.stderr.decode('utf-8', 'replace').strip()}")
+            raise Unusable(f"the audit of {name} ends with status {run.returncode}: "
+                           f"{run.stderr.decode('utf-8', 'replace').strip()}")
         return json.loads(run.stdout)
 
     def replies(self, declarations, users, asks):
@@ -95,7 +96,8 @@ class Asker:
         run = self.call("batch", policy, journals, given=script.encode("ascii"))
         lines = run.stdout.decode("ascii", "replace").splitlines()
         if run.returncode != 0 or len(lines) != len(asks):
-            raise Unusable(f"a batch of made-up users ends with status {run.returncode}: {run.stderr.decode('utf-8', 'replace').strip()}")
+            raise Unusable(f"a batch of made-up users ends with status {run.returncode}: "
+                           f"{run.stderr.decode('utf-8', 'replace').strip()}")
         return [line.split(" ", 2)[2] for line in lines]
 
 
@@ -164,7 +166,8 @@ class Check:
         self.note_truths(result, know)
         for secret in told["secrets"]:
             if secret["world"] is None:
-                result.notes.append(f"the search for a world without {secret['secret']} needs more than {schemas.BUDGET:,}")
+                result.notes.append(f"the search for a world without {secret['secret']} needs more than "
+                                    f"{schemas.BUDGET:,}")
         if not result.is_open:
             result.reasons = self.reasons(user, result)
         return result
@@ -173,12 +176,15 @@ class Check:
         for index, text in enumerate(know):
             truth = self.truths.get(text)
             if truth == "no":
-                effect = "so he is closed" if result.user["method"] == "refusal" else "and his answers agree with it, also where the facts don't"
+                effect = ("so he is closed" if result.user["method"] == "refusal" else "and his answers agree with it, "
+                          "also where the facts don't")
                 result.notes.append(f"know[{index}] is false in the facts, {effect}: {text}")
             elif truth is None:
-                result.notes.append(f"know[{index}] is too long for a question, so whether the facts contradict it wasn't asked")
+                result.notes.append(f"know[{index}] is too long for a question, so whether the facts contradict it "
+                                    f"wasn't asked")
             elif truth != "yes":
-                result.notes.append(f"whether the facts contradict know[{index}] needs more than {schemas.BUDGET:,}: {text}")
+                result.notes.append(f"whether the facts contradict know[{index}] needs more than {schemas.BUDGET:,}: "
+                                    f"{text}")
 
     def sizes(self, user, told):
         texts = [*user.get("know", []), *user["secrets"]]
@@ -191,18 +197,21 @@ class Check:
     def entailed(self, groups):
         """Of each pair of what is known and of sentences: whether the known entails that one of these is true.
 
-        The answer is 'yes', 'no' or 'spent', and None where it can't be asked. A made-up liar knows and hides the same, each
-        but where the relation `free` holds, which the facts haven't; so he knows nothing that binds him, and is closed only
-        where a search is spent. Asked whether `free` doesn't hold he is told the truth, yes, unless it would tell the secret.
+        The answer is 'yes', 'no' or 'spent', and None where it can't be asked. A made-up liar knows the same, but where
+        the new relation `free` holds, and hides the same, but where it holds. So nothing is entailed, and he is closed
+        only where a search is spent. The facts haven't `free`. Asked whether it doesn't hold he is told the truth, yes,
+        unless that entails what he hides.
         """
-        free = next((name for name in ("free", *(f"free{number}" for number in range(200))) if name not in self.schema.names()), None)
+        free = next((name for name in ("free", *(f"free{number}" for number in range(200)))
+                     if name not in self.schema.names()), None)
         relations = [*self.declarations[1], (free, [])]
         if len(relations) > schemas.RELATIONS:
             return [None] * len(groups)
         result = []
         for begin in range(0, len(groups), schemas.USERS):
             part = groups[begin:begin + schemas.USERS]
-            made = [(f"u{number}", "lying", [f"{free}() or ({text})" for text in know], [f"not {free}() and ({text})" for text in hidden])
+            made = [(f"u{number}", "lying", [f"{free}() or ({text})" for text in know],
+                     [f"not {free}() and ({text})" for text in hidden])
                     for number, (know, hidden) in enumerate(part)]
             try:
                 replies = self.asker.replies((self.declarations[0], relations), made,
@@ -216,26 +225,31 @@ class Check:
         """Why a user is closed, in the order of the tests of admission."""
         know, secrets = user.get("know", []), user["secrets"]
         if user["method"] == "refusal" and standing.contradicted:
-            return [f"the facts contradict what he knows, and refusal wants all of it to be true: know[{index}] is {know[index]}"
+            return [f"the facts contradict what he knows, and refusal wants all of it to be true: know[{index}] is "
+                    f"{know[index]}"
                     for index in standing.contradicted]
         absurd, *single = self.entailed([(know, [NOTHING])] + [(know, [secret]) for secret in secrets])
         if absurd == "yes":
             return ["what he knows contradicts itself, so it entails every secret"]
-        result = [f"what he knows entails secrets[{index}]: {secrets[index]}" for index, found in enumerate(single) if found == "yes"]
+        result = [f"what he knows entails secrets[{index}]: {secrets[index]}" for index,
+                  found in enumerate(single) if found == "yes"]
         if not result and user["method"] == "lying" and len(secrets) > 1:
             result = self.of_several(know, secrets)
         if not result:
-            result = [f"secrets[{index}] costs too much to test, the search needs more than {schemas.BUDGET:,}: {secrets[index]}"
+            result = [f"secrets[{index}] costs too much to test, the search needs more than {schemas.BUDGET:,}: "
+                      f"{secrets[index]}"
                       for index, found in enumerate(single) if found == "spent"]
         return result or [f"the search of the admission needs more than {schemas.BUDGET:,}" if None not in single else
-                          f"what he knows entails a secret (for lying: that one of them is true), or the test of it needs more than {schemas.BUDGET:,}"]
+                          f"what he knows entails a secret (for lying: that one of them is true), or the test of it "
+                          f"needs more than {schemas.BUDGET:,}"]
 
     def of_several(self, know, secrets):
-        """Of a liar none of whose secrets is entailed alone: the fewest that are together, found by taking out one by one."""
+        """Of a liar none of whose secrets is entailed alone: the fewest that are together, by taking out one by one."""
         kept = list(range(len(secrets)))
         found = self.entailed([(know, secrets)])[0]
         if found == "spent":
-            return [f"whether what he knows entails that one of his secrets is true costs too much to test: the search needs more than {schemas.BUDGET:,}"]
+            return [f"whether what he knows entails that one of his secrets is true costs too much to test: the search "
+                    f"needs more than {schemas.BUDGET:,}"]
         if found != "yes":
             return []
         for index in range(len(secrets)):
@@ -243,7 +257,8 @@ class Check:
             if fewer and self.entailed([(know, [secrets[other] for other in fewer])])[0] == "yes":
                 kept = fewer
         names = ", ".join(f"secrets[{index}] {secrets[index]}" for index in kept)
-        return [f"what he knows entails that one of these is true, though not which, and a liar has to be able to deny all of them: {names}"]
+        return [f"what he knows entails that one of these is true, though not which, and a liar has to be able to deny "
+                f"all of them: {names}"]
 
 
 def in_temporary_directory(path, policy, facts, do):

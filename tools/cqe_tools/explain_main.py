@@ -15,7 +15,8 @@ from .places import Text
 KEPT_SCRIPT = 64 * 1024 * 1024  # bytes of a script from a pipe that are kept for pointing at
 NOT_STARTED = 127
 
-ABOUT = """Says in plain words what the complaints ('cqe: ..') and the replies 'error ..' of cqe mean, where, and what to do:
+ABOUT = """Says in plain words what the complaints ('cqe: ..') and the replies 'error ..' of cqe mean, where, and
+what to do:
 
   cqe batch .. < SCRIPT 2>&1 >REPLIES | cqe-explain --policy P --facts F --script SCRIPT
   cqe-explain --script SCRIPT < REPLIES
@@ -25,7 +26,8 @@ The last form runs the command, hands its replies on, explains on standard error
 
 
 def options():
-    parser = argparse.ArgumentParser(prog="cqe-explain", description=ABOUT, formatter_class=argparse.RawDescriptionHelpFormatter,
+    parser = argparse.ArgumentParser(prog="cqe-explain", description=ABOUT,
+                                     formatter_class=argparse.RawDescriptionHelpFormatter,
                                      allow_abbrev=False, usage="cqe-explain [OPTIONS] [-- COMMAND ..]")
     parser.add_argument("--policy", metavar="P", help="the policy file")
     parser.add_argument("--facts", metavar="F", help="the facts file")
@@ -76,7 +78,7 @@ def show(lines, stream):
 
 
 def words_of(command):
-    """The words of the program within a command: behind a word cqe.. that a command of it follows, else behind the first."""
+    """The words of the program: behind a word cqe.. that is followed by a command of it, else behind the first."""
     for number, word in enumerate(command[:-1]):
         if os.path.basename(word).startswith("cqe") and command[number + 1] in words.COMMANDS:
             return command[number + 1:]

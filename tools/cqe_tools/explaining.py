@@ -11,7 +11,8 @@ PARTS = re.compile(r"(policy|facts|script|missing|journal) (.*)", re.S)
 
 STATUSES = {
     0: "All is done, and each ask was answered.",
-    1: "This isn't a status of the program itself: ./cqe ends so where it can't be built, and cqe-check where a user is closed.",
+    1: "This isn't a status of the program itself: ./cqe ends so where it can't be built, and cqe-check where a user "
+    "is closed.",
     2: "The words have no reading, or audit names a user whom the policy hasn't (cqe: usage).",
     3: "The policy is refused (cqe: policy KIND PLACE); nothing was opened.",
     4: "The facts are refused (cqe: facts KIND LINE); nothing was opened.",
@@ -54,15 +55,18 @@ def of_complaint(line, context):
     text = line[len(COMPLAINT):]
     plain = {
         "usage": lambda: usage(line, context), "read fault": lambda: surroundings.read_fault(line, context),
-        "write fault": lambda: surroundings.write_fault(line, context), "shelf fault": lambda: surroundings.shelf(line, context),
-        "disk fault": lambda: surroundings.disk_fault(line, context), "links fault": lambda: surroundings.links(line, context.listen),
+        "write fault": lambda: surroundings.write_fault(line, context),
+        "shelf fault": lambda: surroundings.shelf(line, context),
+        "disk fault": lambda: surroundings.disk_fault(line, context),
+        "links fault": lambda: surroundings.links(line, context.listen),
         "out of memory": lambda: surroundings.memory(line, context),
     }.get(text)
     if plain:
         return plain()
     match = PARTS.fullmatch(text)
     found = of_parts(line, match[1], match[2], context) if match else None
-    return found or Finding(line, "This is no complaint of the program's formats.", None, "see whether the tools and the program are of one version")
+    return found or Finding(line, "This is no complaint of the program's formats.", None,
+                            "see whether the tools and the program are of one version")
 
 
 def of_parts(line, what, rest, context):
@@ -92,12 +96,14 @@ def usage(line, context):
     users = [user.get("name") for user in context.policy.users() if isinstance(user, dict)] if context.policy else []
     known = ", ".join(str(user) for user in users[:20])
     return Finding(line, f"The words are right, and the policy has no user {quoted(str(name))} for --user.",
-                   words.spot_of(context.words, place_of_value(context.words, name)), f"write a user of the policy: {known}")
+                   words.spot_of(context.words, place_of_value(context.words, name)),
+                   f"write a user of the policy: {known}")
 
 
 def place_of_value(spoken, value):
     """The number of the word that has a value."""
-    return next((number for number, word in enumerate(spoken) if word == value or word.endswith(f"={value}")), len(spoken))
+    return next((number for number, word in enumerate(spoken) if word == value or word.endswith(f"={value}")),
+                len(spoken))
 
 
 def of_status(status):
@@ -105,7 +111,8 @@ def of_status(status):
     if status in STATUSES:
         return Finding(f"status {status}", STATUSES[status], None, STATUS_ADVICE if 2 <= status <= 13 else None)
     if status > 128:
-        return Finding(f"status {status}", f"A signal stopped the program: number {status - 128}.", None, "what was answered by then is in the journals")
+        return Finding(f"status {status}", f"A signal stopped the program: number {status - 128}.", None,
+                       "what was answered by then is in the journals")
     return Finding(f"status {status}", "This isn't a status of the program.")
 
 
@@ -153,9 +160,11 @@ class Explainer:
     def finding(self, sort, line, number, asked, requests):
         """The explanation of a line, or None where it needs none."""
         try:
-            return of_complaint(line, self.context) if sort == "complaint" else self.of_reply(line, number, asked, requests)
+            return of_complaint(line, self.context) if sort == "complaint" else self.of_reply(line, number, asked,
+                requests)
         except Exception as fault:  # a wrapper has to keep the status of the program whatever happens here
-            return Finding(line, f"This can't be explained, by a fault of this tool ({type(fault).__name__}: {fault}).", None,
+            return Finding(line, f"This can't be explained, by a fault of this tool ({type(fault).__name__}: {fault}).",
+                           None,
                            "man cqe has the meaning; tell who keeps the tool")
 
     def asked_of_script(self):

@@ -48,10 +48,14 @@ def shown(text, token):
 
 def wrong_start(text, token):
     if text.startswith(b"\xef\xbb\xbf"):
-        return NoFact("the line begins with a byte order mark (EF BB BF)", 0, 3, "save the file as UTF-8 without a byte order mark")
-    slash = text[token.start:token.start + 2] in (b"//", b"--", b"/*") or text[token.start:token.start + 1] in (b"%", b";")
-    advice = "a comment begins with #" if slash else bad_byte(text, token) or "begin the line with a relation, as hiv(ann)"
-    return NoFact(f"a fact begins with a relation, and here stands {shown(text, token)}", token.start, token.end, advice)
+        return NoFact("the line begins with a byte order mark (EF BB BF)", 0, 3,
+                      "save the file as UTF-8 without a byte order mark")
+    slash = text[token.start:token.start + 2] in (b"//", b"--", b"/*") or text[token.start:token.start + 1] in (b"%",
+        b";")
+    advice = "a comment begins with #" if slash else bad_byte(text,
+                                                              token) or "begin the line with a relation, as hiv(ann)"
+    return NoFact(f"a fact begins with a relation, and here stands {shown(text, token)}", token.start, token.end,
+                  advice)
 
 
 def bad_byte(text, token):
@@ -66,7 +70,8 @@ def bad_byte(text, token):
     if character in ";|":
         return "write the columns in parentheses with a comma between two, as lies(ann, ward1)"
     if not character.isascii():
-        return f"'{character}' (U+{ord(character[0]):04X}) isn't ASCII: write the name as the policy has it, as ae for ä"
+        return (f"'{character}' (U+{ord(character[0]):04X}) isn't ASCII: write the name as the policy has it, as ae "
+                f"for ä")
     return f"leave {character!r} out"
 
 
@@ -82,14 +87,15 @@ def unknown_relation(schema, text, token, behind):
         advice = f"'{token.text}' is a constant: the relation stands first, as hiv(ann)"
     else:
         meant = schemas.similar(token.text, schema.relations)
-        advice = f"write '{meant}' (case counts)" if meant else "declare the relation in the policy, or write one that is declared: " + (
+        advice = f"write '{meant}' (case counts)" if meant else "declare the relation, or write one that is declared: " + (
             ", ".join(list(schema.relations)[:8]) or "it has none")
     return NoFact(meaning, token.start, token.end, advice)
 
 
 def no_parenthesis(schema, text, relation, behind):
     if behind.text == "," or text[behind.start:behind.start + 1] in (b";", b"|", b":") or behind.sort == "name":
-        advice = f"write it as {relation.text}(..): this looks like CSV, where the relation isn't followed by parentheses"
+        advice = (f"write it as {relation.text}(..): this looks like CSV, where the relation isn't followed by "
+                  f"parentheses")
     else:
         advice = f"write the columns in parentheses, as {relation.text}({', '.join(schema.relations[relation.text])})"
     return NoFact(f"behind the relation '{relation.text}' stands {shown(text, behind)}, where '(' is wanted",
@@ -100,18 +106,22 @@ def in_column(schema, text, token, relation, columns, number, domain):
     """The constant in a column."""
     where = f"column {number + 1} of '{relation}'"
     if token.text == ")":
-        raise NoFact(f"the relation '{relation}' has {texts.counted(len(columns), 'column')}, and here it ends behind {number}",
+        raise NoFact(f"the relation '{relation}' has {texts.counted(len(columns), 'column')}, and here it ends behind "
+                     f"{number}",
                      token.start, token.end, texts.ADVICE[6])
     if token.sort != "name":
-        raise NoFact(f"in {where} stands {shown(text, token)}, where a constant of '{domain}' is wanted", token.start, token.end,
+        raise NoFact(f"in {where} stands {shown(text, token)}, where a constant of '{domain}' is wanted", token.start,
+                     token.end,
                      bad_byte(text, token) or f"write a constant of '{domain}'")
     found = schema.domain_of.get(token.text)
     if found is None:
         meant = schemas.similar(token.text, schema.domains.get(domain, ()))
-        advice = f"write '{meant}' (case counts)" if meant else f"add it to the domain '{domain}' of the policy, or write one of its constants"
+        advice = (f"write '{meant}' (case counts)" if meant else f"add it to the domain '{domain}' of the policy, or "
+                  f"write one of its constants")
         raise NoFact(f"no constant has the name '{token.text}' ({where})", token.start, token.end, advice)
     if found != domain:
-        raise NoFact(f"'{token.text}' is of the domain '{found}', and {where} is of '{domain}'", token.start, token.end, texts.ADVICE[4])
+        raise NoFact(f"'{token.text}' is of the domain '{found}', and {where} is of '{domain}'", token.start, token.end,
+                     texts.ADVICE[4])
     return token.text
 
 
@@ -120,17 +130,21 @@ def comma(text, token, relation, columns, done):
     if token.text == ",":
         return token.end
     if token.text == ")":
-        raise NoFact(f"the relation '{relation}' has {texts.counted(len(columns), 'column')}, and here it ends behind {done}",
+        raise NoFact(f"the relation '{relation}' has {texts.counted(len(columns), 'column')}, and here it ends behind "
+                     f"{done}",
                      token.start, token.end, texts.ADVICE[6])
-    raise NoFact(f"behind column {done} of '{relation}' stands {shown(text, token)}, where ',' is wanted", token.start, token.end,
+    raise NoFact(f"behind column {done} of '{relation}' stands {shown(text, token)}, where ',' is wanted", token.start,
+                 token.end,
                  bad_byte(text, token) or "write a comma between two columns")
 
 
 def not_closed(text, token, relation, columns):
     if token.text == "," or (not columns and token.sort == "name"):
-        return NoFact(f"the relation '{relation}' has {texts.counted(len(columns), 'column')}, and here is one more", token.start, token.end,
+        return NoFact(f"the relation '{relation}' has {texts.counted(len(columns), 'column')}, and here is one more",
+                      token.start, token.end,
                       texts.ADVICE[6])
-    return NoFact(f"behind the last column of '{relation}' stands {shown(text, token)}, where ')' is wanted", token.start, token.end,
+    return NoFact(f"behind the last column of '{relation}' stands {shown(text, token)}, where ')' is wanted",
+                  token.start, token.end,
                   bad_byte(text, token) or "close the parenthesis")
 
 
@@ -156,13 +170,15 @@ def explain(said, kind, line, policy, text):
     if kind == 3:
         return not_utf8(said, text)
     if kind == 2:
-        return Finding(said, f"Line {line} of the facts is the {MOST + 1:,}th fact, and at most {MOST:,} different ones are allowed.",
+        return Finding(said, f"Line {line} of the facts is the {MOST + 1:,}th fact, and at most {MOST:,} different "
+                       f"ones are allowed.",
                        spot_of_line(text, line), "leave out facts that no question and no secret needs")
     if kind != 1:
         return Finding(said, f"The facts are refused with the kind {kind}, which no format names.")
     meaning = f"Line {line} of the facts is no fact"
     if text is None or not text.has_line(line):
-        return Finding(said, meaning + " of the policy's relations.", None, "write a relation with constants in parentheses, as hiv(ann)")
+        return Finding(said, meaning + " of the policy's relations.", None,
+                       "write a relation with constants in parentheses, as hiv(ann)")
     data, start = text.line(line), text.start_of_line(line)
     long = text.data.find(b"\n", start)
     length = (long if long >= 0 else len(text.data)) - start
@@ -175,7 +191,8 @@ def explain(said, kind, line, policy, text):
     try:
         atom(policy.schema(), data)
     except NoFact as fault:
-        return Finding(said, f"{meaning}: {fault.meaning}.", Spot(text, start + fault.start, start + max(fault.end, fault.start + 1)),
+        return Finding(said, f"{meaning}: {fault.meaning}.",
+                       Spot(text, start + fault.start, start + max(fault.end, fault.start + 1)),
                        fault.advice)
     return Finding(said, meaning + " of the policy's relations.", spot_of_line(text, line),
                    "see that this is the facts file that the program read: this line reads as a fact of the policy")
@@ -199,7 +216,8 @@ def not_utf8(said, text):
         if text.data[:2] in (b"\xff\xfe", b"\xfe\xff"):
             advice = "it is UTF-16: iconv -f UTF-16 -t UTF-8 turns it into UTF-8, and take the byte order mark away"
         at = error.start
-        return Finding(said, f"The facts file isn't UTF-8: the byte 0x{text.data[at]:02X} stands here.", Spot(text, at, at + 1), advice)
+        return Finding(said, f"The facts file isn't UTF-8: the byte 0x{text.data[at]:02X} stands here.",
+                       Spot(text, at, at + 1), advice)
     return Finding(said, meaning, None, advice)
 
 

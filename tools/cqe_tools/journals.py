@@ -37,7 +37,7 @@ class Journal:
             return None
 
     def record(self, number):
-        """Where a record begins behind its gate, and its kind and text as far as they are there; None where there is none."""
+        """Where a record begins behind its gate, its kind and its text; None where there is none."""
         at = HEADER - 1
         for count in range(number + 1):
             if self.data[at:at + 1] != b"\x01":
@@ -57,7 +57,8 @@ def explain(said, name, cause, context):
     if match is None:
         return Finding(said, f"The journal of user {quoted(name)} is refused for a cause that no format names.")
     word = cause.split(" ")[0]
-    makers = {"not": not_a_journal if cause == "not a journal" else not_admitted, "other": other_policy, "disk": disk_fault,
+    makers = {"not": not_a_journal if cause == "not a journal" else not_admitted, "other": other_policy,
+              "disk": disk_fault,
               "damaged": damaged, "stale": stale, "size": size, "unlawful": unlawful}
     number = int(match[1] or match[2] or 0)
     return makers[word](said, name, journal, number, context, match)
@@ -72,9 +73,11 @@ def not_a_journal(said, name, journal, number, context, match):
     more = ""
     if journal is not None:
         more = f" It has {texts.counted(len(journal.data), 'byte')}" + (
-            f" and begins with {quoted(journal.data[:8])}." if journal.data and not journal.data.startswith(MAGIC) else ", and an empty journal has 73.")
+            f" and begins with {quoted(journal.data[:8])}." if journal.data and not journal.data.startswith(MAGIC)
+            else ", and an empty journal has 73.")
     return Finding(said, f"The journal of user {quoted(name)}, {file}, is no journal.{more}", None,
-                   "if it was never made, call cqe init; if it was lost or closed on purpose, put it back from where it was kept first: "
+                   "if it was never made, call cqe init; if it was lost or closed on purpose, put it back from where "
+                   "it was kept first: "
                    "a new one forgets what the user was told")
 
 
@@ -85,17 +88,22 @@ def other_policy(said, name, journal, number, context, match):
             text = Text.of_file(file) if file else None
             if text is not None:
                 same = hashlib.sha256(text.data).digest() == journal.data[begin:begin + 32]
-                which.append(f"the {what} {file} {'is the one that it was made for' if same else 'has changed, or is another'}")
+                which.append(f"the {what} {file} "
+                             f"{'is the one that it was made for' if same else 'has changed, or is another'}")
     more = " Compared: " + "; ".join(which) + "." if which else ""
-    return Finding(said, f"The journal of user {quoted(name)}, {place(journal, name, context)}, was made for other bytes of the policy or "
+    return Finding(said, f"The journal of user {quoted(name)}, {place(journal, name, context)}, was made for other "
+                   f"bytes of the policy or "
                    f"of the facts.{more}", None,
-                   "give the files that it was made for (one changed byte counts, in a comment too), or make new journals in a new directory; "
+                   "give the files that it was made for (one changed byte counts, in a comment too), or make new "
+                   "journals in a new directory; "
                    "what users learnt then has to stand in know")
 
 
 def disk_fault(said, name, journal, number, context, match):
-    return Finding(said, f"The journal of user {quoted(name)}, {place(journal, name, context)}, couldn't be read, or a call of its file failed "
-                   "earlier in this run.", None, "look at the disk (dmesg, df, ls -l), then start again: a file that failed isn't opened again before that")
+    return Finding(said, f"The journal of user {quoted(name)}, {place(journal, name, context)}, couldn't be read, or a "
+                   f"call of its file failed "
+                   "earlier in this run.", None, "look at the disk (dmesg, df, ls -l), then start again: a file that "
+                   "failed isn't opened again before that")
 
 
 def damaged(said, name, journal, number, context, match):
@@ -104,9 +112,12 @@ def damaged(said, name, journal, number, context, match):
     if found:
         start, kind, _ = found
         length = int.from_bytes(journal.data[start + 1:start + 3], "big")
-        more = f" It begins at byte {start} and has the kind {kind} and the length {length:,}; a kind is 1 to 4, a length at most 4,096."
-    return Finding(said, f"Record {number} (from 0) in the journal of user {quoted(name)}, {place(journal, name, context)}, isn't whole: somebody or "
-                   f"the disk changed the file.{more}", None, f"put a copy back that holds all that he was told, or keep him closed. {KEEP}")
+        more = (f" It begins at byte {start} and has the kind {kind} and the length {length:,}; a kind is 1 to 4, a "
+                f"length at most 4,096.")
+    return Finding(said, f"Record {number} (from 0) in the journal of user {quoted(name)}, "
+                   f"{place(journal, name, context)}, isn't whole: somebody or "
+                   f"the disk changed the file.{more}", None, f"put a copy back that holds all that he was told, or "
+                   f"keep him closed. {KEEP}")
 
 
 def record_spot(journal, number, start=0, end=None):
@@ -126,23 +137,29 @@ def stale(said, name, journal, number, context, match):
         if refused is not None:
             found = texts.about(policy.schema(), spot.text.data, refused.kind, refused.place)
             spot, more = record_spot(journal, number, found.start, found.end), f": {found.meaning}"
-    return Finding(said, f"Record {number} (from 0) in the journal of user {quoted(name)} has a text that is no sentence{more}.", spot,
-                   f"the program over these files never wrote it: the journal was changed, or comes from another version. {KEEP}")
+    return Finding(said, f"Record {number} (from 0) in the journal of user {quoted(name)} has a text that is no "
+                   f"sentence{more}.", spot,
+                   f"the program over these files never wrote it: the journal was changed, or comes from another "
+                   f"version. {KEEP}")
 
 
 def size(said, name, journal, number, context, match):
-    return Finding(said, f"Record {number} (from 0) in the journal of user {quoted(name)} passes a limit: the history before it is full, or its "
+    return Finding(said, f"Record {number} (from 0) in the journal of user {quoted(name)} passes a limit: the history "
+                   f"before it is full, or its "
                    "question is too large.", record_spot(journal, number),
                    f"the program never wrote it: the journal was changed, or comes from another version. {KEEP}")
 
 
 def unlawful(said, name, journal, number, context, match):
     stored, computed = match[3], match[4]
-    return Finding(said, f"Record {number} (from 0) in the journal of user {quoted(name)} says '{stored}', and the censor answers '{computed}' there.",
+    return Finding(said, f"Record {number} (from 0) in the journal of user {quoted(name)} says '{stored}', and the "
+                   f"censor answers '{computed}' there.",
                    record_spot(journal, number),
-                   f"somebody changed the journal, or the user's method, knowledge or secrets are those of other files. {KEEP}")
+                   f"somebody changed the journal, or the user's method, knowledge or secrets are those of other "
+                   f"files. {KEEP}")
 
 
 def not_admitted(said, name, journal, number, context, match):
-    return Finding(said, f"The journal of user {quoted(name)} has records, and he isn't admitted by this policy and these facts.", record_spot(journal, 0),
+    return Finding(said, f"The journal of user {quoted(name)} has records, and he isn't admitted by this policy and "
+                   f"these facts.", record_spot(journal, 0),
                    f"the journal isn't his or was changed; cqe-check tells why he isn't admitted. {KEEP}")

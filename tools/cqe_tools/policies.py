@@ -16,7 +16,7 @@ PLACE = re.compile(r"users\[(\d+)\]\.(\w+)(?:\[(\d+)\])?\Z")
 AT_LINE = re.compile(r"\(at line (\d+), column (\d+)\)")
 
 WANTED = {
-    "version": "the number 1", "domains": "a table of domains, as [domains] with lines like person = [\"ann\", \"bob\"]",
+    "version": "the number 1", "domains": "a table of domains, as [domains] with lines like person = [\"ann\"]",
     "relations": "a table of relations, as [relations] with lines like hiv = [\"person\"]",
     "users": "an array of tables, each begun by [[users]]",
     "name": "a string with a letter, then letters, digits and _, in ASCII, of at most 32 bytes",
@@ -32,9 +32,10 @@ class PolicyFile:
 
     def __init__(self, text):
         self.text = text
-        self.source = text.data.decode("utf-8", "surrogateescape").replace("\ufeff", " ", 1) if (
-            text.data.startswith(b"\xef\xbb\xbf")) else text.data.decode("utf-8", "surrogateescape")
-        self.root = tree_of(self.source)
+        self.source = text.data.decode("utf-8", "replace")
+        if self.source.startswith("\ufeff"):
+            self.source = " " + self.source[1:]
+        self.root = tree_of(self.source) if is_utf8(text.data) else None
 
     @classmethod
     def of_file(cls, name):
@@ -50,7 +51,7 @@ class PolicyFile:
     def offset(self, index):
         """The offset among the file's bytes of a character of the source."""
         marked = 2 if self.text.data.startswith(b"\xef\xbb\xbf") and index > 0 else 0
-        return len(self.source[:index].encode("utf-8", "surrogateescape")) + marked
+        return len(self.source[:index].encode("utf-8")) + marked
 
     def at(self, *path):
         return self.root.at(*path) if self.root is not None else None
@@ -76,7 +77,7 @@ class PolicyFile:
         return self.spot(begin, max(finish, begin + 1))
 
     def declarations(self):
-        """The domains and the relations as lists, in the order of their keys as bytes; what isn't of its kind is left out."""
+        """The domains and the relations, in the order of their keys as bytes; what isn't of its kind is left out."""
         def listed(key):
             tables = self.at(key)
             pairs = plain(tables).items() if tables is not None and tables.kind == "table" else ()
@@ -108,6 +109,14 @@ class PolicyFile:
         return f"users[{number}] (counted from 0)"
 
 
+def is_utf8(data):
+    try:
+        data.decode("utf-8")
+    except UnicodeDecodeError:
+        return False
+    return True
+
+
 def view_nodes(schema, user):
     """The nodes of a user's view without entries."""
     known = sum(nodes_of(schema, text.encode()) for text in user.get("know", []))
@@ -134,7 +143,8 @@ def not_toml(said, rest, policy):
         at = error.start
         utf16 = " It looks like UTF-16." if data[:2] in (b"\xff\xfe", b"\xfe\xff") or b"\0" in data[:64] else ""
         return Finding(said, f"The policy file isn't UTF-8: byte {quoted(data[at:at + 1])} stands here.{utf16}",
-                       Spot(policy.text, at, at + 1), "save the file as UTF-8 (iconv -f LATIN1 -t UTF-8 turns Latin-1 into it)")
+                       Spot(policy.text, at, at + 1), "save the file as UTF-8 (iconv -f LATIN1 -t UTF-8 turns Latin-1 "
+                       "into it)")
     try:
         tomllib.loads(source)
     except tomllib.TOMLDecodeError as error:
@@ -155,7 +165,8 @@ def broken_toml(said, message, source, policy):
     at = min(len(before.encode()) + marked, len(policy.text.data))
     why = message.split(" (at ")[0]
     slip = toml_slip(lines[line - 1] if line <= len(lines) else "", why, lines)
-    return Finding(said, f"The policy file is no TOML document: {why} (line {line}, column {column}, as Python reads TOML 1.0).",
+    return Finding(said, f"The policy file is no TOML document: {why} (line {line}, column {column}, as Python reads "
+                   f"TOML 1.0).",
                    Spot(policy.text, at, at + 1), slip)
 
 
@@ -197,7 +208,8 @@ def missing_key(said, rest, policy):
     if policy is None or policy.root is None:
         return Finding(said, meaning, None, advice)
     if user is not None:
-        present = [name for name in policy.at("users", user).value if name not in USER_KEYS] if policy.at("users", user) else []
+        here = policy.at("users", user)
+        present = [name for name in here.value if name not in USER_KEYS] if here else []
         spot = policy.spot_of("users", user)
         return Finding(said, meaning, spot, advice + similar_key(key, present))
     strayed = stray_key(policy, key)
@@ -205,7 +217,8 @@ def missing_key(said, rest, policy):
         return Finding(said, f"{meaning} It stands within the table '{strayed[0]}'.", strayed[1],
                        f"move it above the first line in brackets: what follows [{strayed[0]}] belongs to that table")
     first = policy.spot(0, min(len(policy.source), 1)) if policy.source else None
-    return Finding(said, meaning, first, advice + similar_key(key, [k for k in policy.root.value if k not in ROOT_KEYS]))
+    present = [name for name in policy.root.value if name not in ROOT_KEYS]
+    return Finding(said, meaning, first, advice + similar_key(key, present))
 
 
 def stray_key(policy, key):
@@ -259,7 +272,9 @@ def kind_fault(key, value):
     if value.kind != "string" or key in ("domains", "relations", "users", "know", "secrets", "version", "budget"):
         article = "an" if value.kind in ("integer", "array") else "a" if value.kind != "other" else ""
         what = "a number with a point, a date or a time" if value.kind == "other" else f"{article} {value.kind}"
-        return f"is {what} here" if key not in ("domains", "relations") else f"has {what} here, where an array of strings or a string in it is wanted"
+        if key in ("domains", "relations"):
+            return f"has {what} here, where an array of strings or a string in it is wanted"
+        return f"is {what} here"
     if key == "name":
         return f"is {quoted(value.value)}, which is no name: {schemas.fault_of_name(value.value)}"
     if key == "token":
@@ -292,28 +307,36 @@ def unknown_key(said, rest, policy):
     path = () if user is None else ("users", user)
     here = policy.at(*path) if policy and policy.root is not None else None
     # The key is printed as it stands, so one with a line feed isn't whole here.
-    key = next((name for name in sorted(here.value) if name not in known and name.startswith(key)), key) if here else key
+    if here:
+        key = next((name for name in sorted(here.value) if name not in known and name.startswith(key)), key)
     meant = schemas.similar(key, known)
     advice = f"write '{meant}' for it" if meant else f"leave it out; the keys {where} are {', '.join(known)}"
     if user is not None and key in ROOT_KEYS:
         advice = f"'{key}' belongs to the whole policy: move it above the first line in brackets"
-    return Finding(said, f"{quoted(key)} is no key {where}{' (' + policy.title(user) + ')' if policy and user is not None else ''}.",
+    whose = f" ({policy.title(user)})" if policy and user is not None else ""
+    return Finding(said, f"{quoted(key)} is no key {where}{whose}.",
                    policy.spot_of_key(*path, key) if here else None, advice)
 
 
 def no_schema(said, rest, policy):
     number = int(rest) if rest.isdigit() else 0
     plain_words = {1: "a name stands twice among the domains, relations and constants",
-                   2: "a relation has a column of a domain that isn't there", 3: "there are too many domains, constants, relations or columns",
+                   2: "a relation has a column of a domain that isn't there",
+                   3: "there are too many domains, constants, relations or columns",
                    4: "a domain has no constant", 5: "a name isn't of the form that names have"}
     found = schemas.refusal(*policy.declarations()) if policy and policy.root is not None else None
     why, spot, more = plain_words.get(number, "it is no schema"), None, ()
     if found and found[0] == number:
-        why, spot = found[1], policy.spot_of(*found[2]) if isinstance(found[2][-1], int) else policy.spot_of_key(*found[2])
+        why, spot = found[1], spot_of_name(policy, found[2])
         if found[3]:
-            first = policy.spot_of(*found[3]) if isinstance(found[3][-1], int) else policy.spot_of_key(*found[3])
-            more = (f"It stands first at {first}.",)
-    return Finding(said, f"The domains and relations are no schema: {why}.", spot, schemas.SCHEMA_ADVICE.get(number), more)
+            more = (f"It stands first at {spot_of_name(policy, found[3])}.",)
+    return Finding(said, f"The domains and relations are no schema: {why}.", spot, schemas.SCHEMA_ADVICE.get(number),
+                   more)
+
+
+def spot_of_name(policy, path):
+    """The place of a declared name: a string of an array, or a key."""
+    return policy.spot_of(*path) if isinstance(path[-1], int) else policy.spot_of_key(*path)
 
 
 def no_sentence(said, rest, policy):
@@ -324,7 +347,8 @@ def no_sentence(said, rest, policy):
     user, key, index = place_of(words[0], policy)
     value = policy.at("users", user, key, index) if policy and user is not None else None
     if value is None or value.kind != "string":
-        return Finding(said, f"The text {words[0]} is no sentence: {texts.PLAIN.get(kind)} (kind {kind}, {texts.kind_name(kind)}, "
+        return Finding(said, f"The text {words[0]} is no sentence: {texts.PLAIN.get(kind)} (kind {kind}, "
+                       f"{texts.kind_name(kind)}, "
                        f"at byte {place} of the text).", None, texts.ADVICE.get(kind))
     text = value.value.encode("utf-8", "surrogateescape")
     found = texts.about(policy.schema(), text, kind, place)
@@ -337,7 +361,8 @@ def above_limit(said, rest, policy):
     if user is None:
         count = len(policy.users()) if policy else None
         found = "" if count is None else f" There are {count}."
-        return Finding(said, f"A policy has 1 to {schemas.USERS} users.{found}", policy.spot_of("users") if policy else None,
+        return Finding(said, f"A policy has 1 to {schemas.USERS} users.{found}",
+                       policy.spot_of("users") if policy else None,
                        "write at least one [[users]], and put more than 256 in policies of their own")
     value = policy.at("users", user, key) if policy and policy.root is not None else None
     title = policy.title(user) if policy else f"users[{user}]"
@@ -346,14 +371,17 @@ def above_limit(said, rest, policy):
     if key == "budget":
         shown = f" It is {value.value}." if value is not None else ""
         return Finding(said, f"The budget of {title} is out of its range, 1 to {schemas.BUDGET:,}.{shown}",
-                       policy.spot(value.start, value.end) if value else None, "write a number from 1 to 4000000, or leave the key out (1000000)")
+                       policy.spot(value.start, value.end) if value else None,
+                       "write a number from 1 to 4000000, or leave the key out (1000000)")
     count = len(value.value) if value is not None and value.kind == "array" else None
     spot = policy.spot_of("users", user, key) if policy else None
     most = schemas.KNOWN if key == "know" else schemas.SECRETS
     if count is not None and (count > most or (key == "secrets" and count == 0)):
         least = "1 to " if key == "secrets" else "at most "
-        return Finding(said, f"'{key}' of {title} has {texts.counted(count, 'sentence')}, and {least}{most} are allowed.", spot,
-                       "join several into one by 'and' (know) or 'or' (secrets)" if count else "give him at least one; secrets = [\"false\"] hides nothing")
+        return Finding(said, f"'{key}' of {title} has {texts.counted(count, 'sentence')}, and {least}{most} are "
+                       f"allowed.", spot,
+                       "join several into one by 'and' (know) or 'or' (secrets)" if count else "give him at least one; "
+                       "secrets = [\"false\"] hides nothing")
     return great_view(said, policy, user, title, spot)
 
 
@@ -366,12 +394,14 @@ def long_text(said, policy, user, key, index, title):
     size = len(value.value.encode("utf-8", "surrogateescape"))
     spot = policy.spot(value.start, value.end)
     if size > schemas.TEXT_BYTES:
-        return Finding(said, f"{meaning}: it has {size:,} bytes, and at most {schemas.TEXT_BYTES:,} are allowed.", spot, advice)
+        return Finding(said, f"{meaning}: it has {size:,} bytes, and at most {schemas.TEXT_BYTES:,} are allowed.", spot,
+                       advice)
     try:
         nodes = nodes_of(policy.schema(), value.value.encode("utf-8", "surrogateescape"))
     except Refused:
         return Finding(said, meaning + ".", spot, advice)
-    return Finding(said, f"{meaning}: it has {nodes:,} nodes with its quantifiers written out over their domains, and at most "
+    return Finding(said, f"{meaning}: it has {nodes:,} nodes with its quantifiers written out over their domains, and "
+                   f"at most "
                    f"{schemas.SENTENCE_NODES:,} are allowed.", spot, advice)
 
 
@@ -381,22 +411,28 @@ def great_view(said, policy, user, title, spot):
         nodes = f"have {view_nodes(policy.schema(), policy.users()[user]):,} nodes" if policy else "have too many nodes"
     except (Refused, LookupError, TypeError, AttributeError):
         nodes = "have too many nodes"
-    return Finding(said, f"What {title} knows and his secrets together {nodes}, and at most {schemas.FIRST_VIEW_NODES:,} are allowed "
+    return Finding(said, f"What {title} knows and his secrets together {nodes}, and at most "
+                   f"{schemas.FIRST_VIEW_NODES:,} are allowed "
                    "(or the number of his secrets isn't 1 to 16).", spot,
-                   "give him fewer or smaller sentences: a quantifier counts its sentence once for each constant of its domain")
+                   "give him fewer or smaller sentences: a quantifier counts its sentence once for each constant of "
+                   "its domain")
 
 
 def double_user(said, rest, policy):
     user, _, _ = place_of(rest, policy)
     value = policy.at("users", user, "name") if policy and user is not None else None
     if value is None:
-        return Finding(said, f"The name at {rest} is that of an earlier user.", None, "give each user a name of his own")
+        return Finding(said, f"The name at {rest} is that of an earlier user.", None,
+                       "give each user a name of his own")
     first = policy.user_named(value.value)
-    return Finding(said, f"The name {quoted(value.value)} is that of an earlier user, users[{first}].", policy.spot(value.start, value.end),
-                   "give each user a name of his own", (f"It stands first at {policy.spot_of('users', first, 'name')}.",))
+    return Finding(said, f"The name {quoted(value.value)} is that of an earlier user, users[{first}].",
+                   policy.spot(value.start, value.end),
+                   "give each user a name of his own",
+                   (f"It stands first at {policy.spot_of('users', first, 'name')}.",))
 
 
 def other_version(said, rest, policy):
     value = policy.at("version") if policy else None
     found = f", and here it is {value.value}" if value is not None else ""
-    return Finding(said, f"The version of a policy is 1{found}.", policy.spot(value.start, value.end) if value else None, "write version = 1")
+    return Finding(said, f"The version of a policy is 1{found}.",
+                   policy.spot(value.start, value.end) if value else None, "write version = 1")

@@ -116,7 +116,8 @@ def unknown_domain(domains, relations):
             if column not in known:
                 meant = similar(column, known)
                 hint = f"; there is a domain {meant!r}" if meant else ""
-                why = f"column {index + 1} of the relation {relation!r} names the domain {column!r}, and there is none{hint}"
+                why = (f"column {index + 1} of the relation {relation!r} names the domain {column!r}, and there is "
+                       f"none{hint}")
                 return 2, why, ("relations", relation, index), None
     return None
 

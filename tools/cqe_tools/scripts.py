@@ -15,7 +15,8 @@ ITEM = re.compile(rb"([A-Za-z][A-Za-z0-9_]*)[ \t]([0-9]+)[ \t]ask(?:[ \t](.*))?\
 DOMAIN = re.compile(rb"domain[ \t][ \t]*([A-Za-z]\w*)[ \t]*=(.*)\Z", re.S | re.A)
 RELATION = re.compile(rb"relation[ \t][ \t]*([A-Za-z]\w*)[ \t]*\((.*)\)[ \t]*\Z", re.S | re.A)
 OTHER_WORDS = {
-    "query": "ask", "question": "ask", "select": "ask", "ask:": "ask", "facts": "fact", "domains": "domain", "relations": "relation",
+    "query": "ask", "question": "ask", "select": "ask", "ask:": "ask", "facts": "fact", "domains": "domain",
+    "relations": "relation",
     "secrets": "secret", "knows": "know", "knowledge": "know", "censor": "method", "table": "relation", "user": "know",
 }
 
@@ -90,7 +91,7 @@ def names_in(piece):
 
 
 def asks(text, sort):
-    """The asks of a script in the order of their replies: the line's number, where the text begins in it, who asks, and the text."""
+    """Of each ask of a script: the line's number, where the text begins in it, who asks, and the text."""
     result = []
     for number, line in numbered(text):
         if sort == "batch":
@@ -102,35 +103,43 @@ def asks(text, sort):
                 result.append((number, 0, "*", None))
         elif sort == "session" or word_and_rest(line)[0] == b"ask":
             word, rest = word_and_rest(line)
-            result.append((number, 4 if rest is not None else len(line), None, (rest or b"") if word == b"ask" else None))
+            result.append((number, 4 if rest is not None else len(line), None,
+                           (rest or b"") if word == b"ask" else None))
     return result
 
 
 def explain(said, kind, line, sort, text):
     """The meaning of `cqe: script KIND LINE`; the script may be None."""
     if text is None or not (text.has_line(line) or kind == 3):
-        return Finding(said, f"Line {line} of the script is refused: {PLAIN.get(kind, f'kind {kind}, which no format names')}.", None,
+        return Finding(said, f"Line {line} of the script is refused: "
+                       f"{PLAIN.get(kind, f'kind {kind}, which no format names')}.", None,
                        "give the script by --script, and the reason is shown here" if text is None else None)
     sort = "case" if kind > 3 else sort if sort in ("case", "batch") else sort_of(text)
     data, start = text.line(line), text.start_of_line(line)
-    maker = {1: not_a_line, 2: too_long, 3: too_many, 4: no_schema, 5: no_fact, 6: no_sentence, 7: above_limit, 8: out_of_order}.get(kind)
+    maker = {1: not_a_line, 2: too_long, 3: too_many, 4: no_schema, 5: no_fact, 6: no_sentence, 7: above_limit,
+             8: out_of_order}.get(kind)
     if maker is None:
-        return Finding(said, f"Line {line} of the script is refused with the kind {kind}, which no format names.", Spot(text, start, start + len(data)))
+        return Finding(said, f"Line {line} of the script is refused with the kind {kind}, which no format names.",
+                       Spot(text, start, start + len(data)))
     before = CaseScript(text, line)
     meaning, begin, end, advice = maker(data, sort, before)
-    return Finding(said, f"Line {line} of the script {meaning}.", Spot(text, start + begin, start + max(end, begin + 1)), advice)
+    return Finding(said, f"Line {line} of the script {meaning}.",
+                   Spot(text, start + begin, start + max(end, begin + 1)), advice)
 
 
 PLAIN = {
     1: "it has none of the shapes of a script's lines, or a byte that isn't a tab or from the space to the tilde",
-    2: "it has more than 4,096 bytes", 3: "a script has at most 100,000 lines", 4: "with it the declarations are no schema",
+    2: "it has more than 4,096 bytes", 3: "a script has at most 100,000 lines",
+    4: "with it the declarations are no schema",
     5: "it is no fact, or the 100,001st", 6: "its text is no sentence", 7: "a limit is passed",
-    8: "it stands in the wrong order: declarations come before the first ask, method and budget once, a method and a secret before an ask",
+    8: "it stands in the wrong order: declarations come before the first ask, method and budget once, a method and a "
+    "secret before an ask",
 }
 
 
 def too_long(data, sort, before):
-    return f"has {len(data):,} bytes, and at most {schemas.TEXT_BYTES:,} are allowed", 0, 1, "split the sentence, or shorten its names"
+    return (f"has {len(data):,} bytes, and at most {schemas.TEXT_BYTES:,} are allowed", 0, 1,
+            "split the sentence, or shorten its names")
 
 
 def too_many(data, sort, before):
@@ -144,7 +153,8 @@ def not_a_line(data, sort, before):
     if bad:
         return bad_byte(data, bad.start())
     if data[:1] in (b" ", b"\t"):
-        what = "a comment begins with # in the first column" if data.lstrip(BLANK).startswith(b"#") else "begin the line with its first word"
+        what = ("a comment begins with # in the first column" if data.lstrip(BLANK).startswith(b"#") else "begin the "
+                "line with its first word")
         return "begins with a blank", 0, len(data) - len(data.lstrip(BLANK)), what
     return case_shape(data) if sort == "case" else batch_shape(data)
 
@@ -154,13 +164,15 @@ def bad_byte(data, at):
     piece = data[at:at + length]
     character = piece.decode("utf-8", "replace")
     if data[at:at + 1] == b"\r":
-        return "has a carriage return within or at its end", at, at + 1, "end lines by a line feed, or by one carriage return and a line feed"
+        return ("has a carriage return within or at its end", at, at + 1,
+                "end lines by a line feed, or by one carriage return and a line feed")
     if data[at:at + 1] == b"\0":
         return "has a null byte", at, at + 1, "is it UTF-16? save it as ASCII or UTF-8"
     if len(character) == 1 and character != "\ufffd" and not character.isascii():
         return (f"has '{character}' (U+{ord(character):04X}), and lines have ASCII alone", at, at + length,
                 "write names without umlauts and accents (ae for ä), and straight signs; only comments may hold others")
-    return f"has the byte 0x{data[at]:02X}, and lines have tabs and the bytes from the space to the tilde alone", at, at + 1, "leave it out"
+    return (f"has the byte 0x{data[at]:02X}, and lines have tabs and the bytes from the space to the tilde alone", at,
+            at + 1, "leave it out")
 
 
 def case_shape(data):
@@ -169,26 +181,33 @@ def case_shape(data):
     name = word.decode("ascii", "replace")
     if name not in WORDS:
         if ITEM.match(data) or data.startswith(b"*"):
-            return "is one of a script of batch, and this is read by case", 0, len(data), "call cqe batch, or write ask SENTENCE"
+            return ("is one of a script of batch, and this is read by case", 0, len(data),
+                    "call cqe batch, or write ask SENTENCE")
         meant = OTHER_WORDS.get(name.lower()) or similar(name, WORDS)
-        advice = f"write '{meant}', with one blank behind it" if meant else f"begin the line with one of {', '.join(WORDS)}, or with #"
+        advice = (f"write '{meant}', with one blank behind it" if meant else f"begin the line with one of "
+                  f"{', '.join(WORDS)}, or with #")
         return f"begins with {quoted(word)}, which begins no line of a script", 0, max(len(word), 1), advice
     begin = min(len(word) + 1, len(data))
     if rest is None:
-        return f"has nothing behind '{name}'", 0, len(word), f"write one blank and what is to follow, as {EXAMPLES[name]}"
+        return (f"has nothing behind '{name}'", 0, len(word), f"write one blank and what is to follow, as "
+                f"{EXAMPLES[name]}")
     if name == "method":
         meant = similar(name_of(rest), METHODS)
-        return f"has {quoted(rest)} behind 'method'", begin, len(data), f"write one of {', '.join(METHODS)}" + (f": {meant}?" if meant else "")
+        return (f"has {quoted(rest)} behind 'method'", begin, len(data),
+                f"write one of {', '.join(METHODS)}" + (f": {meant}?" if meant else ""))
     if name == "budget":
-        return f"has {quoted(rest)} behind 'budget'", begin, len(data), "write one to ten digits without signs and blanks, as budget 1000000"
+        return (f"has {quoted(rest)} behind 'budget'", begin, len(data),
+                "write one to ten digits without signs and blanks, as budget 1000000")
     return f"isn't of the form of a {name}", begin, len(data), f"write it as {EXAMPLES[name]}" + (
         ": the names in parentheses, also where there are none" if name == "relation" else
         ": names are a letter, then letters, digits and _" if name == "domain" else "")
 
 
 EXAMPLES = {
-    "domain": "domain person = ann, bob", "relation": "relation hiv(person)", "fact": "fact hiv(ann)", "method": "method lying",
-    "know": "know forall x: person . drug(x) -> hiv(x)", "secret": "secret hiv(ann)", "budget": "budget 1000000", "ask": "ask hiv(ann)",
+    "domain": "domain person = ann, bob", "relation": "relation hiv(person)", "fact": "fact hiv(ann)",
+    "method": "method lying",
+    "know": "know forall x: person . drug(x) -> hiv(x)", "secret": "secret hiv(ann)", "budget": "budget 1000000",
+    "ask": "ask hiv(ann)",
 }
 
 
@@ -201,7 +220,8 @@ def batch_shape(data):
     form = "write NAME SESSION ask SENTENCE with one blank between, as nurse 1 ask hiv(ann), or * restart"
     words = re.split(rb"[ \t]", data)
     if data.startswith(b"*") or data.lower().strip() == b"restart":
-        return f"is {quoted(data)}, and a restart is '* restart'", 0, len(data), "write * restart with one blank, small letters and nothing behind it"
+        return (f"is {quoted(data)}, and a restart is '* restart'", 0, len(data),
+                "write * restart with one blank, small letters and nothing behind it")
     if words[0].decode("ascii", "replace") in WORDS and words[0] != b"ask":
         return "is one of a script of case, and this is read by batch", 0, len(words[0]), "call cqe case, or " + form
     fault = schemas.fault_of_name(words[0].decode("ascii", "replace"))
@@ -211,7 +231,8 @@ def batch_shape(data):
     begin = len(words[0]) + 1
     session = words[1] if len(words) > 1 else b""
     if not re.match(rb"[1-9][0-9]?\Z", session) or int(session) > 64:
-        return (f"has {quoted(session)} where a session's number is wanted", min(begin, len(data)), begin + len(session),
+        return (f"has {quoted(session)} where a session's number is wanted", min(begin, len(data)),
+                begin + len(session),
                 "write a number from 1 to 64 without leading zeros, with one blank before and behind it")
     begin += len(session) + 1
     found = words[2] if len(words) > 2 else b""
@@ -238,9 +259,11 @@ def no_schema(data, sort, before):
         return "makes no schema with those above", 0, len(data), None
     number, why, path, _ = found
     culprit = path[-1] if not isinstance(path[-1], int) else inner[path[-1]] if path[-1] < len(inner) else name
-    match = re.compile(rb"\b" + re.escape(culprit.encode()) + rb"\b").search(data, inner_at if culprit != name or isinstance(path[-1], int) else at)
+    match = re.compile(rb"\b" + re.escape(culprit.encode()) + rb"\b").search(data,
+        inner_at if culprit != name or isinstance(path[-1], int) else at)
     begin, end = (match.start(), match.end()) if match else (at, at + len(name))
-    return f"makes no schema: {why}", begin, end, schemas.SCHEMA_ADVICE.get(number) + ("; domains stand above the relations that use them"
+    return f"makes no schema: {why}", begin, end, schemas.SCHEMA_ADVICE.get(number) + ("; domains stand above the "
+        "relations that use them"
                                                                                  if number == 2 else "")
 
 
@@ -250,7 +273,8 @@ def no_fact(data, sort, before):
         facts.atom(before.schema(), rest)
     except facts.NoFact as fault:
         return f"is no fact: {fault.meaning}", 5 + fault.start, 5 + fault.end, fault.advice
-    return f"is one fact more than {schemas.FACTS:,}", 5, len(data), "leave out facts that no question and no secret needs"
+    return (f"is one fact more than {schemas.FACTS:,}", 5, len(data),
+            "leave out facts that no question and no secret needs")
 
 
 def no_sentence(data, sort, before):
@@ -269,19 +293,24 @@ def above_limit(data, sort, before):
     rest = rest or b""
     begin, end = len(word) + 1, len(data)
     if word == b"budget":
-        return f"has the budget {name_of(rest)}, and a budget is from 1 to {schemas.BUDGET:,}", begin, end, "write a number from 1 to 4000000"
+        return (f"has the budget {name_of(rest)}, and a budget is from 1 to {schemas.BUDGET:,}", begin, end,
+                "write a number from 1 to 4000000")
     most, have = (schemas.KNOWN, before.known) if word == b"know" else (schemas.SECRETS, before.secrets)
     try:
         nodes = nodes_of(before.schema(), rest)
-        advice = "say it with fewer or smaller quantifiers: one counts its sentence once for each constant of its domain"
+        advice = ("say it with fewer or smaller quantifiers: one counts its sentence once for each constant of its "
+                  "domain")
         if nodes > schemas.SENTENCE_NODES:
-            return f"has a sentence of {nodes:,} nodes, and at most {schemas.SENTENCE_NODES:,} are allowed", begin, end, advice
+            return (f"has a sentence of {nodes:,} nodes, and at most {schemas.SENTENCE_NODES:,} are allowed", begin,
+                    end, advice)
         if len(have) >= most:
-            return f"is one '{name_of(word)}' more than {most}", 0, end, "join several into one by 'and' (know) or 'or' (secret)"
+            return (f"is one '{name_of(word)}' more than {most}", 0, end,
+                    "join several into one by 'and' (know) or 'or' (secret)")
         user = {"know": [text.decode() for text in before.known], "secrets": [text.decode() for text in before.secrets]}
         user["know" if word == b"know" else "secrets"].append(rest.decode())
         view = view_nodes(before.schema(), user)
-        return f"makes a view of {view:,} nodes, and at most {schemas.FIRST_VIEW_NODES:,} are allowed", begin, end, advice
+        return (f"makes a view of {view:,} nodes, and at most {schemas.FIRST_VIEW_NODES:,} are allowed", begin, end,
+                advice)
     except Refused:
         return "passes a limit", begin, end, None
 
@@ -293,8 +322,11 @@ def out_of_order(data, sort, before):
         wanting = [what for what, there in (("'method'", before.method), ("'secret'", before.secrets)) if not there]
         missing = " and no ".join(wanting) or "'method' or 'secret'"
         return f"asks before there is a method and a secret: there is no {missing} above", 0, 3, (
-            "write method lying, refusal or combined, and at least one secret, above the first ask (secret false hides nothing)")
+            "write method lying, refusal or combined, and at least one secret, above the first ask (secret false hides "
+            "nothing)")
     if before.asked:
-        return f"is a declaration ('{name}') behind the ask in line {before.asked}", 0, len(word), "move it above the first ask"
+        return (f"is a declaration ('{name}') behind the ask in line {before.asked}", 0, len(word),
+                "move it above the first ask")
     first = before.method if word == b"method" else before.budget
-    return f"is a second '{name}': the first stands in line {first}", 0, len(word), "keep one of them: a script has one user"
+    return (f"is a second '{name}': the first stands in line {first}", 0, len(word),
+            "keep one of them: a script has one user")

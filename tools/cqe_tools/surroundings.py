@@ -1,4 +1,7 @@
-"""What stands around the program: files, directories, addresses, streams. Looked at behind a run, so it may have changed."""
+"""What stands around the program: files, directories, addresses, streams.
+
+It is looked at behind a run, so it may have changed since.
+"""
 
 import difflib
 import errno
@@ -21,11 +24,14 @@ def missing(said, name):
     elif os.path.islink(name):
         why, advice = f"It is a link to {quoted(os.readlink(name))}, and that isn't there.", "mend the link"
     elif not os.path.isdir(directory):
-        why, advice = f"The directory {quoted(directory)} isn't there either.", "write the path as it is seen from where the program starts"
+        why, advice = (f"The directory {quoted(directory)} isn't there either.",
+                       "write the path as it is seen from where the program starts")
     else:
         close = difflib.get_close_matches(os.path.basename(name), listed(directory), 3, 0.5)
-        why = f"In {quoted(directory)} there is {', '.join(map(quoted, close))}." if close else f"{quoted(directory)} has no file of a similar name."
-        advice = f"write the name of the policy or of the facts file as it stands there (the program started in {os.getcwd()})"
+        why = (f"In {quoted(directory)} there is {', '.join(map(quoted, close))}." if close else f"{quoted(directory)} "
+               f"has no file of a similar name.")
+        advice = (f"write the name of the policy or of the facts file as it stands there (the program started in "
+                  f"{os.getcwd()})")
     return Finding(said, f"The file {quoted(name)} isn't there. {why}", None, advice)
 
 
@@ -44,7 +50,8 @@ def shelf(said, context):
     meaning = "A file couldn't be opened: the policy, the facts, or a journal in the directory of the journals."
     if found:
         return Finding(said, f"{meaning} {found[0][0]}", None, found[0][1], tuple(why for why, _ in found[1:]))
-    return Finding(said, meaning, None, "look at --journals: the directory has to be there (mkdir DIR), and the program's account must read and "
+    return Finding(said, meaning, None, "look at --journals: the directory has to be there (mkdir DIR), and the "
+                   "program's account must read and "
                    "write in it; a journal is a regular file; and see how many files may be open (ulimit -n)")
 
 
@@ -55,7 +62,8 @@ def file_fault(what, name):
     if os.path.isdir(name):
         return f"The {what} {quoted(name)} is a directory.", f"name the file itself behind --{what}"
     if os.path.exists(name) and not os.access(name, os.R_OK):
-        return f"The {what} {quoted(name)} may not be read by this account.", f"chmod u+r {name}, or start as the account that owns it"
+        return (f"The {what} {quoted(name)} may not be read by this account.",
+                f"chmod u+r {name}, or start as the account that owns it")
     return None
 
 
@@ -67,7 +75,8 @@ def directory_fault(name):
     if not os.path.isdir(name):
         return f"{quoted(name)} is no directory.", "name the directory of the journals behind --journals"
     if not os.access(name, os.R_OK | os.W_OK | os.X_OK):
-        return f"In the directory {quoted(name)} this account may not read and write.", f"chmod u+rwx {name}, or start as the account that owns it"
+        return (f"In the directory {quoted(name)} this account may not read and write.",
+                f"chmod u+rwx {name}, or start as the account that owns it")
     return None
 
 
@@ -81,19 +90,23 @@ def journal_faults(context):
         try:
             regular = stat.S_ISREG(os.stat(path).st_mode)
         except OSError as error:
-            result.append((f"{quoted(path)} can't be looked at: {error.strerror}.", "put the journal back, or remove the link that leads nowhere"))
+            result.append((f"{quoted(path)} can't be looked at: {error.strerror}.",
+                           "put the journal back, or remove the link that leads nowhere"))
             continue
         if not regular:
-            result.append((f"{quoted(path)} is no regular file.", "a journal is a regular file: put it back, or remove what stands in its place"))
+            result.append((f"{quoted(path)} is no regular file.", "a journal is a regular file: put it back, or remove "
+                           "what stands in its place"))
         elif not os.access(path, os.R_OK | os.W_OK):
-            result.append((f"{quoted(path)} may not be read and written by this account.", f"chmod u+rw {path}, or start as the account that owns it"))
+            result.append((f"{quoted(path)} may not be read and written by this account.",
+                           f"chmod u+rw {path}, or start as the account that owns it"))
     return result
 
 
 def links(said, address):
     """The meaning of `cqe: links fault`."""
     meaning = "The server couldn't listen at its address, or it couldn't take in a client."
-    general = "an address is HOST:PORT, as 127.0.0.1:7007; see what listens there (ss -ltnp); for clients, how many files may be open (ulimit -n)"
+    general = ("an address is HOST:PORT, as 127.0.0.1:7007; see what listens there (ss -ltnp); for clients, how many "
+               "files may be open (ulimit -n)")
     if address is None:
         return Finding(said, meaning, None, general)
     why, advice = address_fault(address) or tried(address) or (
@@ -116,7 +129,8 @@ def address_fault(address):
     if port > 65535:
         return f"The port {port} of {quoted(address)} is above 65535.", "write a port from 1 to 65535"
     if host == "":
-        return f"{quoted(address)} has no host before the colon.", f"write 127.0.0.1:{port} for this machine alone, or 0.0.0.0:{port} for all its addresses"
+        return (f"{quoted(address)} has no host before the colon.", f"write 127.0.0.1:{port} for this machine alone, "
+                f"or 0.0.0.0:{port} for all its addresses")
     return None
 
 
@@ -126,7 +140,8 @@ def tried(address):
     try:
         found = socket.getaddrinfo(host.strip("[]"), int(port), type=socket.SOCK_STREAM, flags=socket.AI_PASSIVE)
     except OSError as error:
-        return f"The host {quoted(host)} has no address: {error.strerror}.", "write an address of this machine, as 127.0.0.1"
+        return (f"The host {quoted(host)} has no address: {error.strerror}.",
+                "write an address of this machine, as 127.0.0.1")
     fault = None
     for family, sort, protocol, _, name in found:
         with socket.socket(family, sort, protocol) as listener:
@@ -143,11 +158,13 @@ def tried(address):
 def bind_fault(address, port, error):
     if error.errno == errno.EADDRINUSE:
         return (f"The port {port} is in use: another program listens at {address}.",
-                f"end that program (ss -ltnp 'sport = :{port}' shows it), or take another port; two servers on one directory of journals are never right")
+                f"end that program (ss -ltnp 'sport = :{port}' shows it), or take another port; two servers on one "
+                f"directory of journals are never right")
     if error.errno == errno.EACCES:
         return f"This account may not listen at the port {port}.", "take a port from 1024 on, as 7007"
     if error.errno == errno.EADDRNOTAVAIL:
-        return f"This machine hasn't the address of {address}.", "take an address of this machine (ip address), as 127.0.0.1"
+        return (f"This machine hasn't the address of {address}.", "take an address of this machine (ip address), as "
+                "127.0.0.1")
     return f"Listening at {address} fails: {error.strerror}.", "take another address or port"
 
 
@@ -157,16 +174,21 @@ def read_fault(said, context):
 
 
 def write_fault(said, context):
-    return Finding(said, "Standard output couldn't be written; a beginning of the replies was, and of one ask more the answer may be in its journal.", None,
-                   "look for a full disk (df) or a reader that ended (a pipe to head); asking again is safe, and the same questions get the same history's replies")
+    return Finding(said, "Standard output couldn't be written; a beginning of the replies was, and of one ask more the "
+                   "answer may be in its journal.", None,
+                   "look for a full disk (df) or a reader that ended (a pipe to head); asking again is safe, and the "
+                   "same questions get the same history's replies")
 
 
 def disk_fault(said, context):
-    return Finding(said, "A write or a sync of a journal failed: in batch and serve its user got error 40 from then on, and init stopped there.", None,
-                   "look at the disk (df, dmesg, ulimit -f); then start the machine again or mount the disk anew before the program, because after a "
+    return Finding(said, "A write or a sync of a journal failed: in batch and serve its user got error 40 from then "
+                   "on, and init stopped there.", None,
+                   "look at the disk (df, dmesg, ulimit -f); then start the machine again or mount the disk anew "
+                   "before the program, because after a "
                    "failed sync it may show bytes that never reached the disk")
 
 
 def memory(said, context):
     return Finding(said, "Memory was wanting; what was written by then is a right beginning.", None,
-                   "give the program more memory (ulimit -v, MemoryMax of its unit), and start it again; init is called again too")
+                   "give the program more memory (ulimit -v, MemoryMax of its unit), and start it again; init is "
+                   "called again too")

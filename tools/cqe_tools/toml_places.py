@@ -10,7 +10,8 @@ BARE = re.compile(r"[A-Za-z0-9_-]+")
 SPACE = re.compile(r"[ \t]*")
 EMPTY = re.compile(r"(?:[ \t\r\n]|#[^\n]*)*")
 SCALAR = re.compile(r"[^\s,\]}#]+(?: \d\d:[^\s,\]}#]+)?")
-INTEGER = re.compile(r"[+-]?(?:0|[1-9](?:_?\d)*)\Z|0x[0-9A-Fa-f](?:_?[0-9A-Fa-f])*\Z|0o[0-7](?:_?[0-7])*\Z|0b[01](?:_?[01])*\Z")
+INTEGER = re.compile(r"[+-]?(?:0|[1-9](?:_?\d)*)\Z|0x[0-9A-Fa-f](?:_?[0-9A-Fa-f])*\Z|"
+                     r"0o[0-7](?:_?[0-7])*\Z|0b[01](?:_?[01])*\Z")
 ESCAPES = {"b": "\b", "t": "\t", "n": "\n", "f": "\f", "r": "\r", "e": "\x1b", '"': '"', "\\": "\\"}
 LENGTHS = {"x": 2, "u": 4, "U": 8}
 

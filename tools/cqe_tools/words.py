@@ -39,7 +39,8 @@ class Words:
             return 0, "there are no words", f"begin with a command: {names}"
         word = self.words[0]
         if word in ("-h", "--help", "help"):
-            return 0, f"{quoted(word)} is no command: the program prints no help", "man cqe has all commands and options"
+            return (0, f"{quoted(word)} is no command: the program prints no help",
+                    "man cqe has all commands and options")
         meant = similar(word, COMMANDS)
         advice = f"write {meant}" if meant else f"begin with a command: {names}"
         return 0, f"{quoted(word)} is no command", advice
@@ -106,15 +107,18 @@ class Words:
             only = f"; it belongs to {', '.join(elsewhere)}" if elsewhere else ""
             return f"'{self.command}' has no option {quoted('--' + name)}{only}", advice
         if self.command in ("case", "batch") and not word.startswith("-"):
-            return f"{quoted(word)} is a word too many", f"the script is read from standard input: cqe {self.command} .. < {word}"
-        return f"{quoted(word)} is no option, and each word behind the command is one", "options are written --name value or --name=value, in whole words"
+            return (f"{quoted(word)} is a word too many", f"the script is read from standard input: cqe {self.command} "
+                    f".. < {word}")
+        return (f"{quoted(word)} is no option, and each word behind the command is one",
+                "options are written --name value or --name=value, in whole words")
 
 
 def explain(said, words):
     """The meaning of `cqe: usage`; the words may be None."""
     meaning = "The words have no reading, or audit names a user whom the policy hasn't."
     if words is None:
-        return Finding(said, meaning, None, "compare the words with man cqe: one command, then each of its options once, in whole words; "
+        return Finding(said, meaning, None, "compare the words with man cqe: one command, then each of its options "
+                       "once, in whole words; "
                        "call it as  cqe-explain -- cqe ..  and the word is shown here")
     read = Words(words)
     if read.fault is None:
