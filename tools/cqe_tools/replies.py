@@ -1,0 +1,166 @@
+"""Replies with a number: what each means for the question that got it."""
+
+import re
+
+from . import schemas, texts
+from .places import Finding, Spot, quoted
+from .sentences import Refused, nodes_of
+
+CODE = re.compile(r"error ([0-9]+)(?: ([0-9]+) ([0-9]+))?\Z")
+REPLY = re.compile(r"(?:yes|no|refused|undecided|welcome|bye|error [0-9]+(?: [0-9]+ [0-9]+)?)\Z")
+BATCH = re.compile(r"([A-Za-z][A-Za-z0-9_]*) ([0-9]+) (.*)\Z")
+
+CLOSED = ("Reasons: what he knows entails one of his secrets, or for lying that one of them is true; for refusal, the "
+          "facts contradict what he knows; "
+          "or the test of it costs more than 4,000,000.",)
+
+
+class Asked:
+    """The ask that a reply belongs to: who asked, its text, and where the text stands; each may be None."""
+
+    def __init__(self, user=None, text=None, source=None, start=0, request=None):
+        self.user = user
+        self.text = text
+        self.source = source
+        self.start = start
+        self.request = request  # the whole line in a session
+
+    def spot(self, begin=0, end=None):
+        if self.source is None:
+            return None
+        whole = self.text if self.text is not None else self.request or b""
+        return Spot(self.source, self.start + begin, self.start + (len(whole) if end is None else end))
+
+
+def explain(said, code, kind, place, asked, context):
+    """The meaning of a reply `error CODE ..`."""
+    maker = {20: no_sentence, 21: too_large, 22: full, 23: no_user, 24: closed, 25: no_login, 26: no_line,
+             40: not_appended,
+             41: sealed, 50: no_memory}.get(code)
+    if maker is None:
+        return Finding(said, f"The reply error {code} isn't one of the formats.")
+    return maker(said, kind, place, asked, context)
+
+
+def who(asked):
+    return f"user {quoted(asked.user)}" if asked.user else "the user"
+
+
+def no_sentence(said, kind, place, asked, context):
+    if kind is None:
+        return Finding(said, "The text of the question is no sentence.", asked.spot(), texts.ADVICE[2])
+    if asked.text is None:
+        return Finding(said, f"The text of the question is no sentence: "
+                       f"{texts.PLAIN.get(kind, 'for a reason that no format names')} (kind {kind}, "
+                       f"{texts.kind_name(kind)}, at byte {place} of the text).", None, texts.ADVICE.get(kind))
+    found = texts.about(context.schema(), asked.text, kind, place)
+    return Finding(said, f"The text of the question is no sentence: {found.meaning} (byte {place} of the text).",
+                   asked.spot(found.start, found.end), found.advice)
+
+
+def too_large(said, kind, place, asked, context):
+    more = ""
+    schema = context.schema()
+    if asked.text is not None and schema is not None:
+        try:
+            more = f" It has {nodes_of(schema, asked.text):,} nodes."
+        except Refused:
+            pass
+    return Finding(said, f"The question is too large: more than {schemas.SENTENCE_NODES:,} nodes with its quantifiers "
+                   f"written out over their domains, or more "
+                   f"than {schemas.VIEW_NODES:,} together with all that {who(asked)} knows and was told.{more}",
+                   asked.spot(),
+                   "ask with fewer or smaller quantifiers; an answered question stays in his view, so ask small ones")
+
+
+def full(said, kind, place, asked, context):
+    return Finding(said, f"The history of {who(asked)} is full: it has {schemas.ANSWERS:,} answers, or its texts and "
+                   f"this one have more than "
+                   f"{schemas.ANSWERED_BYTES:,} bytes.", asked.spot(),
+                   "he gets no further answers with these journals; new ones forget what he was told, so what he "
+                   "learnt has to stand in his know then")
+
+
+def no_user(said, kind, place, asked, context):
+    names = [user.get("name") for user in context.policy.users() if isinstance(user, dict)] if context.policy else []
+    meant = schemas.similar(asked.user, [name for name in names if isinstance(name, str)]) if asked.user else None
+    advice = (f"write '{meant}' (case counts)" if meant else "write the name of a user of the policy"
+              + (f": {', '.join(map(str, names[:12]))}" if names else ""))
+    return Finding(said, f"The policy has no {who(asked) if asked.user else 'such user'}.", asked.spot(), advice)
+
+
+def closed(said, kind, place, asked, context):
+    advice = ("call cqe-check with the policy and the facts: it tells which reason it is; then change his know, his "
+              "secrets or his method")
+    number = context.policy.user_named(asked.user) if context.policy and asked.user else None
+    spot = context.policy.spot_of("users", number, "name") if number is not None else None
+    if context.sort == "case":
+        advice = ("change the lines know, secret or method; the secrets that know entails are those that he would be "
+                  "told by any answer")
+    return Finding(said, f"{who(asked)[0].upper()}{who(asked)[1:]} isn't admitted, so he is closed and gets no answer.",
+                   spot or asked.spot(), advice, CLOSED)
+
+
+def no_login(said, kind, place, asked, context):
+    if asked.request is not None and asked.request.startswith(b"login"):
+        return login_fault(said, asked, context)
+    return Finding(said, "Nobody is logged in, or the name and the phrase don't fit.", asked.spot(),
+                   "send a line login NAME PHRASE first; the phrase is the one whose SHA-256 stands in the policy as "
+                   "token, without a line feed in it "
+                   "(printf, not echo)")
+
+
+def login_fault(said, asked, context):
+    words = asked.request.split(b" ", 2)
+    name = words[1].decode("ascii", "replace") if len(words) > 1 else ""
+    advice = ("look for a blank at the end of the phrase, and that the token was made by printf, not echo, which adds "
+              "a line feed")
+    number = context.policy.user_named(name) if context.policy else None
+    if context.policy is None:
+        return Finding(said, f"The login of {quoted(name)} doesn't hold: no user of this name has this phrase.",
+                       asked.spot(), advice)
+    if number is None:
+        return Finding(said, f"The policy has no user {quoted(name)}.", asked.spot(),
+                       "write the name as the policy has it (case counts)")
+    if context.policy.at("users", number, "token") is None:
+        return Finding(said, f"User {quoted(name)} has no token, so nobody can log in as him.", asked.spot(),
+                       "give him a token in the policy: then new journals too")
+    return Finding(said, f"The phrase isn't the one of {quoted(name)}: its SHA-256 isn't his token.", asked.spot(),
+                   advice)
+
+
+def no_line(said, kind, place, asked, context):
+    advice = ("a session has the lines login NAME PHRASE (once), ask SENTENCE and quit, in small letters, with one "
+              "blank, in ASCII, of at most 4,096 bytes")
+    meaning = "The session doesn't know this line, or it is a second login."
+    if asked.request is not None:
+        word = asked.request.split(b" ")[0]
+        if word == b"login":
+            meaning = ("Somebody is logged in already, or the line isn't login NAME PHRASE with a phrase of 1 to 256 "
+                       "bytes.")
+        elif word.lower() in (b"ask", b"login", b"quit") and word not in (b"ask", b"login", b"quit"):
+            meaning = f"The session doesn't know {quoted(word)}: its words are in small letters."
+        elif not asked.request.isascii():
+            meaning = "The line has bytes that aren't ASCII, and a session knows ASCII alone."
+        elif word:
+            meaning = f"The session knows no line that begins with {quoted(word)} in this form."
+    return Finding(said, meaning, asked.spot(), advice)
+
+
+def not_appended(said, kind, place, asked, context):
+    return Finding(said, f"The answer for {who(asked)} couldn't be written to his journal, in this ask or before, so "
+                   f"he isn't told it.", asked.spot(),
+                   "look at the disk (df, dmesg); his asks get error 40 up to a restart or the next start, at which "
+                   "this entry may be found or not")
+
+
+def sealed(said, kind, place, asked, context):
+    return Finding(said, f"The journal of {who(asked)} was refused when it was opened, so he gets no answer.",
+                   asked.spot(),
+                   "the program's complaint 'cqe: journal NAME CAUSE' at its end names the cause; of a running server "
+                   "see it by an audit of him")
+
+
+def no_memory(said, kind, place, asked, context):
+    return Finding(said, "Memory was wanting for this question; nothing was added to the history.", asked.spot(),
+                   "ask again, or ask with smaller quantifiers; give the program more memory")

@@ -1,0 +1,262 @@
+"""Sentences: the first place at which a text is none, and how many nodes one has.
+
+The reader goes from left to right and stops at the first token that can't stand where it is.
+"""
+
+import re
+from dataclasses import dataclass
+
+from .schemas import KEYWORDS
+
+BAD_CHARACTER, UNEXPECTED, UNKNOWN_NAME, WRONG_DOMAIN, TOO_DEEP, WRONG_COLUMNS = range(1, 7)
+KINDS = {1: "BadCharacter", 2: "Unexpected", 3: "UnknownName", 4: "WrongDomain", 5: "TooDeep", 6: "WrongColumns"}
+
+QUANTIFIERS = 8
+CONSTRUCTS = 64
+TOKEN = re.compile(rb"<->|->|!=|[A-Za-z][A-Za-z0-9_]*|[(),:.=]")
+BLANKS = re.compile(rb"[ \t]*")
+CONNECTIVES = "'and', 'or', '->' or '<->'"
+
+
+@dataclass(frozen=True)
+class Token:
+    """A piece of a text. The end of the text is an empty one; a byte that begins no token is of the sort 'bad'."""
+
+    sort: str  # name, keyword, sign, end, bad
+    text: str
+    start: int
+    end: int
+
+
+class Refused(Exception):
+    """Why a text is no sentence: the kind and place of the formats, the token there, and what it should be."""
+
+    def __init__(self, kind, token, wanted, detail=""):
+        super().__init__(kind, token.start)
+        self.kind = kind
+        self.place = token.start
+        self.token = token
+        self.wanted = wanted
+        self.detail = detail  # what an unknown name should be; the domains or columns that don't fit
+
+
+def token_at(text, start):
+    """The next token from here on, behind blanks."""
+    start = BLANKS.match(text, start).end()
+    if start == len(text):
+        return Token("end", "", start, start)
+    match = TOKEN.match(text, start)
+    if not match:
+        return Token("bad", "", start, start + length_of_character(text, start))
+    word = match.group().decode("ascii")
+    sort = "sign" if not word[0].isalpha() else "keyword" if word in KEYWORDS else "name"
+    return Token(sort, word, start, match.end())
+
+
+def length_of_character(text, start):
+    """How many bytes the character takes that begins here; 1 where it is no UTF-8."""
+    for length in (1, 2, 3, 4):
+        try:
+            text[start:start + length].decode("utf-8")
+            return length
+        except UnicodeDecodeError:
+            continue
+    return 1
+
+
+class Reader:
+    """A text that is read as a sentence. Each part answers its nodes."""
+
+    def __init__(self, schema, text):
+        self.schema = schema
+        self.text = text
+        self.at = 0
+        self.variables = []  # pairs of a name and its domain, the innermost last
+        self.open = 0
+
+    def peek(self):
+        return token_at(self.text, self.at)
+
+    def peek_second(self, token):
+        return token_at(self.text, token.end)
+
+    def take(self, token):
+        self.at = token.end
+
+    def unexpected(self, token, wanted):
+        kind = BAD_CHARACTER if token.sort == "bad" else UNEXPECTED
+        return Refused(kind, token, wanted)
+
+    def sign(self, text, wanted):
+        token = self.peek()
+        if token.text != text:
+            raise self.unexpected(token, wanted)
+        self.take(token)
+
+    def enclose(self, token, part):
+        """What the part answers within one more enclosing construct, which this token opens."""
+        if self.open == CONSTRUCTS:
+            raise Refused(TOO_DEEP, token, "", "constructs")
+        self.take(token)
+        self.open += 1
+        nodes = part()
+        self.open -= 1
+        return nodes
+
+    def whole(self):
+        nodes = self.sentence()
+        token = self.peek()
+        if token.sort != "end":
+            raise self.unexpected(token, f"{CONNECTIVES}, or the end")
+        return nodes
+
+    def sentence(self):
+        nodes = self.implied()
+        token = self.peek()
+        if token.text == "<->":
+            self.take(token)
+            nodes += 1 + self.implied()
+        return nodes
+
+    def implied(self):
+        nodes = self.either()
+        token = self.peek()
+        if token.text == "->":
+            nodes += 1 + self.enclose(token, self.implied)
+        return nodes
+
+    def either(self):
+        return self.chain("or", self.both)
+
+    def both(self):
+        return self.chain("and", self.unary)
+
+    def chain(self, word, part):
+        nodes = part()
+        while (token := self.peek()).text == word:
+            self.take(token)
+            nodes += 1 + part()
+        return nodes
+
+    def unary(self):
+        token = self.peek()
+        if token.text == "not":
+            return 1 + self.enclose(token, self.unary)
+        if token.text in ("forall", "exists"):
+            return self.quantified(token)
+        return self.primary(token)
+
+    def quantified(self, token):
+        if len(self.variables) == QUANTIFIERS:
+            raise Refused(TOO_DEEP, token, "", "quantifiers")
+        nodes = self.enclose(token, lambda: self.bound(token.text))
+        behind = self.peek()
+        if behind.sort != "end" and behind.text != ")":
+            raise self.unexpected(behind, "')' or the end behind a quantified sentence")
+        return nodes
+
+    def bound(self, quantifier):
+        """A quantifier's variable, domain and body."""
+        form = f"'{quantifier} x: domain . sentence'"
+        variable = self.peek()
+        if variable.sort != "name":
+            raise self.unexpected(variable, f"a variable, as in {form}")
+        self.take(variable)
+        self.sign(":", f"':' behind the variable, as in {form}")
+        domain = self.peek()
+        if domain.sort != "name":
+            raise self.unexpected(domain, f"the name of a domain, as in {form}")
+        if domain.text not in self.schema.domains:
+            raise Refused(UNKNOWN_NAME, domain, "", "domain")
+        self.take(domain)
+        self.sign(".", f"'.' behind the domain, as in {form}")
+        self.variables.append((variable.text, domain.text))
+        nodes = self.sentence()
+        self.variables.pop()
+        return 1 + self.schema.size(domain.text) * nodes
+
+    def primary(self, token):
+        if token.text in ("true", "false"):
+            self.take(token)
+            return 1
+        if token.text == "(":
+            return self.enclose(token, self.bracketed)
+        if token.sort != "name":
+            raise self.unexpected(token, "a sentence, as 'relation(constant)', 'not ..', 'forall ..' or '(..)'")
+        if self.peek_second(token).text == "(":
+            return self.atom(token)
+        return self.equation(token)
+
+    def bracketed(self):
+        nodes = self.sentence()
+        self.sign(")", f"{CONNECTIVES}, or ')'")
+        return nodes
+
+    def equation(self, token):
+        domain = self.domain_of_term(token)
+        self.take(token)
+        sign = self.peek()
+        if sign.text not in ("=", "!="):
+            raise self.unexpected(sign, "'=' or '!=' behind a constant or a variable")
+        self.take(sign)
+        self.term(domain, "a constant or a variable")
+        return 1
+
+    def domain_of_term(self, token):
+        for name, domain in reversed(self.variables):
+            if name == token.text:
+                return domain
+        if token.text in self.schema.domain_of:
+            return self.schema.domain_of[token.text]
+        raise Refused(UNKNOWN_NAME, token, "", "term")
+
+    def term(self, domain, wanted):
+        token = self.peek()
+        if token.sort != "name":
+            raise self.unexpected(token, wanted)
+        found = self.domain_of_term(token)
+        if found != domain:
+            raise Refused(WRONG_DOMAIN, token, "", (found, domain))
+        self.take(token)
+
+    def atom(self, relation):
+        if relation.text not in self.schema.relations:
+            raise Refused(UNKNOWN_NAME, relation, "", "relation")
+        columns = self.schema.relations[relation.text]
+        self.take(relation)
+        self.take(self.peek())  # the parenthesis
+        for number, domain in enumerate(columns):
+            self.column(relation.text, columns, number, domain)
+        self.closing(relation.text, columns)
+        return 1
+
+    def column(self, relation, columns, number, domain):
+        token = self.peek()
+        if number > 0:
+            if token.text == ")":
+                raise Refused(WRONG_COLUMNS, token, "", (relation, len(columns), number))
+            self.sign(",", "',' and the next column")
+        elif token.text == ")":
+            raise Refused(WRONG_COLUMNS, token, "", (relation, len(columns), 0))
+        self.term(domain, "a constant or a variable")
+
+    def closing(self, relation, columns):
+        token = self.peek()
+        surplus = token.text == "," if columns else token.sort == "name"
+        if surplus:
+            raise Refused(WRONG_COLUMNS, token, "", (relation, len(columns), len(columns) + 1))
+        self.sign(")", "')' behind the last column")
+
+
+def nodes_of(schema, text):
+    """The nodes of a sentence; Refused where the text is none."""
+    return Reader(schema, text).whole()
+
+
+def refusal_of(schema, text):
+    """Why a text is no sentence; None where it is one."""
+    try:
+        nodes_of(schema, text)
+    except Refused as refused:
+        return refused
+    return None

@@ -1,0 +1,194 @@
+"""What stands around the program: files, directories, addresses, streams.
+
+It is looked at behind a run, so it may have changed since.
+"""
+
+import difflib
+import errno
+import os
+import re
+import socket
+import stat
+
+from .places import Finding, quoted
+
+ADDRESS = re.compile(r"(\[[^\]]*\]|[^:\[\]]*):([0-9]+)")
+
+
+def missing(said, name):
+    """The meaning of `cqe: missing NAME`."""
+    directory = os.path.dirname(name) or "."
+    if os.path.exists(name):
+        why = "It is there now."
+        advice = "start it again"
+    elif os.path.islink(name):
+        why, advice = f"It is a link to {quoted(os.readlink(name))}, and that isn't there.", "mend the link"
+    elif not os.path.isdir(directory):
+        why, advice = (f"The directory {quoted(directory)} isn't there either.",
+                       "write the path as it is seen from where the program starts")
+    else:
+        close = difflib.get_close_matches(os.path.basename(name), listed(directory), 3, 0.5)
+        why = (f"In {quoted(directory)} there is {', '.join(map(quoted, close))}." if close else f"{quoted(directory)} "
+               f"has no file of a similar name.")
+        advice = (f"write the name of the policy or of the facts file as it stands there (the program started in "
+                  f"{os.getcwd()})")
+    return Finding(said, f"The file {quoted(name)} isn't there. {why}", None, advice)
+
+
+def listed(directory):
+    try:
+        return os.listdir(directory)
+    except OSError:
+        return []
+
+
+def shelf(said, context):
+    """The meaning of `cqe: shelf fault`."""
+    found = [fault for fault in (file_fault("policy", context.policy_name), file_fault("facts", context.facts_name),
+                                 directory_fault(context.journals)) if fault]
+    found += journal_faults(context) if not found else []
+    meaning = "A file couldn't be opened: the policy, the facts, or a journal in the directory of the journals."
+    if found:
+        return Finding(said, f"{meaning} {found[0][0]}", None, found[0][1], tuple(why for why, _ in found[1:]))
+    return Finding(said, meaning, None, "look at --journals: the directory has to be there (mkdir DIR), and the "
+                   "program's account must read and "
+                   "write in it; a journal is a regular file; and see how many files may be open (ulimit -n)")
+
+
+def file_fault(what, name):
+    """Why a named file can't be read, and what to do."""
+    if name is None:
+        return None
+    if os.path.isdir(name):
+        return f"The {what} {quoted(name)} is a directory.", f"name the file itself behind --{what}"
+    if os.path.exists(name) and not os.access(name, os.R_OK):
+        return (f"The {what} {quoted(name)} may not be read by this account.",
+                f"chmod u+r {name}, or start as the account that owns it")
+    return None
+
+
+def directory_fault(name):
+    if name is None:
+        return None
+    if not os.path.lexists(name):
+        return f"The directory {quoted(name)} isn't there.", f"mkdir {name}, then cqe init with the same files"
+    if not os.path.isdir(name):
+        return f"{quoted(name)} is no directory.", "name the directory of the journals behind --journals"
+    if not os.access(name, os.R_OK | os.W_OK | os.X_OK):
+        return (f"In the directory {quoted(name)} this account may not read and write.",
+                f"chmod u+rwx {name}, or start as the account that owns it")
+    return None
+
+
+def journal_faults(context):
+    """The journals of a directory that are no regular files or may not be read and written."""
+    result = []
+    for name in sorted(listed(context.journals)) if context.journals else []:
+        path = os.path.join(context.journals, name)
+        if not name.endswith(".log"):
+            continue
+        try:
+            regular = stat.S_ISREG(os.stat(path).st_mode)
+        except OSError as error:
+            result.append((f"{quoted(path)} can't be looked at: {error.strerror}.",
+                           "put the journal back, or remove the link that leads nowhere"))
+            continue
+        if not regular:
+            result.append((f"{quoted(path)} is no regular file.", "a journal is a regular file: put it back, or remove "
+                           "what stands in its place"))
+        elif not os.access(path, os.R_OK | os.W_OK):
+            result.append((f"{quoted(path)} may not be read and written by this account.",
+                           f"chmod u+rw {path}, or start as the account that owns it"))
+    return result
+
+
+def links(said, address):
+    """The meaning of `cqe: links fault`."""
+    meaning = "The server couldn't listen at its address, or it couldn't take in a client."
+    general = ("an address is HOST:PORT, as 127.0.0.1:7007; see what listens there (ss -ltnp); for clients, how many "
+               "files may be open (ulimit -n)")
+    if address is None:
+        return Finding(said, meaning, None, general)
+    why, advice = address_fault(address) or tried(address) or (
+        f"The address {address} is free by now: somebody else had it, or clients couldn't be taken in.", general)
+    return Finding(said, f"{meaning} {why}", None, advice)
+
+
+def address_fault(address):
+    """Why a text is no address, and what to do; None where it has the form of one."""
+    match = ADDRESS.fullmatch(address)
+    if match is None:
+        if "://" in address:
+            return f"{quoted(address)} is a URL.", "write host and port alone, as 127.0.0.1:7007"
+        if address.count(":") > 1 and not address.startswith("["):
+            return f"{quoted(address)} is an IPv6 address without brackets.", "write it as [::1]:7007"
+        if re.search(r":[^:\]]*\Z", address) is None or address.endswith("]"):
+            return f"{quoted(address)} has no port.", f"write a port behind it, as {address}:7007"
+        return f"{quoted(address)} has no port of decimal digits behind the colon.", "write it as 127.0.0.1:7007"
+    host, port = match[1], int(match[2])
+    if port > 65535:
+        return f"The port {port} of {quoted(address)} is above 65535.", "write a port from 1 to 65535"
+    if host == "":
+        return (f"{quoted(address)} has no host before the colon.", f"write 127.0.0.1:{port} for this machine alone, "
+                f"or 0.0.0.0:{port} for all its addresses")
+    return None
+
+
+def tried(address):
+    """Why nobody can listen at an address now, and what to do; None where one can."""
+    host, port = address.rsplit(":", 1)
+    try:
+        found = socket.getaddrinfo(host.strip("[]"), int(port), type=socket.SOCK_STREAM, flags=socket.AI_PASSIVE)
+    except OSError as error:
+        return (f"The host {quoted(host)} has no address: {error.strerror}.",
+                "write an address of this machine, as 127.0.0.1")
+    fault = None
+    for family, sort, protocol, _, name in found:
+        with socket.socket(family, sort, protocol) as listener:
+            listener.setsockopt(socket.SOL_SOCKET, socket.SO_REUSEADDR, 1)
+            try:
+                listener.bind(name)
+                listener.listen(1)
+                return None
+            except OSError as error:
+                fault = error
+    return bind_fault(address, port, fault) if fault else None
+
+
+def bind_fault(address, port, error):
+    if error.errno == errno.EADDRINUSE:
+        return (f"The port {port} is in use: another program listens at {address}.",
+                f"end that program (ss -ltnp 'sport = :{port}' shows it), or take another port; two servers on one "
+                f"directory of journals are never right")
+    if error.errno == errno.EACCES:
+        return f"This account may not listen at the port {port}.", "take a port from 1024 on, as 7007"
+    if error.errno == errno.EADDRNOTAVAIL:
+        return (f"This machine hasn't the address of {address}.", "take an address of this machine (ip address), as "
+                "127.0.0.1")
+    return f"Listening at {address} fails: {error.strerror}.", "take another address or port"
+
+
+def read_fault(said, context):
+    return Finding(said, "Standard input couldn't be read; nothing was answered.", None,
+                   "give the script as a file, as  cqe batch .. < SCRIPT : a directory or a closed input can't be read")
+
+
+def write_fault(said, context):
+    return Finding(said, "Standard output couldn't be written; a beginning of the replies was, and of one ask more the "
+                   "answer may be in its journal.", None,
+                   "look for a full disk (df) or a reader that ended (a pipe to head); asking again is safe, and the "
+                   "same questions get the same history's replies")
+
+
+def disk_fault(said, context):
+    return Finding(said, "A write or a sync of a journal failed: in batch and serve its user got error 40 from then "
+                   "on, and init stopped there.", None,
+                   "look at the disk (df, dmesg, ulimit -f); then start the machine again or mount the disk anew "
+                   "before the program, because after a "
+                   "failed sync it may show bytes that never reached the disk")
+
+
+def memory(said, context):
+    return Finding(said, "Memory was wanting; what was written by then is a right beginning.", None,
+                   "give the program more memory (ulimit -v, MemoryMax of its unit), and start it again; init is "
+                   "called again too")
