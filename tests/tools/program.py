@@ -1,17 +1,33 @@
-"""Where the tests find the program: the environment variable CQE, else what was built in crates/cqe."""
+"""The one place that finds the program, and says which tests need it."""
 
 import os
+import subprocess
 import unittest
 from pathlib import Path
 
+TOP = Path(__file__).resolve().parents[2]
 
-def path() -> str | None:
-    """The program's path, or None where there is none."""
+# tests/run sets this where only the tests are wanted that need no built program.
+WITHOUT = "CQE_TESTS_WITHOUT_PROGRAM"
+
+
+def path():
+    """The program's path: that of the environment variable CQE, else the built one; None where there is none."""
     named = os.environ.get("CQE")
-    if named:
-        return os.path.abspath(named)
-    built = Path(__file__).resolve().parents[2] / "crates" / "cqe" / "out" / "cqe"
-    return str(built) if built.is_file() else None
+    found = Path(named) if named else TOP / "crates/cqe/out/cqe"
+    return str(found.resolve()) if found.is_file() and os.access(found, os.X_OK) else None
 
 
-needed = unittest.skipUnless(path(), "needs the built program: set CQE")
+def wanted():
+    """Whether tests that need the program are to run."""
+    return not os.environ.get(WITHOUT)
+
+
+def needed(test):
+    """A decorator of a test or of a class of tests: skipped where the program isn't there or isn't wanted."""
+    return unittest.skipUnless(wanted() and path(), "needs the program")(test)
+
+
+def run(*words, given=b"", **more):
+    """A run of the program with these words, with this on standard input."""
+    return subprocess.run([path(), *map(str, words)], input=given, capture_output=True, timeout=120, **more)

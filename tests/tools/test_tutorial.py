@@ -8,6 +8,7 @@ program. A block that calls a command that isn't there, as a tool that isn't ins
 import os
 import re
 import shutil
+import signal
 import socket
 import stat
 import subprocess
@@ -23,12 +24,13 @@ import program
 ROOT = Path(__file__).resolve().parents[2]
 PORT = "7007"  # the port in the documents; a free one is taken in its place
 OPTIONAL = ("cqe-check", "cqe-ask", "cqe-explain")
+LONGEST = 900  # seconds for all commands of a document
 END = "== the end of a block =="
 
 # Stands in for nc where there is none: sends standard input, and prints what comes until the server closes.
 NC = """#!/usr/bin/env python3
 import socket, sys
-with socket.create_connection((sys.argv[1], int(sys.argv[2])), timeout=60) as link:
+with socket.create_connection((sys.argv[1], int(sys.argv[2])), timeout=300) as link:
     link.sendall(sys.stdin.buffer.read())
     while piece := link.recv(4096):
         sys.stdout.buffer.write(piece)
@@ -87,12 +89,20 @@ def make_directory(directory: Path) -> dict[str, str]:
 def run(blocks: list[Block], directory: Path, environment: dict[str, str]) -> list[tuple[str, int]]:
     """What each block prints, and the status of its last command."""
     script = "".join(f"{block.commands}printf '%s %d\\n' '{END}' \"$?\"\n" for block in blocks)
-    ended = subprocess.run(
+    shell = subprocess.Popen(
         ["bash", "-c", script], cwd=directory, env=environment, stdin=subprocess.DEVNULL, stdout=subprocess.PIPE,
-        stderr=subprocess.STDOUT, timeout=900, text=True,
+        stderr=subprocess.STDOUT, start_new_session=True, text=True,
     )
-    pieces = re.split(rf"^{END} (\d+)\n", ended.stdout, flags=re.MULTILINE)
-    return [(printed, int(status)) for printed, status in zip(pieces[0::2], pieces[1::2])]
+    try:
+        printed, _ = shell.communicate(timeout=LONGEST)
+    finally:
+        # A server that a block left behind ends with it.
+        try:
+            os.killpg(shell.pid, signal.SIGKILL)
+        except ProcessLookupError:
+            pass
+    pieces = re.split(rf"^{END} (\d+)\n", printed, flags=re.MULTILINE)
+    return [(piece, int(status)) for piece, status in zip(pieces[0::2], pieces[1::2])]
 
 
 @program.needed
