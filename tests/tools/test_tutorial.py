@@ -27,10 +27,19 @@ OPTIONAL = ("cqe-check", "cqe-ask", "cqe-explain")
 LONGEST = 900  # seconds for all commands of a document
 END = "== the end of a block =="
 
-# Stands in for nc where there is none: sends standard input, and prints what comes until the server closes.
+# Stands in for nc, whose kinds differ: sends standard input, and prints what comes until the server closes. On a busy
+# machine the server may not listen yet.
 NC = """#!/usr/bin/env python3
-import socket, sys
-with socket.create_connection((sys.argv[1], int(sys.argv[2])), timeout=300) as link:
+import socket, sys, time
+for _ in range(600):
+    try:
+        link = socket.create_connection((sys.argv[1], int(sys.argv[2])), timeout=300)
+        break
+    except ConnectionRefusedError:
+        time.sleep(0.1)
+else:
+    sys.exit("nobody listens")
+with link:
     link.sendall(sys.stdin.buffer.read())
     while piece := link.recv(4096):
         sys.stdout.buffer.write(piece)
@@ -80,9 +89,8 @@ def make_directory(directory: Path) -> dict[str, str]:
     (commands / "cqe").symlink_to(found)
     (directory / "cqe").symlink_to(found)
     search = os.pathsep.join([str(commands), str(ROOT / "tools"), str(ROOT / "clients" / "python"), os.environ["PATH"]])
-    if not shutil.which("nc", path=search):
-        (commands / "nc").write_text(NC)
-        (commands / "nc").chmod(stat.S_IRWXU)
+    (commands / "nc").write_text(NC)
+    (commands / "nc").chmod(stat.S_IRWXU)
     return {**os.environ, "PATH": search, "CQE": found, "LC_ALL": "C"}
 
 
