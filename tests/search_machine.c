@@ -7,7 +7,8 @@
  *     cc -O2 -std=c99 -o search_machine search_machine.c && ./search_machine < FILE
  *
  * Variable v has the literals 2 v and, negated, 2 v + 1. Clauses lie one behind the other in one array and are named by
- * the place of their first word, so the order of the places is the order of the numbers. */
+ * the place of their first word, so the order of the places is the order of the numbers. Each has its literals twice: with
+ * the lowest variables first, which change least often, for the watches, and as they were written, for the resolutions. */
 
 #include <stdint.h>
 #include <stdio.h>
@@ -92,6 +93,16 @@ static void watch(uint32_t literal, uint32_t clause, uint32_t blocker) {
     list->items[list->length++] = (Watch){clause, blocker};
 }
 
+/* The literals in the order in which they were written. */
+static uint32_t *written(uint32_t *clause) {
+    return clause + LITERALS + clause[LENGTH];
+}
+
+static int by_size(const void *first, const void *second) {
+    uint32_t a = *(const uint32_t *)first, b = *(const uint32_t *)second;
+    return (a > b) - (a < b);
+}
+
 static uint32_t append_clause(const uint32_t *literals, uint32_t length, uint32_t first, uint32_t second) {
     uint32_t place = clauses.length;
     push(&clauses, clause_count++);
@@ -99,6 +110,8 @@ static uint32_t append_clause(const uint32_t *literals, uint32_t length, uint32_
     push(&clauses, first);
     push(&clauses, second);
     for (uint32_t i = 0; i < length; i++) push(&clauses, literals[i]);
+    for (uint32_t i = 0; i < length; i++) push(&clauses, literals[i]);
+    if (length > 2) qsort(clauses.items + place + LITERALS, length, sizeof(uint32_t), by_size);
     if (length > 0) watch(first, place, second);
     if (length > 1) watch(second, place, first);
     return place;
@@ -156,10 +169,10 @@ static void cut(uint32_t back) {
 /* The literals of a clause that the one in hand doesn't have yet join it, and its number joins the chain. A literal that
  * is resolved away keeps its place, unmarked, till the end, and never comes back: causes go back along the trail. */
 static uint32_t join(uint32_t place, uint32_t resolved) {
-    uint32_t *clause = clauses.items + place, current = 0;
+    uint32_t *clause = clauses.items + place, *literals = written(clause), current = 0;
     push(&chains, clause[NUMBER]);
     for (uint32_t i = 0; i < clause[LENGTH]; i++) {
-        uint32_t literal = clause[LITERALS + i], variable = literal >> 1;
+        uint32_t literal = literals[i], variable = literal >> 1;
         if (variable == resolved || seen[variable]) continue;
         seen[variable] = 1;
         push(&clause_in_hand, literal);
@@ -329,7 +342,7 @@ static void print_answer(int found, uint32_t cost) {
     for (size_t i = 0; found == REFUTED && wants_lines && i < line_count; i++) {
         uint32_t *clause = clauses.items + lines[i].clause;
         printf("%u ", clause[NUMBER] + 1);
-        for (uint32_t k = 0; k < clause[LENGTH]; k++) printf("%d ", number_of(clause[LITERALS + k]));
+        for (uint32_t k = 0; k < clause[LENGTH]; k++) printf("%d ", number_of(written(clause)[k]));
         printf("0 ");
         for (uint32_t k = lines[i].chain_end; k-- > lines[i].chain;) printf("%u ", chains.items[k] + 1);
         puts("0");
@@ -341,7 +354,7 @@ static uint32_t *places(void) {
     uint32_t *by_number = zeros(clause_count, sizeof(uint32_t)), place = 0;
     for (uint32_t i = 0; i < clause_count; i++) {
         by_number[i] = place;
-        place += LITERALS + clauses.items[place + LENGTH];
+        place += LITERALS + 2 * clauses.items[place + LENGTH];
     }
     return by_number;
 }
