@@ -212,7 +212,8 @@ static uint32_t resolve_conflict(void) {
     uint32_t back = second == NONE ? 0 : level[second >> 1];
     uint32_t refuted = clause_in_hand.length == 0;
     if (!refuted) cut(back);
-    uint32_t clause = append_clause(clause_in_hand.items, clause_in_hand.length, asserted, second == NONE ? asserted : second);
+    if (second == NONE) second = asserted;
+    uint32_t clause = append_clause(clause_in_hand.items, clause_in_hand.length, asserted, second);
     lines = room_for(lines, &line_room, line_count, sizeof(Line));
     lines[line_count++] = (Line){clause, chain, chains.length};
     if (!refuted) assign(asserted, clause);
@@ -320,9 +321,10 @@ static void read_clauses(char *line) {
         line += strspn(line, " \t");
         if (*line == 'p') take_header(line);
         else if (*line != 'c') take_numbers(line, stop);
-        else if (sscanf(line, "c budget %u", &budget) == 1 && (budget < 1 || budget > BUDGET)) end(5, "search_machine: refused\n");
         else if (!strncmp(line, "c lrat", 6)) wants_lines = 1;
+        else sscanf(line, "c budget %u", &budget);
     }
+    if (budget < 1 || budget > BUDGET) end(5, "search_machine: refused\n");
     if (!value || clause_count != given || clause_in_hand.length) end(5, "search_machine: refused\n");
 }
 
