@@ -42,11 +42,11 @@ def free_port():
 class Ward:
     """A directory with a policy of so many users, facts and empty journals."""
 
-    def __init__(self, users=3, root=None):
-        self.root = pathlib.Path(tempfile.mkdtemp(prefix="cqe-server-", dir=root))
+    def __init__(self, users=3, facts="hiv(ann)\ndrug(ann)\n"):
+        self.root = pathlib.Path(tempfile.mkdtemp(prefix="cqe-server-"))
         self.users = [f"u{number}" for number in range(users)]
         (self.root / "policy").write_text(self.policy())
-        (self.root / "facts").write_text("hiv(ann)\ndrug(ann)\n")
+        (self.root / "facts").write_text(facts)
         (self.root / "journals").mkdir()
         self.headers = self.header()
         done = self.run("init")

@@ -222,11 +222,12 @@ fn a_locked_file_is_a_fault_and_no_other(rt: HostRuntime) -> Result<(), Fail> {
         locked,
     };
     let mut shelf = FileShelf::new(alloc, &system);
-    for faults in 1..3 {
-        let refusal = shelf.take_disk(alloc, locked).err();
-        assert_eq!(rt; refusal, Some(ShelfError::Failed));
-        assert_eq!(rt; shelf.faults(), faults);
-    }
+    let refusal = shelf.take_disk(alloc, locked).err();
+    assert_eq!(rt; refusal, Some(ShelfError::Failed));
+    assert_eq!(rt; shelf.faults(), 1);
+    let refusal = shelf.take_disk(alloc, locked).err();
+    assert_eq!(rt; refusal, Some(ShelfError::Failed));
+    assert_eq!(rt; shelf.faults(), 2);
     let disk = shelf.take_disk(alloc, "logs/ann.log")?;
     shelf.give_disk("logs/ann.log", disk);
     assert_eq!(rt; shelf.faults(), 2);

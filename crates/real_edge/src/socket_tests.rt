@@ -1,4 +1,4 @@
-use crate::{ClientReader, TcpDoor, TcpLinks};
+use crate::{TcpDoor, TcpLinks};
 use outside::{Door, Failed, Links, LinksError, Sink, Source, write_all};
 use std::alloc::Global;
 use std::cell::Cell;
@@ -185,14 +185,20 @@ fn a_client_who_is_lost_costs_a_pause_alone(rt: HostRuntime) -> Result<(), Fail>
 
 #[test]
 fn a_connection_waits_longer_once_its_client_was_heard(rt: HostRuntime) -> Result<(), Fail> {
-    let listener = TcpListener::bind(&rt, "127.0.0.1:0")?;
-    let mut client = TcpStream::connect(&rt, listener.local_addr()?)?;
-    client.write_all(b"a")?;
-    let (stream, _address) = listener.accept()?;
-    let watched = stream.try_clone()?;
-    let mut reader = ClientReader::new(stream);
-    assert_eq!(rt; watched.read_timeout()?, None);
+    let alloc = rt.alloc();
+    let mut links = TcpLinks::new(&rt);
+    let mut doors = links.listen(alloc, "127.0.0.1:0", 1)?;
+    let mut door = doors.pop().expect(&rt, "a door");
+    let _client = client(&rt, door.address()?, b"a")?;
+    let Some((source, sink)) = door.next()? else {
+        return Ok(());
+    };
+    let output = sink.into_output();
+    assert_eq!(rt; output.write_timeout()?, Some(Duration::from_secs(60)));
+    assert_eq!(rt; output.read_timeout()?, Some(Duration::from_secs(30)));
+    let mut reader = source.into_input();
     assert_eq!(rt; reader.read(&mut [0; 4])?, 1);
-    assert_eq!(rt; watched.read_timeout()?, Some(Duration::from_secs(600)));
+    assert_eq!(rt; output.read_timeout()?, Some(Duration::from_secs(600)));
+    links.take_back(door);
     Ok(())
 }
