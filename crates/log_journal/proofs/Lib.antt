@@ -2,3 +2,4 @@ pub mod Pieces
 pub mod Fronts
 pub mod Appends
 pub mod Reading
+pub mod Windows

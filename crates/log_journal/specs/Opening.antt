@@ -1,5 +1,6 @@
 -- The header of a journal, and why its bytes are refused.
 use Rattle.std.specs.Prelude.{◌≡◌, ◌≢◌, ◌⊎◌, ℕ, ◌<◌, ◌≤◌, List, [], ◌∷◌, ◌++◌, length, take, drop, Some}
+use Rattle.outside.specs.Disk.{Elapses}
 use Rattle.outside.specs.Faults.{Rose}
 use Rattle.log_journal.specs.Records.{Recorded, length_of, damaged, IsJournal}
 use Rattle.log_journal.specs.Bytes.{EndsAt}
@@ -57,6 +58,29 @@ pub record StartsWithRecord (bytes : List ℕ) (kind : ℕ) (text rest : List �
   pub kind_to : kind ≤ 4
   pub short : length text ≤ 4096
   pub gate : 0 < length rest
+
+-- the first byte is an open gate, and behind it this whole record
+pub record HasRecord (bytes : List ℕ) (record' : Record) : Type 0 where
+  pub behind : List ℕ
+  pub rest : List ℕ
+  pub gate : bytes ≡ 1 ∷ behind
+  pub starts : StartsWithRecord behind record'.kind record'.text.items rest
+
+-- Why no record was read at a gate: want of memory, a fault of the disk, or that the record of this number isn't whole.
+abbrev pub IsStopped : Type 0 → List ℕ → ℕ → ℕ → ℕ → OpenError → Type 0
+IsStopped told bytes number before now Memory = Unit {0}
+IsStopped told bytes number before now DiskFault = Rose before now
+IsStopped told bytes number before now (Damaged other) = (other ≡ number) × (told → (n : ℕ) → damaged n 0 bytes ≡ Some n)
+IsStopped told bytes number before now NotAJournal = ⊥
+IsStopped told bytes number before now OtherPolicy = ⊥
+
+-- A disk before and after calls that only read it.
+pub record IsOnlyRead (old new : List ℕ) (image image' : List ℕ → Type 0) (before now : ℕ) (past since : ℕ → List ℕ → Type 0) (faults faults' : ℕ) : Type 0 where
+  pub reads : new ≡ old
+  pub images : (c : List ℕ) → image' c → image c
+  pub moments : (c : List ℕ) → since before c → image c
+  pub time : Elapses before now past since
+  pub count : faults ≤ faults'
 
 -- these are its records, and the closed gate stands at this place
 pub record IsRead (bytes : List ℕ) (all : List Recorded) (gate : ℕ) : Type 0 where

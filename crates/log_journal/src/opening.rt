@@ -1,10 +1,10 @@
 //! How a journal is made and opened.
-ghost use Rattle.std.specs.Prelude.{◌≡◌, ◌≢◌, ◌⊎◌, ◌≤◌, ◌<◌, ◌+◌, ◌++◌, ◌∷◌, [], ◌^◌, false, List, ℕ, length, take, drop, Some, None, IfSome, IfNone, IfOk, IfErr, OnOk, IsErrOf, IsTrue, ◌↔◌, map, All};
+ghost use Rattle.std.specs.Prelude.{◌≡◌, ◌≢◌, ◌⊎◌, ◌≤◌, ◌<◌, ◌+◌, ◌++◌, ◌∷◌, [], ◌^◌, false, List, ℕ, length, take, drop, Some, None, IfSome, IfNone, IfOk, IfErr, OnOk, IsErrOf, IsTrue, ◌↔◌, map, All, slice_index_or};
 ghost use Rattle.outside.specs.Disk.{Only, Elapses};
 ghost use Rattle.outside.specs.Faults.{HasCause, Rose};
 ghost use Rattle.log_journal.specs.Records.{Recorded, length_of, is_whole, damaged, IsJournal};
 ghost use Rattle.log_journal.specs.Bytes.{EndsAt};
-ghost use Rattle.log_journal.specs.Opening.{header_bytes, recorded, IsRecord, Refuses, IsRefused, IsOutside, StartsWithRecord, IsRead};
+ghost use Rattle.log_journal.specs.Opening.{header_bytes, recorded, IsRecord, Refuses, IsRefused, IsOutside, StartsWithRecord, HasRecord, IsStopped, IsOnlyRead, IsRead};
 ghost use Rattle.log_journal.specs.Journal.{is_broken, disk_after};
 ghost use Rattle.log_journal.specs.declared.header.OpenError.{OpenError};
 
@@ -12,6 +12,9 @@ use crate::put::write_synced;
 use crate::{Header, Journal, OpenError, Record, Refused};
 use outside::{Disk, Failed};
 use std::alloc::{AllocError, Global};
+
+// A gate, the longest record and its next gate.
+const WINDOW: usize = 4101;
 
 // The first bytes of a journal.
 fn header_array(header: &Header) -> [u8; 72]
@@ -53,6 +56,7 @@ pub fn format<D: Disk>(disk: &mut D, header: &Header) -> Result<(), Failed>
 // Why the first bytes are refused.
 fn header_refusal(header: &[u8], bytes: &[u8]) -> Option<OpenError>
     ensures some { IfSome result (Refuses header.now bytes.now) }
+    ensures kind { IfSome result (λ why. (why ≡ OpenError.NotAJournal) ⊎ (why ≡ OpenError.OtherPolicy)) }
     ensures none { IfNone result ((73 ≤ length bytes.now) × (take 72 bytes.now ≡ header.now)) }
 {
     if bytes.len() < 73 {
@@ -89,25 +93,25 @@ fn next_record(bytes: &[u8]) -> Option<(u8, &[u8], &[u8])>
     Some((*kind, &rest[..length], &rest[length..]))
 }
 
-// The records behind the header, and the place of the closed gate.
-fn read_records(alloc: Global, bytes: &[u8]) -> Result<(Vec<Record>, usize), OpenError>
-    requires { 73 ≤ length bytes.now }
-    ensures ok { IfOk result (λ r. IsRead bytes.now (map recorded r.0.items) r.1) }
-    ensures each { IfOk result (λ r. All IsRecord r.0.items) }
-    ensures err { IfErr result (λ why. (why ≡ OpenError.Memory)
-        ⊎ ((number : ℕ) × (why ≡ OpenError.Damaged number) × (damaged 0 0 (drop 72 bytes.now) ≡ Some number))) }
+// The record behind the gate that stands first, or none where that is closed. The bytes hold the longest record and its
+// next gate, or all that there is.
+fn first_record(alloc: Global, bytes: &[u8], number: usize) -> Result<Option<Record>, OpenError>
+    ensures found { IfOk result (λ found. IfSome found (λ record'. HasRecord bytes.now record')) }
+    ensures closed { IfOk result (λ found. IfNone found (0 < length bytes.now × (slice_index_or bytes.now 0 0 ≢ 1))) }
+    ensures err { IfErr result (λ why. (why ≡ OpenError.Memory) ⊎ ((why ≡ OpenError.Damaged number)
+        × (0 < length bytes.now → (n : ℕ) → damaged n 0 bytes.now ≡ Some n))) }
 {
-    let mut records = Vec::new(alloc);
-    let mut rest = &bytes[72..];
-    while rest[0] == 1 {
-        let Some((kind, text, after)) = next_record(&rest[1..]) else {
-            return Err(damaged_record(records.len()));
-        };
-        let text = text.to_vec(alloc)?;
-        records.push(Record { kind, text })?;
-        rest = after;
+    let [gate, behind @ ..] = bytes else {
+        return Err(damaged_record(number));
+    };
+    if *gate != 1 {
+        return Ok(None);
     }
-    Ok((records, bytes.len() - rest.len()))
+    let Some((kind, text, _)) = next_record(behind) else {
+        return Err(damaged_record(number));
+    };
+    let text = text.to_vec(alloc)?;
+    Ok(Some(Record { kind, text }))
 }
 
 // There is no memory for so many records that their number doesn't fit.
@@ -120,29 +124,96 @@ fn damaged_record(number: usize) -> OpenError
     }
 }
 
-// Syncs, and reads the whole disk.
-fn read_all<D: Disk>(alloc: Global, disk: &mut D) -> Result<Vec<u8>, OpenError>
-    ensures bytes { D.told → IfOk result (λ bytes. bytes.items ≡ D.reads disk.old) }
-    ensures reads { D.reads disk.new ≡ D.reads disk.old }
-    ensures durable { OnOk result (Only (D.reads disk.new) (D.image disk.new)) }
-    ensures synced { IfErr result (λ why. (why ≡ OpenError.DiskFault) ⊎ Only (D.reads disk.new) (D.image disk.new)) }
-    ensures images { (c : List ℕ) → D.image disk.new c → D.image disk.old c }
-    ensures moments { (c : List ℕ) → D.image_since disk.new (D.moment disk.old) c → D.image disk.old c }
-    ensures time { Elapses (D.moment disk.old) (D.moment disk.new) (D.image_since disk.old) (D.image_since disk.new) }
-    ensures count { D.faults disk.old ≤ D.faults disk.new }
-    ensures cause { IfErr result (λ why. (why ≡ OpenError.Memory)
-        ⊎ ((why ≡ OpenError.DiskFault) × Rose (D.faults disk.old) (D.faults disk.new))) }
+// The record behind the gate at this place of a disk, or none where that is closed. It reads no further than the longest
+// record reaches.
+fn record_at<D: Disk>(
+    alloc: Global,
+    disk: &mut D,
+    gate: u64,
+    number: usize,
+) -> Result<Option<Record>, OpenError>
+    requires { D.told → gate < length (D.reads disk.old) }
+    ensures found { D.told → IfOk result (λ found. IfSome found (λ record'. HasRecord (drop gate (D.reads disk.old)) record')) }
+    ensures each { IfOk result (λ found. IfSome found IsRecord) }
+    ensures closed { D.told → IfOk result (λ found. IfNone found
+        (slice_index_or (drop gate (D.reads disk.old)) 0 0 ≢ 1)) }
+    ensures refused { IfErr result (λ why. IsStopped D.told (drop gate (D.reads disk.old)) number (D.faults disk.old)
+        (D.faults disk.new) why) }
+    ensures only { IsOnlyRead (D.reads disk.old) (D.reads disk.new) (D.image disk.old) (D.image disk.new)
+        (D.moment disk.old) (D.moment disk.new) (D.image_since disk.old) (D.image_since disk.new)
+        (D.faults disk.old) (D.faults disk.new) }
 {
-    disk.sync()?;
-    let length = disk.length()?;
-    let mut bytes = vec![in alloc; 0; length as usize]?;
-    let count = disk.read_at(0, &mut bytes)?;
-    bytes.truncate(count);
-    Ok(bytes)
+    let mut window = [0; WINDOW];
+    let count = disk.read_at(gate, &mut window)?;
+    first_record(alloc, &window[..count], number)
+}
+
+// The records of a disk behind the header, and the place of the closed gate, behind which nothing is read.
+fn read_records<D: Disk>(alloc: Global, disk: &mut D) -> Result<(Vec<Record>, u64), OpenError>
+    requires long { D.told → 73 ≤ length (D.reads disk.old) }
+    requires fits { D.told → length (D.reads disk.old) < 2 ^ 64 }
+    ensures ok { D.told → IfOk result (λ r. IsRead (D.reads disk.old) (map recorded r.0.items) r.1) }
+    ensures each { IfOk result (λ r. All IsRecord r.0.items) }
+    ensures refused { IfErr result (IsRefused D.told (take 72 (D.reads disk.old)) (D.reads disk.old)
+        (D.faults disk.old) (D.faults disk.new)) }
+    ensures only { IsOnlyRead (D.reads disk.old) (D.reads disk.new) (D.image disk.old) (D.image disk.new)
+        (D.moment disk.old) (D.moment disk.new) (D.image_since disk.old) (D.image_since disk.new)
+        (D.faults disk.old) (D.faults disk.new) }
+{
+    let mut records = Vec::new(alloc);
+    let mut gate = 72;
+    for _ in 0..u64::MAX {
+        let Some(record) = record_at(alloc, disk, gate, records.len())? else {
+            return Ok((records, gate));
+        };
+        gate = gate.saturating_add(record.text.len() as u64 + 4);
+        records.push(record)?;
+    }
+    Err(OpenError::Memory)
+}
+
+// Reads the header of a disk.
+fn read_header<D: Disk>(disk: &mut D, header: &Header) -> Result<(), OpenError>
+    ensures long { D.told → OnOk result (73 ≤ length (D.reads disk.old)) }
+    ensures fits { D.told → OnOk result (length (D.reads disk.old) < 2 ^ 64) }
+    ensures begins { D.told → OnOk result (take 72 (D.reads disk.old) ≡ header_bytes header.now) }
+    ensures refused { IfErr result (IsRefused D.told (header_bytes header.now) (D.reads disk.old) (D.faults disk.old)
+        (D.faults disk.new)) }
+    ensures only { IsOnlyRead (D.reads disk.old) (D.reads disk.new) (D.image disk.old) (D.image disk.new)
+        (D.moment disk.old) (D.moment disk.new) (D.image_since disk.old) (D.image_since disk.new)
+        (D.faults disk.old) (D.faults disk.new) }
+{
+    let _length = disk.length()?;
+    let mut start = [0; 73];
+    let count = disk.read_at(0, &mut start)?;
+    match header_refusal(&header_array(header), &start[..count]) {
+        Some(why) => Err(why),
+        None => Ok(()),
+    }
 }
 
 // The records of a disk, and the place of the closed gate.
 fn read_journal<D: Disk>(
+    alloc: Global,
+    disk: &mut D,
+    header: &Header,
+) -> Result<(Vec<Record>, u64), OpenError>
+    ensures opened { D.told → IfOk result (λ r. IsJournal (header_bytes header.now) (map recorded r.0.items)
+        (D.reads disk.old)) }
+    ensures each { IfOk result (λ r. All IsRecord r.0.items) }
+    ensures ends { D.told → IfOk result (λ r. EndsAt (D.reads disk.new) r.1) }
+    ensures refused { IfErr result (IsRefused D.told (header_bytes header.now) (D.reads disk.old) (D.faults disk.old)
+        (D.faults disk.new)) }
+    ensures only { IsOnlyRead (D.reads disk.old) (D.reads disk.new) (D.image disk.old) (D.image disk.new)
+        (D.moment disk.old) (D.moment disk.new) (D.image_since disk.old) (D.image_since disk.new)
+        (D.faults disk.old) (D.faults disk.new) }
+{
+    read_header(disk, header)?;
+    read_records(alloc, disk)
+}
+
+// The same behind a sync.
+fn read_synced<D: Disk>(
     alloc: Global,
     disk: &mut D,
     header: &Header,
@@ -161,25 +232,15 @@ fn read_journal<D: Disk>(
     ensures time { Elapses (D.moment disk.old) (D.moment disk.new) (D.image_since disk.old) (D.image_since disk.new) }
     ensures count { D.faults disk.old ≤ D.faults disk.new }
 {
-    let bytes = read_all(alloc, disk)?;
-    let (records, gate) = parse(alloc, &bytes, &header_array(header))?;
-    Ok((records, gate as u64))
-}
-
-// The records of some bytes behind a header, and the place of the closed gate.
-fn parse(alloc: Global, bytes: &[u8], header: &[u8]) -> Result<(Vec<Record>, usize), OpenError>
-    ensures ok { IfOk result (λ r. IsJournal header.now (map recorded r.0.items) bytes.now × EndsAt bytes.now r.1) }
-    ensures each { IfOk result (λ r. All IsRecord r.0.items) }
-    ensures err { IfErr result (λ why. (why ≡ OpenError.Memory) ⊎ Refuses header.now bytes.now why) }
-{
-    if let Some(why) = header_refusal(header, bytes) {
-        return Err(why);
-    }
-    read_records(alloc, bytes)
+    disk.sync()?;
+    read_journal(alloc, disk, header)
 }
 
 /// Opens the journal of a disk and reads its records, all and in order. It begins with a sync and repairs nothing: the
 /// bytes stay, and no crash at any moment leaves anything new. A refusal hands the disk back.
+///
+/// It reads record by record, each behind its open gate, and nothing behind the closed one. So what lies there costs
+/// nothing, and over a file to which another process appends meanwhile the records up to some moment are read.
 pub fn open<D: Disk>(
     alloc: Global,
     disk: D,
@@ -208,7 +269,7 @@ pub fn open<D: Disk>(
     ensures count { D.faults disk ≤ D.faults (disk_after result) }
 {
     let mut disk = disk;
-    match read_journal(alloc, &mut disk, header) {
+    match read_synced(alloc, &mut disk, header) {
         Ok((records, gate)) => Ok((Journal::at(alloc, disk, gate), records)),
         Err(why) => Err(Refused { disk, why }),
     }

@@ -21,6 +21,10 @@ sink_faults sink = sink.faults
 abbrev pub disk_faults : {F : Type 0} → FileDisk F → ℕ
 disk_faults disk = disk.faults
 
+-- something may be written to an open file
+abbrev pub is_writable : {F : Type 0} → FileDisk F → Bool
+is_writable disk = disk.writable
+
 -- how often a file system failed
 abbrev pub shelf_faults : {R : Type 0} → FileShelf R → ℕ
 shelf_faults shelf = shelf.faults
@@ -34,7 +38,7 @@ abbrev pub file_faults : {R : Type 0} → FileShelf R → List ℕ → ℕ
 file_faults shelf name = faults_kept (at_name shelf.disks name)
 
 -- how often a listening socket failed
-abbrev pub door_faults : {L : Type 0} → TcpDoor L → ℕ
+abbrev pub door_faults : {C L : Type 0} → TcpDoor C L → ℕ
 door_faults door = door.faults
 
 -- how often opening sockets failed, and how many doors came back that had failed

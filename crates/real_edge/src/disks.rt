@@ -1,5 +1,5 @@
 //! A file of the system as a disk. Clauses aren't told what it holds.
-ghost use Rattle.std.specs.Prelude.{◌≡◌, ◌≤◌, [], length, IfOk, OnOk, Ok};
+ghost use Rattle.std.specs.Prelude.{◌≡◌, ◌≤◌, [], length, true, false, IfOk, OnOk, Ok};
 ghost use Rattle.std.specs.Fs.{metadata_len, file_type, IsFile};
 ghost use Rattle.outside.specs.Faults.{HasCause};
 
@@ -12,20 +12,42 @@ use std::io::{self, ErrorKind, Read, Seek, SeekFrom, Write};
 /// disk.
 ///
 /// What is no regular file, as a pipe or a device, has no length: that of the system would be 0, as of an empty file.
+///
+/// One for reading fails at each write, before the system sees it.
 #[derive(Drop)]
 pub struct FileDisk<F> {
     file: F,
+    writable: bool,
     faults: u64,
 }
 
 impl<F> FileDisk<F> {
-    ghost use Rattle.real_edge.specs.Counts.{disk_faults};
+    ghost use Rattle.real_edge.specs.Counts.{disk_faults, is_writable};
 
     /// A disk over an open file, with this count of faults. Where it isn't 0, no sync succeeds.
     pub fn new(file: F, faults: u64) -> Self
-        ensures { disk_faults result ≡ faults }
+        ensures count { disk_faults result ≡ faults }
+        ensures writable { is_writable result ≡ true }
     {
-        FileDisk { file, faults }
+        let writable = true;
+        FileDisk {
+            file,
+            writable,
+            faults,
+        }
+    }
+
+    /// A disk over an open file to which nothing is written, with this count of faults.
+    pub fn for_reading(file: F, faults: u64) -> Self
+        ensures count { disk_faults result ≡ faults }
+        ensures writable { is_writable result ≡ false }
+    {
+        let writable = false;
+        FileDisk {
+            file,
+            writable,
+            faults,
+        }
     }
 
     /// How often it failed.
@@ -37,7 +59,7 @@ impl<F> FileDisk<F> {
 }
 
 impl<F: Read + Write + Seek + OpenFile> Disk for FileDisk<F> {
-    ghost use Rattle.real_edge.specs.Counts.{disk_faults};
+    ghost use Rattle.real_edge.specs.Counts.{disk_faults, is_writable};
 
     ghost told = { ⊥ };
 
@@ -65,8 +87,17 @@ impl<F: Read + Write + Seek + OpenFile> Disk for FileDisk<F> {
         counted(read_from(&mut self.file, at, into), &mut self.faults)
     }
 
-    fn write_at(&mut self, at: u64, bytes: &[u8]) -> Result<(), Failed> {
-        counted(write_to(&mut self.file, at, bytes), &mut self.faults)
+    /// The system's write, where the disk isn't for reading alone.
+    fn write_at(&mut self, at: u64, bytes: &[u8]) -> Result<(), Failed>
+        ensures writable { OnOk result (is_writable self.old ≡ true) }
+        ensures cause { HasCause (disk_faults self.old) (disk_faults self.new) result }
+    {
+        let written = if self.writable {
+            write_to(&mut self.file, at, bytes)
+        } else {
+            Err(io::Error::from(ErrorKind::PermissionDenied))
+        };
+        counted(written, &mut self.faults)
     }
 
     /// The system's sync, where no call of this file has failed, also while it was taken before.

@@ -1,17 +1,18 @@
-use crate::{FileDisk, FileShelf};
+use crate::{FileDisk, FileShelf, Lockable};
 use outside::{Disk, Failed, Shelf, ShelfError};
 use std::alloc::Allocator;
 use std::cell::Cell;
-use std::fs::{Files, Metadata, OpenFile, OpenOptions};
+use std::fs::{self, Files, Metadata, OpenFile, OpenOptions};
 use std::io::{self, Read, Seek, SeekFrom, Write};
 use std::test::Fail;
 
-// A file of this length. Its sync fails once, if at all, and says behind it that all is well, as a system does that has
-// taken what it couldn't write for written.
+// A file of this length, of which somebody else may have the lock. Its sync fails once, if at all, and says behind it that
+// all is well, as a system does that has taken what it couldn't write for written.
 #[derive(Drop)]
 struct Forgetful {
     length: u64,
     fails: Cell<bool>,
+    is_locked: bool,
 }
 
 impl Read for Forgetful {
@@ -62,15 +63,26 @@ impl OpenFile for Forgetful {
     }
 }
 
+impl Lockable for Forgetful {
+    fn lock_alone(&self) -> io::Result<()> {
+        if self.is_locked {
+            Err(io::Error::from(io::ErrorKind::WouldBlock))
+        } else {
+            Ok(())
+        }
+    }
+}
+
 fn unsupported<T>() -> io::Result<T> {
     Err(io::Error::from(io::ErrorKind::Unsupported))
 }
 
-// A system where each file has this length, and where the sync of one path fails.
+// A system where each file has this length, where the sync of one path fails, and where another is locked.
 #[derive(Drop)]
 struct OneUnsynced {
     length: u64,
     path: &'static str,
+    locked: &'static str,
 }
 
 impl Files for OneUnsynced {
@@ -82,6 +94,7 @@ impl Files for OneUnsynced {
         Ok(Forgetful {
             length: self.length,
             fails: Cell::new(path == self.path),
+            is_locked: path == self.locked,
         })
     }
 
@@ -124,8 +137,12 @@ impl Files for OneUnsynced {
 
 #[test]
 fn no_sync_succeeds_behind_one_that_failed(rt: HostRuntime) {
-    let (length, fails) = (0, Cell::new(true));
-    let mut disk = FileDisk::new(Forgetful { length, fails }, 0);
+    let file = Forgetful {
+        length: 0,
+        fails: Cell::new(true),
+        is_locked: false,
+    };
+    let mut disk = FileDisk::new(file, 0);
     assert_eq!(rt; disk.write_at(0, b"x"), Ok(()));
     assert_eq!(rt; disk.sync(), Err(Failed));
     assert_eq!(rt; disk.sync(), Err(Failed));
@@ -136,8 +153,12 @@ fn no_sync_succeeds_behind_one_that_failed(rt: HostRuntime) {
 #[test]
 fn no_sync_succeeds_behind_a_write_that_failed(rt: HostRuntime) -> Result<(), Fail> {
     let alloc = rt.alloc();
-    let (length, path) = (1, "");
-    let system = OneUnsynced { length, path };
+    let (length, path, locked) = (1, "", "");
+    let system = OneUnsynced {
+        length,
+        path,
+        locked,
+    };
     let mut shelf = FileShelf::new(alloc, &system);
     let mut disk = shelf.take_disk(alloc, "logs/eve.log")?;
     assert_eq!(rt; disk.sync(), Ok(()));
@@ -163,7 +184,12 @@ fn the_directory_of_an_empty_file_is_synced(rt: HostRuntime) {
         (0, "a", "a/logs/eve.log", None),
         (1, "a/logs", "a/logs/eve.log", None),
     ] {
-        let system = OneUnsynced { length, path };
+        let locked = "";
+        let system = OneUnsynced {
+            length,
+            path,
+            locked,
+        };
         let mut shelf = FileShelf::new(alloc, &system);
         assert_eq!(rt; shelf.take_disk(alloc, name).err(), refusal, "{name}");
         assert_eq!(rt; shelf.faults(), u64::from(refusal.is_some()), "{name}");
@@ -183,5 +209,72 @@ fn a_device_is_no_disk(rt: HostRuntime) -> Result<(), Fail> {
     options.read(true).write(true);
     let mut disk = FileDisk::new(options.open(&rt, "/dev/null")?, 0);
     assert_eq!(rt; disk.length(), Err(Failed));
+    Ok(())
+}
+
+#[test]
+fn a_locked_file_is_a_fault_and_no_other(rt: HostRuntime) -> Result<(), Fail> {
+    let alloc = rt.alloc();
+    let (length, path, locked) = (0, "", "logs/eve.log");
+    let system = OneUnsynced {
+        length,
+        path,
+        locked,
+    };
+    let mut shelf = FileShelf::new(alloc, &system);
+    let refusal = shelf.take_disk(alloc, locked).err();
+    assert_eq!(rt; refusal, Some(ShelfError::Failed));
+    assert_eq!(rt; shelf.faults(), 1);
+    let refusal = shelf.take_disk(alloc, locked).err();
+    assert_eq!(rt; refusal, Some(ShelfError::Failed));
+    assert_eq!(rt; shelf.faults(), 2);
+    let disk = shelf.take_disk(alloc, "logs/ann.log")?;
+    shelf.give_disk("logs/ann.log", disk);
+    assert_eq!(rt; shelf.faults(), 2);
+    Ok(())
+}
+
+#[test]
+fn a_disk_is_taken_by_one_shelf_at_a_time(rt: HostRuntime) -> Result<(), Fail> {
+    let alloc = rt.alloc();
+    let name = "real_edge_locked.log";
+    let mut first = FileShelf::new(alloc, &rt);
+    let mut second = FileShelf::new(alloc, &rt);
+    let mut disk = first.take_disk(alloc, name)?;
+    assert_eq!(rt; disk.write_at(0, b"CQEJRNL1"), Ok(()));
+    let refusal = second.take_disk(alloc, name).err();
+    assert_eq!(rt; refusal, Some(ShelfError::Failed));
+    assert_eq!(rt; second.faults(), 1);
+    first.give_disk(name, disk);
+    let disk = second.take_disk(alloc, name)?;
+    assert_eq!(rt;
+        first.take_disk(alloc, name).err(),
+        Some(ShelfError::Failed)
+    );
+    second.give_disk(name, disk);
+    fs::remove_file(&rt, name)?;
+    Ok(())
+}
+
+#[test]
+fn a_disk_for_reading_is_read_beside_its_writer(rt: HostRuntime) -> Result<(), Fail> {
+    let alloc = rt.alloc();
+    let name = "real_edge_read.log";
+    let mut writing = FileShelf::new(alloc, &rt);
+    let mut reading = FileShelf::for_reading(alloc, &rt);
+    let mut disk = writing.take_disk(alloc, name)?;
+    let mut beside = reading.take_disk(alloc, name)?;
+    assert_eq!(rt; disk.write_at(0, b"CQE"), Ok(()));
+    assert_eq!(rt; beside.sync(), Ok(()));
+    let mut piece = [0; 4];
+    assert_eq!(rt; beside.read_at(0, &mut piece), Ok(3));
+    assert_eq!(rt; piece, [b'C', b'Q', b'E', 0]);
+    assert_eq!(rt; beside.write_at(0, b"x"), Err(Failed));
+    assert_eq!(rt; beside.faults(), 1);
+    reading.give_disk(name, beside);
+    writing.give_disk(name, disk);
+    assert_eq!(rt; fs::read(&rt, name)?.as_slice(), b"CQE".as_slice());
+    fs::remove_file(&rt, name)?;
+    assert_eq!(rt; reading.faults(), 0);
     Ok(())
 }

@@ -1,13 +1,13 @@
 //! The files of the system as a shelf. Clauses aren't told what they hold.
-ghost use Rattle.std.specs.Prelude.{◌≡◌, ◌≢◌, ◌≤◌, [], List, ℕ, Some, None, true, false, IfOk, IfErr, IfSome};
+ghost use Rattle.std.specs.Prelude.{◌≡◌, ◌≢◌, ◌≤◌, [], List, ℕ, Some, None, true, false, IfOk, IfErr, IfSome, OnOk, IsErrOf};
 ghost use Rattle.outside.specs.Faults.{Rose};
 ghost use Rattle.outside.specs.Places.{at_name};
 ghost use Rattle.outside.specs.Shelf.{SameNames, SameOthers};
 ghost use Rattle.real_edge.specs.Kept.{faults_kept};
 ghost use Rattle.real_edge.specs.Refusals.{opening_refusal, reading_refusal};
 
-use crate::FileDisk;
 use crate::disks::regular_length;
+use crate::{FileDisk, Lockable};
 use outside::{Places, Shelf, ShelfError};
 use std::alloc::{AllocError, Global};
 use std::fs::{self, OpenFile, OpenOptions};
@@ -29,10 +29,15 @@ struct Kept {
 /// A disk is a regular file; a pipe or a device isn't given as one. Where its file is empty, it may just have been made:
 /// its directory is synced before it is given, since a crash may otherwise take the name of a file that was synced. That
 /// is the directory of its path, also where the path is a link to a file elsewhere.
+///
+/// A disk that is given is locked until it is back, so that a second process, or a second name of the same file, doesn't
+/// write to it: where the lock is refused, taking the disk fails. The disks of a shelf for reading take no lock, and each
+/// write to one fails.
 #[derive(Drop)]
 pub struct FileShelf<'r, R> {
     runtime: &'r R,
     disks: Places<Kept>,
+    writable: bool,
     faults: u64,
 }
 
@@ -48,6 +53,21 @@ impl<'r, R> FileShelf<'r, R> {
         FileShelf {
             runtime,
             disks: Places::new(alloc),
+            writable: true,
+            faults: 0,
+        }
+    }
+
+    /// A shelf that hasn't failed and has given no disk, whose disks are for reading.
+    pub fn for_reading(alloc: Global, runtime: &'r R) -> Self
+        ensures faultless { shelf_faults result ≡ 0 }
+        ensures none_out { (name : List ℕ) → is_file_out result name ≡ false }
+        ensures counts { (name : List ℕ) → file_faults result name ≡ 0 }
+    {
+        FileShelf {
+            runtime,
+            disks: Places::new(alloc),
+            writable: false,
             faults: 0,
         }
     }
@@ -60,7 +80,10 @@ impl<'r, R> FileShelf<'r, R> {
     }
 }
 
-impl<R: Files> Shelf for FileShelf<'_, R> {
+impl<R: Files> Shelf for FileShelf<'_, R>
+where
+    R::File: Lockable,
+{
     ghost use Rattle.real_edge.specs.Counts.{shelf_faults, is_file_out, file_faults};
 
     type D = FileDisk<R::File>;
@@ -82,25 +105,20 @@ impl<R: Files> Shelf for FileShelf<'_, R> {
     ghost tells_disks = { λ told. told };
 
     fn read_file(&mut self, alloc: Global, name: &str) -> Result<Vec<u8>, ShelfError> {
-        match bytes_of(self.runtime, alloc, name) {
-            Ok(bytes) => Ok(bytes),
-            Err(refusal) => {
-                count(refusal, &mut self.faults);
-                Err(refusal)
-            }
-        }
+        counted(bytes_of(self.runtime, alloc, name), &mut self.faults)
     }
 
     fn take_disk(&mut self, alloc: Global, name: &str) -> Result<FileDisk<R::File>, ShelfError> {
-        match open_disk(self.runtime, name) {
-            Ok(file) => {
-                let faults = keep_place(alloc, &mut self.disks, name)?;
-                Ok(FileDisk::new(file, faults))
-            }
-            Err(refusal) => {
-                count(refusal, &mut self.faults);
-                Err(refusal)
-            }
+        let file = counted(open_disk(self.runtime, name), &mut self.faults)?;
+        if self.writable {
+            counted(lock(&file), &mut self.faults)?;
+        }
+        counted(settle_name(self.runtime, name, &file), &mut self.faults)?;
+        let faults = keep_place(alloc, &mut self.disks, name)?;
+        if self.writable {
+            Ok(FileDisk::new(file, faults))
+        } else {
+            Ok(FileDisk::for_reading(file, faults))
         }
     }
 
@@ -110,14 +128,21 @@ impl<R: Files> Shelf for FileShelf<'_, R> {
     }
 }
 
-// Counts a refusal that is a failure.
-fn count(refusal: ShelfError, faults: &mut u64)
+// What a call answers; a refusal that is a failure is counted.
+fn counted<T>(answer: Result<T, ShelfError>, faults: &mut u64) -> Result<T, ShelfError>
+    ensures same { result ≡ answer }
     ensures later { faults.old ≤ faults.new }
-    ensures cause { refusal ≡ ShelfError.Failed → Rose faults.old faults.new }
-    ensures steady { (refusal ≡ ShelfError.Failed → ⊥) → faults.new ≡ faults.old }
+    ensures cause { IsErrOf result ShelfError.Failed → Rose faults.old faults.new }
+    ensures steady { OnOk result (faults.new ≡ faults.old) }
 {
-    if refusal == ShelfError::Failed {
-        *faults = faults.saturating_add(1);
+    match answer {
+        Ok(value) => Ok(value),
+        Err(refusal) => {
+            if refusal == ShelfError::Failed {
+                *faults = faults.saturating_add(1);
+            }
+            Err(refusal)
+        }
     }
 }
 
@@ -146,19 +171,34 @@ fn open_disk<R: Files>(runtime: &R, path: &str) -> Result<R::File, ShelfError>
 {
     let mut options = OpenOptions::new();
     options.read(true).write(true).create(true);
-    let file = match options.open(runtime, path) {
-        Ok(file) => file,
-        Err(error) => return Err(reading_refusal(error.kind())),
-    };
-    match settle_name(runtime, path, &file) {
-        Ok(()) => Ok(file),
+    match options.open(runtime, path) {
+        Ok(file) => Ok(file),
         Err(error) => Err(reading_refusal(error.kind())),
     }
 }
 
-// Syncs the directory of an open file that has no bytes. Each opening does so until it has some, since the one that made
-// the file may have been cut off before.
-fn settle_name<R: Files>(runtime: &R, path: &str, file: &R::File) -> io::Result<()> {
+// Locks an open file, where no other opening of it has the lock.
+fn lock<F: Lockable>(file: &F) -> Result<(), ShelfError>
+    ensures { IfErr result (λ refusal. refusal ≡ ShelfError.Failed) }
+{
+    match file.lock_alone() {
+        Ok(()) => Ok(()),
+        Err(_) => Err(ShelfError::Failed),
+    }
+}
+
+// Refuses what is no regular file, and syncs the directory of an open file that has no bytes. Each opening does so until
+// it has some, since the one that made the file may have been cut off before.
+fn settle_name<R: Files>(runtime: &R, path: &str, file: &R::File) -> Result<(), ShelfError>
+    ensures { IfErr result (λ refusal. refusal ≢ ShelfError.Missing) }
+{
+    match sync_name(runtime, path, file) {
+        Ok(()) => Ok(()),
+        Err(error) => Err(reading_refusal(error.kind())),
+    }
+}
+
+fn sync_name<R: Files>(runtime: &R, path: &str, file: &R::File) -> io::Result<()> {
     if regular_length(&file.metadata()?)? > 0 {
         return Ok(());
     }

@@ -5,21 +5,26 @@
 //! stream, file or socket holds, since nobody knows what it will give and what becomes of what it takes: that the bytes
 //! are the system's is tested and not proved.
 //!
-//! Read `streams`, then `disks`, `files` and `sockets`.
+//! Read `streams`, then `disks`, `locks` and `files`, then `waits`, `clients` and `sockets`.
 #![tactic(auto)]
 
+mod clients;
 mod disks;
 #[cfg(test)]
 mod file_tests;
 mod files;
+mod locks;
 #[cfg(test)]
 mod socket_tests;
 mod sockets;
 mod streams;
 #[cfg(test)]
 mod tests;
+mod waits;
 
+pub use clients::ClientReader;
 pub use disks::FileDisk;
 pub use files::FileShelf;
+pub use locks::Lockable;
 pub use sockets::{TcpDoor, TcpLinks};
 pub use streams::{StreamSink, StreamSource};

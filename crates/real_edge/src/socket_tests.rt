@@ -1,9 +1,11 @@
 use crate::{TcpDoor, TcpLinks};
 use outside::{Door, Failed, Links, LinksError, Sink, Source, write_all};
 use std::alloc::Global;
+use std::cell::Cell;
 use std::io::{self, Read, Write};
 use std::net::{Net, OpenListener, Shutdown, SocketAddr, TcpListener, TcpStream};
 use std::test::Fail;
+use std::time::{Clock, Duration};
 
 // A client that sends these bytes and no more.
 fn client<R: Net<Stream = TcpStream>>(
@@ -18,7 +20,7 @@ fn client<R: Net<Stream = TcpStream>>(
 }
 
 // Answers the next connection with all that came in.
-fn echo(alloc: Global, door: &mut TcpDoor<TcpListener>) -> Result<Vec<u8>, Fail> {
+fn echo<C: Clock>(alloc: Global, door: &mut TcpDoor<'_, C, TcpListener>) -> Result<Vec<u8>, Fail> {
     let Some((source, sink)) = door.next()? else {
         return Ok(Vec::new(alloc));
     };
@@ -95,22 +97,108 @@ fn an_address_that_cannot_be_bound_is_a_fault(rt: HostRuntime) {
     }
 }
 
-// A socket at which no client is heard.
+// A socket at which so many clients are lost, and then none is heard.
 #[derive(Drop)]
-struct Deaf;
+struct Losing {
+    lost: Cell<u64>,
+    listener: TcpListener,
+}
 
-impl OpenListener for Deaf {
+impl OpenListener for Losing {
     type Stream = TcpStream;
 
     fn accept(&self) -> io::Result<(TcpStream, SocketAddr)> {
+        let lost = self.lost.get();
+        if lost == 0 {
+            return self.listener.accept();
+        }
+        self.lost.set(lost.saturating_sub(1));
         Err(io::Error::from(io::ErrorKind::ConnectionAborted))
     }
 }
 
+// A clock that only counts how many milliseconds it slept, and keeps the longest sleep.
+#[derive(Drop)]
+struct Sleepless {
+    slept: Cell<u64>,
+    longest: Cell<u64>,
+}
+
+impl Sleepless {
+    fn new() -> Self {
+        let (slept, longest) = (Cell::new(0), Cell::new(0));
+        Sleepless { slept, longest }
+    }
+}
+
+impl Clock for Sleepless {
+    fn monotonic(&self) -> io::Result<Duration> {
+        Err(io::Error::from(io::ErrorKind::Unsupported))
+    }
+
+    fn since_1970(&self) -> io::Result<Duration> {
+        Err(io::Error::from(io::ErrorKind::Unsupported))
+    }
+
+    fn sleep(&self, duration: Duration) {
+        let millis = u64::try_from(duration.as_millis()).unwrap_or(u64::MAX);
+        self.slept.set(self.slept.get().saturating_add(millis));
+        self.longest.set(self.longest.get().max(millis));
+    }
+}
+
 #[test]
-fn a_door_counts_what_fails(rt: HostRuntime) {
-    let mut door = TcpDoor::new(Deaf);
+fn a_door_gives_up_behind_a_minute(rt: HostRuntime) -> Result<(), Fail> {
+    let lost = Cell::new(u64::MAX);
+    let listener = TcpListener::bind(&rt, "127.0.0.1:0")?;
+    let clock = Sleepless::new();
+    let mut door = TcpDoor::new(&clock, Losing { lost, listener });
     assert!(rt; matches!(door.next(), Err(Failed)));
-    assert!(rt; matches!(door.next(), Err(Failed)));
-    assert_eq!(rt; door.faults(), 2);
+
+    // 1, 2, 4 and so on up to 512, and then 59 times a second.
+    assert_eq!(rt; clock.slept.get(), 1023 + 59 * 1000);
+    assert_eq!(rt; clock.longest.get(), 1000);
+    assert_eq!(rt; door.faults(), 10 + 59 + 1);
+    Ok(())
+}
+
+#[test]
+fn a_client_who_is_lost_costs_a_pause_alone(rt: HostRuntime) -> Result<(), Fail> {
+    let lost = Cell::new(3);
+    let listener = TcpListener::bind(&rt, "127.0.0.1:0")?;
+    let address = listener.local_addr()?;
+    let clock = Sleepless::new();
+    let mut door = TcpDoor::new(&clock, Losing { lost, listener });
+    let _client = client(&rt, address, b"quit\n")?;
+    let Some((source, sink)) = door.next()? else {
+        return Ok(());
+    };
+    let mut source = source;
+    let mut piece = [0; 4];
+    assert_eq!(rt; source.take(&mut piece), Ok(4));
+    assert_eq!(rt; piece, *b"quit");
+    door.done(source, sink);
+    assert_eq!(rt; clock.slept.get(), 1 + 2 + 4);
+    assert_eq!(rt; door.faults(), 3);
+    Ok(())
+}
+
+#[test]
+fn a_connection_waits_longer_once_its_client_was_heard(rt: HostRuntime) -> Result<(), Fail> {
+    let alloc = rt.alloc();
+    let mut links = TcpLinks::new(&rt);
+    let mut doors = links.listen(alloc, "127.0.0.1:0", 1)?;
+    let mut door = doors.pop().expect(&rt, "a door");
+    let _client = client(&rt, door.address()?, b"a")?;
+    let Some((source, sink)) = door.next()? else {
+        return Ok(());
+    };
+    let output = sink.into_output();
+    assert_eq!(rt; output.write_timeout()?, Some(Duration::from_secs(60)));
+    assert_eq!(rt; output.read_timeout()?, Some(Duration::from_secs(30)));
+    let mut reader = source.into_input();
+    assert_eq!(rt; reader.read(&mut [0; 4])?, 1);
+    assert_eq!(rt; output.read_timeout()?, Some(Duration::from_secs(600)));
+    links.take_back(door);
+    Ok(())
 }

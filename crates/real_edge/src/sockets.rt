@@ -1,40 +1,45 @@
 //! Sockets as connections: a listening socket as a door, and what opens such doors. Clauses aren't told what comes in.
-ghost use Rattle.std.specs.Prelude.{◌≡◌, ◌≤◌, [], None, All, length, vec_capacity, IfOk};
+ghost use Rattle.std.specs.Prelude.{◌≡◌, ◌≤◌, [], None, All, length, vec_capacity, IfOk, IfNone};
 ghost use Rattle.outside.specs.Faults.{Rose};
 ghost use Rattle.real_edge.specs.Counts.{door_faults};
 
+use crate::clients::ClientReader;
+use crate::waits::{
+    FIRST_BYTES, FIRST_PAUSE, LAST_PIECES, LAST_WAIT, LONGEST_PAUSE, PIECE, STUCK_WRITE,
+    TRIES_AGAIN,
+};
 use crate::{StreamSink, StreamSource};
 use outside::{Door, Failed, Links, LinksError};
 use std::alloc::{AllocError, Global};
 use std::io::{self, Read, Write};
 use std::net::{Net, OpenListener, OpenStream, Shutdown, SocketAddr, TcpListener};
-use std::time::Duration;
+use std::thread;
+use std::time::{Clock, Duration};
 
-// How much of what a client still sends is read as its connection ends, and for how many seconds each piece is waited for.
-const LAST_PIECES: usize = 16;
-
-const PIECE: usize = 4096;
-
-const LAST_WAIT: u64 = 1;
-
-/// A listening socket as a door, through which no connection is the last. A call that fails is counted and isn't tried
-/// again. What was given is closed once it is done, behind at most 64 KiB that its client still sends: a connection that is
-/// closed while bytes of the client are unread is reset, and the last replies to him may be lost on their way. A client who
-/// doesn't close is waited for one second at each of at most 16 pieces.
+/// A listening socket as a door, through which no connection is the last. Each failure to take in a client is counted, and
+/// it is tried again after a pause that doubles up to a second: too few open files are a passing state. The door gives up
+/// where nobody could be taken in for a minute.
+///
+/// A client who says nothing, or takes nothing, for too long is a fault of his own connection's end: see `waits`. What was
+/// given is closed once it is done, behind at most 64 KiB that its client still sends: a connection that is closed while
+/// bytes of the client are unread is reset, and the last replies to him may be lost on their way. A client who doesn't
+/// close is waited for one second at each of at most 16 pieces.
 #[derive(Drop)]
-pub struct TcpDoor<L> {
+pub struct TcpDoor<'r, C, L> {
+    clock: &'r C,
     listener: L,
     faults: u64,
 }
 
-impl<L: OpenListener> TcpDoor<L> {
+impl<'r, C, L: OpenListener> TcpDoor<'r, C, L> {
     ghost use Rattle.real_edge.specs.Counts.{door_faults};
 
-    /// A door at this socket, which hasn't failed.
-    pub fn new(listener: L) -> Self
+    /// A door at this socket, which hasn't failed, with a clock for its pauses.
+    pub fn new(clock: &'r C, listener: L) -> Self
         ensures { door_faults result ≡ 0 }
     {
         TcpDoor {
+            clock,
             listener,
             faults: 0,
         }
@@ -53,13 +58,13 @@ impl<L: OpenListener> TcpDoor<L> {
     }
 }
 
-impl<L: OpenListener> Door for TcpDoor<L>
+impl<C: Clock, L: OpenListener> Door for TcpDoor<'_, C, L>
 where
     L::Stream: Read + Write + OpenStream + Drop + Send,
 {
     ghost use Rattle.real_edge.specs.Counts.{door_faults};
 
-    type Src = StreamSource<L::Stream>;
+    type Src = StreamSource<ClientReader<L::Stream>>;
 
     type Snk = StreamSink<L::Stream>;
 
@@ -80,17 +85,46 @@ where
     ghost tells_ends = { λ told. absurd told };
 
     fn next(&mut self) -> Result<Option<(Self::Src, Self::Snk)>, Failed> {
-        match both_ends(&self.listener) {
-            Ok((input, output)) => Ok(Some((StreamSource::new(input), StreamSink::new(output)))),
-            Err(_) => {
-                self.faults = self.faults.saturating_add(1);
-                Err(Failed)
+        match take_in(self.clock, &self.listener, &mut self.faults) {
+            Some((input, output)) => {
+                let source = StreamSource::new(ClientReader::new(input));
+                Ok(Some((source, StreamSink::new(output))))
             }
+            None => Err(Failed),
         }
     }
 
     fn done(&mut self, source: Self::Src, sink: Self::Snk) {
-        hang_up(source.into_input(), &sink.into_output());
+        hang_up(source.into_input().into_stream(), &sink.into_output());
+    }
+}
+
+// Takes in a client, and counts each failure to. There is none where it failed for a minute.
+fn take_in<C: Clock, L: OpenListener>(
+    clock: &C,
+    listener: &L,
+    faults: &mut u64,
+) -> Option<(L::Stream, L::Stream)>
+where
+    L::Stream: OpenStream,
+    ensures later { faults.old ≤ faults.new }
+    ensures cause { IfNone result (Rose faults.old faults.new) }
+{
+    let mut pause = FIRST_PAUSE;
+    for _ in 0..TRIES_AGAIN {
+        match both_ends(listener) {
+            Ok(ends) => return Some(ends),
+            Err(_) => *faults = faults.saturating_add(1),
+        }
+        thread::sleep(clock, Duration::from_millis(pause));
+        pause = pause.saturating_mul(2).min(LONGEST_PAUSE);
+    }
+    match both_ends(listener) {
+        Ok(ends) => Some(ends),
+        Err(_) => {
+            *faults = faults.saturating_add(1);
+            None
+        }
     }
 }
 
@@ -111,18 +145,20 @@ fn hang_up<S: Read + OpenStream + Drop>(input: S, output: &S) {
     }
 }
 
-// Waits for a client, and gives both ends of its connection.
+// Waits for a client, and gives both ends of its connection, for which it sets how long is waited for him.
 fn both_ends<L: OpenListener>(listener: &L) -> io::Result<(L::Stream, L::Stream)>
 where
     L::Stream: OpenStream,
 {
     let (stream, _client) = listener.accept()?;
+    stream.set_read_timeout(Some(Duration::from_secs(FIRST_BYTES)))?;
+    stream.set_write_timeout(Some(Duration::from_secs(STUCK_WRITE)))?;
     let other = stream.try_clone()?;
     Ok((stream, other))
 }
 
 /// What opens sockets that a runtime reaches, each by its address, as `127.0.0.1:7007`. The doors of one `listen` share
-/// one socket. A call that fails is counted and isn't tried again.
+/// one socket. A `listen` that fails is counted and isn't tried again.
 #[derive(Drop)]
 pub struct TcpLinks<'r, R> {
     runtime: &'r R,
@@ -153,14 +189,14 @@ impl<'r, R> TcpLinks<'r, R> {
     }
 }
 
-impl<R: Net> Links for TcpLinks<'_, R>
+impl<'r, R: Net + Clock + Sync> Links for TcpLinks<'r, R>
 where
     R::Listener: Send,
     R::Stream: Send,
 {
     ghost use Rattle.real_edge.specs.Counts.{links_faults, links_out};
 
-    type D = TcpDoor<R::Listener>;
+    type D = TcpDoor<'r, R, R::Listener>;
 
     ghost told = { ⊥ };
 
@@ -187,7 +223,7 @@ where
         alloc: Global,
         address: &str,
         doors: u32,
-    ) -> Result<Vec<TcpDoor<R::Listener>>, LinksError> {
+    ) -> Result<Vec<TcpDoor<'r, R, R::Listener>>, LinksError> {
         let Some(out) = self.out.checked_add(u64::from(doors)) else {
             return Err(LinksError::Memory);
         };
@@ -206,7 +242,7 @@ where
         }
     }
 
-    fn take_back(&mut self, door: TcpDoor<R::Listener>) {
+    fn take_back(&mut self, door: TcpDoor<'r, R, R::Listener>) {
         if door.faults() > 0 {
             self.faults = self.faults.saturating_add(1);
         }
@@ -215,12 +251,12 @@ where
 }
 
 // So many doors at one socket of this address.
-fn open_doors<R: Net>(
-    runtime: &R,
+fn open_doors<'r, R: Net>(
+    runtime: &'r R,
     address: &str,
     doors: u32,
-    room: Vec<TcpDoor<R::Listener>>,
-) -> io::Result<Vec<TcpDoor<R::Listener>>>
+    room: Vec<TcpDoor<'r, R, R::Listener>>,
+) -> io::Result<Vec<TcpDoor<'r, R, R::Listener>>>
     requires empty { room.items ≡ [] }
     requires room { doors ≤ vec_capacity room }
     ensures count { IfOk result (λ opened. length opened.items ≡ doors) }
@@ -229,7 +265,7 @@ fn open_doors<R: Net>(
     let listener = TcpListener::bind(runtime, address)?;
     let mut opened = room;
     for _ in 0..doors {
-        opened.push_reserved(TcpDoor::new(listener.try_clone()?));
+        opened.push_reserved(TcpDoor::new(runtime, listener.try_clone()?));
     }
     Ok(opened)
 }

@@ -1,42 +1,68 @@
-use Rattle.std.proofs.Common.{◌≡◌, ◌<◌, ◌^◌, ◌∷◌, ◌++◌, [], ⊎_elim, inl, inr, ℕ, Some, length, map, refl, ◌∙◌, ap, arith, rules}
-use Rattle.std.proofs.lemmas.List.{map-append, length-map}
+use Rattle.std.proofs.Common.{◌≡◌, ◌≢◌, IfSome, IfNone, slice_index_or, ◌+◌, ◌≤◌, ◌<◌, ◌^◌, ◌∷◌, ◌++◌, [], ℕ, List, length, drop, map, sym, ◌∙◌, ap, subst, arith, rules}
+use Rattle.std.proofs.lemmas.List.{map-append, length-map, take_rest}
+use Rattle.std.proofs.lemmas.Result.{err_from_is_err_and}
 use Rattle.std.proofs.lemmas.List.Elements.{All-nil, All-cons, All-append, All-same}
-use Rattle.log_journal.specs.Opening.{recorded, IsRecord}
+use Rattle.log_journal.specs.Opening.{recorded, IsRecord, HasRecord, IsRead}
 use Rattle.log_journal.specs.declared.header.Record.{Record}
-use Rattle.log_journal.proofs.Reading.{at_header, one_more, shorter, all_read, is_damaged}
+use Rattle.log_journal.proofs.Reading.{SoFar, at_header}
+use Rattle.log_journal.proofs.Windows.{goes_on, is_read, next_fits, refused_at, only_none, only_then}
 use Rattle.log_journal.proofs.opening.read_records.Goals as goal
 
-pub loop-rest-init : goal.loop-rest-init
-loop-rest-init c = (
-  at_header c.args.bytes.now _ (map recorded c.new-records.result.items) c.requires (ap (λ l. map recorded l) c.new-records.ensures.items) refl,
-  All-same IsRecord c.new-records.result.items [] c.new-records.ensures.items (All-nil IsRecord),
-)
+pub loop-init : goal.loop-init
+loop-init g c =
+    let R = g.D.Disk.reads c.args.disk.now in
+    record {
+      so_far = λ told. at_header R (drop 72 R) (map recorded c.new-records.result.items) (c.requires.long told)
+          (ap (λ l. map recorded l) c.new-records.ensures.items) (sym (take_rest R 72));
+      each = All-same IsRecord c.new-records.result.items [] c.new-records.ensures.items (All-nil IsRecord);
+      only = only_none R (g.D.Disk.image c.args.disk.now) (g.D.Disk.moment c.args.disk.now) (g.D.Disk.image_since c.args.disk.now) (g.D.Disk.faults c.args.disk.now)
+          (λ t d le is. g.met.D.Disk.counts_now c.args.disk.now t d le is) (λ d is. g.met.D.Disk.only_now c.args.disk.now d is);
+    }
 
-pub loop-rest-preserved : goal.loop-rest-preserved
-loop-rest-preserved c =
-    let starts = c.in-Some.ensures.some in
-    let same : c.in_ok-text.text.items ≡ c.in-Some.text.now = search rules in
-    let old = c.loop-rest.records.items in
-    let added : Record = record { kind = c.in-Some.kind; text = c.in_ok-text.text } in
+pub returns-in_err-record-clause-refused : goal.returns-in_err-record-clause-refused
+returns-in_err-record-clause-refused g c =
+    let p = err_from_is_err_and c.from_residual.result c.from_residual.ensures.1 in
+    let R' = g.D.Disk.reads c.loop.disk in
+    let length_is : length c.loop.records.items ≡ c.len.result = search rules in
+    let count : c.len.result ≡ length (map recorded c.loop.records.items) = sym (length-map c.loop.records.items recorded ∙ length_is) in
+    rw (p.1, p.2) (refused_at g.D.Disk.told (g.D.Disk.reads c.args.disk.now) R' (map recorded c.loop.records.items) c.loop.gate c.len.result
+    (g.D.Disk.faults c.args.disk.now) (g.D.Disk.faults c.loop.disk) (g.D.Disk.faults c.record_at.new.disk) c.in_err-record.field-0.0
+    c.loop.invariant.only.count c.requires.long c.loop.invariant.only.reads c.loop.invariant.so_far count c.in_err-record.ensures.refused)
+
+pub returns-in_default-clause-ok : goal.returns-in_default-clause-ok
+returns-in_default-clause-ok g c told =
+    let R' = g.D.Disk.reads c.loop.disk in
+    let same = c.loop.invariant.only.reads in
+    subst (λ (l : List ℕ). IsRead l (map recorded c.loop.records.items) c.loop.gate) same
+    (is_read R' (map recorded c.loop.records.items) c.loop.gate
+    (subst (λ (l : List ℕ). 73 ≤ length l) (sym same) (c.requires.long told)) (subst (λ (l : List ℕ). length l < 2 ^ 64) (sym same) (c.requires.fits told))
+    (c.loop.invariant.so_far told)
+    (subst (λ o. IfNone o (slice_index_or (drop c.loop.gate R') 0 0 ≢ 1)) c.in_default.is (c.in_ok-record.ensures.closed told)))
+
+pub loop-preserved : goal.loop-preserved
+loop-preserved g c =
+    let R' = g.D.Disk.reads c.loop.disk in
+    let old = c.loop.records.items in
+    let added : Record = c.in-Some.record in
+    let all' = map recorded c.push.new.self.items in
+    let next = c.saturating_add-gate.result in
     let grown = ap (λ l. map recorded l) c.in_ok-push.ensures.items ∙ map-append recorded old (added ∷ []) in
-    let is_record : IsRecord added = record { kind_from = starts.kind_from; kind_to = starts.kind_to; short = omega (arith, ap length same, starts.short) } in (
-      one_more c.args.bytes.now (map recorded old) (map recorded c.push.new.self.items) c.loop-rest.rest.now _ c.in-Some.kind c.in-Some.text.now c.in_ok-text.text.items c.in-Some.after.now
-          c.loop-rest.invariant.0 c.loop-rest-test.true refl starts same grown,
-      All-same IsRecord c.push.new.self.items (old ++ added ∷ []) c.in_ok-push.ensures.items
-          (All-append IsRecord old (added ∷ []) c.loop-rest.invariant.1 (All-cons IsRecord added [] is_record (All-nil IsRecord))),
-    )
-
-pub loop-rest-smaller : goal.loop-rest-smaller
-loop-rest-smaller c = shorter c.loop-rest.rest.now _ c.in-Some.kind c.in-Some.text.now c.in-Some.after.now refl c.in-Some.ensures.some
-
-pub returns-clause-ok : goal.returns-clause-ok
-returns-clause-ok c =
-    let fits : length c.args.bytes.now < 2 ^ 64 = omega arith in
-    all_read c.args.bytes.now (map recorded c.loop-rest.records.items) c.loop-rest.rest.now c.requires fits c.loop-rest.invariant.0 c.loop-rest-test.false
-
-pub returns-in_default-clause-err : goal.returns-in_default-clause-err
-returns-in_default-clause-err c =
-    let length_is : length c.loop-rest.records.items ≡ c.len.result = search rules in
-    let count = length-map c.loop-rest.records.items recorded ∙ length_is in
-    let damage = is_damaged c.args.bytes.now (map recorded c.loop-rest.records.items) c.loop-rest.rest.now _ c.requires c.loop-rest.invariant.0 c.loop-rest-test.true refl c.in_default.ensures.none in
-    ⊎_elim (λ is. inr (c.len.result, is, damage ∙ ap (λ (n : ℕ). Some n) count)) (λ is. inl is) c.damaged_record.ensures
+    let is_record = subst (λ o. IfSome o IsRecord) c.in-Some.is c.in_ok-record.ensures.each in
+    let text_is : length added.text.items ≡ c.len-in-loop.result = search rules in
+    record {
+      so_far = λ told.
+          let found = subst (λ o. IfSome o (λ record'. HasRecord (drop c.loop.gate R') record')) c.in-Some.is (c.in_ok-record.ensures.found told) in
+          let fits = subst (λ (l : List ℕ). length l < 2 ^ 64) (sym c.loop.invariant.only.reads) (c.requires.fits told) in
+          let bound = next_fits R' c.loop.gate added found fits in
+          let place : next ≡ c.loop.gate + (length added.text.items + 4) = omega (arith, text_is, bound, c.saturating_add-gate.ensures) in
+          subst (λ (l : List ℕ). SoFar l all' (drop next l)) (sym c.record_at.ensures.only.reads)
+          (goes_on R' (map recorded old) all' c.loop.gate next added (c.loop.invariant.so_far told) found grown place);
+      each = All-same IsRecord c.push.new.self.items (old ++ added ∷ []) c.in_ok-push.ensures.items
+          (All-append IsRecord old (added ∷ []) c.loop.invariant.each (All-cons IsRecord added [] is_record (All-nil IsRecord)));
+      only = only_then (g.D.Disk.reads c.args.disk.now) R' (g.D.Disk.reads c.record_at.new.disk)
+          (g.D.Disk.image c.args.disk.now) (g.D.Disk.image c.loop.disk) (g.D.Disk.image c.record_at.new.disk)
+          (g.D.Disk.moment c.args.disk.now) (g.D.Disk.moment c.loop.disk) (g.D.Disk.moment c.record_at.new.disk)
+          (g.D.Disk.image_since c.args.disk.now) (g.D.Disk.image_since c.loop.disk) (g.D.Disk.image_since c.record_at.new.disk)
+          (g.D.Disk.faults c.args.disk.now) (g.D.Disk.faults c.loop.disk) (g.D.Disk.faults c.record_at.new.disk)
+          c.loop.invariant.only c.record_at.ensures.only;
+    }

@@ -1,10 +1,13 @@
-use Rattle.std.proofs.Common.{All, length, map}
-use Rattle.log_journal.specs.Opening.{recorded, IsRecord}
+use Rattle.std.proofs.Common.{All, map, drop}
+use Rattle.log_journal.specs.Opening.{recorded, IsRecord, IsOnlyRead}
 use Rattle.log_journal.proofs.Reading.{SoFar}
 use Rattle.log_journal.proofs.opening.read_records.Given as goal
 
-abbrev pub invariant-loop-rest : goal.invariant-loop-rest
-invariant-loop-rest l = SoFar l.bytes (map recorded l.records.items) l.rest × All IsRecord l.records.items
-
-abbrev pub decreases-loop-rest : goal.decreases-loop-rest
-decreases-loop-rest l = length l.rest
+abbrev pub invariant-loop : goal.invariant-loop
+invariant-loop g l = record {
+  so_far : g.D.Disk.told → SoFar (g.D.Disk.reads l.disk) (map recorded l.records.items) (drop l.gate (g.D.Disk.reads l.disk));
+  each : All IsRecord l.records.items;
+  only : IsOnlyRead (g.D.Disk.reads l.initial.disk) (g.D.Disk.reads l.disk) (g.D.Disk.image l.initial.disk) (g.D.Disk.image l.disk)
+      (g.D.Disk.moment l.initial.disk) (g.D.Disk.moment l.disk) (g.D.Disk.image_since l.initial.disk) (g.D.Disk.image_since l.disk)
+      (g.D.Disk.faults l.initial.disk) (g.D.Disk.faults l.disk);
+}
