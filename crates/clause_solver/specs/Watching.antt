@@ -1,5 +1,5 @@
 -- Two watched literals of each clause under a trail.
-use Rattle.std.specs.Prelude.{◌≡◌, ◌⊎◌, ℕ, ◌<◌, ◌≤◌, ◌*◌, ◌==◌, nat_le, min, Bool, true, false, List, [], ◌∷◌, ◌++◌, length, Option, Some, None, IfSome, slice_index_or}
+use Rattle.std.specs.Prelude.{◌≡◌, ◌⊎◌, ◌||◌, ℕ, ◌<◌, ◌≤◌, ◌*◌, ◌==◌, nat_le, min, Bool, true, false, List, [], ◌∷◌, ◌++◌, length, Option, Some, None, IfSome, slice_index_or}
 use Rattle.std.specs.List.{list_any, list_all, AllByRecursion}
 use Rattle.cqe_base.specs.Literal.{Literal, Positive, has_literal, ClausesBelow}
 use Rattle.cqe_base.specs.Machine.{Assigned, is_true, is_false, level, level_of}
@@ -52,6 +52,25 @@ pub record IsHalfWatched (t : List Assigned) (c : List Literal) (pair : Pair) (u
 -- whether a number is in a list
 abbrev pub has_number : List ℕ → ℕ → Bool
 has_number numbers i = list_any (λ m. m == i) numbers
+
+-- one more number in a list
+abbrev pub IsWith : ℕ → List ℕ → List ℕ → Type 0
+IsWith k old new = (i : ℕ) → has_number new i ≡ (has_number old i || (k == i))
+
+-- the least of a list's numbers
+pub record IsLeast (numbers : List ℕ) (k : ℕ) : Type 0 where
+  pub there : has_number numbers k ≡ true
+  pub low : (i : ℕ) → has_number numbers i ≡ true → k ≤ i
+
+-- a list of numbers that is shorter, and lacks none but perhaps this one
+pub record IsWithout (k : ℕ) (old new : List ℕ) : Type 0 where
+  pub fewer : (i : ℕ) → has_number new i ≡ true → has_number old i ≡ true
+  pub others : (i : ℕ) → (i ≡ k → ⊥) → has_number old i ≡ true → has_number new i ≡ true
+  pub shorter : length new < length old
+
+-- the least of a list's numbers goes
+abbrev pub DropsLeast : List ℕ → List ℕ → Type 0
+DropsLeast old new = (k : ℕ) → IsLeast old k → IsWithout k old new
 
 -- whether a clause is in a list of watches
 abbrev pub has_clause : List Watch → ℕ → Bool

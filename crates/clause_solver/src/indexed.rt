@@ -128,12 +128,12 @@ impl Indexed {
         ensures falsified { self.new.watches.falsified ≡ None }
         ensures none { IfNone result (units_of self.new.watches ≡ []) }
     {
-        while let Some(place) = self.watches.least_unit() {
-            let number = self.watches.units[place] as usize;
+        while let Some(least) = self.watches.least_unit() {
+            let number = least as usize;
             if let Some(literal) = open_literal(&self.assignment, self.clauses.clause(number)) {
                 return Some((number, literal));
             }
-            self.watches.drop_unit(place);
+            self.watches.drop_unit();
         }
         None
     }

@@ -5,12 +5,13 @@ ghost use Rattle.std.specs.List.Sorted.{IsPermutation};
 ghost use Rattle.cqe_base.specs.Literal.{Literal, variable_of, same_literal, ClauseBelow, ClausesBelow};
 ghost use Rattle.cqe_base.specs.Machine.{Assigned, is_false, level, level_of};
 ghost use Rattle.clause_solver.specs.Assigning.{code_of};
-ghost use Rattle.clause_solver.specs.Watching.{IsWatching, IsWatched, HaveSameLiterals, WatchesBeside, kept_with, no_pair, lowest, is_caught, has_number};
+ghost use Rattle.clause_solver.specs.Watching.{IsWatching, IsWatched, HaveSameLiterals, WatchesBeside, kept_with, no_pair, lowest, is_caught, has_number, IsLeast, DropsLeast};
 ghost use Rattle.clause_solver.specs.WatchesInside.{AreWatches, lists_of, units_of};
 ghost use Rattle.std.specs.Prelude.{true, false, not, ◌&&◌, ◌||◌, ◌==◌, List, None, map, replicate, take, drop, slice_set, slice_index_or, ◌≡◌, ℕ, ◌<◌, ◌≤◌, ◌+◌, ◌*◌, ◌^◌, [], ◌∷◌, ◌++◌, length, IfOk, IfSome, IfNone};
 
 use crate::assignment::Assignment;
 use crate::codes::code;
+use crate::noted::Noted;
 use clause_store::clauses::Clauses;
 use clause_store::literal::Lit;
 use std::alloc::{AllocError, Global};
@@ -40,7 +41,7 @@ pub struct Watches {
     /// The clauses with the literals of the lowest variables first, which are the least likely to change.
     pub sorted: Clauses,
     /// Each unit clause is among them; others have a true literal since.
-    pub units: Vec<u32>,
+    pub units: Noted,
     /// The least falsified clause.
     pub falsified: Option<u32>,
 }
@@ -66,7 +67,7 @@ impl Watches {
             lists: empty_lists(alloc, variables)?,
             pairs: Vec::new(alloc),
             sorted: Clauses::new(alloc),
-            units: Vec::new(alloc),
+            units: Noted::new(alloc),
             falsified: None,
         })
     }
@@ -236,26 +237,23 @@ impl Watches {
         Ok(())
     }
 
-    /// The place of the least clause among those that may be unit.
-    pub fn least_unit(&self) -> Option<usize>
-        ensures least { IfSome result (λ k. (k < length (units_of self.now)) × ((j : ℕ) → j < length (units_of self.now) → slice_index_or (units_of self.now) k 0 ≤ slice_index_or (units_of self.now) j 0)) }
+    /// The least clause among those that may be unit.
+    pub fn least_unit(&self) -> Option<u32>
+        ensures least { IfSome result (IsLeast (units_of self.now)) }
         ensures none { IfNone result (units_of self.now ≡ []) }
     {
-        least_place(&self.units)
+        self.units.least()
     }
 
-    /// The clause at a place isn't unit.
-    pub fn drop_unit(&mut self, place: usize)
-        requires { place < length (units_of self.old) }
-        ensures fewer { (i : ℕ) → has_number (units_of self.new) i ≡ true → has_number (units_of self.old) i ≡ true }
-        ensures others { (i : ℕ) → (i ≡ slice_index_or (units_of self.old) place 0 → ⊥) → has_number (units_of self.old) i ≡ true → has_number (units_of self.new) i ≡ true }
+    /// The least clause among those that may be unit isn't.
+    pub fn drop_unit(&mut self)
+        ensures units { DropsLeast (units_of self.old) (units_of self.new) }
         ensures lists { self.new.lists ≡ self.old.lists }
         ensures pairs { self.new.pairs ≡ self.old.pairs }
         ensures sorted { self.new.sorted ≡ self.old.sorted }
         ensures falsified { self.new.falsified ≡ self.old.falsified }
-        ensures shorter { length (units_of self.new) < length (units_of self.old) }
     {
-        let _number = self.units.remove(place);
+        self.units.drop_least();
     }
 
     /// No clause is unit or falsified.
@@ -269,26 +267,6 @@ impl Watches {
         self.units.clear();
         self.falsified = None;
     }
-}
-
-/// The place of the least number.
-fn least_place(numbers: &[u32]) -> Option<usize>
-    ensures least { IfSome result (λ k. (k < length numbers.now) × ((j : ℕ) → j < length numbers.now → slice_index_or numbers.now k 0 ≤ slice_index_or numbers.now j 0)) }
-    ensures none { IfNone result (numbers.now ≡ []) }
-{
-    if numbers.is_empty() {
-        return None;
-    }
-    let mut least = 0;
-    let mut lowest = numbers[0];
-    for i in 1..numbers.len() {
-        let number = numbers[i];
-        if number < lowest {
-            lowest = number;
-            least = i;
-        }
-    }
-    Some(least)
 }
 
 /// The watched literal beside this one, where that is watched.

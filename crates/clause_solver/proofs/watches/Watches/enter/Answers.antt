@@ -74,7 +74,7 @@ returns-clause-watches c =
     (w2.sorted ∙ w1.sorted ∙ u.sorted ∙ pushed d)
     (w2.lists ∙ ap (λ ls. set ls k2 (get_or ls k2 [] ++ v2 ∷ [])) (w1.lists ∙ ap (λ ls. set (map (λ v. v.items) ls.items) k1 (get_or (map (λ v. v.items) ls.items) k1 [] ++ v1 ∷ [])) u.lists))
     (ap (λ v. v.items) (w2.pairs ∙ w1.pairs ∙ u.pairs) ∙ c.in_ok-push.ensures.items)
-    (ap (λ v. v.items) (w2.units ∙ w1.units))
+    (w2.units ∙ w1.units)
     (w2.falsified ∙ w1.falsified ∙ u.falsified)
     (entered_watched n t s.sorted (lists_of s) s.pairs.items (units_of s) s.falsified (Positive 0) h (sorted d) (pair d) (low d n b) c.len-number.result (number d n t h)
     (let e = same_size d in omega arith)
