@@ -5,7 +5,7 @@ ghost use Rattle.std.specs.List.Sorted.{IsPermutation};
 ghost use Rattle.cqe_base.specs.Literal.{Literal, variable_of, same_literal, ClauseBelow, ClausesBelow};
 ghost use Rattle.cqe_base.specs.Machine.{Assigned, is_false, level, level_of};
 ghost use Rattle.clause_solver.specs.Assigning.{code_of};
-ghost use Rattle.clause_solver.specs.Watching.{IsWatching, IsWatched, HaveSameLiterals, WatchesBeside, kept_with, no_pair, lowest, is_caught, has_number, IsLeast, DropsLeast};
+ghost use Rattle.clause_solver.specs.Watching.{IsWatching, IsWatched, HaveSameLiterals, WatchesBeside, kept_with, no_pair, lowest, is_caught, has_number, IsLeast, DropsLeast, IsOpenOf, AreClosed};
 ghost use Rattle.clause_solver.specs.WatchesInside.{AreWatches, lists_of, units_of};
 ghost use Rattle.std.specs.Prelude.{true, false, not, ◌&&◌, ◌||◌, ◌==◌, List, None, map, replicate, take, drop, slice_set, slice_index_or, ◌≡◌, ℕ, ◌<◌, ◌≤◌, ◌+◌, ◌*◌, ◌^◌, [], ◌∷◌, ◌++◌, length, IfOk, IfSome, IfNone};
 
@@ -278,6 +278,20 @@ fn other_watched(pair: &Pair, literal: Lit) -> Option<Lit>
         Some(pair.second)
     } else if pair.second.is(literal) {
         Some(pair.first)
+    } else {
+        None
+    }
+}
+
+/// The watched literal that isn't assigned, the first one where neither is.
+pub fn open_watched(assignment: &Assignment, pair: &Pair) -> Option<Lit>
+    ensures some { IfSome result (IsOpenOf assignment.now.trail pair.now) }
+    ensures none { IfNone result (AreClosed assignment.now.trail pair.now) }
+{
+    if assignment.is_open(pair.first) {
+        Some(pair.first)
+    } else if assignment.is_open(pair.second) {
+        Some(pair.second)
     } else {
         None
     }
