@@ -48,13 +48,7 @@ impl Indexed {
     }
 
     /// One more clause, whose number is below 2^32, with the literals that it watches.
-    pub fn enter(
-        &mut self,
-        alloc: Global,
-        clause: &[Lit],
-        first: Lit,
-        second: Lit,
-    ) -> Result<(), AllocError>
+    pub fn enter(&mut self, clause: &[Lit], first: Lit, second: Lit) -> Result<(), AllocError>
         requires below { ClauseBelow self.old.assignment.variables clause.now }
         requires room { length self.old.clauses < 2 ^ 32 }
         requires watched { IsWatched self.old.assignment.trail clause.now (record { first = first; second = second }) (length clause.now == 1) (length clause.now == 0) }
@@ -64,7 +58,7 @@ impl Indexed {
         ensures looked { IfOk result (λ _. IsLookedAt self.new) }
     {
         self.clauses.push(clause)?;
-        self.watches.enter(alloc, clause, first, second)?;
+        self.watches.enter(clause, first, second)?;
         Ok(())
     }
 

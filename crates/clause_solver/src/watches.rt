@@ -40,6 +40,8 @@ pub struct Watches {
     pub pairs: Vec<Pair>,
     /// The clauses with the literals of the lowest variables first, which are the least likely to change.
     pub sorted: Clauses,
+    /// Where a clause is sorted.
+    pub sorting: Vec<Lit>,
     /// Each unit clause is among them; others have a true literal since.
     pub units: Noted,
     /// The least falsified clause.
@@ -67,19 +69,14 @@ impl Watches {
             lists: empty_lists(alloc, variables)?,
             pairs: Vec::new(alloc),
             sorted: Clauses::new(alloc),
+            sorting: Vec::new(alloc),
             units: Noted::new(alloc),
             falsified: None,
         })
     }
 
     /// One more clause, with the literals that it watches.
-    pub fn enter(
-        &mut self,
-        alloc: Global,
-        clause: &[Lit],
-        first: Lit,
-        second: Lit,
-    ) -> Result<(), AllocError>
+    pub fn enter(&mut self, clause: &[Lit], first: Lit, second: Lit) -> Result<(), AllocError>
         requires first { 0 < length clause.now → code_of first < length self.old.lists.items }
         requires second { 0 < length clause.now → code_of second < length self.old.lists.items }
         requires room { length self.old.pairs.items < 2 ^ 32 }
@@ -87,8 +84,8 @@ impl Watches {
         ensures sorted { IfOk result (λ _. (cs : List (List Literal)) → HaveSameLiterals cs self.old.sorted → HaveSameLiterals (cs ++ clause.now ∷ []) self.new.sorted) }
     {
         let number = self.pairs.len() as u32;
-        let sorted = sorted_clause(alloc, clause)?;
-        let _number = self.sorted.push(&sorted)?;
+        sort_clause(&mut self.sorting, clause)?;
+        let _number = self.sorted.push(&self.sorting)?;
         self.pairs.push(Pair { first, second })?;
         if clause.is_empty() {
             lower(&mut self.falsified, number);
@@ -324,13 +321,14 @@ fn lower(least: &mut Option<u32>, number: u32)
     }
 }
 
-/// A clause with its literals in the order of their codes.
-fn sorted_clause(alloc: Global, clause: &[Lit]) -> Result<Vec<Lit>, AllocError>
-    ensures { IfOk result (λ sorted. IsPermutation clause.now sorted.items) }
+/// A clause's literals in the order of their codes, in the place of those that were there.
+fn sort_clause(sorted: &mut Vec<Lit>, clause: &[Lit]) -> Result<(), AllocError>
+    ensures { IfOk result (λ _. IsPermutation clause.now sorted.new.items) }
 {
-    let mut sorted = Vec::from_slice(alloc, clause)?;
+    sorted.clear();
+    sorted.extend_from_slice(clause)?;
     sorted.sort_by_key(|l| code(*l))?;
-    Ok(sorted)
+    Ok(())
 }
 
 /// For each literal's code no clause.
