@@ -1,7 +1,7 @@
 -- What the watched literals say of the falsified and of the unit clauses.
-use Rattle.std.proofs.Common.{◌≡◌, ℕ, zero, suc, ◌+◌, ◌<◌, ◌≤◌, Bool, true, false, cond, not, List, [], ◌∷◌, length, get_or, Option, Some, None, refl, sym, ap, ◌∙◌, subst, inl, inr, ⊎_elim, ◌⊎◌, arith}
+use Rattle.std.proofs.Common.{◌≡◌, ℕ, zero, suc, ◌+◌, ◌<◌, ◌≤◌, Bool, true, false, cond, not, ◌&&◌, List, [], ◌∷◌, length, get_or, Option, Some, None, refl, sym, ap, ◌∙◌, subst, inl, inr, ⊎_elim, ◌⊎◌, arith}
 use Rattle.std.specs.Prelude.{IfSome}
-use Rattle.std.specs.List.{list_all, find, filter, position_from}
+use Rattle.std.specs.List.{list_all, filter, position_from}
 use Rattle.std.proofs.lemmas.Bool.{both_ways, or_parts, cases_eq, cases_lt, false_from_ne_true, or_cases, or_left, or_right, and_parts, and_from, leb-true, not-true}
 use Rattle.cqe_base.specs.Literal.{Literal, same_literal, has_literal, HasNoRepeat, HaveNoRepeat}
 use Rattle.cqe_base.specs.Machine.{Assigned, is_true, is_false, level, unit_literal, only_literal, first_unit, unit_or}
@@ -12,7 +12,7 @@ use Rattle.cqe_base.proofs.MachineRules.{IsUnit, is_unit, each_has}
 use Rattle.cqe_base.proofs.NoRepeats.{no_repeat_at}
 use Rattle.clause_solver.specs.declared.watches.Pair.{Pair}
 use Rattle.clause_solver.specs.declared.watches.Watch.{Watch}
-use Rattle.clause_solver.specs.Watching.{HasTrue, IsAnswered, satisfied, is_unit as answered_unit, is_falsified, IsWatched, IsWatching, AllFalseBut, has_number, is_caught, no_pair, HaveSameLiterals}
+use Rattle.clause_solver.specs.Watching.{HasTrue, IsAnswered, satisfied, is_unit as answered_unit, is_falsified, IsWatched, IsWatching, AllFalseBut, has_number, is_caught, no_pair, IsOpenOf, AreClosed, HaveSameLiterals}
 use Rattle.clause_solver.proofs.Watching.{watched_more}
 
 -- ---- literals of a clause
@@ -86,6 +86,29 @@ module _ (n : ℕ) (t : List Assigned) (d : IsDistinct n t) (c : List Literal) (
       answer (answered_unit e o g) = satisfied (subst (λ j. HasTrue t j c) (sym e) h)
       answer (is_falsified e g) = is_falsified e g
 
+  -- where no watched literal is open it has a true literal, unless it is falsified
+  pub held : q ≡ false → AreClosed t p → HasTrue t (level t) c
+  held free closed = elim (cases_lt 0 (length c)) [
+    | inr none ↦ absurd (both_ways _ free (w.empty (omega arith)).1)
+    | inl pos ↦
+        ⊎_elim (λ on. true_one p.first (w.first_in pos) on)
+        (λ off. ⊎_elim (λ on. true_one p.second (w.second_in pos) on) (λ f. answer f (w.first_answered off)) (on_or_off _ _ closed.1))
+        (on_or_off _ _ closed.0)
+  ]
+    where
+      true_one : (l : Literal) → has_literal c l ≡ true → is_true t l ≡ true → HasTrue t (level t) c
+      true_one l has on = record { literal = l; has = has; holds = on; low = level_of-le t l }
+
+      on_or_off : (a b : Bool) → (not a && not b) ≡ false → (a ≡ true) ⊎ (b ≡ true)
+      on_or_off true b e = inl refl
+      on_or_off false true e = inr refl
+      on_or_off false false e = absurd (both_ways true e refl)
+
+      answer : {k : ℕ} {l : Literal} → is_false t l ≡ true → IsAnswered t c u q k l → HasTrue t (level t) c
+      answer off (satisfied g) = true_one g.literal g.has g.holds
+      answer off (answered_unit e o g) = absurd (both_ways _ o off)
+      answer off (is_falsified e g) = absurd (both_ways _ free g)
+
 -- ---- the first place of a test
 
 pub position_at : (p : List Literal → Bool) (cs : List (List Literal)) (s i : ℕ) → i < length cs → p (get_or cs i []) ≡ true → ((k : ℕ) → k < i → p (get_or cs k []) ≡ false) → position_from p s cs ≡ Some (s + i)
@@ -118,22 +141,6 @@ unit_nowhere t (c ∷ cs) s h =
 
 abbrev pub not_false : List Assigned → Literal → Bool
 not_false t l = not (is_false t l)
-
-pub found_open : (t : List Assigned) (c : List Literal) (l : Literal) → find (not_false t) c ≡ Some l → (has_literal c l ≡ true) × (is_false t l ≡ false)
-found_open t [] l h = absurd (let x : ⊥ = cc in x)
-found_open t (x ∷ c) l h = step (not_false t x) refl (λ e. found_open t c l e) h
-  where
-    step : (b : Bool) → not_false t x ≡ b → (find (not_false t) c ≡ Some l → (has_literal c l ≡ true) × (is_false t l ≡ false)) → cond b (Some x) (find (not_false t) c) ≡ Some l → (has_literal (x ∷ c) l ≡ true) × (is_false t l ≡ false)
-    step true e go h = let same : x ≡ l = cc in (or_left _ _ (subst (λ y. same_literal l y ≡ true) (sym same) (same_literal-same l)), subst (λ y. is_false t y ≡ false) same (not-true _ e))
-    step false e go h = let r = go h in (or_right _ _ r.0, r.1)
-
-pub none_open : (t : List Assigned) (c : List Literal) → find (not_false t) c ≡ None → list_all (is_false t) c ≡ true
-none_open t [] h = refl
-none_open t (x ∷ c) h = step (is_false t x) refl (λ e. none_open t c e) h
-  where
-    step : (b : Bool) → is_false t x ≡ b → (find (not_false t) c ≡ None → list_all (is_false t) c ≡ true) → cond (not b) (Some x) (find (not_false t) c) ≡ None → list_all (is_false t) (x ∷ c) ≡ true
-    step true e go h = and_from _ _ e (go h)
-    step false e go h = absurd (let y : ⊥ = cc in y)
 
 none_left : (t : List Assigned) (l : Literal) (c : List Literal) → AllFalseBut t l c → has_literal c l ≡ false → filter (not_false t) c ≡ []
 none_left t l [] h m = refl
@@ -230,40 +237,50 @@ module _ (n : ℕ) (t : List Assigned) (d : IsDistinct n t) (cs ds : List (List 
       only : (m : Literal) → has_literal (get_or cs i []) m ≡ true → (m ≡ (w.units_are i has).1) ⊎ (is_false t m ≡ true)
       only m h = each_has (λ x. (x ≡ (w.units_are i has).1) ⊎ (is_false t x ≡ true)) (get_or ds i []) m (w.units_are i has).2 (sym (same.same i m) ∙ h)
 
-      -- the least one that may be unit has an open literal
-      module _ (l : Literal) (found : find (not_false t) (get_or cs i []) ≡ Some l) where
-        parts : (has_literal (get_or cs i []) l ≡ true) × (is_false t l ≡ false)
-        parts = found_open t (get_or cs i []) l found
+      known : IsWatched t (get_or ds i []) (get_or pairs i no_pair) (has_number units i) (is_caught falsified i)
+      known = watched i (within i unit_within)
+
+      pub unit_listed : i < length pairs
+      unit_listed = let a = unit_within in let r = same.room in let e = w.pairs_room in omega arith
+
+      pub no_open : AreClosed t (get_or pairs i no_pair) → HasTrue t (level t) (get_or ds i [])
+      no_open = held n t d _ _ _ _ known (free i)
+
+      -- a watched literal of the least one that may be unit, where it isn't assigned
+      module _ (l : Literal) (is : IsOpenOf t (get_or pairs i no_pair) l) where
+        pub open_in : has_literal (get_or cs i []) l ≡ true
+        open_in = elim (cases_lt 0 (length (get_or ds i []))) [
+          | inr none ↦ absurd (both_ways _ (free i) (known.empty (omega arith)).1)
+          | inl pos ↦
+              same.same i l
+              ∙ ⊎_elim (λ e. subst (λ m. has_literal (get_or ds i []) m ≡ true) e (known.first_in pos))
+              (λ e. subst (λ m. has_literal (get_or ds i []) m ≡ true) e (known.second_in pos))
+              is.1
+        ]
+
+        unassigned : (is_true t l ≡ false) × (is_false t l ≡ false)
+        unassigned =
+            let parts : (not (is_true t l) ≡ true) × (not (is_false t l) ≡ true) = and_parts _ _ is.0 in
+            (not-true _ parts.0, not-true _ parts.1)
 
         is_only : (m : Literal) → has_literal (get_or cs i []) m ≡ true → (m ≡ l) ⊎ (is_false t m ≡ true)
         is_only m h =
             ⊎_elim
-            (λ e. ⊎_elim (λ f. inl (e ∙ sym f)) (λ f. absurd (both_ways _ parts.1 f)) (only l parts.0))
+            (λ e. ⊎_elim (λ f. inl (e ∙ sym f)) (λ f. absurd (both_ways _ unassigned.1 f)) (only l open_in))
             (λ f. inr f)
             (only m h)
 
-        pub is_unit_literal : is_true t l ≡ false → unit_literal t (get_or cs i []) ≡ Some l
-        is_unit_literal off =
-            ap (only_literal t) (one_left t l (get_or cs i []) (each_but t l (get_or cs i []) is_only) (no_repeat_at cs i repeat unit_within) parts.1 parts.0)
-            ∙ ap (λ b. cond b None (Some l)) off
+        pub is_unit_literal : unit_literal t (get_or cs i []) ≡ Some l
+        is_unit_literal =
+            ap (only_literal t) (one_left t l (get_or cs i []) (each_but t l (get_or cs i []) is_only) (no_repeat_at cs i repeat unit_within) unassigned.1 open_in)
+            ∙ ap (λ b. cond b None (Some l)) unassigned.0
 
         -- it is the first unit clause
-        pub is_first_unit : is_true t l ≡ false → first_unit t 0 cs ≡ Some (i, l)
-        is_first_unit off =
-            unit_at_place t cs 0 i l unit_within (is_unit_literal off)
+        pub is_first_unit : first_unit t 0 cs ≡ Some (i, l)
+        is_first_unit =
+            unit_at_place t cs 0 i l unit_within is_unit_literal
             (λ k lt. no_unit k (let a = unit_within in omega arith) (false_from_ne_true _ (λ h. let le = least k h in absurd (omega arith))))
             ∙ ap (λ k. Some (k, l)) (let z : 0 + i ≡ i = omega arith in z)
-
-        pub has_true : is_true t l ≡ true → HasTrue t (level t) (get_or ds i [])
-        has_true on = record { literal = l; has = sym (same.same i l) ∙ parts.0; holds = on; low = level_of-le t l }
-
-      -- it has one, since it isn't falsified
-      pub has_open : (l : Literal) × (find (not_false t) (get_or cs i []) ≡ Some l)
-      has_open = step (find (not_false t) (get_or cs i [])) refl
-        where
-          step : (o : Option Literal) → find (not_false t) (get_or cs i []) ≡ o → (l : Literal) × (find (not_false t) (get_or cs i []) ≡ Some l)
-          step (Some l) e = (l, e)
-          step None e = absurd (both_ways _ (free i) (caught i unit_within (none_open t (get_or cs i []) e)))
 
   -- a clause with a true literal is left out
   pub unit_dropped : (i : ℕ) (units' : List ℕ) → HasTrue t (level t) (get_or ds i []) → ((k : ℕ) → has_number units' k ≡ true → has_number units k ≡ true) → ((k : ℕ) → (k ≡ i → ⊥) → has_number units k ≡ true → has_number units' k ≡ true) → IsWatching n t ds lists pairs units' falsified g []

@@ -1,13 +1,14 @@
 -- One more entry of a trail whose latest entry is last.
-use Rattle.std.proofs.Common.{◌≡◌, ℕ, zero, suc, Option, subst, arith, map, append_assoc, ◌+◌, ◌-◌, ◌<◌, ◌≤◌, Bool, true, false, cond, eqb, List, [], ◌∷◌, ◌++◌, length, reverse, get_or, take, refl, sym, ap, ◌∙◌}
+use Rattle.std.proofs.Common.{◌≡◌, ℕ, zero, suc, Option, subst, arith, map, append_assoc, ◌+◌, ◌-◌, ◌<◌, ◌≤◌, Bool, true, false, cond, eqb, List, [], ◌∷◌, ◌++◌, length, reverse, get_or, take, drop, refl, sym, ap, ◌∙◌}
 use Rattle.std.specs.List.{range_with_len, position_from, list_all}
 use Rattle.clause_solver.specs.declared.ends.Advance.{Advance}
 use Rattle.clause_solver.specs.PlainStates.{StepIs}
-use Rattle.std.proofs.lemmas.List.{take_more, reverse-append}
+use Rattle.std.proofs.lemmas.List.{take_more, take-append-drop, reverse-append}
+use Rattle.std.proofs.lemmas.List.Sums.{sum_by-append, sum_by-drop_more}
 use Rattle.std.proofs.lemmas.Bool.{both_ways, le-leb, lt-ltb, le-ltb}
 use Rattle.std.proofs.Math.Numerals.{suc-eq-add-one}
 use Rattle.cqe_base.specs.Literal.{Literal, variable_of}
-use Rattle.cqe_base.specs.Machine.{Assigned, Decided, Because, assigned_literal, level, level_of, cut, current_count, latest_against, resolved_with, analysis, State, is_false, step, conflict_or_unit_step}
+use Rattle.cqe_base.specs.Machine.{Assigned, Decided, Because, assigned_literal, level, level_of, cut, is_current, current_count, latest_against, resolved_with, analysis, State, is_false, step, conflict_or_unit_step}
 use Rattle.cqe_base.specs.Refutation.{RefutationLine}
 use Rattle.clause_solver.specs.Entries.{is_decided}
 
@@ -66,6 +67,21 @@ pub analysis_done : (cs : List (List Literal)) (trail : List Assigned) (keep tim
 analysis_done cs trail keep zero line few = refl
 analysis_done cs trail keep (suc times) line few =
     ap (λ b. cond b (analysis cs trail keep times (resolved_with cs (latest_against trail line.clause) line)) line) (le-ltb keep (current_count trail line.clause) few)
+
+more_counted : (before here behind one left most whole : ℕ) → behind + left ≡ most → here ≡ one + behind → one ≡ 1 → before + here ≡ whole → left ≡ 0 → most < whole
+more_counted before here behind one left most whole same at counted sum none = omega arith
+
+-- the literals of the current level behind a place, and one at that
+pub more_current : (t : List Assigned) (c : List Literal) (i left most : ℕ) (l : Literal) → i < length c → current_count t (drop (length c - i) c) + left ≡ most → l ≡ get_or c (length c - 1 - i) l → is_current t l ≡ true → left ≡ 0 → most < current_count t c
+more_current t c i left most l lt same at on none =
+    let k = length c - 1 - i in
+    let next : length c - i ≡ k + 1 = omega arith in
+    more_counted (current_count t (take k c)) (current_count t (drop k c)) (current_count t (drop (k + 1) c)) (cond (is_current t l) 1 0) left most (current_count t c)
+    (ap (λ j. current_count t (drop j c) + left) (sym next) ∙ same)
+    (sum_by-drop_more (λ m. cond (is_current t m) 1 0) c k l (omega arith) ∙ ap (λ m. cond (is_current t m) 1 0 + current_count t (drop (k + 1) c)) (sym at))
+    (ap (λ b. cond b 1 0) on)
+    (sym (sum_by-append (λ m. cond (is_current t m) 1 0) (take k c) (drop k c)) ∙ ap (current_count t) (take-append-drop k c))
+    none
 
 -- the numbers from v to below n begin with v
 pub range_more : (v n : ℕ) → v < n → range_with_len v (n - v) ≡ v ∷ range_with_len (v + 1) (n - (v + 1))

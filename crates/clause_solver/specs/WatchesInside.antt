@@ -12,7 +12,7 @@ lists_of w = map (λ v. v.items) w.lists.items
 
 -- the numbers of the clauses that may be unit
 abbrev pub units_of : Watches → List ℕ
-units_of w = w.units.items
+units_of w = w.units
 
 -- all watches of false literals were looked at
 abbrev pub AreWatches : ℕ → List Assigned → Watches → Type 0

@@ -1,5 +1,5 @@
 -- Two watched literals of each clause under a trail.
-use Rattle.std.specs.Prelude.{◌≡◌, ◌⊎◌, ℕ, ◌<◌, ◌≤◌, ◌*◌, ◌==◌, nat_le, min, Bool, true, false, List, [], ◌∷◌, ◌++◌, length, Option, Some, None, IfSome, slice_index_or}
+use Rattle.std.specs.Prelude.{◌≡◌, ◌⊎◌, ◌&&◌, ◌||◌, not, ℕ, ◌<◌, ◌≤◌, ◌*◌, ◌==◌, nat_le, min, Bool, true, false, List, [], ◌∷◌, ◌++◌, length, Option, Some, None, IfSome, slice_index_or}
 use Rattle.std.specs.List.{list_any, list_all, AllByRecursion}
 use Rattle.cqe_base.specs.Literal.{Literal, Positive, has_literal, ClausesBelow}
 use Rattle.cqe_base.specs.Machine.{Assigned, is_true, is_false, level, level_of}
@@ -53,6 +53,25 @@ pub record IsHalfWatched (t : List Assigned) (c : List Literal) (pair : Pair) (u
 abbrev pub has_number : List ℕ → ℕ → Bool
 has_number numbers i = list_any (λ m. m == i) numbers
 
+-- one more number in a list
+abbrev pub IsWith : ℕ → List ℕ → List ℕ → Type 0
+IsWith k old new = (i : ℕ) → has_number new i ≡ (has_number old i || (k == i))
+
+-- the least of a list's numbers
+pub record IsLeast (numbers : List ℕ) (k : ℕ) : Type 0 where
+  pub there : has_number numbers k ≡ true
+  pub low : (i : ℕ) → has_number numbers i ≡ true → k ≤ i
+
+-- a list of numbers that is shorter, and lacks none but perhaps this one
+pub record IsWithout (k : ℕ) (old new : List ℕ) : Type 0 where
+  pub fewer : (i : ℕ) → has_number new i ≡ true → has_number old i ≡ true
+  pub others : (i : ℕ) → (i ≡ k → ⊥) → has_number old i ≡ true → has_number new i ≡ true
+  pub shorter : length new < length old
+
+-- the least of a list's numbers goes
+abbrev pub DropsLeast : List ℕ → List ℕ → Type 0
+DropsLeast old new = (k : ℕ) → IsLeast old k → IsWithout k old new
+
 -- whether a clause is in a list of watches
 abbrev pub has_clause : List Watch → ℕ → Bool
 has_clause watches i = list_any (λ w. w.clause == i) watches
@@ -103,6 +122,18 @@ WatchesBeside p l other = ((p.first ≡ l) × (p.second ≡ other)) ⊎ ((p.seco
 abbrev pub kept_with : List Watch → ℕ → Option Literal → List Watch
 kept_with kept i None = kept
 kept_with kept i (Some blocker) = kept ++ record { clause = i; blocker = blocker } ∷ []
+
+-- whether a literal isn't assigned
+abbrev pub is_open : List Assigned → Literal → Bool
+is_open t l = not (is_true t l) && not (is_false t l)
+
+-- a watched literal that isn't assigned
+abbrev pub IsOpenOf : List Assigned → Pair → Literal → Type 0
+IsOpenOf t p l = (is_open t l ≡ true) × ((p.first ≡ l) ⊎ (p.second ≡ l))
+
+-- no watched literal is open
+abbrev pub AreClosed : List Assigned → Pair → Type 0
+AreClosed t p = (is_open t p.first ≡ false) × (is_open t p.second ≡ false)
 
 -- the same literals in each clause of two lists
 pub record HaveSameLiterals (cs ds : List (List Literal)) : Type 0 where

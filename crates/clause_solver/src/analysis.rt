@@ -1,6 +1,6 @@
 //! The analysis of a conflict with the levels and the marks at hand.
 
-ghost use Rattle.std.specs.Prelude.{◌≡◌, ◌<◌, ◌^◌, [], length, not, max, if◌then◌else◌, IfOk, slice_index_or};
+ghost use Rattle.std.specs.Prelude.{◌≡◌, ◌<◌, ◌^◌, ◌↔◌, IsTrue, [], length, not, max, if◌then◌else◌, IfOk, slice_index_or};
 ghost use Rattle.std.specs.List.{filter, find};
 ghost use Rattle.cqe_base.specs.Literal.{ClausesBelow};
 ghost use Rattle.cqe_base.specs.Machine.{resolved_with, is_current, level_of, current_count, highest_level, kept_count, analysis, conflict_line, State};
@@ -15,11 +15,21 @@ use clause_store::literal::Lit;
 use clause_store::refutation::Line;
 use std::alloc::{AllocError, Global};
 
-/// How many literals of a clause are of the current level.
-fn current_count(assignment: &Assignment, clause: &[Lit]) -> usize
-    ensures { result ≡ current_count assignment.now.trail clause.now }
+/// Whether more literals of a clause than so many are of the current level. A resolution appends literals of that level, so the
+/// last ones are looked at first.
+fn has_more_current(assignment: &Assignment, clause: &[Lit], most: usize) -> bool
+    ensures { IsTrue result ↔ (most < current_count assignment.now.trail clause.now) }
 {
-    clause.iter().filter(|l| assignment.is_current(**l)).count()
+    let mut left = most;
+    for i in 0..clause.len() {
+        if assignment.is_current(clause[clause.len() - 1 - i]) {
+            if left == 0 {
+                return true;
+            }
+            left -= 1;
+        }
+    }
+    false
 }
 
 /// The clause of this number, or no literal where there is none.
@@ -69,7 +79,7 @@ fn analyse(
     ensures variables { IfOk result (λ _. clause.new.variables ≡ clause.old.variables) }
 {
     for times in 0..assignment.entries().len() {
-        if current_count(assignment, clause.literals()) <= keep {
+        if !has_more_current(assignment, clause.literals(), keep) {
             return Ok(());
         }
         let latest = assignment.latest_against(clause.literals());

@@ -6,6 +6,7 @@ ghost use Rattle.cqe_base.specs.Machine.{Assigned, assigned_literal, is_true, is
 ghost use Rattle.cqe_base.specs.MachineStates.{is_assigned};
 ghost use Rattle.clause_solver.specs.Entries.{is_decided};
 ghost use Rattle.clause_solver.specs.Assigning.{place_of, place_against, latest_place, IsFirstZero};
+ghost use Rattle.clause_solver.specs.Watching.{is_open};
 
 use crate::codes::code;
 use crate::entry::TrailEntry;
@@ -86,6 +87,13 @@ impl Assignment {
         ensures { result ≡ is_false self.now.trail literal }
     {
         self.is_true(literal.opposite())
+    }
+
+    /// Whether a literal isn't assigned.
+    pub fn is_open(&self, literal: Lit) -> bool
+        ensures { result ≡ is_open self.now.trail literal }
+    {
+        !self.is_true(literal) && !self.is_false(literal)
     }
 
     /// The level of a true or a false literal.

@@ -13,7 +13,7 @@ ghost use Rattle.clause_solver.specs.IndexedStates.{plain_of, IsLookedAt, IsInde
 use crate::assignment::Assignment;
 use crate::entry::TrailEntry;
 use crate::marked_clause::MarkedClause;
-use crate::watches::Watches;
+use crate::watches::{Watches, open_watched};
 use clause_store::clauses::Clauses;
 use clause_store::literal::Lit;
 use clause_store::refutation::Line;
@@ -48,13 +48,7 @@ impl Indexed {
     }
 
     /// One more clause, whose number is below 2^32, with the literals that it watches.
-    pub fn enter(
-        &mut self,
-        alloc: Global,
-        clause: &[Lit],
-        first: Lit,
-        second: Lit,
-    ) -> Result<(), AllocError>
+    pub fn enter(&mut self, clause: &[Lit], first: Lit, second: Lit) -> Result<(), AllocError>
         requires below { ClauseBelow self.old.assignment.variables clause.now }
         requires room { length self.old.clauses < 2 ^ 32 }
         requires watched { IsWatched self.old.assignment.trail clause.now (record { first = first; second = second }) (length clause.now == 1) (length clause.now == 0) }
@@ -64,7 +58,7 @@ impl Indexed {
         ensures looked { IfOk result (λ _. IsLookedAt self.new) }
     {
         self.clauses.push(clause)?;
-        self.watches.enter(alloc, clause, first, second)?;
+        self.watches.enter(clause, first, second)?;
         Ok(())
     }
 
@@ -128,36 +122,13 @@ impl Indexed {
         ensures falsified { self.new.watches.falsified ≡ None }
         ensures none { IfNone result (units_of self.new.watches ≡ []) }
     {
-        while let Some(place) = self.watches.least_unit() {
-            let number = self.watches.units[place] as usize;
-            if let Some(literal) = open_literal(&self.assignment, self.clauses.clause(number)) {
+        while let Some(least) = self.watches.least_unit() {
+            let number = least as usize;
+            if let Some(literal) = open_watched(&self.assignment, &self.watches.pairs[number]) {
                 return Some((number, literal));
             }
-            self.watches.drop_unit(place);
+            self.watches.drop_unit();
         }
         None
     }
-}
-
-/// The first literal of a clause that isn't false, unless it is true.
-fn open_literal(assignment: &Assignment, clause: &[Lit]) -> Option<Lit>
-    ensures open_literal { IfSome result (λ l. (find (λ m. not (is_false assignment.now.trail m)) clause.now ≡ Some l) × (is_true assignment.now.trail l ≡ false)) }
-    ensures none { IfNone result ((l : Literal) → find (λ m. not (is_false assignment.now.trail m)) clause.now ≡ Some l → is_true assignment.now.trail l ≡ true) }
-{
-    match first_open(assignment, clause) {
-        Some(literal) => {
-            if assignment.is_true(literal) {
-                return None;
-            }
-            Some(literal)
-        }
-        None => None,
-    }
-}
-
-/// The first literal of a clause that isn't false.
-fn first_open(assignment: &Assignment, clause: &[Lit]) -> Option<Lit>
-    ensures { result ≡ find (λ l. not (is_false assignment.now.trail l)) clause.now }
-{
-    clause.iter().copied().find(|l| !assignment.is_false(*l))
 }

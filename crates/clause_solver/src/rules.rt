@@ -46,7 +46,7 @@ fn higher_beside(assignment: &Assignment, literal: Lit, highest: Lit, other: Lit
 }
 
 /// A line's clause is learnt.
-fn learn(alloc: Global, state: &mut Indexed, line: Line) -> Result<(), AllocError>
+fn learn(state: &mut Indexed, line: Line) -> Result<(), AllocError>
     requires room { length state.old.clauses < 2 ^ 32 }
     requires level { 0 < level state.old.assignment.trail }
     requires walked { Walked state.old.assignment.variables state.old.assignment.trail 1 line.clause.items }
@@ -63,7 +63,7 @@ fn learn(alloc: Global, state: &mut Indexed, line: Line) -> Result<(), AllocErro
     let second = highest_beside(&state.assignment, &line.clause, asserting);
     state.cut(back);
     state.assign(TrailEntry::because(number, asserting))?;
-    state.enter(alloc, &line.clause, asserting, second)?;
+    state.enter(&line.clause, asserting, second)?;
     state.lines.push(line)?;
     Ok(())
 }
@@ -91,7 +91,7 @@ fn conflict_step(alloc: Global, state: &mut Indexed, number: usize) -> Result<Ad
         state.lines.push(line)?;
         return Ok(Advance::Refuted(cost));
     }
-    learn(alloc, state, line)?;
+    learn(state, line)?;
     Ok(Advance::Went(cost))
 }
 

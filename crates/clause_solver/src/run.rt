@@ -29,7 +29,7 @@ fn begin(alloc: Global, clauses: &Clauses, variables: u32) -> Result<Indexed, Al
     for number in 0..clauses.len() {
         let clause = clauses.clause(number);
         let (first, second) = first_two(clause);
-        state.enter(alloc, clause, first, second)?;
+        state.enter(clause, first, second)?;
     }
     Ok(state)
 }

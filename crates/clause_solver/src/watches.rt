@@ -5,12 +5,13 @@ ghost use Rattle.std.specs.List.Sorted.{IsPermutation};
 ghost use Rattle.cqe_base.specs.Literal.{Literal, variable_of, same_literal, ClauseBelow, ClausesBelow};
 ghost use Rattle.cqe_base.specs.Machine.{Assigned, is_false, level, level_of};
 ghost use Rattle.clause_solver.specs.Assigning.{code_of};
-ghost use Rattle.clause_solver.specs.Watching.{IsWatching, IsWatched, HaveSameLiterals, WatchesBeside, kept_with, no_pair, lowest, is_caught, has_number};
+ghost use Rattle.clause_solver.specs.Watching.{IsWatching, IsWatched, HaveSameLiterals, WatchesBeside, kept_with, no_pair, lowest, is_caught, has_number, IsLeast, DropsLeast, IsOpenOf, AreClosed};
 ghost use Rattle.clause_solver.specs.WatchesInside.{AreWatches, lists_of, units_of};
 ghost use Rattle.std.specs.Prelude.{true, false, not, ◌&&◌, ◌||◌, ◌==◌, List, None, map, replicate, take, drop, slice_set, slice_index_or, ◌≡◌, ℕ, ◌<◌, ◌≤◌, ◌+◌, ◌*◌, ◌^◌, [], ◌∷◌, ◌++◌, length, IfOk, IfSome, IfNone};
 
 use crate::assignment::Assignment;
 use crate::codes::code;
+use crate::noted::Noted;
 use clause_store::clauses::Clauses;
 use clause_store::literal::Lit;
 use std::alloc::{AllocError, Global};
@@ -39,8 +40,10 @@ pub struct Watches {
     pub pairs: Vec<Pair>,
     /// The clauses with the literals of the lowest variables first, which are the least likely to change.
     pub sorted: Clauses,
+    /// Where a clause is sorted.
+    pub sorting: Vec<Lit>,
     /// Each unit clause is among them; others have a true literal since.
-    pub units: Vec<u32>,
+    pub units: Noted,
     /// The least falsified clause.
     pub falsified: Option<u32>,
 }
@@ -66,19 +69,14 @@ impl Watches {
             lists: empty_lists(alloc, variables)?,
             pairs: Vec::new(alloc),
             sorted: Clauses::new(alloc),
-            units: Vec::new(alloc),
+            sorting: Vec::new(alloc),
+            units: Noted::new(alloc),
             falsified: None,
         })
     }
 
     /// One more clause, with the literals that it watches.
-    pub fn enter(
-        &mut self,
-        alloc: Global,
-        clause: &[Lit],
-        first: Lit,
-        second: Lit,
-    ) -> Result<(), AllocError>
+    pub fn enter(&mut self, clause: &[Lit], first: Lit, second: Lit) -> Result<(), AllocError>
         requires first { 0 < length clause.now → code_of first < length self.old.lists.items }
         requires second { 0 < length clause.now → code_of second < length self.old.lists.items }
         requires room { length self.old.pairs.items < 2 ^ 32 }
@@ -86,8 +84,8 @@ impl Watches {
         ensures sorted { IfOk result (λ _. (cs : List (List Literal)) → HaveSameLiterals cs self.old.sorted → HaveSameLiterals (cs ++ clause.now ∷ []) self.new.sorted) }
     {
         let number = self.pairs.len() as u32;
-        let sorted = sorted_clause(alloc, clause)?;
-        let _number = self.sorted.push(&sorted)?;
+        sort_clause(&mut self.sorting, clause)?;
+        let _number = self.sorted.push(&self.sorting)?;
         self.pairs.push(Pair { first, second })?;
         if clause.is_empty() {
             lower(&mut self.falsified, number);
@@ -236,26 +234,23 @@ impl Watches {
         Ok(())
     }
 
-    /// The place of the least clause among those that may be unit.
-    pub fn least_unit(&self) -> Option<usize>
-        ensures least { IfSome result (λ k. (k < length (units_of self.now)) × ((j : ℕ) → j < length (units_of self.now) → slice_index_or (units_of self.now) k 0 ≤ slice_index_or (units_of self.now) j 0)) }
+    /// The least clause among those that may be unit.
+    pub fn least_unit(&self) -> Option<u32>
+        ensures least { IfSome result (IsLeast (units_of self.now)) }
         ensures none { IfNone result (units_of self.now ≡ []) }
     {
-        least_place(&self.units)
+        self.units.least()
     }
 
-    /// The clause at a place isn't unit.
-    pub fn drop_unit(&mut self, place: usize)
-        requires { place < length (units_of self.old) }
-        ensures fewer { (i : ℕ) → has_number (units_of self.new) i ≡ true → has_number (units_of self.old) i ≡ true }
-        ensures others { (i : ℕ) → (i ≡ slice_index_or (units_of self.old) place 0 → ⊥) → has_number (units_of self.old) i ≡ true → has_number (units_of self.new) i ≡ true }
+    /// The least clause among those that may be unit isn't.
+    pub fn drop_unit(&mut self)
+        ensures units { DropsLeast (units_of self.old) (units_of self.new) }
         ensures lists { self.new.lists ≡ self.old.lists }
         ensures pairs { self.new.pairs ≡ self.old.pairs }
         ensures sorted { self.new.sorted ≡ self.old.sorted }
         ensures falsified { self.new.falsified ≡ self.old.falsified }
-        ensures shorter { length (units_of self.new) < length (units_of self.old) }
     {
-        let _number = self.units.remove(place);
+        self.units.drop_least();
     }
 
     /// No clause is unit or falsified.
@@ -271,26 +266,6 @@ impl Watches {
     }
 }
 
-/// The place of the least number.
-fn least_place(numbers: &[u32]) -> Option<usize>
-    ensures least { IfSome result (λ k. (k < length numbers.now) × ((j : ℕ) → j < length numbers.now → slice_index_or numbers.now k 0 ≤ slice_index_or numbers.now j 0)) }
-    ensures none { IfNone result (numbers.now ≡ []) }
-{
-    if numbers.is_empty() {
-        return None;
-    }
-    let mut least = 0;
-    let mut lowest = numbers[0];
-    for i in 1..numbers.len() {
-        let number = numbers[i];
-        if number < lowest {
-            lowest = number;
-            least = i;
-        }
-    }
-    Some(least)
-}
-
 /// The watched literal beside this one, where that is watched.
 fn other_watched(pair: &Pair, literal: Lit) -> Option<Lit>
     ensures beside { IfSome result (λ other. WatchesBeside pair.now literal other) }
@@ -300,6 +275,20 @@ fn other_watched(pair: &Pair, literal: Lit) -> Option<Lit>
         Some(pair.second)
     } else if pair.second.is(literal) {
         Some(pair.first)
+    } else {
+        None
+    }
+}
+
+/// The watched literal that isn't assigned, the first one where neither is.
+pub fn open_watched(assignment: &Assignment, pair: &Pair) -> Option<Lit>
+    ensures some { IfSome result (IsOpenOf assignment.now.trail pair.now) }
+    ensures none { IfNone result (AreClosed assignment.now.trail pair.now) }
+{
+    if assignment.is_open(pair.first) {
+        Some(pair.first)
+    } else if assignment.is_open(pair.second) {
+        Some(pair.second)
     } else {
         None
     }
@@ -332,13 +321,14 @@ fn lower(least: &mut Option<u32>, number: u32)
     }
 }
 
-/// A clause with its literals in the order of their codes.
-fn sorted_clause(alloc: Global, clause: &[Lit]) -> Result<Vec<Lit>, AllocError>
-    ensures { IfOk result (λ sorted. IsPermutation clause.now sorted.items) }
+/// A clause's literals in the order of their codes, in the place of those that were there.
+fn sort_clause(sorted: &mut Vec<Lit>, clause: &[Lit]) -> Result<(), AllocError>
+    ensures { IfOk result (λ _. IsPermutation clause.now sorted.new.items) }
 {
-    let mut sorted = Vec::from_slice(alloc, clause)?;
+    sorted.clear();
+    sorted.extend_from_slice(clause)?;
     sorted.sort_by_key(|l| code(*l))?;
-    Ok(sorted)
+    Ok(())
 }
 
 /// For each literal's code no clause.

@@ -14,19 +14,19 @@ use Rattle.clause_solver.proofs.watches.Watches.enter.Goals as goal
 use Rattle.clause_solver.proofs.watches.Watches.enter.Goals.{In_ok-push}
 
 abbrev sorted : In_ok-push → List Literal
-sorted c = c.in_ok-sorted.sorted.items
+sorted c = c.sort_clause.new.sorted.items
 
 abbrev pair : In_ok-push → Pair
 pair c = record { first = c.args.first; second = c.args.second }
 
 same_has : (c : In_ok-push) (l : Literal) → has_literal c.args.clause.now l ≡ has_literal (sorted c) l
-same_has c l = list_any-IsPermutation (same_literal l) c.args.clause.now (sorted c) c.in_ok-sorted.ensures
+same_has c l = list_any-IsPermutation (same_literal l) c.args.clause.now (sorted c) c.in_ok-sort_clause.ensures
 
 same_size : (c : In_ok-push) → length c.args.clause.now ≡ length (sorted c)
-same_size c = sym (length_permutation c.args.clause.now (sorted c) c.in_ok-sorted.ensures)
+same_size c = sym (length_permutation c.args.clause.now (sorted c) c.in_ok-sort_clause.ensures)
 
 low : (c : In_ok-push) (n : ℕ) → ClauseBelow n c.args.clause.now → ClauseBelow n (sorted c)
-low c n h = recursion_from_All (λ l. variable_of l < n) (sorted c) (All-permutation (λ l. variable_of l < n) c.args.clause.now (sorted c) c.in_ok-sorted.ensures (All-from_recursion (λ l. variable_of l < n) c.args.clause.now h))
+low c n h = recursion_from_All (λ l. variable_of l < n) (sorted c) (All-permutation (λ l. variable_of l < n) c.args.clause.now (sorted c) c.in_ok-sort_clause.ensures (All-from_recursion (λ l. variable_of l < n) c.args.clause.now h))
 
 watched : (c : In_ok-push) (t : List Assigned) → IsWatched t c.args.clause.now (pair c) (eqb (length c.args.clause.now) 1) (eqb (length c.args.clause.now) 0) → IsWatched t (sorted c) (pair c) (eqb (length (sorted c)) 1) (eqb (length (sorted c)) 0)
 watched c t w = subst (λ m. IsWatched t (sorted c) (pair c) (eqb m 1) (eqb m 0)) (same_size c) (watched_same t c.args.clause.now (sorted c) (same_has c) (same_size c) (pair c) _ _ w)
@@ -74,7 +74,7 @@ returns-clause-watches c =
     (w2.sorted ∙ w1.sorted ∙ u.sorted ∙ pushed d)
     (w2.lists ∙ ap (λ ls. set ls k2 (get_or ls k2 [] ++ v2 ∷ [])) (w1.lists ∙ ap (λ ls. set (map (λ v. v.items) ls.items) k1 (get_or (map (λ v. v.items) ls.items) k1 [] ++ v1 ∷ [])) u.lists))
     (ap (λ v. v.items) (w2.pairs ∙ w1.pairs ∙ u.pairs) ∙ c.in_ok-push.ensures.items)
-    (ap (λ v. v.items) (w2.units ∙ w1.units))
+    (w2.units ∙ w1.units)
     (w2.falsified ∙ w1.falsified ∙ u.falsified)
     (entered_watched n t s.sorted (lists_of s) s.pairs.items (units_of s) s.falsified (Positive 0) h (sorted d) (pair d) (low d n b) c.len-number.result (number d n t h)
     (let e = same_size d in omega arith)

@@ -48,7 +48,7 @@ returns-in_ok-watch-in-Some-clause-watching c =
     let d = (goal.at.returns-in_ok-watch-in-Some-clause-watching c).In-Some in
     let e = c.in_ok-watch-in-Some.ensures in
     λ kept rest h.
-    same_watching c.args.assignment.now.variables c.args.assignment.now.trail c.args.literal rest _ _ _ _ _ _ _ _ _ _ e.sorted (ap (λ ls. set ls (code_of c.args.literal) (kept ++ rest)) e.lists) (ap (λ v. v.items) e.pairs) (ap (λ v. v.items) e.units) e.falsified
+    same_watching c.args.assignment.now.variables c.args.assignment.now.trail c.args.literal rest _ _ _ _ _ _ _ _ _ _ e.sorted (ap (λ ls. set ls (code_of c.args.literal) (kept ++ rest)) e.lists) (ap (λ v. v.items) e.pairs) e.units e.falsified
     (visited_next c.args.assignment.now.variables c.args.assignment.now.trail s.sorted (lists_of s) s.pairs.items (units_of s) s.falsified c.args.literal c.requires.current c.args.clause c.args.blocker (low_listed s (code_of c.args.literal) c.requires.listed) kept rest h c.args.other c.requires.beside c.in-Some.next (found d) c.requires.false_now (low_listed s (code_of c.in-Some.next) (room d)))
 
 pub returns-in_ok-note-in-None-clause-watching : goal.returns-in_ok-note-in-None-clause-watching
