@@ -2,3 +2,6 @@ pub mod SignedNumbers
 pub mod LiteralInside
 pub mod Ends
 pub mod PlainLines
+pub mod Codes
+pub mod Marking
+pub mod MarkedFields

@@ -1,21 +1,23 @@
 //! Refutations, and when they are right.
 
-ghost use Rattle.std.specs.Prelude.{◌≡◌, ◌++◌, map, IfOk, IsTrue, slice_get, Some};
-ghost use Rattle.std.specs.Option.{option_map, option_copied};
+ghost use Rattle.std.specs.Prelude.{◌≡◌, ◌++◌, map, IfOk, OnOk, IsTrue, slice_get, Some, None, if◌then◌else◌};
+ghost use Rattle.std.specs.Option.{option_copied};
 ghost use Rattle.std.specs.List.{list_all};
 ghost use Rattle.cqe_base.specs.Literal.{has_literal};
 ghost use Rattle.cqe_base.specs.Refutation.{clashes, single_resolvent, chain_from, chain_result, same_literals, is_result, ends_empty, is_refutation};
 ghost use Rattle.cqe_base.specs.MachineLaws.{HaveNoModel};
 ghost use Rattle.clause_store.specs.PlainLines.{lines_of, line_of};
+ghost use Rattle.proof_check.specs.Clashing.{only, is_other};
 
 use clause_store::clauses::Clauses;
 use clause_store::literal::{Lit, has_literal};
+use clause_store::marked_clause::MarkedClause;
 use clause_store::refutation::{Line, Refutation};
-use clause_store::resolution::{resolvent, unite};
 use cqe_base::machine_laws::law_refutation_is_sound;
 use std::alloc::{AllocError, Global};
 
-/// Whether the refutation is right: then no signs make every clause true.
+/// Whether the refutation is right: then no signs make every clause true. A literal of a chain is looked up by its mark, so
+/// that a step takes time by the literals of its two clauses; the marks take two bytes for each variable up to the greatest.
 pub fn check_refutation(
     alloc: Global,
     clauses: &Clauses,
@@ -32,17 +34,27 @@ pub fn check_refutation(
 fn are_right(alloc: Global, clauses: &Clauses, refutation: &Refutation) -> Result<bool, AllocError>
     ensures { IfOk result (λ all_right. all_right ≡ is_refutation clauses.now (lines_of refutation.now)) }
 {
+    let mut derived = MarkedClause::new(alloc, 0)?;
+    let mut wanted = MarkedClause::new(alloc, 0)?;
     for k in 0..refutation.lines.len() {
-        if !is_right(alloc, clauses, &refutation.lines[..k], &refutation.lines[k])? {
+        let line = &refutation.lines[k];
+        if !is_right(
+            &mut derived,
+            &mut wanted,
+            clauses,
+            &refutation.lines[..k],
+            line,
+        )? {
             return Ok(false);
         }
     }
     Ok(ends_empty(&refutation.lines))
 }
 
-/// Whether a line's clause has the literals of its chain's result.
+/// Whether a line's clause has the literals of its chain's result. The marked clauses are room to work in.
 fn is_right(
-    alloc: Global,
+    derived: &mut MarkedClause,
+    wanted: &mut MarkedClause,
     clauses: &Clauses,
     lines: &[Line],
     line: &Line,
@@ -55,33 +67,44 @@ fn is_right(
     let Some(first) = clause_at(clauses, lines, *start as usize) else {
         return Ok(false);
     };
-    match chain_from(alloc, clauses, lines, first, chain)? {
-        Some(result) => Ok(same_literals(&line.clause, &result)),
-        None => Ok(false),
+    replace(derived, first)?;
+    if !resolve_chain(derived, clauses, lines, chain)? {
+        return Ok(false);
     }
+    replace(wanted, &line.clause)?;
+    Ok(same_literals(wanted, derived))
 }
 
-/// A clause resolved with each next clause of a chain in turn, over the given clauses and those of earlier lines.
-fn chain_from(
-    alloc: Global,
+/// Another clause in the place of the marked one.
+fn replace(marked: &mut MarkedClause, clause: &[Lit]) -> Result<(), AllocError>
+    ensures { OnOk result (marked.new.clause ≡ clause.now) }
+{
+    marked.clear();
+    marked.make_room(clause)?;
+    marked.append(clause)?;
+    Ok(())
+}
+
+/// Resolves a clause with each next clause of a chain in turn, over the given clauses and those of earlier lines; false
+/// where a step has no resolvent.
+fn resolve_chain(
+    clause: &mut MarkedClause,
     clauses: &Clauses,
     lines: &[Line],
-    first: &[Lit],
     chain: &[u32],
-) -> Result<Option<Vec<Lit>>, AllocError>
-    ensures { IfOk result (λ r. option_map (λ v. v.items) r ≡ chain_from (clauses.now ++ map (λ l. l.clause.items) lines.now) (Some first.now) chain.now) }
+) -> Result<bool, AllocError>
+    ensures { IfOk result (λ resolved. (if resolved then Some clause.new.clause else None) ≡
+        chain_from (clauses.now ++ map (λ l. l.clause.items) lines.now) (Some clause.old.clause) chain.now) }
 {
-    let mut clause = Vec::from_slice(alloc, first)?;
     for number in chain {
         let Some(next) = clause_at(clauses, lines, *number as usize) else {
-            return Ok(None);
+            return Ok(false);
         };
-        match single_resolvent(alloc, &clause, next)? {
-            Some(result) => clause = result,
-            None => return Ok(None),
+        if !resolve_single(clause, next)? {
+            return Ok(false);
         }
     }
-    Ok(Some(clause))
+    Ok(true)
 }
 
 /// The clause of this number among the given ones and those of earlier lines.
@@ -98,52 +121,59 @@ fn clause_at<'a>(clauses: &'a Clauses, lines: &'a [Line], number: usize) -> Opti
 }
 
 /// Whether a clause has each of the literals.
-fn has_all(clause: &[Lit], literals: &[Lit]) -> bool
-    ensures { result ≡ list_all (has_literal clause.now) literals.now }
+fn has_all(clause: &MarkedClause, literals: &[Lit]) -> bool
+    ensures { result ≡ list_all (has_literal clause.now.clause) literals.now }
 {
-    literals.iter().all(|l| has_literal(clause, *l))
+    literals.iter().all(|l| clause.has(*l))
 }
 
 /// Whether two clauses have the same literals.
-fn same_literals(first: &[Lit], second: &[Lit]) -> bool
-    ensures { result ≡ same_literals first.now second.now }
+fn same_literals(first: &MarkedClause, second: &MarkedClause) -> bool
+    ensures { result ≡ same_literals first.now.clause second.now.clause }
 {
-    has_all(second, first) && has_all(first, second)
+    has_all(second, first.literals()) && has_all(first, second.literals())
 }
 
-/// The resolvent of two clauses that clash in exactly one variable.
-fn single_resolvent(
-    alloc: Global,
-    first: &[Lit],
-    second: &[Lit],
-) -> Result<Option<Vec<Lit>>, AllocError>
-    ensures { IfOk result (λ r. option_map (λ v. v.items) r ≡ single_resolvent first.now second.now) }
+/// Resolves a clause with another, where they clash in exactly one variable; false where they don't.
+fn resolve_single(first: &mut MarkedClause, second: &[Lit]) -> Result<bool, AllocError>
+    ensures { IfOk result (λ resolved. (if resolved then Some first.new.clause else None) ≡ single_resolvent first.old.clause second.now) }
 {
-    let clashes = clashes(alloc, first, second)?;
-    match clashes.as_slice() {
-        [l] => {
-            if has_literal(first, l.opposite()) || has_literal(second, *l) {
-                return Ok(None);
-            }
-            let clause = resolvent(alloc, l.variable(), first, second)?;
-            Ok(Some(clause))
-        }
-        _ => Ok(None),
+    let Some(l) = single_clash(first, second) else {
+        return Ok(false);
+    };
+    if first.has(l.opposite()) || has_literal(second, l) {
+        return Ok(false);
     }
+    first.make_room(second)?;
+    first.resolve(l, second)?;
+    Ok(true)
 }
 
-/// The literals of the first clause whose opposite is in the second, each once.
-fn clashes(alloc: Global, first: &[Lit], second: &[Lit]) -> Result<Vec<Lit>, AllocError>
-    ensures { IfOk result (λ r. r.items ≡ clashes first.now second.now) }
+/// The literal of the first clause whose opposite is in the second, where there is exactly one.
+fn single_clash(first: &MarkedClause, second: &[Lit]) -> Option<Lit>
+    ensures { result ≡ only (clashes first.now.clause second.now) }
 {
-    let all: Vec<Lit> = first
-        .iter()
-        .copied()
-        .filter(|l| has_literal(second, l.opposite()))
-        .collect(alloc)?;
-    let mut once = Vec::new(alloc);
-    unite(&mut once, &all)?;
-    Ok(once)
+    let mut found: Option<Lit> = None;
+    for other in second {
+        let literal = other.opposite();
+        if first.has(literal) {
+            if is_other(found, literal) {
+                return None;
+            }
+            found = Some(literal);
+        }
+    }
+    found
+}
+
+/// Whether there is a literal, and not this one.
+fn is_other(found: Option<Lit>, literal: Lit) -> bool
+    ensures { result ≡ is_other found literal }
+{
+    match found {
+        Some(before) => !before.is(literal),
+        None => false,
+    }
 }
 
 /// Whether there is a last line and it has no literal.
