@@ -50,10 +50,10 @@ def wrong_start(text, token):
     if text.startswith(b"\xef\xbb\xbf"):
         return NoFact("the line begins with a byte order mark (EF BB BF)", 0, 3,
                       "save the file as UTF-8 without a byte order mark")
-    slash = text[token.start:token.start + 2] in (b"//", b"--", b"/*") or text[token.start:token.start + 1] in (b"%",
-        b";")
-    advice = "a comment begins with #" if slash else bad_byte(text,
-                                                              token) or "begin the line with a relation, as hiv(ann)"
+    if re.match(rb"//|--|/\*|%|;", text[token.start:]):
+        advice = "a comment begins with #"
+    else:
+        advice = bad_byte(text, token) or "begin the line with a relation, as hiv(ann)"
     return NoFact(f"a fact begins with a relation, and here stands {shown(text, token)}", token.start, token.end,
                   advice)
 

@@ -1,5 +1,6 @@
 """Places in files: a line and a column for people, and a caret under what is meant."""
 
+import re
 import unicodedata
 from dataclasses import dataclass
 
@@ -12,6 +13,7 @@ class Text:
     def __init__(self, name, data):
         self.name = name
         self.data = data
+        self.starts = None  # where each line begins, once somebody asks
 
     @classmethod
     def of_file(cls, name):
@@ -28,13 +30,9 @@ class Text:
 
     def start_of_line(self, number):
         """The offset at which a line begins, counted from 1."""
-        at = 0
-        for _ in range(number - 1):
-            feed = self.data.find(b"\n", at)
-            if feed < 0:
-                return len(self.data)
-            at = feed + 1
-        return at
+        if self.starts is None:
+            self.starts = [0] + [feed.end() for feed in re.finditer(b"\n", self.data)]
+        return self.starts[number - 1] if 0 < number <= len(self.starts) else len(self.data)
 
     def line(self, number):
         """The bytes of a line, counted from 1, without its end."""

@@ -53,14 +53,14 @@ def no_sentence(said, kind, place, asked, context):
         return Finding(said, f"The text of the question is no sentence: "
                        f"{texts.PLAIN.get(kind, 'for a reason that no format names')} (kind {kind}, "
                        f"{texts.kind_name(kind)}, at byte {place} of the text).", None, texts.ADVICE.get(kind))
-    found = texts.about(context.schema(), asked.text, kind, place)
+    found = texts.about(context.schema, asked.text, kind, place)
     return Finding(said, f"The text of the question is no sentence: {found.meaning} (byte {place} of the text).",
                    asked.spot(found.start, found.end), found.advice)
 
 
 def too_large(said, kind, place, asked, context):
     more = ""
-    schema = context.schema()
+    schema = context.schema
     if asked.text is not None and schema is not None:
         try:
             more = f" It has {nodes_of(schema, asked.text):,} nodes."
