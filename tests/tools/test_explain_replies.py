@@ -92,7 +92,8 @@ class Questions(InDirectory):
         self.assertPoints(finding, 1, 14, "&")
 
     def test_what_sort_a_script_is_of(self):
-        cases = {"domain d = a\nask true\n": "case", "# mine\n\neve 1 ask true\n": "batch", "eve ask\n* restart\n": "batch",
+        cases = {"domain d = a\nask true\n": "case", "# mine\n\neve 1 ask true\n": "batch",
+                 "eve ask\n* restart\n": "batch",
                  "login eve abc\nask true\n": "session", "ask true\n": "session", "": "case"}
         for script, sort in cases.items():
             with self.subTest(script):

@@ -26,7 +26,8 @@ budget 1
 PIECES = ["hiv", "lies", "z", "ann", "bob", "w1", "person", "ward", "x", "y", "(", ")", ",", ":", ".", "=", "!=", "->",
           "<->", "not", "and", "or", "true", "false", "forall", "exists", "$", "<", "-", "z()", "hiv(ann)",
           "lies(ann, w2)", "exists x: person .", "forall y: ward .", "hiv(x)", "lies(x, y)", "AND", ""]
-GOOD = ["forall x: person . hiv(x) -> exists y: ward . lies(x, y)", "not (hiv(ann) and lies(bob, w1)) or z() <-> ann = bob",
+GOOD = ["forall x: person . hiv(x) -> exists y: ward . lies(x, y)",
+        "not (hiv(ann) and lies(bob, w1)) or z() <-> ann = bob",
         "(exists x: person . x != ann and hiv(x)) -> z()", "(" * 63 + "z()" + ")" * 63, "z() -> " * 63 + "z()"]
 
 

@@ -60,11 +60,15 @@ def line_from(data, start):
 
 @dataclass
 class Spot:
-    """A piece of a text, from byte `start` to before byte `end`."""
+    """A piece of a text, from byte `start` to before byte `end`; it ends with a whole character."""
 
     text: Text
     start: int
     end: int
+
+    def __post_init__(self):
+        while self.start < self.end < len(self.text.data) and 0x80 <= self.text.data[self.end] < 0xC0:
+            self.end += 1
 
     @property
     def line(self):
@@ -122,7 +126,8 @@ def quoted(data, most=60):
     """Bytes or a text as they are named within a sentence."""
     data = data.encode("utf-8", "surrogateescape") if isinstance(data, str) else data
     text = visible(data)
-    return "'" + (text if len(text) <= most else text[:most] + "..") + "'"
+    mark = '"' if "'" in text else "'"
+    return mark + (text if len(text) <= most else text[:most] + "..") + mark
 
 
 @dataclass

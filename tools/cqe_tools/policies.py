@@ -182,7 +182,7 @@ def toml_slip(line, why, lines):
     if re.match(r"[A-Za-z]", value):
         return "a string stands in quotes, as method = \"lying\""
     if "array" in why.lower():
-        return "an array is items with a comma between two of them, closed by ], as [\"ann\", \"bob\"]"
+        return "an array is items with commas between them, closed by ], as [\"ann\", \"bob\"]; it may begin above"
     if re.match(r"\s*[A-Za-z]\w*\s*[,;]", lines[0]) and "=" not in lines[0]:
         return "this looks like CSV; a policy is TOML, as examples/ward.policy"
     if "overwrite" in why.lower() or "twice" in why.lower() or "declare" in why.lower():
@@ -204,7 +204,7 @@ def missing_key(said, rest, policy):
     user, key, _ = place_of(rest, policy)
     where = "the policy" if user is None else (policy.title(user) if policy else f"users[{user}]")
     meaning = f"The key '{key}' isn't there in {where}, and it has to be."
-    advice = f"write {key} = .., with {WANTED.get(key, 'its value')}"
+    advice = f"write {key} = ..: {WANTED.get(key, 'its value')}"
     if policy is None or policy.root is None:
         return Finding(said, meaning, None, advice)
     if user is not None:
@@ -246,8 +246,8 @@ def wrong_kind(said, rest, policy):
         return Finding(said, meaning, None, advice)
     path, value = culprit(path, value, key)
     why = kind_fault(key, value)
-    return Finding(said, f"The value of '{rest}' {why}; wanted is {WANTED.get(key, 'another')}.",
-                   policy.spot(value.start, value.end), kind_advice(key, value) or advice)
+    return Finding(said, f"The value of '{rest}' {why}.", policy.spot(value.start, value.end),
+                   kind_advice(key, value) or advice)
 
 
 def culprit(path, value, key):
@@ -313,7 +313,7 @@ def unknown_key(said, rest, policy):
     advice = f"write '{meant}' for it" if meant else f"leave it out; the keys {where} are {', '.join(known)}"
     if user is not None and key in ROOT_KEYS:
         advice = f"'{key}' belongs to the whole policy: move it above the first line in brackets"
-    whose = f" ({policy.title(user)})" if policy and user is not None else ""
+    whose = f", and stands in that of {policy.title(user)}" if policy and user is not None else ""
     return Finding(said, f"{quoted(key)} is no key {where}{whose}.",
                    policy.spot_of_key(*path, key) if here else None, advice)
 

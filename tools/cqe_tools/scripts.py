@@ -305,7 +305,7 @@ def above_limit(data, sort, before):
             return (f"has a sentence of {nodes:,} nodes, and at most {schemas.SENTENCE_NODES:,} are allowed", begin,
                     end, advice)
         if len(have) >= most:
-            return (f"is one '{name_of(word)}' more than {most}", 0, end,
+            return (f"is the {len(have) + 1}th '{name_of(word)}', and at most {most} are allowed", 0, end,
                     "join several into one by 'and' (know) or 'or' (secret)")
         user = {"know": [text.decode() for text in before.known], "secrets": [text.decode() for text in before.secrets]}
         user["know" if word == b"know" else "secrets"].append(rest.decode())
