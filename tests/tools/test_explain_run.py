@@ -1,10 +1,13 @@
 """The explanations of statuses, words, journals and surroundings, and the command as a filter and as a wrapper."""
 
+import fcntl
 import hashlib
+import os
 import signal
 import socket
 import subprocess
 import sys
+import unittest
 
 import program
 from told import EXPLAIN, FACTS, POLICY, InDirectory, as_bytes, of_status
@@ -181,6 +184,13 @@ class Surroundings(InDirectory):
         (self.directory / "eve.log").mkdir()
         self.assertSays(self.explained_once("cqe: shelf fault", journals=str(self.directory)), "eve.log",
                         "no regular file")
+
+    @unittest.skipUnless(os.path.exists("/proc/locks"), "the system doesn't tell of locks")
+    def test_a_journal_that_another_process_holds(self):
+        with open(self.file("eve.log", ""), "rb") as held:
+            fcntl.flock(held, fcntl.LOCK_EX)
+            finding = self.explained_once("cqe: shelf fault", journals=str(self.directory))
+        self.assertSays(finding, "eve.log", f"process {os.getpid()}", "one program at a time")
 
     def test_a_file_of_a_similar_name(self):
         self.file("ward.policy", POLICY)
