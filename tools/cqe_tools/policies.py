@@ -348,8 +348,7 @@ def no_sentence(said, rest, policy):
     value = policy.at("users", user, key, index) if policy and user is not None else None
     if value is None or value.kind != "string":
         return Finding(said, f"The text {words[0]} is no sentence: {texts.PLAIN.get(kind)} (kind {kind}, "
-                       f"{texts.kind_name(kind)}, "
-                       f"at byte {place} of the text).", None, texts.ADVICE.get(kind))
+                       f"{texts.kind_name(kind)}, at byte {place} of the text).", None, texts.ADVICE.get(kind))
     text = value.value.encode("utf-8", "surrogateescape")
     found = texts.about(policy.schema(), text, kind, place)
     meaning = f"{key}[{index}] of {policy.title(user)} is no sentence: {found.meaning} (byte {place} of the text)."
@@ -401,8 +400,7 @@ def long_text(said, policy, user, key, index, title):
     except Refused:
         return Finding(said, meaning + ".", spot, advice)
     return Finding(said, f"{meaning}: it has {nodes:,} nodes with its quantifiers written out over their domains, and "
-                   f"at most "
-                   f"{schemas.SENTENCE_NODES:,} are allowed.", spot, advice)
+                   f"at most {schemas.SENTENCE_NODES:,} are allowed.", spot, advice)
 
 
 def great_view(said, policy, user, title, spot):
@@ -412,8 +410,7 @@ def great_view(said, policy, user, title, spot):
     except (Refused, LookupError, TypeError, AttributeError):
         nodes = "have too many nodes"
     return Finding(said, f"What {title} knows and his secrets together {nodes}, and at most "
-                   f"{schemas.FIRST_VIEW_NODES:,} are allowed "
-                   "(or the number of his secrets isn't 1 to 16).", spot,
+                   f"{schemas.FIRST_VIEW_NODES:,} are allowed (or the number of his secrets isn't 1 to 16).", spot,
                    "give him fewer or smaller sentences: a quantifier counts its sentence once for each constant of "
                    "its domain")
 

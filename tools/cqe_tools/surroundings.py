@@ -49,10 +49,10 @@ def shelf(said, context):
     found += journal_faults(context) if not found else []
     meaning = "A file couldn't be opened: the policy, the facts, or a journal in the directory of the journals."
     if found:
-        return Finding(said, f"{meaning} {found[0][0]}", None, found[0][1], tuple(why for why, _ in found[1:]))
+        return Finding(said, f"{meaning} {found[0][0]}", None, found[0][1], tuple(why for why, _ in found[1:10]))
     return Finding(said, meaning, None, "look at --journals: the directory has to be there (mkdir DIR), and the "
-                   "program's account must read and "
-                   "write in it; a journal is a regular file; and see how many files may be open (ulimit -n)")
+                   "program's account must read and write in it; a journal is a regular file; and see how many files "
+                   "may be open (ulimit -n)")
 
 
 def file_fault(what, name):
@@ -200,8 +200,7 @@ def disk_fault(said, context):
     return Finding(said, "A write or a sync of a journal failed: in batch and serve its user got error 40 from then "
                    "on, and init stopped there.", None,
                    "look at the disk (df, dmesg, ulimit -f); then start the machine again or mount the disk anew "
-                   "before the program, because after a "
-                   "failed sync it may show bytes that never reached the disk")
+                   "before the program, because after a failed sync it may show bytes that never reached the disk")
 
 
 def memory(said, context):
