@@ -17,7 +17,7 @@ NO_FACTS = {
     "lies(bob)": (9, ")", ["'lies'", "2 columns"]),
     "hiv(ann, bob)": (8, ",", ["'hiv'", "1 column"]),
     "hiv(ann": (8, "", ["')'"]),
-    "hiv(jörg)": (5, "j", ["'j'"]),
+    "hiv(jörg)": (5, "j", ["'j'", "'ö'"]),
     "hiv(ann) hiv(bob)": (10, "hiv(bob)", ["one fact in each line"]),
     "fact hiv(ann)": (1, "fact", ["scripts of case"]),
     "not hiv(ann)": (1, "not", ["not", "relation"]),
@@ -58,7 +58,7 @@ SCRIPTS = {
     "a secret that is none": (HEAD + "secret hiv(ann) AND hiv(bob)\n", "6 6", (6, 17, "AND"), ["'secret'", "'and'"]),
     "a known text that is empty": (HEAD + "know \n", "6 6", (6, 6, ""), ["empty"]),
     "a budget of nothing": (HEAD + "budget 0\n", "7 6", (6, 8, "0"), ["4,000,000"]),
-    "17 secrets": (HEAD + "secret z()\n" * 16, "7 21", (21, 1, "secret z()"), ["16"]),
+    "17 secrets": (HEAD + "secret z()\n" * 16, "7 21", (21, 1, "secret z()"), ["17th", "16"]),
     # Six quantifiers over six constants: 6^6 instances and (6^6 - 1) / 5 inner nodes.
     "a large sentence": (SIX + "know " + "forall x: person . " * 6 + "z()\n", "7 6", None, ["55,987", "20,000"]),
     "an ask before a secret": ("domain d = a\nmethod lying\nask true\n", "8 3", (3, 1, "ask"), ["no 'secret'"]),

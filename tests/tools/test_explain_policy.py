@@ -20,7 +20,7 @@ CASES = {
     "a string without quotes": (changed(('"lying"', "lying")), "policy 1", (10, 10, "l"),
                                 ["TOML", "line 10, column 10", "quotes"]),
     "an array that isn't closed": (changed(('"hiv(ann)"]', '"hiv(ann)"')), "policy 1", None, ["TOML", "array"]),
-    "typographic quotes": (changed(('"lying"', "“lying”")), "policy 1", (10, 10, "“"[:1]), ["straight quotes"]),
+    "typographic quotes": (changed(('"lying"', "“lying”")), "policy 1", (10, 10, "“"), ["straight quotes"]),
     "a colon for =": (changed(('method =', "method:")), "policy 1", None, ["=", "colon"]),
     "a key twice": (changed(('method = "lying"', 'method = "lying"\nmethod = "lying"')), "policy 1", None,
                     ["line 11", "twice"]),
@@ -67,7 +67,7 @@ CASES = {
     "an ampersand": (know("hiv(ann) & hiv(bob)"), "policy 6 users[0].know[0] 1 9", (11, 19, "&"),
                      ["'&'", "'and'", "know[0]", "'eve'"]),
     "a quote": (know("hiv('ann')"), "policy 6 users[0].know[0] 1 4", (11, 14, "'"), ["without quotes"]),
-    "an umlaut in a sentence": (know("hiv(jörg)"), "policy 6 users[0].know[0] 3 4", (11, 14, "j"), ["'j'"]),
+    "an umlaut in a sentence": (know("hiv(jörg)"), "policy 6 users[0].know[0] 3 4", (11, 14, "j"), ["'j'", "'ö'", "ae for ä"]),
     "an escape before the place": (
         know("hiv(ann) and \\u0068iv(carl)"), "policy 6 users[0].know[0] 3 17", (11, 32, "carl"), ["'carl'"]),
     "AND": (know("hiv(ann) AND hiv(bob)"), "policy 6 users[0].know[0] 2 9", (11, 19, "AND"),
@@ -114,7 +114,7 @@ class Policies(InDirectory):
             with self.subTest(name):
                 finding = self.explained_once("cqe: " + said, policy=policy)
                 self.assertSays(finding, *words)
-                if place and not (name == "Latin-1" or name == "typographic quotes"):
+                if place and name != "Latin-1":
                     self.assertPoints(finding, *place)
                 elif place:
                     self.assertEqual((finding.spot.line, finding.spot.column), place[:2])

@@ -91,6 +91,23 @@ class Questions(InDirectory):
         finding = self.explained_once("login eve abc", "welcome", "ask hiv(ann) & z()", "error 20 1 9", policy=POLICY)
         self.assertPoints(finding, 1, 14, "&")
 
+    def test_what_sort_a_script_is_of(self):
+        cases = {"domain d = a\nask true\n": "case", "# mine\n\neve 1 ask true\n": "batch",
+                 "eve ask\n* restart\n": "batch",
+                 "login eve abc\nask true\n": "session", "ask true\n": "session", "": "case"}
+        for script, sort in cases.items():
+            with self.subTest(script):
+                self.assertEqual(Context(script=str(self.file("script", script))).sort, sort)
+
+    def test_very_many_explanations_are_cut(self):
+        script = "".join(f"eve 1 ask hiv(x{number})\n" for number in range(300))
+        explainer = Explainer(Context(script=str(self.file("script", script))), True)
+        for _ in range(300):
+            explainer.take("eve 1 error 20 3 4")
+        lines = printed(explainer.findings())
+        self.assertEqual(lines[-1], "100 further explanations are left out.")
+        self.assertEqual(sum(line.startswith("eve 1 error 20") for line in lines), 200)
+
     def test_like_replies_are_told_once(self):
         script = "eve 1 ask hiv(x)\n" * 3
         said = ["eve 1 error 24"] * 3

@@ -1,13 +1,17 @@
 """The explanations of statuses, words, journals and surroundings, and the command as a filter and as a wrapper."""
 
+import fcntl
 import hashlib
+import os
 import signal
 import socket
 import subprocess
 import sys
 
 import program
-from told import EXPLAIN, FACTS, POLICY, InDirectory, as_bytes, of_status
+from told import EXPLAIN, FACTS, POLICY, InDirectory, as_bytes, of_status  # makes the tools' modules found, too
+
+from cqe_tools import surroundings
 
 FILES = ["--policy", "p", "--facts", "f", "--journals", "j"]
 
@@ -181,6 +185,14 @@ class Surroundings(InDirectory):
         (self.directory / "eve.log").mkdir()
         self.assertSays(self.explained_once("cqe: shelf fault", journals=str(self.directory)), "eve.log",
                         "no regular file")
+
+    def test_a_journal_that_another_process_holds(self):
+        with open(self.file("eve.log", ""), "rb") as held:
+            fcntl.flock(held, fcntl.LOCK_EX)
+            if os.fstat(held.fileno()).st_ino not in surroundings.holders():
+                self.skipTest("the system doesn't tell of locks")
+            finding = self.explained_once("cqe: shelf fault", journals=str(self.directory))
+        self.assertSays(finding, "eve.log", f"process {os.getpid()}", "one program at a time")
 
     def test_a_file_of_a_similar_name(self):
         self.file("ward.policy", POLICY)

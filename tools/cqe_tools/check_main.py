@@ -118,5 +118,5 @@ def sizes(context, standings):
     width = max(len(what) for what, _, _ in rows)
     lines = [f"{what.ljust(width)}  {size:>9,} of {limit:>9,}" for what, size, limit in rows]
     return lines + [f"A user's answers may have {room:,} to "
-                    f"{schemas.VIEW_NODES - min(s.sizes['view'] for s in standings):,} nodes together "
-                    f"(a view has at most {schemas.VIEW_NODES:,})."]
+                    f"{schemas.VIEW_NODES - min(s.sizes['view'] for s in standings):,} nodes together (a view has at "
+                    f"most {schemas.VIEW_NODES:,})."]

@@ -149,7 +149,7 @@ class Check:
     def learn_truths(self, users):
         """Asks each known sentence of a user who has nothing to hide. The lines of a batch have a greatest length."""
         texts = list(dict.fromkeys(text for user in users for text in user.get("know", [])))
-        texts = [text for text in texts if len(f"t0 1 ask {text}") <= schemas.TEXT_BYTES]
+        texts = [text for text in texts if len(f"t{schemas.USERS} 1 ask {text}") <= schemas.TEXT_BYTES]
         # Each user gets one sentence, since answers stay in the view; so no history makes a later search dearer.
         for begin in range(0, len(texts), schemas.USERS):
             part = texts[begin:begin + schemas.USERS]

@@ -1,12 +1,14 @@
 """The lines that the program said, one after the other, and the explanation of each."""
 
 import re
+from functools import cached_property
 
 from . import facts, journals, policies, replies, scripts, surroundings, words
 from .places import Finding, Text, quoted
 from .policies import PolicyFile
 
 COMPLAINT = "cqe: "
+MOST_SHOWN = 200
 PARTS = re.compile(r"(policy|facts|script|missing|journal) (.*)", re.S)
 
 STATUSES = {
@@ -43,6 +45,7 @@ class Context:
         self.script = script if isinstance(script, Text) or script is None else Text.of_file(script)
         self.sort = sort or (scripts.sort_of(self.script) if self.script else None)
 
+    @cached_property
     def schema(self):
         """The schema of the questions; None where it isn't known."""
         if self.sort == "case" and self.script is not None:
@@ -214,10 +217,12 @@ def text_of(finding):
 
 
 def printed(findings):
-    """The lines of the explanations, with an empty line between two."""
+    """The lines of the explanations, with an empty line between two; of very many the first."""
     lines = []
-    for finding, count in findings:
+    for finding, count in findings[:MOST_SHOWN]:
         lines += ([""] if lines else []) + finding.lines()
         if count > 1:
             lines.append(f"  {count - 1:,} more of this kind.")
+    if len(findings) > MOST_SHOWN:
+        lines += ["", f"{len(findings) - MOST_SHOWN:,} further explanations are left out."]
     return lines

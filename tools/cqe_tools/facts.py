@@ -2,7 +2,7 @@
 
 import re
 
-from . import schemas, texts
+from . import schemas, slips, texts
 from .places import Finding, Spot, Text, quoted
 from .sentences import token_at
 
@@ -50,10 +50,10 @@ def wrong_start(text, token):
     if text.startswith(b"\xef\xbb\xbf"):
         return NoFact("the line begins with a byte order mark (EF BB BF)", 0, 3,
                       "save the file as UTF-8 without a byte order mark")
-    slash = text[token.start:token.start + 2] in (b"//", b"--", b"/*") or text[token.start:token.start + 1] in (b"%",
-        b";")
-    advice = "a comment begins with #" if slash else bad_byte(text,
-                                                              token) or "begin the line with a relation, as hiv(ann)"
+    if re.match(rb"//|--|/\*|%|;", text[token.start:]):
+        advice = "a comment begins with #"
+    else:
+        advice = bad_byte(text, token) or "begin the line with a relation, as hiv(ann)"
     return NoFact(f"a fact begins with a relation, and here stands {shown(text, token)}", token.start, token.end,
                   advice)
 
@@ -87,7 +87,7 @@ def unknown_relation(schema, text, token, behind):
         advice = f"'{token.text}' is a constant: the relation stands first, as hiv(ann)"
     else:
         meant = schemas.similar(token.text, schema.relations)
-        advice = f"write '{meant}' (case counts)" if meant else "declare the relation, or write one that is declared: " + (
+        advice = f"write '{meant}' (case counts)" if meant else "declare it, or write a relation that is declared: " + (
             ", ".join(list(schema.relations)[:8]) or "it has none")
     return NoFact(meaning, token.start, token.end, advice)
 
@@ -116,8 +116,9 @@ def in_column(schema, text, token, relation, columns, number, domain):
     found = schema.domain_of.get(token.text)
     if found is None:
         meant = schemas.similar(token.text, schema.domains.get(domain, ()))
-        advice = (f"write '{meant}' (case counts)" if meant else f"add it to the domain '{domain}' of the policy, or "
-                  f"write one of its constants")
+        broken = slips.broken_off(text, token)
+        advice = broken or (f"write '{meant}' (case counts)" if meant else
+                            f"add it to the domain '{domain}', or write one of its constants")
         raise NoFact(f"no constant has the name '{token.text}' ({where})", token.start, token.end, advice)
     if found != domain:
         raise NoFact(f"'{token.text}' is of the domain '{found}', and {where} is of '{domain}'", token.start, token.end,

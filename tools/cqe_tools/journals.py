@@ -77,8 +77,7 @@ def not_a_journal(said, name, journal, number, context, match):
             else ", and an empty journal has 73.")
     return Finding(said, f"The journal of user {quoted(name)}, {file}, is no journal.{more}", None,
                    "if it was never made, call cqe init; if it was lost or closed on purpose, put it back from where "
-                   "it was kept first: "
-                   "a new one forgets what the user was told")
+                   "it was kept first: a new one forgets what the user was told")
 
 
 def other_policy(said, name, journal, number, context, match):
@@ -92,18 +91,16 @@ def other_policy(said, name, journal, number, context, match):
                              f"{'is the one that it was made for' if same else 'has changed, or is another'}")
     more = " Compared: " + "; ".join(which) + "." if which else ""
     return Finding(said, f"The journal of user {quoted(name)}, {place(journal, name, context)}, was made for other "
-                   f"bytes of the policy or "
-                   f"of the facts.{more}", None,
+                   f"bytes of the policy or of the facts.{more}", None,
                    "give the files that it was made for (one changed byte counts, in a comment too), or make new "
-                   "journals in a new directory; "
-                   "what users learnt then has to stand in know")
+                   "journals in a new directory; what users learnt then has to stand in know")
 
 
 def disk_fault(said, name, journal, number, context, match):
     return Finding(said, f"The journal of user {quoted(name)}, {place(journal, name, context)}, couldn't be read, or a "
-                   f"call of its file failed "
-                   "earlier in this run.", None, "look at the disk (dmesg, df, ls -l), then start again: a file that "
-                   "failed isn't opened again before that")
+                   f"call of its file failed earlier in this "
+                   f"run.", None, "look at the disk (dmesg, df, ls -l), then start again: a file that failed isn't "
+                   "opened again before that")
 
 
 def damaged(said, name, journal, number, context, match):
@@ -115,9 +112,8 @@ def damaged(said, name, journal, number, context, match):
         more = (f" It begins at byte {start} and has the kind {kind} and the length {length:,}; a kind is 1 to 4, a "
                 f"length at most 4,096.")
     return Finding(said, f"Record {number} (from 0) in the journal of user {quoted(name)}, "
-                   f"{place(journal, name, context)}, isn't whole: somebody or "
-                   f"the disk changed the file.{more}", None, f"put a copy back that holds all that he was told, or "
-                   f"keep him closed. {KEEP}")
+                   f"{place(journal, name, context)}, isn't whole: somebody or the disk changed the "
+                   f"file.{more}", None, f"put a copy back that holds all that he was told, or keep him closed. {KEEP}")
 
 
 def record_spot(journal, number, start=0, end=None):
@@ -145,8 +141,7 @@ def stale(said, name, journal, number, context, match):
 
 def size(said, name, journal, number, context, match):
     return Finding(said, f"Record {number} (from 0) in the journal of user {quoted(name)} passes a limit: the history "
-                   f"before it is full, or its "
-                   "question is too large.", record_spot(journal, number),
+                   f"before it is full, or its question is too large.", record_spot(journal, number),
                    f"the program never wrote it: the journal was changed, or comes from another version. {KEEP}")
 
 

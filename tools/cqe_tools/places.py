@@ -1,5 +1,6 @@
 """Places in files: a line and a column for people, and a caret under what is meant."""
 
+import re
 import unicodedata
 from dataclasses import dataclass
 
@@ -12,6 +13,7 @@ class Text:
     def __init__(self, name, data):
         self.name = name
         self.data = data
+        self.starts = None  # where each line begins, once somebody asks
 
     @classmethod
     def of_file(cls, name):
@@ -28,13 +30,9 @@ class Text:
 
     def start_of_line(self, number):
         """The offset at which a line begins, counted from 1."""
-        at = 0
-        for _ in range(number - 1):
-            feed = self.data.find(b"\n", at)
-            if feed < 0:
-                return len(self.data)
-            at = feed + 1
-        return at
+        if self.starts is None:
+            self.starts = [0] + [feed.end() for feed in re.finditer(b"\n", self.data)]
+        return self.starts[number - 1] if 0 < number <= len(self.starts) else len(self.data)
 
     def line(self, number):
         """The bytes of a line, counted from 1, without its end."""
@@ -62,11 +60,15 @@ def line_from(data, start):
 
 @dataclass
 class Spot:
-    """A piece of a text, from byte `start` to before byte `end`."""
+    """A piece of a text, from byte `start` to before byte `end`; it ends with a whole character."""
 
     text: Text
     start: int
     end: int
+
+    def __post_init__(self):
+        while self.start < self.end < len(self.text.data) and 0x80 <= self.text.data[self.end] < 0xC0:
+            self.end += 1
 
     @property
     def line(self):
@@ -124,7 +126,8 @@ def quoted(data, most=60):
     """Bytes or a text as they are named within a sentence."""
     data = data.encode("utf-8", "surrogateescape") if isinstance(data, str) else data
     text = visible(data)
-    return "'" + (text if len(text) <= most else text[:most] + "..") + "'"
+    mark = '"' if "'" in text else "'"
+    return mark + (text if len(text) <= most else text[:most] + "..") + mark
 
 
 @dataclass

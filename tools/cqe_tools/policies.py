@@ -182,7 +182,7 @@ def toml_slip(line, why, lines):
     if re.match(r"[A-Za-z]", value):
         return "a string stands in quotes, as method = \"lying\""
     if "array" in why.lower():
-        return "an array is items with a comma between two of them, closed by ], as [\"ann\", \"bob\"]"
+        return "an array is items with commas between them, closed by ], as [\"ann\", \"bob\"]; it may begin above"
     if re.match(r"\s*[A-Za-z]\w*\s*[,;]", lines[0]) and "=" not in lines[0]:
         return "this looks like CSV; a policy is TOML, as examples/ward.policy"
     if "overwrite" in why.lower() or "twice" in why.lower() or "declare" in why.lower():
@@ -204,7 +204,7 @@ def missing_key(said, rest, policy):
     user, key, _ = place_of(rest, policy)
     where = "the policy" if user is None else (policy.title(user) if policy else f"users[{user}]")
     meaning = f"The key '{key}' isn't there in {where}, and it has to be."
-    advice = f"write {key} = .., with {WANTED.get(key, 'its value')}"
+    advice = f"write {key} = ..: {WANTED.get(key, 'its value')}"
     if policy is None or policy.root is None:
         return Finding(said, meaning, None, advice)
     if user is not None:
@@ -246,8 +246,8 @@ def wrong_kind(said, rest, policy):
         return Finding(said, meaning, None, advice)
     path, value = culprit(path, value, key)
     why = kind_fault(key, value)
-    return Finding(said, f"The value of '{rest}' {why}; wanted is {WANTED.get(key, 'another')}.",
-                   policy.spot(value.start, value.end), kind_advice(key, value) or advice)
+    return Finding(said, f"The value of '{rest}' {why}.", policy.spot(value.start, value.end),
+                   kind_advice(key, value) or advice)
 
 
 def culprit(path, value, key):
@@ -313,7 +313,7 @@ def unknown_key(said, rest, policy):
     advice = f"write '{meant}' for it" if meant else f"leave it out; the keys {where} are {', '.join(known)}"
     if user is not None and key in ROOT_KEYS:
         advice = f"'{key}' belongs to the whole policy: move it above the first line in brackets"
-    whose = f" ({policy.title(user)})" if policy and user is not None else ""
+    whose = f", and stands in that of {policy.title(user)}" if policy and user is not None else ""
     return Finding(said, f"{quoted(key)} is no key {where}{whose}.",
                    policy.spot_of_key(*path, key) if here else None, advice)
 
@@ -348,8 +348,7 @@ def no_sentence(said, rest, policy):
     value = policy.at("users", user, key, index) if policy and user is not None else None
     if value is None or value.kind != "string":
         return Finding(said, f"The text {words[0]} is no sentence: {texts.PLAIN.get(kind)} (kind {kind}, "
-                       f"{texts.kind_name(kind)}, "
-                       f"at byte {place} of the text).", None, texts.ADVICE.get(kind))
+                       f"{texts.kind_name(kind)}, at byte {place} of the text).", None, texts.ADVICE.get(kind))
     text = value.value.encode("utf-8", "surrogateescape")
     found = texts.about(policy.schema(), text, kind, place)
     meaning = f"{key}[{index}] of {policy.title(user)} is no sentence: {found.meaning} (byte {place} of the text)."
@@ -401,8 +400,7 @@ def long_text(said, policy, user, key, index, title):
     except Refused:
         return Finding(said, meaning + ".", spot, advice)
     return Finding(said, f"{meaning}: it has {nodes:,} nodes with its quantifiers written out over their domains, and "
-                   f"at most "
-                   f"{schemas.SENTENCE_NODES:,} are allowed.", spot, advice)
+                   f"at most {schemas.SENTENCE_NODES:,} are allowed.", spot, advice)
 
 
 def great_view(said, policy, user, title, spot):
@@ -412,8 +410,7 @@ def great_view(said, policy, user, title, spot):
     except (Refused, LookupError, TypeError, AttributeError):
         nodes = "have too many nodes"
     return Finding(said, f"What {title} knows and his secrets together {nodes}, and at most "
-                   f"{schemas.FIRST_VIEW_NODES:,} are allowed "
-                   "(or the number of his secrets isn't 1 to 16).", spot,
+                   f"{schemas.FIRST_VIEW_NODES:,} are allowed (or the number of his secrets isn't 1 to 16).", spot,
                    "give him fewer or smaller sentences: a quantifier counts its sentence once for each constant of "
                    "its domain")
 

@@ -11,8 +11,7 @@ REPLY = re.compile(r"(?:yes|no|refused|undecided|welcome|bye|error [0-9]+(?: [0-
 BATCH = re.compile(r"([A-Za-z][A-Za-z0-9_]*) ([0-9]+) (.*)\Z")
 
 CLOSED = ("Reasons: what he knows entails one of his secrets, or for lying that one of them is true; for refusal, the "
-          "facts contradict what he knows; "
-          "or the test of it costs more than 4,000,000.",)
+          "facts contradict what he knows; or the test of it costs more than 4,000,000.",)
 
 
 class Asked:
@@ -53,30 +52,29 @@ def no_sentence(said, kind, place, asked, context):
         return Finding(said, f"The text of the question is no sentence: "
                        f"{texts.PLAIN.get(kind, 'for a reason that no format names')} (kind {kind}, "
                        f"{texts.kind_name(kind)}, at byte {place} of the text).", None, texts.ADVICE.get(kind))
-    found = texts.about(context.schema(), asked.text, kind, place)
+    found = texts.about(context.schema, asked.text, kind, place)
     return Finding(said, f"The text of the question is no sentence: {found.meaning} (byte {place} of the text).",
                    asked.spot(found.start, found.end), found.advice)
 
 
 def too_large(said, kind, place, asked, context):
     more = ""
-    schema = context.schema()
+    schema = context.schema
     if asked.text is not None and schema is not None:
         try:
             more = f" It has {nodes_of(schema, asked.text):,} nodes."
         except Refused:
             pass
     return Finding(said, f"The question is too large: more than {schemas.SENTENCE_NODES:,} nodes with its quantifiers "
-                   f"written out over their domains, or more "
-                   f"than {schemas.VIEW_NODES:,} together with all that {who(asked)} knows and was told.{more}",
+                   f"written out over their domains, or more than {schemas.VIEW_NODES:,} together with all that "
+                   f"{who(asked)} knows and was told.{more}",
                    asked.spot(),
                    "ask with fewer or smaller quantifiers; an answered question stays in his view, so ask small ones")
 
 
 def full(said, kind, place, asked, context):
     return Finding(said, f"The history of {who(asked)} is full: it has {schemas.ANSWERS:,} answers, or its texts and "
-                   f"this one have more than "
-                   f"{schemas.ANSWERED_BYTES:,} bytes.", asked.spot(),
+                   f"this one have more than {schemas.ANSWERED_BYTES:,} bytes.", asked.spot(),
                    "he gets no further answers with these journals; new ones forget what he was told, so what he "
                    "learnt has to stand in his know then")
 
@@ -106,8 +104,7 @@ def no_login(said, kind, place, asked, context):
         return login_fault(said, asked, context)
     return Finding(said, "Nobody is logged in, or the name and the phrase don't fit.", asked.spot(),
                    "send a line login NAME PHRASE first; the phrase is the one whose SHA-256 stands in the policy as "
-                   "token, without a line feed in it "
-                   "(printf, not echo)")
+                   "token, without a line feed in it (printf, not echo)")
 
 
 def login_fault(said, asked, context):

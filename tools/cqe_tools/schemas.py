@@ -154,8 +154,8 @@ def bad_name(domains, relations):
 
 
 SCHEMA_ADVICE = {
-    1: "give each domain, relation and constant a name of its own: one name can't be two of them, so a person "
-       "called ward and a domain called ward need two names",
+    1: "give each domain, relation and constant a name of its own: one name can't be two of them, so a person called "
+       "ward and a domain called ward need two names",
     2: "declare the domain, or write the name of one that is declared",
     3: "split the domain, or leave out what no question and no secret needs",
     4: "give the domain at least one constant, or leave it out",

@@ -9,6 +9,7 @@ from .schemas import Schema, similar
 from .sentences import Refused, nodes_of, refusal_of, token_at
 
 WORDS = ("domain", "relation", "fact", "method", "know", "secret", "budget", "ask")
+DECLARATIONS = tuple(word.encode() for word in WORDS[:-1])
 BAD = re.compile(rb"[^\t\x20-\x7e]")
 BLANK = b" \t"
 ITEM = re.compile(rb"([A-Za-z][A-Za-z0-9_]*)[ \t]([0-9]+)[ \t]ask(?:[ \t](.*))?\Z", re.S)
@@ -35,15 +36,16 @@ def numbered(text):
 
 
 def sort_of(text):
-    """Whether a script is of 'case', of 'batch' or of a 'session', by its first line that says something."""
+    """Whether a script is of 'case', of 'batch' or of a 'session', by the first line that can be of one alone."""
+    talks = False
     for _, line in numbered(text):
-        word = line.split(b" ")[0].split(b"\t")[0]
+        word, _ = word_and_rest(line)
         if line.startswith(b"*") or ITEM.match(line):
             return "batch"
-        if word in (b"login", b"quit", b"ask"):
-            return "session"
-        return "case"
-    return "case"
+        if word in DECLARATIONS:
+            return "case"
+        talks = talks or word in (b"login", b"quit", b"ask")
+    return "session" if talks else "case"
 
 
 class CaseScript:
@@ -258,13 +260,12 @@ def no_schema(data, sort, before):
     if found is None:
         return "makes no schema with those above", 0, len(data), None
     number, why, path, _ = found
-    culprit = path[-1] if not isinstance(path[-1], int) else inner[path[-1]] if path[-1] < len(inner) else name
-    match = re.compile(rb"\b" + re.escape(culprit.encode()) + rb"\b").search(data,
-        inner_at if culprit != name or isinstance(path[-1], int) else at)
-    begin, end = (match.start(), match.end()) if match else (at, at + len(name))
-    return f"makes no schema: {why}", begin, end, schemas.SCHEMA_ADVICE.get(number) + ("; domains stand above the "
-        "relations that use them"
-                                                                                 if number == 2 else "")
+    # The path ends with a number where the name is one of those in the list.
+    culprit = inner[path[-1]] if isinstance(path[-1], int) and path[-1] < len(inner) else name
+    match = re.compile(rb"\b" + culprit.encode() + rb"\b").search(data, inner_at if isinstance(path[-1], int) else at)
+    begin, end = match.span() if match else (at, at + len(name))
+    above = "; domains stand above the relations that use them" if number == 2 else ""
+    return f"makes no schema: {why}", begin, end, schemas.SCHEMA_ADVICE[number] + above
 
 
 def no_fact(data, sort, before):
@@ -304,7 +305,7 @@ def above_limit(data, sort, before):
             return (f"has a sentence of {nodes:,} nodes, and at most {schemas.SENTENCE_NODES:,} are allowed", begin,
                     end, advice)
         if len(have) >= most:
-            return (f"is one '{name_of(word)}' more than {most}", 0, end,
+            return (f"is the {len(have) + 1}th '{name_of(word)}', and at most {most} are allowed", 0, end,
                     "join several into one by 'and' (know) or 'or' (secret)")
         user = {"know": [text.decode() for text in before.known], "secrets": [text.decode() for text in before.secrets]}
         user["know" if word == b"know" else "secrets"].append(rest.decode())

@@ -119,13 +119,28 @@ def of_name(text, refused, schema):
         return f"{name} is a relation; a quantifier wants a domain, as {', '.join(list(schema.domains)[:5])}"
     if wanted in ("term", "relation") and name in schema.domains:
         return f"{name} is a domain, and a sentence names it only in a quantifier: forall x: {name} . .."
+    broken = broken_off(text, refused.token)
+    if broken:
+        return broken
     known = {"relation": schema.relations, "domain": schema.domains}.get(wanted, schema.domain_of)
     meant = similar(name, known)
     if meant:
-        return f"was {meant} meant? Case counts"
+        return f"write {meant} if that is meant; case counts"
     if wanted == "term" and len(name) <= 2:
         return f"if {name} is a variable: no quantifier around this place binds it, as exists {name}: person . would"
     return None
+
+
+def broken_off(text, token):
+    """What ends a name that was meant to go on; None where a blank or another token does."""
+    rest = text[token.end:].decode("utf-8", "replace")
+    behind = rest[:1]
+    if not behind or behind in " \t(),:.=" or rest.startswith(("!=", "->", "<->")):
+        return None
+    if not behind.isascii():
+        return (f"the name breaks off at '{behind}' (U+{ord(behind):04X}), which isn't ASCII: names have the letters "
+                "a to z and A to Z, digits and _, so write ae for ä")
+    return f"the name breaks off at {behind}: names have letters, digits and _ alone"
 
 
 def example(schema, relation):

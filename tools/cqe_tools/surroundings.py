@@ -49,10 +49,10 @@ def shelf(said, context):
     found += journal_faults(context) if not found else []
     meaning = "A file couldn't be opened: the policy, the facts, or a journal in the directory of the journals."
     if found:
-        return Finding(said, f"{meaning} {found[0][0]}", None, found[0][1], tuple(why for why, _ in found[1:]))
+        return Finding(said, f"{meaning} {found[0][0]}", None, found[0][1], tuple(why for why, _ in found[1:10]))
     return Finding(said, meaning, None, "look at --journals: the directory has to be there (mkdir DIR), and the "
-                   "program's account must read and "
-                   "write in it; a journal is a regular file; and see how many files may be open (ulimit -n)")
+                   "program's account must read and write in it; a journal is a regular file; and see how many files "
+                   "may be open (ulimit -n)")
 
 
 def file_fault(what, name):
@@ -81,25 +81,41 @@ def directory_fault(name):
 
 
 def journal_faults(context):
-    """The journals of a directory that are no regular files or may not be read and written."""
-    result = []
-    for name in sorted(listed(context.journals)) if context.journals else []:
-        path = os.path.join(context.journals, name)
-        if not name.endswith(".log"):
-            continue
-        try:
-            regular = stat.S_ISREG(os.stat(path).st_mode)
-        except OSError as error:
-            result.append((f"{quoted(path)} can't be looked at: {error.strerror}.",
-                           "put the journal back, or remove the link that leads nowhere"))
-            continue
-        if not regular:
-            result.append((f"{quoted(path)} is no regular file.", "a journal is a regular file: put it back, or remove "
-                           "what stands in its place"))
-        elif not os.access(path, os.R_OK | os.W_OK):
-            result.append((f"{quoted(path)} may not be read and written by this account.",
-                           f"chmod u+rw {path}, or start as the account that owns it"))
-    return result
+    """What is wrong with the journals of a directory, and what to do."""
+    names = sorted(listed(context.journals)) if context.journals else []
+    paths = [os.path.join(context.journals, name) for name in names if name.endswith(".log")]
+    held = holders()
+    return [fault for fault in (journal_fault(path, held) for path in paths) if fault]
+
+
+def journal_fault(path, held):
+    """Why a journal can't be opened, and what to do; None where it can."""
+    try:
+        found = os.stat(path)
+    except OSError as error:
+        return (f"{quoted(path)} can't be looked at: {error.strerror}.",
+                "put the journal back, or remove the link that leads nowhere")
+    if not stat.S_ISREG(found.st_mode):
+        return (f"{quoted(path)} is no regular file.",
+                "a journal is a regular file: put it back, or remove what stands in its place")
+    if not os.access(path, os.R_OK | os.W_OK):
+        return (f"{quoted(path)} may not be read and written by this account.",
+                f"chmod u+rw {path}, or start as the account that owns it")
+    if found.st_ino in held:
+        return (f"{quoted(path)} is locked by the process {held[found.st_ino]}.",
+                "let one program at a time work on a directory of journals: end the other one, or wait for its end")
+    return None
+
+
+def holders():
+    """The processes that hold a lock on a whole file, by the file's inode; nothing where the system doesn't say."""
+    try:
+        with open("/proc/locks", encoding="ascii", errors="replace") as file:
+            rows = [line.split() for line in file]
+    except OSError:
+        return {}
+    return {int(row[5].rsplit(":", 1)[1]): row[4] for row in rows
+            if len(row) == 8 and row[1] == "FLOCK" and row[5].rsplit(":", 1)[-1].isdigit()}
 
 
 def links(said, address):
@@ -184,8 +200,7 @@ def disk_fault(said, context):
     return Finding(said, "A write or a sync of a journal failed: in batch and serve its user got error 40 from then "
                    "on, and init stopped there.", None,
                    "look at the disk (df, dmesg, ulimit -f); then start the machine again or mount the disk anew "
-                   "before the program, because after a "
-                   "failed sync it may show bytes that never reached the disk")
+                   "before the program, because after a failed sync it may show bytes that never reached the disk")
 
 
 def memory(said, context):

@@ -118,8 +118,7 @@ def explain(said, words):
     meaning = "The words have no reading, or audit names a user whom the policy hasn't."
     if words is None:
         return Finding(said, meaning, None, "compare the words with man cqe: one command, then each of its options "
-                       "once, in whole words; "
-                       "call it as  cqe-explain -- cqe ..  and the word is shown here")
+                       "once, in whole words; call it as  cqe-explain -- cqe ..  and the word is shown here")
     read = Words(words)
     if read.fault is None:
         return None
