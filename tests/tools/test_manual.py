@@ -38,7 +38,7 @@ def section(title: str) -> list[tuple[str, str]]:
 
 
 def answers(words: list[str], script: str) -> list[str]:
-    ended = subprocess.run([program.path(), *words], input=script, capture_output=True, text=True, timeout=300)
+    ended = subprocess.run([program.path(), *words], input=script, capture_output=True, text=True, timeout=900)
     if ended.returncode != 0:
         raise AssertionError(ended.stderr)
     return ended.stdout.splitlines()

@@ -24,7 +24,7 @@ import program
 ROOT = Path(__file__).resolve().parents[2]
 PORT = "7007"  # the port in the documents; a free one is taken in its place
 OPTIONAL = ("cqe-check", "cqe-ask", "cqe-explain")
-LONGEST = 900  # seconds for all commands of a document
+LONGEST = 1800  # seconds for all commands of a document
 END = "== the end of a block =="
 
 # Stands in for nc, whose kinds differ: sends standard input, and prints what comes until the server closes. On a busy
