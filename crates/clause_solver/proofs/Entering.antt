@@ -1,16 +1,20 @@
 -- One more clause among those that are watched.
-use Rattle.std.proofs.Common.{◌≡◌, ℕ, ◌+◌, ◌<◌, ◌≤◌, Bool, true, false, ◌&&◌, ◌||◌, eqb, List, [], ◌∷◌, ◌++◌, length, get_or, set, Option, Some, None, refl, sym, ap, ◌∙◌, subst, inl, inr, ⊎_elim, ◌⊎◌, arith}
+use Rattle.std.proofs.Common.{◌≡◌, ℕ, ◌+◌, ◌*◌, ◌<◌, ◌≤◌, Bool, true, false, ◌&&◌, ◌||◌, eqb, List, [], ◌∷◌, ◌++◌, length, get_or, set, Option, Some, None, refl, sym, ap, ◌∙◌, subst, inl, inr, ⊎_elim, ◌⊎◌, arith}
 use Rattle.std.specs.Prelude.{IfSome}
 use Rattle.std.specs.List.{list_all, AllByRecursion}
 use Rattle.std.proofs.lemmas.Bool.{both_ways, cases_lt, or_cases, or_left, or_right, eq-eqb, eqb-true, and_parts, and_from}
-use Rattle.std.proofs.lemmas.List.{length_push, length-set, get_or_append_left, get_or_push, get_or_past, get_or-set_same}
-use Rattle.cqe_base.specs.Literal.{Literal, same_literal, has_literal, ClauseBelow, ClausesBelow}
+use Rattle.std.proofs.lemmas.List.{length_push, length-map, length-set, get_or_append_left, get_or_push, get_or_past, get_or-set_same}
+use Rattle.cqe_base.specs.Literal.{Literal, variable_of, same_literal, has_literal, ClauseBelow, ClausesBelow}
 use Rattle.cqe_base.specs.Machine.{Assigned, is_false, level}
 use Rattle.cqe_base.proofs.ClauseTruth.{same_literal-true}
+use Rattle.cqe_base.proofs.MachineRules.{each_has}
 use Rattle.clause_solver.specs.declared.watches.Pair.{Pair}
 use Rattle.clause_solver.specs.declared.watches.Watch.{Watch}
+use Rattle.clause_solver.specs.declared.watches.Watches.{Watches}
 use Rattle.clause_solver.specs.Assigning.{code_of}
 use Rattle.clause_solver.specs.Watching.{IsAnswered, satisfied, is_unit, is_falsified, IsWatched, IsWatching, IsWatchOf, AllFalseBut, has_number, has_clause, is_caught, lowest, no_pair, HaveSameLiterals}
+use Rattle.clause_solver.specs.WatchesInside.{lists_of}
+use Rattle.clause_solver.proofs.Kept.{code_of-below}
 use Rattle.clause_solver.proofs.Watching.{watched_more}
 use Rattle.clause_solver.proofs.Looks.{watch_of, more_at, more_has, more_all, last_has}
 use Rattle.clause_solver.proofs.Visits.{lowest_more, lowest_caught, lowest_is}
@@ -204,3 +208,10 @@ same_more cs ds c d h same size = record {
             (subst (λ y. R c y) (sym (get_or_push ds d [] i (let e = h.room in omega arith))) new)
       ]
     ]
+
+-- a literal of a clause has a list
+pub code_listed : (n : ℕ) (w : Watches) (clause : List Literal) (l : Literal) → length (lists_of w) ≡ 2 * n → ClauseBelow n clause → has_literal clause l ≡ true → code_of l < length w.lists.items
+code_listed n w clause l room below has =
+    let e = length-map w.lists.items (λ v. v.items) in
+    let k = code_of-below n l (each_has (λ m. variable_of m < n) clause l below has) in
+    omega arith

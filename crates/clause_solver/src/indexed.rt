@@ -4,7 +4,7 @@ ghost use Rattle.std.specs.Prelude.{◌≡◌, ◌⊎◌, ◌<◌, ◌≤◌, �
 ghost use Rattle.std.specs.List.{position_from, list_all, find};
 ghost use Rattle.std.specs.Option.{option_map};
 ghost use Rattle.cqe_base.specs.Literal.{Literal, variable_of, ClauseBelow};
-ghost use Rattle.cqe_base.specs.Machine.{Assigned, assigned_literal, is_true, is_false, level, first_unit, cut, start};
+ghost use Rattle.cqe_base.specs.Machine.{Assigned, assigned_literal, is_true, is_false, level, first_unit, cut};
 ghost use Rattle.cqe_base.specs.MachineStates.{is_assigned};
 ghost use Rattle.clause_solver.specs.Watching.{IsWatched};
 ghost use Rattle.clause_solver.specs.WatchesInside.{units_of};
@@ -17,7 +17,7 @@ use crate::watches::{Watches, open_watched};
 use clause_store::clauses::Clauses;
 use clause_store::literal::Lit;
 use clause_store::refutation::Line;
-use std::alloc::{AllocError, Global};
+use std::alloc::AllocError;
 
 /// The given and the learnt clauses, the trail, and the lines so far, with what is kept of them.
 #[derive(Drop)]
@@ -31,22 +31,6 @@ pub struct Indexed {
 }
 
 impl Indexed {
-    /// No clause, and nothing is assigned.
-    pub fn new(alloc: Global, variables: u32) -> Result<Indexed, AllocError>
-        requires { variables < 2 ^ 31 }
-        ensures plain { IfOk result (λ s. plain_of s ≡ start []) }
-        ensures variables { IfOk result (λ s. s.assignment.variables ≡ variables) }
-        ensures indexed { IfOk result (λ s. IsIndexed s) }
-    {
-        Ok(Indexed {
-            assignment: Assignment::new(alloc, variables)?,
-            clauses: Clauses::new(alloc),
-            watches: Watches::new(alloc, variables)?,
-            lines: Vec::new(alloc),
-            resolvent: MarkedClause::new(alloc, variables)?,
-        })
-    }
-
     /// One more clause, whose number is below 2^32, with the literals that it watches.
     pub fn enter(&mut self, clause: &[Lit], first: Lit, second: Lit) -> Result<(), AllocError>
         requires below { ClauseBelow self.old.assignment.variables clause.now }

@@ -4,12 +4,12 @@
 //! `search_with_cost` answers it with that cost.
 //! It looks at two literals of each clause: for each literal it keeps the clauses that watch it, and looks at them where it becomes
 //! false. What a clause knows of its watched literals is `IsWatched`, and what is kept of all clauses `IsWatching` (specs/Watching.antt).
-//! The clauses that may be unit lie in a heap (`noted`). An assignment that is undone touches no clause.
+//! The clauses that may be unit lie in a heap (`min_heap`). An assignment that is undone touches no clause.
 //! `plain::search_plain` is the plain program of the same contract: it scans the clauses and the trail at each step.
 //! A conflict is analysed on one clause with a mark for each literal (`marked_clause`), so a resolution looks at each literal once.
 //!
-//! Read `entry` and `ends`, then `assignment`, `noted`, `watches` and `marked_clause`, then `indexed`, `analysis`, `rules` and `run`. `plain`
-//! stands alone.
+//! Read `entry` and `ends`, then `assignment`, `min_heap`, `watches` and `marked_clause`, then `indexed`, `analysis`, `rules` and
+//! `run`. `plain` stands alone.
 #![tactic(auto)]
 
 mod analysis;
@@ -20,7 +20,7 @@ mod ends;
 mod entry;
 mod indexed;
 mod marked_clause;
-mod noted;
+mod min_heap;
 pub mod plain;
 mod rules;
 mod run;

@@ -1,19 +1,42 @@
 //! The run of the machine within a budget.
 
-ghost use Rattle.std.specs.Prelude.{◌≡◌, ◌<◌, ◌^◌, ◌+◌, length, IfOk, None};
+ghost use Rattle.std.specs.Prelude.{◌≡◌, ◌<◌, ◌^◌, ◌+◌, [], length, IfOk, None};
 ghost use Rattle.cqe_base.specs.Literal.{ClausesBelow, HaveNoRepeat};
 ghost use Rattle.cqe_base.specs.Machine.{end_within_budget, start};
 ghost use Rattle.clause_solver.specs.PlainStates.{found_of};
 ghost use Rattle.clause_solver.specs.Costs.{cost_within_budget};
+ghost use Rattle.clause_solver.specs.Watching.{HaveSameLiterals};
+ghost use Rattle.clause_solver.specs.WatchesInside.{AreWatches};
 ghost use Rattle.clause_solver.specs.IndexedStates.{plain_of, IsIndexed, first_two};
 
+use crate::assignment::Assignment;
 use crate::ends::{Advance, Found, Searched};
 use crate::indexed::Indexed;
+use crate::marked_clause::MarkedClause;
 use crate::rules::step;
+use crate::watches::Watches;
 use clause_store::clauses::Clauses;
 use clause_store::literal::Lit;
 use clause_store::refutation::Refutation;
 use std::alloc::{AllocError, Global};
+
+/// What is kept of these clauses where nothing is assigned.
+fn watched(alloc: Global, clauses: &Clauses, variables: u32) -> Result<Watches, AllocError>
+    requires variables { variables < 2 ^ 31 }
+    requires below { ClausesBelow variables clauses.now }
+    requires no_repeat { HaveNoRepeat clauses.now }
+    requires room { length clauses.now < 2 ^ 32 }
+    ensures watches { IfOk result (λ w. AreWatches variables [] w) }
+    ensures same { IfOk result (λ w. HaveSameLiterals clauses.now w.sorted) }
+{
+    let mut watches = Watches::new(alloc, variables)?;
+    for number in 0..clauses.len() {
+        let clause = clauses.clause(number);
+        let (first, second) = first_two(clause);
+        watches.enter(clause, first, second)?;
+    }
+    Ok(watches)
+}
 
 /// The state with these clauses, before the first step.
 fn begin(alloc: Global, clauses: &Clauses, variables: u32) -> Result<Indexed, AllocError>
@@ -25,13 +48,14 @@ fn begin(alloc: Global, clauses: &Clauses, variables: u32) -> Result<Indexed, Al
     ensures variables { IfOk result (λ s. s.assignment.variables ≡ variables) }
     ensures indexed { IfOk result (λ s. IsIndexed s) }
 {
-    let mut state = Indexed::new(alloc, variables)?;
-    for number in 0..clauses.len() {
-        let clause = clauses.clause(number);
-        let (first, second) = first_two(clause);
-        state.enter(clause, first, second)?;
-    }
-    Ok(state)
+    let watches = watched(alloc, clauses, variables)?;
+    Ok(Indexed {
+        assignment: Assignment::new(alloc, variables)?,
+        clauses: clauses.copy(alloc)?,
+        watches,
+        lines: Vec::new(alloc),
+        resolvent: MarkedClause::new(alloc, variables)?,
+    })
 }
 
 /// The first two literals of a clause, twice the same where it has only one.

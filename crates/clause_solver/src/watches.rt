@@ -11,7 +11,7 @@ ghost use Rattle.std.specs.Prelude.{true, false, not, ◌&&◌, ◌||◌, ◌==�
 
 use crate::assignment::Assignment;
 use crate::codes::code;
-use crate::noted::Noted;
+use crate::min_heap::MinHeap;
 use clause_store::clauses::Clauses;
 use clause_store::literal::Lit;
 use std::alloc::{AllocError, Global};
@@ -42,8 +42,8 @@ pub struct Watches {
     pub sorted: Clauses,
     /// Where a clause is sorted.
     pub sorting: Vec<Lit>,
-    /// Each unit clause is among them; others have a true literal since.
-    pub units: Noted,
+    /// The numbers of clauses. Each unit clause is among them; others have a true literal since.
+    pub units: MinHeap,
     /// The least falsified clause.
     pub falsified: Option<u32>,
 }
@@ -70,7 +70,7 @@ impl Watches {
             pairs: Vec::new(alloc),
             sorted: Clauses::new(alloc),
             sorting: Vec::new(alloc),
-            units: Noted::new(alloc),
+            units: MinHeap::new(alloc),
             falsified: None,
         })
     }

@@ -1,8 +1,8 @@
 use Rattle.std.proofs.Common.{map, sym, subst}
 use Rattle.std.specs.BinaryHeap.{heap_items}
 use Rattle.clause_solver.specs.Watching.{IsLeast, IsWithout}
-use Rattle.clause_solver.proofs.NotedNumbers.{popped}
-use Rattle.clause_solver.proofs.noted.Noted.drop_least.Goals as goal
+use Rattle.clause_solver.proofs.HeapNumbers.{popped}
+use Rattle.clause_solver.proofs.min_heap.MinHeap.drop_least.Goals as goal
 
 pub returns : goal.returns
 returns c =

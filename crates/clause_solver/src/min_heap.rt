@@ -10,11 +10,11 @@ use std::marker::Model;
 
 /// Numbers, each perhaps more than once, in a heap with the least one on top.
 #[derive(Drop)]
-pub struct Noted {
+pub struct MinHeap {
     heap: BinaryHeap<Reverse<u32>>,
 }
 
-impl Model for Noted {
+impl Model for MinHeap {
     ghost use Rattle.std.specs.Prelude.{List, ℕ, map};
     ghost use Rattle.std.specs.BinaryHeap.{IsHeap, heap_items};
     ghost use Rattle.std.specs.Ordering.{nat_cmp};
@@ -26,12 +26,12 @@ impl Model for Noted {
     ghost invariant = { λ n. IsHeap (λ x y. nat_cmp y.0 x.0) (heap_items n.heap) };
 }
 
-impl Noted {
+impl MinHeap {
     /// No number.
-    pub fn new(alloc: Global) -> Noted
+    pub fn new(alloc: Global) -> MinHeap
         ensures { result ≡ [] }
     {
-        Noted {
+        MinHeap {
             heap: BinaryHeap::new(alloc),
         }
     }

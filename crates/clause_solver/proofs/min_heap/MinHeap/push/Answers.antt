@@ -2,8 +2,8 @@ use Rattle.std.proofs.Common.{◌||◌, eqb, sym, ap, ◌∙◌, map}
 use Rattle.std.proofs.Math.Bool.{or_comm}
 use Rattle.std.specs.BinaryHeap.{heap_items}
 use Rattle.clause_solver.specs.Watching.{has_number}
-use Rattle.clause_solver.proofs.NotedNumbers.{same_numbers}
-use Rattle.clause_solver.proofs.noted.Noted.push.Goals as goal
+use Rattle.clause_solver.proofs.HeapNumbers.{same_numbers}
+use Rattle.clause_solver.proofs.min_heap.MinHeap.push.Goals as goal
 
 pub returns : goal.returns
 returns c = λ i.

@@ -1,8 +1,8 @@
 use Rattle.std.proofs.Common.{◌<◌, refl, subst}
 use Rattle.std.specs.BinaryHeap.{heap_items}
 use Rattle.clause_solver.specs.Watching.{IsLeast}
-use Rattle.clause_solver.proofs.NotedNumbers.{first_is_least}
-use Rattle.clause_solver.proofs.noted.Noted.least.Goals as goal
+use Rattle.clause_solver.proofs.HeapNumbers.{first_is_least}
+use Rattle.clause_solver.proofs.min_heap.MinHeap.least.Goals as goal
 
 pub returns-clause-least : goal.returns-clause-least
 returns-clause-least c =
