@@ -1,6 +1,8 @@
 //! Literals, clauses and resolvents that were worked out by hand.
 use clause_store::clauses::Clauses;
+use clause_store::codes::code;
 use clause_store::literal::{Lit, has_literal};
+use clause_store::marked_clause::MarkedClause;
 use clause_store::resolution::{resolvent, unite};
 use std::alloc::Global;
 use std::process::Abort;
@@ -105,5 +107,33 @@ fn resolvents_keep_the_order(rt: HostRuntime) -> Result<(), Fail> {
     );
     assert!(rt; has_literal(&union, Lit::positive(1)));
     assert!(rt; !has_literal(&union, Lit::negative(1)));
+    Ok(())
+}
+
+#[test]
+fn marked_clauses_are_lists(rt: HostRuntime) -> Result<(), Fail> {
+    let alloc = rt.alloc();
+    let first = literals(alloc, &[3, 1, -5])?;
+    let second = literals(alloc, &[2, -1, -5, 40])?;
+    let mut clause = MarkedClause::new(alloc, 0)?;
+    clause.make_room(&first)?;
+    clause.append(&first)?;
+    clause.make_room(&second)?;
+    clause.resolve(Lit::positive(0), &second)?;
+    assert_eq!(rt;
+        numbers(alloc, clause.literals())?.as_slice(),
+        [3, -5, 2, 40].as_slice()
+    );
+    assert!(rt; clause.has(Lit::negative(4)));
+    assert!(rt; clause.has(Lit::positive(39)));
+    assert!(rt; !clause.has(Lit::positive(0)));
+    assert!(rt; !clause.has(Lit::negative(0)));
+    assert!(rt; !clause.has(Lit::positive(1_000)));
+
+    clause.clear();
+    assert!(rt; clause.literals().is_empty());
+    assert!(rt; !clause.has(Lit::positive(39)));
+    assert_eq!(rt; code(Lit::positive(6)), 12);
+    assert_eq!(rt; code(Lit::negative(6)), 13);
     Ok(())
 }
