@@ -1,3 +1,4 @@
 pub mod Probing
 pub mod Found
 pub mod Objections
+pub mod Costs

@@ -1,3 +1,4 @@
 pub mod Found
 pub mod Asked
 pub mod Admitting
+pub mod Costs

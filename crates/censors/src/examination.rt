@@ -10,10 +10,12 @@ ghost use Rattle.entailment.specs.Logs.{log_nodes, sentence_nodes};
 ghost use Rattle.entailment.specs.Views.{schema_of, log_of};
 ghost use Rattle.entailment.specs.Probes.{premise_of, goal_of, signed_at};
 ghost use Rattle.censors.specs.Found.{HasFindings};
+ghost use Rattle.censors.specs.Costs.{AreSpentByCost};
 ghost use Rattle.censors.specs.Asked.{IsAnswer, IsAnswerOfAll, AreHarms, IsImplied, together, findings_of};
 
 use crate::disjunction;
 use cqe_base::laws::{law_entailment, law_limits};
+use cqe_base::machine_laws::law_spent_is_cost;
 use cqe_base::sentence::Sentence;
 use cqe_base::user::{Method, User};
 use entailment::{Probe, Verdict, View, test};
@@ -66,9 +68,11 @@ pub fn examine(
     requires sentence { is_sentence_of (schema_of view.now) (formula_of query.now) ≡ true }
     requires query_nodes { nodes (schema_of view.now) (formula_of query.now) ≤ 20000 }
     requires all_nodes { log_nodes (schema_of view.now) (log_of view.now) + nodes (schema_of view.now) (formula_of query.now) ≤ 60000 }
-    ensures { IfOk result (HasFindings (schema_of view.now) (profile_of user.now) (log_of view.now) (formula_of query.now)) }
+    ensures findings { IfOk result (HasFindings (schema_of view.now) (profile_of user.now) (log_of view.now) (formula_of query.now)) }
+    ensures spent { IfOk result (AreSpentByCost (schema_of view.now) (profile_of user.now) (log_of view.now) (formula_of query.now)) }
 {
     law_limits();
+    law_spent_is_cost();
     let mut view = view.copy(alloc)?;
     let secrets = user.secrets.as_slice();
     match user.method {

@@ -8,10 +8,12 @@
 
 mod admittance;
 mod examination;
+mod laws;
 mod marks;
 mod secrets;
 
 pub use admittance::{ADMISSION_BUDGET, Admission, admit};
 pub use examination::{Findings, examine};
+pub use laws::law_undecided_is_cost;
 pub use marks::decide;
 pub use secrets::disjunction;

@@ -8,3 +8,4 @@ pub mod IndexedStates
 pub mod Costs
 pub mod Marking
 pub mod MarkedFields
+pub mod RightEnds

@@ -4,6 +4,7 @@ ghost use Rattle.std.specs.Prelude.{◌≡◌, ◌<◌, ◌^◌, ◌+◌, [], le
 ghost use Rattle.cqe_base.specs.Literal.{ClausesBelow, HaveNoRepeat};
 ghost use Rattle.cqe_base.specs.Machine.{end_within_budget, start};
 ghost use Rattle.clause_solver.specs.PlainStates.{found_of};
+ghost use Rattle.clause_solver.specs.RightEnds.{IsRightFound};
 ghost use Rattle.clause_solver.specs.Costs.{cost_within_budget};
 ghost use Rattle.clause_solver.specs.Watching.{HaveSameLiterals};
 ghost use Rattle.clause_solver.specs.WatchesInside.{AreWatches};
@@ -18,6 +19,7 @@ use crate::watches::Watches;
 use clause_store::clauses::Clauses;
 use clause_store::literal::Lit;
 use clause_store::refutation::Refutation;
+use cqe_base::machine_laws::{law_budget_is_whole_cost, law_machine_ends_are_right};
 use std::alloc::{AllocError, Global};
 
 /// What is kept of these clauses where nothing is assigned.
@@ -143,8 +145,11 @@ pub fn search(
     requires below { ClausesBelow variables clauses.now }
     requires no_repeat { HaveNoRepeat clauses.now }
     requires room { length clauses.now + budget < 2 ^ 32 }
-    ensures { IfOk result (λ found. found_of found ≡ end_within_budget clauses.now variables budget) }
+    ensures found { IfOk result (λ found. found_of found ≡ end_within_budget clauses.now variables budget) }
+    ensures right { IfOk result (IsRightFound clauses.now) }
 {
+    law_budget_is_whole_cost();
+    law_machine_ends_are_right();
     let searched = search_with_cost(alloc, clauses, variables, budget)?;
     Ok(searched.found)
 }

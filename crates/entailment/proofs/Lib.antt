@@ -2,3 +2,4 @@ mod ClauseCount
 mod LogNodes
 mod LogForms
 mod LogItems
+mod CostBounds

@@ -2,3 +2,4 @@ pub mod Logs
 pub mod Views
 pub mod Probes
 pub mod Forms
+pub mod Budgets

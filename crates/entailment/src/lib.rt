@@ -8,8 +8,10 @@
 //! Read `view`, then `probes`.
 #![tactic(auto)]
 
+mod budgets;
 mod probes;
 mod view;
 
+pub use budgets::enough;
 pub use probes::{Probe, Verdict, test};
 pub use view::View;

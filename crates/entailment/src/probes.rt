@@ -10,6 +10,7 @@ ghost use Rattle.clause_store.specs.PlainLines.{lines_of};
 ghost use Rattle.entailment.specs.Logs.{log_nodes, sentence_nodes, told_log, IsSmallLog};
 ghost use Rattle.entailment.specs.Forms.{form_of_log, with_negated, HasAdded, IsSearchable, IsChecked};
 ghost use Rattle.entailment.specs.Views.{schema_of, log_of};
+ghost use Rattle.entailment.specs.Budgets.{IsSpentByCost};
 ghost use Rattle.entailment.specs.Probes.{premise_list, premise_of, goal_of, outcome_of, IsTrueVerdict};
 
 use crate::view::{Told, View};
@@ -21,7 +22,7 @@ use cqe_base::laws::law_grounded_nodes;
 use cqe_base::machine_laws::{
     law_clause_form_has_no_repeat, law_clause_form_uses_its_variables, law_model_is_countermodel,
     law_numbered_facts_are_few, law_numbered_facts_are_of_schema, law_refutation_entails,
-    law_variables_are_few,
+    law_spent_is_cost, law_variables_are_few,
 };
 use cqe_base::prop::Prop;
 use cqe_base::schema::Schema;
@@ -68,11 +69,13 @@ pub fn test(
     ensures outcome { IfOk result (λ verdict. outcome_of verdict
         ≡ outcome (schema_of view.old) (log_of view.old ++ premise_of probe.now) (goal_of probe.now) budget) }
     ensures sound { IfOk result (IsTrueVerdict (schema_of view.old) (log_of view.old ++ premise_of probe.now) (goal_of probe.now)) }
+    ensures spent { IfOk result (IsSpentByCost (schema_of view.old) (log_of view.old ++ premise_of probe.now) (goal_of probe.now) budget) }
     ensures schema { schema_of view.new ≡ schema_of view.old }
     ensures log { log_of view.new ≡ log_of view.old }
 {
     law_refutation_entails();
     law_model_is_countermodel();
+    law_spent_is_cost();
     view.schema.known();
     let former = form_of_probe(alloc, view, probe)?;
     Ok(verdict_of(alloc, view.schema, &former, budget)?)

@@ -1,7 +1,8 @@
 use Rattle.std.proofs.Common.{◌++◌, ◌∙◌}
 use Rattle.entailment.specs.Views.{schema_of, log_of}
-use Rattle.entailment.specs.Probes.{premise_of, goal_of}
+use Rattle.entailment.specs.Probes.{premise_of, goal_of, outcome_of}
 use Rattle.entailment.proofs.LogForms.{outcome-of-form, premises-sentences, true-verdict}
+use Rattle.entailment.proofs.CostBounds.{spent-by-cost}
 use Rattle.entailment.proofs.probes.test.Goals as goal
 
 pub returns-clause-outcome : goal.returns-clause-outcome
@@ -17,3 +18,8 @@ returns-clause-sound c =
     (premises-sentences (schema_of c.args.view.now) (log_of c.args.view.now) (premise_of c.args.probe.now) c.args.view.now.small.sentences c.requires.premise)
     c.requires.goal
     c.in_ok-verdict_of.ensures.checked
+
+pub returns-clause-spent : goal.returns-clause-spent
+returns-clause-spent c =
+    spent-by-cost c.law_spent_is_cost.ensures (schema_of c.args.view.now) (log_of c.args.view.now ++ premise_of c.args.probe.now) (goal_of c.args.probe.now) c.args.budget
+    (outcome_of c.in_ok-verdict_of.field-0) (returns-clause-outcome c)
