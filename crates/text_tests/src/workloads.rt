@@ -1,17 +1,9 @@
-use crate::draws::Draws;
-use crate::make;
+//! A workload of a seed, with sums of its bytes that a program in another language computed.
 use cqe_base::user::Method;
 use policy_files::{read_facts, read_policy};
 use std::alloc::AllocError;
 use std::test::Fail;
-
-#[test]
-fn the_first_draws_of_a_seed(rt: HostRuntime) {
-    let mut draws = Draws::new(7);
-    assert_eq!(rt; draws.draw(40), 4);
-    assert_eq!(rt; draws.draw(12), 2);
-    assert_eq!(rt; draws.draw(40), 28);
-}
+use workload::make;
 
 // The sum of the bytes, each times its place from 1.
 fn weighted(bytes: &[u8]) -> u64 {
