@@ -12,8 +12,6 @@ mod declaration;
 mod parts;
 mod script;
 mod statement;
-#[cfg(test)]
-mod tests;
 
 pub use answering::{is_admitted, line_reply, told};
 pub use case::{CaseEnd, run_case};

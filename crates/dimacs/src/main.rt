@@ -4,8 +4,8 @@
 //! the budget was spent, and always the cost. What it promises is the contract of `answer_input` in `dimacs_text`; this
 //! crate adds nothing to it. `docs/FORMATS.md` has the input, the output and the statuses.
 //!
-//! Its stored run is a refutation in LRAT; `dimacs_model` and `dimacs_spent` are the same program with the two other ends.
-//! Read `answer_input` first.
+//! Its stored run is a refutation in LRAT; models, refutations and spent budgets are scenes of `rehearsals`. Read
+//! `answer_input` first.
 #![tactic(auto)]
 
 use dimacs_text::answer_input;

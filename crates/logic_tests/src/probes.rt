@@ -25,19 +25,26 @@ const ANN: u32 = 0;
 
 const BOB: u32 = 1;
 
+/// A name, and the names of its parts.
+fn declaration(
+    alloc: Global,
+    name: &str,
+    parts: &[&str],
+) -> Result<(String, Vec<String>), AllocError> {
+    let mut texts = Vec::new(alloc);
+    for part in parts {
+        texts.push(String::from_str(alloc, part)?)?;
+    }
+    Ok((String::from_str(alloc, name)?, texts))
+}
+
 /// Two persons, `drug(person)` and `hiv(person)`.
 fn hospital(alloc: Global) -> Result<Schema, Fail> {
-    let mut persons = Vec::new(alloc);
-    persons.push(String::from_str(alloc, "ann")?)?;
-    persons.push(String::from_str(alloc, "bob")?)?;
     let mut domains = Vec::new(alloc);
-    domains.push((String::from_str(alloc, "person")?, persons))?;
+    domains.push(declaration(alloc, "person", &["ann", "bob"])?)?;
     let mut relations = Vec::new(alloc);
-    for name in ["drug", "hiv"] {
-        let mut columns = Vec::new(alloc);
-        columns.push(String::from_str(alloc, "person")?)?;
-        relations.push((String::from_str(alloc, name)?, columns))?;
-    }
+    relations.push(declaration(alloc, "drug", &["person"])?)?;
+    relations.push(declaration(alloc, "hiv", &["person"])?)?;
     Ok(Schema::new(alloc, domains, relations)?)
 }
 

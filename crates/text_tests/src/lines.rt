@@ -1,9 +1,7 @@
-//! Lines, requests and replies, by their tables.
+//! Lines, replies and pass phrases.
 
 use cqe_base::user::{Mark, Method, User};
-use line_protocol::{
-    LineBuffer, LineOutcome, Reply, Request, login_ok, read_line, read_request, write_reply,
-};
+use line_protocol::{LineBuffer, LineOutcome, Reply, login_ok, read_line, write_reply};
 use outside::{Failed, MemorySink, MemorySource, Pieces, Plan};
 use std::alloc::{AllocError, Global};
 use std::test::Fail;
@@ -16,90 +14,6 @@ fn cuts() -> [Pieces; 4] {
         Pieces::UpTo(7),
         Pieces::UpTo(4096),
     ]
-}
-
-// Lines that log in, each with its user and its phrase.
-const LOGINS: [(&str, &str, &str); 7] = [
-    ("login eve abc", "eve", "abc"),
-    ("login\teve\tabc", "eve", "abc"),
-    ("login eve open sesame ", "eve", "open sesame "),
-    ("login eve  abc", "eve", " abc"),
-    ("login eve \t", "eve", "\t"),
-    ("login E_9 #", "E_9", "#"),
-    ("login v9 abc", "v9", "abc"),
-];
-
-// What other lines are read as: blanks, tabs, bytes outside of the range and words that are nearly right among them.
-const OTHERS: [(&str, Request<'static>); 35] = [
-    ("quit", Request::Quit),
-    ("quit ", Request::Other),
-    (" quit", Request::Other),
-    ("quit\t", Request::Other),
-    ("quit now", Request::Other),
-    ("Quit", Request::Other),
-    ("ask", Request::Ask("")),
-    ("ask ", Request::Ask("")),
-    ("ask  ", Request::Ask(" ")),
-    ("ask\t", Request::Ask("")),
-    ("ask\tdrug(ann)", Request::Ask("drug(ann)")),
-    ("ask drug(ann)", Request::Ask("drug(ann)")),
-    ("ask \tdrug(ann) ", Request::Ask("\tdrug(ann) ")),
-    (
-        "ask not hiv(ann) or drug(bob)",
-        Request::Ask("not hiv(ann) or drug(bob)"),
-    ),
-    ("ask ~!#", Request::Ask("~!#")),
-    ("asks true", Request::Other),
-    ("ASK true", Request::Other),
-    (" ask true", Request::Other),
-    ("ask\u{b}true", Request::Other),
-    ("ask tr\rue", Request::Other),
-    ("ask caf\u{e9}", Request::Other),
-    ("ask \u{7f}", Request::Other),
-    ("", Request::Other),
-    (" ", Request::Other),
-    ("\t", Request::Other),
-    ("hello", Request::Other),
-    ("login  eve abc", Request::Other),
-    ("login eve ", Request::Other),
-    ("login eve", Request::Other),
-    ("login", Request::Other),
-    ("login ", Request::Other),
-    ("login 9eve abc", Request::Other),
-    ("login exists abc", Request::Other),
-    ("login v1 abc", Request::Other),
-    ("login eve a\u{0}", Request::Other),
-];
-
-// All these lines, each with what it is read as.
-fn requests(alloc: Global) -> Result<Vec<(&'static str, Request<'static>)>, AllocError> {
-    let mut requests = Vec::from_array(alloc, OTHERS)?;
-    for (line, user, phrase) in LOGINS {
-        requests.push((line, Request::Login { user, phrase }))?;
-    }
-    Ok(requests)
-}
-
-#[test]
-fn lines_are_read_as_requests(rt: HostRuntime) -> Result<(), Fail> {
-    let alloc = rt.alloc();
-    let requests = requests(alloc)?;
-    let mut bytes = Vec::new(alloc);
-    for (line, request) in requests.iter() {
-        assert_eq!(rt; read_request(line.as_bytes()), *request);
-        bytes.extend_from_slice(line.as_bytes())?;
-        bytes.extend_from_slice(b"\r\n")?;
-    }
-    for pieces in cuts() {
-        let mut source = MemorySource::with_plan(bytes.clone()?, pieces, Plan::Never);
-        let mut buffer = LineBuffer::new();
-        for (_, request) in requests.iter() {
-            assert_eq!(rt; read_line(&mut source, &mut buffer), LineOutcome::Line);
-            assert_eq!(rt; read_request(buffer.line()), *request);
-        }
-        assert_eq!(rt; read_line(&mut source, &mut buffer), LineOutcome::End);
-    }
-    Ok(())
 }
 
 // The lines of these bytes, each with a bar behind it, and how reading ended; a failed call shows as a stroke, and
@@ -214,27 +128,6 @@ fn a_line_has_at_most_4096_bytes(rt: HostRuntime) -> Result<(), Fail> {
             };
             assert_eq!(rt; next, after);
         }
-    }
-    Ok(())
-}
-
-#[test]
-fn names_and_phrases_have_their_lengths(rt: HostRuntime) -> Result<(), Fail> {
-    let alloc = rt.alloc();
-    let table = [
-        (1, 1, true),
-        (32, 256, true),
-        (33, 256, false),
-        (32, 257, false),
-        (0, 1, false),
-        (1, 0, false),
-    ];
-    for (name, phrase, is_login) in table {
-        let mut line = Vec::from_slice(alloc, b"login ")?;
-        line.extend_from_slice(&letters(alloc, name, b" ")?)?;
-        line.extend_from_slice(&letters(alloc, phrase, b"")?)?;
-        let request = read_request(&line);
-        assert_eq!(rt; matches!(request, Request::Login { .. }), is_login);
     }
     Ok(())
 }

@@ -1,4 +1,4 @@
-//! The worked policy and facts, one policy for each kind of refusal and place in the order of checks, and the limits.
+//! What stands in a policy, and a facts file at its limit. Refusals and the other limits are scenes of `rehearsals`.
 use cqe_base::schema::Schema;
 use cqe_base::sentence::Sentence;
 use cqe_base::user::{Method, User};
@@ -10,8 +10,6 @@ use std::process::Abort;
 use std::test::Fail;
 
 mod facts;
-mod limits;
-mod refusals;
 
 /// The worked policy.
 const POLICY: &str = r#"version = 1

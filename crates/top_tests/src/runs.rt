@@ -4,7 +4,7 @@ ghost use Rattle.std.specs.Prelude.{◌≡◌, List, ℕ, false};
 ghost use Rattle.outside.specs.MemoryShelves.{is_disk_out};
 
 use cqe_top::top;
-use outside::{Gate, MemoryLinks, MemoryShelf, MemorySink, MemorySource, OpenGate, Pieces, Plan};
+use outside::{Gate, MemoryLinks, MemoryShelf, MemorySink, MemorySource, OpenGate};
 use std::alloc::{AllocError, Global};
 use std::process::Abort;
 use std::sync::Wait;
@@ -99,55 +99,6 @@ impl Run {
         requires { (name : List ℕ) → is_disk_out shelf name ≡ false }
     {
         run_over(rt, alloc, words, &mut shelf, source, sink, complaints)
-    }
-
-    /// A case whose script has these parts.
-    fn case(
-        rt: &(impl Threads + Wait + Sync),
-        alloc: Global,
-        script: &[&str],
-    ) -> Result<Run, AllocError> {
-        Run::script(rt, alloc, joined(alloc, script)?)
-    }
-
-    fn script(
-        rt: &(impl Threads + Wait + Sync),
-        alloc: Global,
-        script: Vec<u8>,
-    ) -> Result<Run, AllocError> {
-        let sink = MemorySink::new(alloc);
-        let complaints = MemorySink::new(alloc);
-        Run::new(
-            rt,
-            alloc,
-            &["case"],
-            MemoryShelf::new(alloc),
-            MemorySource::new(script),
-            sink,
-            complaints,
-        )
-    }
-
-    /// The same, where the streams cut.
-    fn cut_case(
-        rt: &(impl Threads + Wait + Sync),
-        alloc: Global,
-        script: &[&str],
-        taken: Pieces,
-        given: Pieces,
-    ) -> Result<Run, AllocError> {
-        let source = MemorySource::with_plan(joined(alloc, script)?, taken, Plan::Never);
-        let sink = MemorySink::with_plan(alloc, given, Plan::Never);
-        let complaints = MemorySink::new(alloc);
-        Run::new(
-            rt,
-            alloc,
-            &["case"],
-            MemoryShelf::new(alloc),
-            source,
-            sink,
-            complaints,
-        )
     }
 
     fn check(&self, rt: &impl Abort, status: u8, output: &str, complaint: &str, what: &str) {

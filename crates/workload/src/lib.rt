@@ -11,7 +11,4 @@ mod files;
 mod policy;
 mod question;
 mod statement;
-#[cfg(test)]
-mod tests;
-
 pub use files::{Workload, make};

@@ -1,108 +1,18 @@
-//! Audits: what is printed of each user, and what isn't done.
-use super::ward::{
-    FACTS, POLICY, audit, batch, init, journal, journal_bytes, put_journal, shelf_of, ward,
-};
-use super::{Run, joined};
-use outside::{MemorySink, MemorySource, Pieces, Plan};
-use std::alloc::{AllocError, Global};
-use std::test::Fail;
+//! Audits that are cut, and the worlds that they print.
+ghost use Rattle.std.specs.Prelude.{◌≡◌, List, ℕ, false};
+ghost use Rattle.outside.specs.MemoryShelves.{is_disk_out};
 
-// Two asks of each of three users.
+use super::ward::{FACTS, audit, batch, init, shelf_of, ward};
+use super::{Run, joined};
+use outside::{MemoryShelf, MemorySink, MemorySource, Pieces, Plan};
+use std::alloc::{AllocError, Global};
+use std::sync::Wait;
+use std::test::Fail;
+use std::thread::Threads;
+
+// Two asks of each of three users of the ward.
 const SCRIPT: &str =
     "eve 1 ask drug(ann)\nron 1 ask drug(ann)\nkim 1 ask hiv(ann) or hiv(bob)\neve 2 ask hiv(bob)\nkim 1 ask hiv(ann)\nron 1 ask hiv(bob)\n";
-
-#[test]
-fn each_user_has_his_audit(rt: HostRuntime) -> Result<(), Fail> {
-    let alloc = rt.alloc();
-    let rows = [
-        (
-            "kim",
-            "user kim combined open\n1 yes (hiv(ann) or hiv(bob))\n2 refused hiv(ann)\nsecret hiv(ann) world hiv(bob)\nsecret hiv(bob) world hiv(ann)\n",
-            "{\"entries\":[{\"mark\":\"yes\",\"query\":\"(hiv(ann) or hiv(bob))\"},{\"mark\":\"refused\",\"query\":\"hiv(ann)\"}],\"method\":\"combined\",\"name\":\"kim\",\"secrets\":[{\"secret\":\"hiv(ann)\",\"world\":[\"hiv(bob)\"]},{\"secret\":\"hiv(bob)\",\"world\":[\"hiv(ann)\"]}],\"standing\":\"open\"}\n",
-        ),
-        // by his answers nobody is infected, and so nobody takes the drug
-        (
-            "eve",
-            "user eve lying open\n1 no drug(ann)\n2 no hiv(bob)\nsecret hiv(ann) world -\n",
-            "{\"entries\":[{\"mark\":\"no\",\"query\":\"drug(ann)\"},{\"mark\":\"no\",\"query\":\"hiv(bob)\"}],\"method\":\"lying\",\"name\":\"eve\",\"secrets\":[{\"secret\":\"hiv(ann)\",\"world\":[]}],\"standing\":\"open\"}\n",
-        ),
-        (
-            "ron",
-            "user ron refusal open\n1 refused drug(ann)\n2 no hiv(bob)\nsecret hiv(ann) world -\n",
-            "{\"entries\":[{\"mark\":\"refused\",\"query\":\"drug(ann)\"},{\"mark\":\"no\",\"query\":\"hiv(bob)\"}],\"method\":\"refusal\",\"name\":\"ron\",\"secrets\":[{\"secret\":\"hiv(ann)\",\"world\":[]}],\"standing\":\"open\"}\n",
-        ),
-        // one who isn't admitted has the first line alone
-        (
-            "lou",
-            "user lou lying closed\n",
-            "{\"entries\":[],\"method\":\"lying\",\"name\":\"lou\",\"secrets\":[],\"standing\":\"closed\"}\n",
-        ),
-    ];
-    let mut shelf = ward(&rt, alloc)?;
-    let _run = batch(&rt, alloc, &mut shelf, SCRIPT)?;
-    for (name, text, json) in rows {
-        let run = audit(&rt, alloc, &mut shelf, name, false)?;
-        run.check(&rt, 0, text, "", name);
-        assert_eq!(rt; run.source.left(), run.source.held());
-        let run = audit(&rt, alloc, &mut shelf, name, true)?;
-        run.check(&rt, 0, json, "", name);
-    }
-    Ok(())
-}
-
-#[test]
-fn a_name_that_no_user_has_is_usage(rt: HostRuntime) -> Result<(), Fail> {
-    let alloc = rt.alloc();
-    let mut shelf = ward(&rt, alloc)?;
-    let run = audit(&rt, alloc, &mut shelf, "zoe", false)?;
-    run.check(&rt, 2, "", "cqe: usage\n", "zoe");
-    // the files are tested before the name
-    let mut shelf = shelf_of(alloc, b"version = 2", FACTS.as_bytes())?;
-    let run = audit(&rt, alloc, &mut shelf, "zoe", false)?;
-    run.check(&rt, 3, "", "cqe: policy 9\n", "a policy of version 2");
-    let mut shelf = shelf_of(alloc, POLICY.as_bytes(), b"hiv(zoe)\n")?;
-    let run = audit(&rt, alloc, &mut shelf, "zoe", false)?;
-    run.check(&rt, 4, "", "cqe: facts 1 1\n", "no fact");
-    Ok(())
-}
-
-#[test]
-fn a_refused_journal_is_said_and_stays(rt: HostRuntime) -> Result<(), Fail> {
-    let alloc = rt.alloc();
-    let record = [
-        1, 9, 0, 9, 0x64, 0x72, 0x75, 0x67, 0x28, 0x61, 0x6e, 0x6e, 0x29, 0,
-    ];
-    let bytes = journal(alloc, &record)?;
-    let mut shelf = ward(&rt, alloc)?;
-    put_journal(alloc, &mut shelf, "d/eve.log", bytes.to_vec(alloc)?)?;
-    let run = audit(&rt, alloc, &mut shelf, "eve", false)?;
-    run.check(
-        &rt,
-        10,
-        "user eve lying sealed\n",
-        "cqe: journal eve damaged 0\n",
-        "eve",
-    );
-    let run = audit(&rt, alloc, &mut shelf, "eve", true)?;
-    run.check(
-        &rt,
-        10,
-        "{\"entries\":[],\"method\":\"lying\",\"name\":\"eve\",\"secrets\":[],\"standing\":\"sealed\"}\n",
-        "cqe: journal eve damaged 0\n",
-        "eve in JSON",
-    );
-    assert_eq!(rt; journal_bytes(&shelf, "d/eve.log"), bytes.as_slice());
-    // the others' journals aren't looked at
-    let run = audit(&rt, alloc, &mut shelf, "ron", false)?;
-    run.check(
-        &rt,
-        0,
-        "user ron refusal open\nsecret hiv(ann) world -\n",
-        "",
-        "ron",
-    );
-    Ok(())
-}
 
 #[test]
 fn an_audit_may_be_cut(rt: HostRuntime) -> Result<(), Fail> {
@@ -138,6 +48,108 @@ fn an_audit_may_be_cut(rt: HostRuntime) -> Result<(), Fail> {
     Ok(())
 }
 
+// Users of each method, with one secret and with two, one whose budget is soon spent, and two who have nothing to hide.
+const SEVERAL: &str = "version = 1\n
+[domains]
+person = [\"ann\", \"bob\"]\n
+[relations]
+drug = [\"person\"]
+hiv = [\"person\"]
+[[users]]
+name = \"ivy\"
+method = \"lying\"
+know = [\"drug(ann) -> hiv(ann)\", \"drug(bob) -> hiv(bob)\"]
+secrets = [\"hiv(ann)\"]
+[[users]]
+name = \"eve\"
+method = \"lying\"
+know = [\"forall x: person . drug(x) -> hiv(x)\"]
+secrets = [\"hiv(ann)\"]
+[[users]]
+name = \"ron\"
+method = \"refusal\"
+know = [\"forall x: person . drug(x) -> hiv(x)\"]
+secrets = [\"hiv(ann)\"]
+[[users]]
+name = \"ray\"
+method = \"refusal\"
+know = [\"forall x: person . drug(x) -> hiv(x)\"]
+secrets = [\"hiv(ann)\"]
+[[users]]
+name = \"joe\"
+method = \"combined\"
+know = [\"forall x: person . drug(x) -> hiv(x)\"]
+secrets = [\"hiv(ann)\"]
+[[users]]
+name = \"kim\"
+method = \"combined\"
+know = [\"forall x: person . drug(x) -> hiv(x)\"]
+secrets = [\"hiv(ann)\", \"hiv(bob)\"]
+[[users]]
+name = \"lea\"
+method = \"lying\"
+know = [\"forall x: person . drug(x) -> hiv(x)\"]
+secrets = [\"hiv(ann)\", \"hiv(bob)\"]
+[[users]]
+name = \"ned\"
+method = \"lying\"
+know = [\"forall x: person . drug(x) -> hiv(x)\"]
+secrets = [\"hiv(ann)\"]
+budget = 10
+[[users]]
+name = \"pia\"
+method = \"refusal\"
+know = [\"forall x: person . drug(x) -> hiv(x)\"]
+secrets = [\"false\"]
+[[users]]
+name = \"sam\"
+method = \"combined\"
+know = [\"forall x: person . drug(x) -> hiv(x)\"]
+secrets = [\"false\"]
+";
+
+// What they ask, and what each gets where ann takes the drug and has hiv.
+const ASKS: &str =
+    "ivy 1 ask drug(ann)\nivy 1 ask hiv(ann)\nivy 1 ask hiv(bob)\neve 1 ask drug(ann)\neve 1 ask hiv(bob)\nron 1 ask drug(ann)\nron 1 ask hiv(bob)\nron 1 ask hiv(bob)\nray 1 ask not drug(ann)\njoe 1 ask drug(ann)\nkim 1 ask hiv(ann) or hiv(bob)\nkim 1 ask hiv(ann)\nlea 1 ask hiv(ann) or hiv(bob)\nlea 1 ask hiv(bob)\nned 1 ask drug(ann)\npia 1 ask drug(ann)\npia 1 ask hiv(bob)\nsam 1 ask drug(ann)\nsam 1 ask hiv(bob)\n";
+
+const REPLIES: &str =
+    "ivy 1 no\nivy 1 no\nivy 1 no\neve 1 no\neve 1 no\nron 1 refused\nron 1 no\nron 1 no\nray 1 refused\njoe 1 no\nkim 1 yes\nkim 1 refused\nlea 1 no\nlea 1 no\nned 1 undecided\npia 1 yes\npia 1 no\nsam 1 yes\nsam 1 no\n";
+
+// How many secrets each user has.
+const SECRETS: [(&str, u8); 10] = [
+    ("ivy", 1),
+    ("eve", 1),
+    ("ron", 1),
+    ("ray", 1),
+    ("joe", 1),
+    ("kim", 2),
+    ("lea", 2),
+    ("ned", 1),
+    ("pia", 1),
+    ("sam", 1),
+];
+
+// The lines of a user.
+fn lines_of(alloc: Global, text: &str, user: &str) -> Result<String, AllocError> {
+    let mut lines = String::new(alloc);
+    for line in text.lines() {
+        if let Some((name, _)) = line.split_once(' ')
+            && name == user
+        {
+            write!(lines, "{line}\n")?;
+        }
+    }
+    Ok(lines)
+}
+
+// What the program wrote.
+fn text_of(run: &Run) -> Result<&str, Fail> {
+    match str::from_utf8(run.sink.bytes()) {
+        Ok(text) => Ok(text),
+        Err(_) => Err(Fail::from(AllocError)),
+    }
+}
+
 // The facts that an audit's line of a secret names, as a facts file.
 fn facts_in(alloc: Global, line: &str) -> Result<Vec<u8>, AllocError> {
     let mut bytes = Vec::new(alloc);
@@ -152,51 +164,72 @@ fn facts_in(alloc: Global, line: &str) -> Result<Vec<u8>, AllocError> {
     Ok(bytes)
 }
 
-// In each world that an audit prints, the same asks get the same lines. The rows of its table make it long.
+// Whether the world of an audit's line has the secret itself, which is a fact or `false`.
+fn has_its_secret(line: &str) -> bool {
+    if let Some((head, facts)) = line.rsplit_once(" world ")
+        && let Some(secret) = head.strip_prefix("secret ")
+    {
+        for fact in facts.split(' ') {
+            if fact == secret {
+                return true;
+            }
+        }
+    }
+    false
+}
+
+// What the user gets in the world of an audit's line.
+fn replies_in(
+    rt: &(impl Threads + Wait + Sync),
+    alloc: Global,
+    line: &str,
+    user: &str,
+) -> Result<String, Fail> {
+    let facts = facts_in(alloc, line)?;
+    let mut shelf = shelf_of(alloc, SEVERAL.as_bytes(), &facts)?;
+    let _made = init(rt, alloc, &mut shelf)?;
+    let run = batch(rt, alloc, &mut shelf, ASKS)?;
+    Ok(lines_of(alloc, text_of(&run)?, user)?)
+}
+
+// How many worlds the user's audit prints, each without its secret and with the same lines for him; 17, more than there
+// can be, where one is otherwise.
+fn same_worlds(
+    rt: &(impl Threads + Wait + Sync),
+    alloc: Global,
+    shelf: &mut MemoryShelf,
+    user: &str,
+) -> Result<u8, Fail>
+    requires { (name : List ℕ) → is_disk_out shelf.old name ≡ false }
+    ensures { (name : List ℕ) → is_disk_out shelf.new name ≡ false }
+{
+    let wanted = lines_of(alloc, REPLIES, user)?;
+    let printed = audit(rt, alloc, shelf, user, false)?;
+    let mut worlds = 0u8;
+    for line in text_of(&printed)?.lines() {
+        if line.starts_with("secret ") {
+            let replies = replies_in(rt, alloc, line, user)?;
+            if replies != wanted || has_its_secret(line) {
+                return Ok(17);
+            }
+            worlds = worlds.saturating_add(1);
+        }
+    }
+    Ok(worlds)
+}
+
+// In each world that an audit prints a secret is false, and the same asks get the same lines.
 #[test]
 fn a_printed_world_gives_the_same_lines(rt: HostRuntime) -> Result<(), Fail> {
     let alloc = rt.alloc();
-    let rows = [
-        (
-            "eve",
-            "eve 1 ask drug(ann)\neve 2 ask hiv(bob)\n",
-            "eve 1 no\neve 2 no\n",
-            1,
-        ),
-        (
-            "ron",
-            "ron 1 ask drug(ann)\nron 1 ask hiv(bob)\n",
-            "ron 1 refused\nron 1 no\n",
-            1,
-        ),
-        (
-            "kim",
-            "kim 1 ask hiv(ann) or hiv(bob)\nkim 1 ask hiv(ann)\n",
-            "kim 1 yes\nkim 1 refused\n",
-            2,
-        ),
-    ];
-    for (name, script, output, secrets) in rows {
-        let mut shelf = ward(&rt, alloc)?;
-        let run = batch(&rt, alloc, &mut shelf, script)?;
-        run.check(&rt, 0, output, "", name);
-        let printed = audit(&rt, alloc, &mut shelf, name, false)?;
-        let Ok(text) = str::from_utf8(printed.sink.bytes()) else {
-            return Err(Fail::from(AllocError));
-        };
-        let mut worlds = 0u8;
-        for line in text.lines() {
-            if line.starts_with("secret ") {
-                let facts = facts_in(alloc, line)?;
-                let mut other = shelf_of(alloc, POLICY.as_bytes(), &facts)?;
-                let made = init(&rt, alloc, &mut other)?;
-                assert_eq!(rt; made.status, 0, "{line}");
-                let run = batch(&rt, alloc, &mut other, script)?;
-                run.check(&rt, 0, output, "", line);
-                worlds = worlds.saturating_add(1);
-            }
-        }
-        assert_eq!(rt; worlds, secrets, "{name}");
+    let mut shelf = shelf_of(alloc, SEVERAL.as_bytes(), FACTS.as_bytes())?;
+    let made = init(&rt, alloc, &mut shelf)?;
+    made.check(&rt, 0, "", "", "empty journals");
+    let run = batch(&rt, alloc, &mut shelf, ASKS)?;
+    run.check(&rt, 0, REPLIES, "", "all asks");
+    for (user, secrets) in SECRETS {
+        let worlds = same_worlds(&rt, alloc, &mut shelf, user)?;
+        assert_eq!(rt; worlds, secrets, "{user}");
     }
     Ok(())
 }

@@ -124,7 +124,7 @@ fn ward_clients(alloc: Global) -> Result<Vec<Connection>, AllocError> {
     )
 }
 
-// Words about workers and sessions that serve them all, and how many doors they open.
+// Words about workers and sessions, and how many doors they open.
 const NUMBERS: [(&[&str], u32); 4] = [
     (&[], 4),
     (&["--workers", "1"], 1),
@@ -133,60 +133,19 @@ const NUMBERS: [(&[&str], u32); 4] = [
 ];
 
 #[test]
-fn each_client_is_answered(rt: HostRuntime) -> Result<(), Fail> {
+fn each_worker_has_a_door(rt: HostRuntime) -> Result<(), Fail> {
     let alloc = rt.alloc();
     for (numbers, doors) in NUMBERS {
         let mut shelf = ward(&rt, alloc)?;
-        let mut links = MemoryLinks::new(alloc, ward_clients(alloc)?);
+        let mut links = MemoryLinks::new(alloc, Vec::new(alloc));
         let run = serve(&rt, alloc, numbers, &mut shelf, &mut links)?;
-        run.check(&rt, 0, "", "", "five clients");
-        assert_eq!(rt; run.source.left(), run.source.held());
-        assert_eq!(rt; served(&rt, &links, &CLIENTS), 5);
-        assert_eq!(rt; links.left(), 0);
+        run.check(&rt, 0, "", "", "no client");
         assert_eq!(rt; links.faults(), 0);
         assert_eq!(rt; links.listened().len(), 1);
         for place in links.listened() {
             assert_eq!(rt; place.address.as_str(), "here");
             assert_eq!(rt; place.doors, doors);
         }
-    }
-    Ok(())
-}
-
-// Behind its header eve's journal has the records of both asks, and a later batch goes on from them.
-#[test]
-fn what_was_told_is_in_the_journal(rt: HostRuntime) -> Result<(), Fail> {
-    let alloc = rt.alloc();
-    let mut shelf = ward(&rt, alloc)?;
-    let mut links = MemoryLinks::new(alloc, clients(alloc, &[CLIENTS[0].0])?);
-    let run = serve(&rt, alloc, &["--workers=1"], &mut shelf, &mut links)?;
-    run.check(&rt, 0, "", "", "one client");
-    let want = journal(
-        alloc,
-        b"\x01\x02\x00\x09drug(ann)\x01\x02\x00\x08hiv(bob)\x00",
-    )?;
-    assert_eq!(rt; journal_bytes(&shelf, "d/eve.log"), want.as_slice());
-    let kept = journal(alloc, &[0])?;
-    assert_eq!(rt; journal_bytes(&shelf, "d/kim.log"), kept.as_slice());
-    Ok(())
-}
-
-// The worker draws a number before each connection.
-#[test]
-fn no_more_sessions_are_served_than_asked_for(rt: HostRuntime) -> Result<(), Fail> {
-    let alloc = rt.alloc();
-    for (sessions, left) in [("1", 4), ("2", 3), ("5", 0), ("6", 0)] {
-        let mut shelf = ward(&rt, alloc)?;
-        let mut links = MemoryLinks::new(alloc, ward_clients(alloc)?);
-        let numbers = ["--workers", "1", "--sessions", sessions];
-        let run = serve(&rt, alloc, &numbers, &mut shelf, &mut links)?;
-        run.check(&rt, 0, "", "", sessions);
-        assert_eq!(rt; links.left(), left, "{sessions}");
-        assert_eq!(rt;
-            served(&rt, &links, &CLIENTS).wrapping_add(left),
-            5,
-            "{sessions}"
-        );
     }
     Ok(())
 }
@@ -276,7 +235,7 @@ fn causes_come_in_their_order(rt: HostRuntime) -> Result<(), Fail> {
 fn a_journal_is_refused_or_fails(rt: HostRuntime) -> Result<(), Fail> {
     let alloc = rt.alloc();
     let asks = "login eve abc\nask drug(ann)\nask hiv(bob)\n";
-    let rows: [(Plan, bool, u8, &str, &str); 5] = [
+    let rows: [(Plan, bool, u8, &str, &str); 4] = [
         (
             Plan::At(vec![in alloc; 4]?),
             true,
@@ -297,13 +256,6 @@ fn a_journal_is_refused_or_fails(rt: HostRuntime) -> Result<(), Fail> {
             10,
             "welcome\nerror 41\nerror 41\n",
             "cqe: journal eve disk fault\n",
-        ),
-        (
-            Plan::Never,
-            false,
-            10,
-            "welcome\nno\nno\n",
-            "cqe: journal ron not a journal\n",
         ),
         (Plan::From(11), true, 0, "welcome\nno\nno\n", ""),
     ];

@@ -192,23 +192,3 @@ pub(super) fn journal_bytes<'s>(shelf: &'s MemoryShelf, name: &str) -> &'s [u8] 
         None => &[],
     }
 }
-
-/// Puts the journals of these names in the place of those of another shelf.
-pub(super) fn put_same(
-    alloc: Global,
-    from: &MemoryShelf,
-    names: &[&str],
-    shelf: &mut MemoryShelf,
-) -> Result<(), AllocError>
-    requires { (name : List ℕ) → is_disk_out shelf.old name ≡ false }
-    ensures { (name : List ℕ) → is_disk_out shelf.new name ≡ false }
-{
-    match names {
-        [] => Ok(()),
-        [name, rest @ ..] => {
-            let bytes = journal_bytes(from, name).to_vec(alloc)?;
-            put_journal(alloc, shelf, name, bytes)?;
-            put_same(alloc, from, rest, shelf)
-        }
-    }
-}

@@ -1,0 +1,62 @@
+//! Lines that are read as words of a command, as requests of a session, and as sentences.
+use crate::book::words_of;
+use command_words::{Command, Files, read_words};
+use cqe_base::schema::Schema;
+use cqe_base::text::TextError;
+use line_protocol::{Request, read_request};
+use sentence_text::{ReadError, print_sentence, read_sentence};
+use std::alloc::{AllocError, Global};
+
+/// The command that words say, with its values in brackets, or `none`.
+pub fn words_text(alloc: Global, line: &str) -> Result<String, AllocError> {
+    let Some(words) = words_of(alloc, line)? else {
+        return String::from_str(alloc, "no words");
+    };
+    match read_words(alloc, &words)? {
+        Some(Command::Case) => String::from_str(alloc, "case"),
+        Some(Command::Init(files)) => files_text(alloc, "init", &files),
+        Some(Command::Batch(files)) => files_text(alloc, "batch", &files),
+        Some(Command::Audit(audit)) => {
+            let front = files_text(alloc, "audit", &audit.files)?;
+            let form = if audit.json { "json" } else { "text" };
+            format!(in alloc; "{front} <{}> {form}", audit.user)
+        }
+        Some(Command::Selfrun(run)) => {
+            format!(in alloc; "selfrun {} {} {}", run.seed, run.users, run.asks)
+        }
+        Some(Command::Serve(serve)) => {
+            let front = files_text(alloc, "serve", &serve.files)?;
+            let (workers, sessions) = (serve.workers, serve.sessions);
+            format!(in alloc; "{front} <{}> {workers} {sessions}", serve.listen)
+        }
+        None => String::from_str(alloc, "none"),
+    }
+}
+
+/// A command and the files that it names.
+fn files_text(alloc: Global, command: &str, files: &Files<'_>) -> Result<String, AllocError> {
+    let (policy, facts, journals) = (files.policy, files.facts, files.journals);
+    format!(in alloc; "{command} <{policy}> <{facts}> <{journals}>")
+}
+
+/// The request of a line.
+pub fn request_text(alloc: Global, line: &str) -> Result<String, AllocError> {
+    match read_request(line.as_bytes()) {
+        Request::Login { user, phrase } => format!(in alloc; "login <{user}> <{phrase}>"),
+        Request::Ask(text) => format!(in alloc; "ask <{text}>"),
+        Request::Quit => String::from_str(alloc, "quit"),
+        Request::Other => String::from_str(alloc, "other"),
+    }
+}
+
+/// The canonical form of a sentence, or the kind and the place of its refusal.
+pub fn sentence_text_of(alloc: Global, schema: &Schema, line: &str) -> Result<String, AllocError> {
+    if line.len() > 4096 {
+        return String::from_str(alloc, "too long");
+    }
+    match read_sentence(alloc, schema, line) {
+        Ok(sentence) => print_sentence(alloc, schema, &sentence),
+        Err(ReadError::Text(TextError { kind, place })) => format!(in alloc; "{kind} {place}"),
+        Err(ReadError::Memory) => Err(AllocError),
+    }
+}
