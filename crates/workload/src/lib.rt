@@ -11,4 +11,5 @@ mod files;
 mod policy;
 mod question;
 mod statement;
+
 pub use files::{Workload, make};
