@@ -19,8 +19,9 @@ const FROM_THE_GATE: [u8; 14] = [
     0x01, 0x02, 0x00, 0x09, 0x64, 0x72, 0x75, 0x67, 0x28, 0x61, 0x6e, 0x6e, 0x29, 0x00,
 ];
 
-// The device calls of an opening: a sync, the length and one read.
-const OPENING: u64 = 3;
+// The device calls of an opening without records: a sync, the length, and the reads of the header and of the closed gate.
+// Each record is one read more.
+const OPENING: u64 = 4;
 
 /// The clinic, with a user from whom Ann's infection is kept by lies.
 #[derive(Drop)]
@@ -116,8 +117,8 @@ fn one_ask_writes_its_bytes(rt: HostRuntime) -> Result<(), Fail> {
         with_header(alloc, &FROM_THE_GATE)?.as_slice()
     );
     assert_eq!(rt; disk.crash_image(alloc, 0)?.as_slice(), disk.bytes());
-    // Two calls of `format`, three of the opening, four of the append.
-    assert_eq!(rt; disk.calls().len(), 9);
+    // Two calls of `format`, four of the opening, four of the append.
+    assert_eq!(rt; disk.calls().len(), 10);
     Ok(())
 }
 
@@ -233,7 +234,7 @@ fn a_user_who_is_not_admitted_has_no_entry(rt: HostRuntime) -> Result<(), Fail> 
 fn a_fault_at_the_opening_seals_the_desk(rt: HostRuntime) -> Result<(), Fail> {
     let alloc = rt.alloc();
     let ward = ward_knowing(alloc, RULE)?;
-    for call in 0..OPENING {
+    for call in 0..OPENING + 1 {
         let bytes = with_header(alloc, &FROM_THE_GATE)?;
         let plan = Plan::At(vec![in alloc; call]?);
         let disk = MemoryDisk::with_plan(alloc, bytes, plan)?;
@@ -280,15 +281,15 @@ fn a_new_life_finds_what_was_answered(rt: HostRuntime) -> Result<(), Fail> {
     let no = Reply::Mark(Mark::No);
     for (picture, torn) in [(0, 0), (1, 1), (2, 0), (3, 0), (4, 1), (7, 1)] {
         for (stop, first, second, count) in [
-            (3, Reply::Broken, Reply::Broken, 0),
             (4, Reply::Broken, Reply::Broken, 0),
-            (5, Reply::Broken, Reply::Broken, torn),
+            (5, Reply::Broken, Reply::Broken, 0),
             (6, Reply::Broken, Reply::Broken, torn),
-            (7, no, Reply::Broken, 1),
+            (7, Reply::Broken, Reply::Broken, torn),
             (8, no, Reply::Broken, 1),
-            (9, no, Reply::Broken, 1 + torn),
+            (9, no, Reply::Broken, 1),
             (10, no, Reply::Broken, 1 + torn),
-            (11, no, no, 2),
+            (11, no, Reply::Broken, 1 + torn),
+            (12, no, no, 2),
         ] {
             let found = two_lives(&rt, alloc, &ward, stop, picture)?;
             assert_eq!(rt;

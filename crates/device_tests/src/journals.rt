@@ -15,8 +15,9 @@ const FROM_THE_GATE: [u8; 14] = [
     0x01, 0x02, 0x00, 0x09, 0x64, 0x72, 0x75, 0x67, 0x28, 0x61, 0x6e, 0x6e, 0x29, 0x00,
 ];
 
-// The device calls of an opening: a sync, the length and one read.
-const OPENING: u64 = 3;
+// The device calls of an opening without records: a sync, the length, and the reads of the header and of the closed gate.
+// Each record is one read more.
+const OPENING: u64 = 4;
 
 // The bytes of a journal with this behind its header.
 fn with_header(alloc: Global, behind: &[u8]) -> Result<Vec<u8>, Fail> {
@@ -80,12 +81,12 @@ fn one_append_writes_its_bytes(rt: HostRuntime) -> Result<(), Fail> {
     let want = with_header(alloc, &FROM_THE_GATE)?;
     assert_eq!(rt; disk.bytes(), want.as_slice());
     assert_eq!(rt; disk.bytes().len(), 86);
-    // Two calls of `format`, three of `open`, four of `append`.
+    // Two calls of `format`, four of `open`, four of `append`.
     let mut letters = Vec::new(alloc);
     for call in disk.calls() {
         letters.push(letter(&call.operation))?;
     }
-    assert_eq!(rt; letters.as_slice(), b"wssLrwsws".as_slice());
+    assert_eq!(rt; letters.as_slice(), b"wssLrrwsws".as_slice());
     Ok(())
 }
 
@@ -224,7 +225,7 @@ fn a_failed_sync_breaks_the_journal(rt: HostRuntime) -> Result<(), Fail> {
     let disk = MemoryDisk::with_plan(
         alloc,
         with_header(alloc, &FROM_THE_GATE)?,
-        Plan::At(vec![in alloc; OPENING + 1]?),
+        Plan::At(vec![in alloc; OPENING + 2]?),
     )?;
     let mut journal = journal_of(alloc, disk)?;
     journal.reserve(9)?;
@@ -241,7 +242,7 @@ fn a_failed_sync_breaks_the_journal(rt: HostRuntime) -> Result<(), Fail> {
 #[test]
 fn a_disk_fault_at_the_opening(rt: HostRuntime) -> Result<(), Fail> {
     let alloc = rt.alloc();
-    for call in 0..OPENING {
+    for call in 0..OPENING + 1 {
         let disk = MemoryDisk::with_plan(
             alloc,
             with_header(alloc, &FROM_THE_GATE)?,

@@ -26,7 +26,7 @@ fn init_stops_at_the_first_disk_that_fails(rt: HostRuntime) -> Result<(), Fail> 
     Ok(())
 }
 
-// The calls of eve's disk are a sync, the length and a read at its opening, and then a write, a sync, a write and a sync
+// The calls of eve's disk are a sync, the length and two reads at its opening, and then a write, a sync, a write and a sync
 // for each ask. The rows of its table make it long.
 #[test]
 fn a_disk_that_fails_is_told_to_its_user_alone(rt: HostRuntime) -> Result<(), Fail> {
@@ -36,7 +36,7 @@ fn a_disk_that_fails_is_told_to_its_user_alone(rt: HostRuntime) -> Result<(), Fa
     let rows: [(Plan, &str, u8, &str, &str); 5] = [
         // the first sync behind the opening
         (
-            Plan::At(vec![in alloc; 4]?),
+            Plan::At(vec![in alloc; 5]?),
             asks,
             11,
             "eve 1 error 40\neve 1 error 40\nkim 1 no\n",
@@ -52,7 +52,7 @@ fn a_disk_that_fails_is_told_to_its_user_alone(rt: HostRuntime) -> Result<(), Fa
         ),
         // the opening behind a restart
         (
-            Plan::From(7),
+            Plan::From(8),
             restarted,
             10,
             "eve 1 no\n* restarted\neve 1 error 41\nkim 1 no\n",
@@ -60,7 +60,7 @@ fn a_disk_that_fails_is_told_to_its_user_alone(rt: HostRuntime) -> Result<(), Fa
         ),
         // an append, after which the journal opens again
         (
-            Plan::At(vec![in alloc; 3]?),
+            Plan::At(vec![in alloc; 4]?),
             restarted,
             11,
             "eve 1 error 40\n* restarted\neve 1 no\nkim 1 no\n",
@@ -68,7 +68,7 @@ fn a_disk_that_fails_is_told_to_its_user_alone(rt: HostRuntime) -> Result<(), Fa
         ),
         // nothing that is called
         (
-            Plan::From(11),
+            Plan::From(12),
             asks,
             0,
             "eve 1 no\neve 1 no\nkim 1 no\n",
@@ -92,7 +92,7 @@ fn a_crash_leaves_what_was_told(rt: HostRuntime) -> Result<(), Fail> {
     let alloc = rt.alloc();
     for stop in 0..9 {
         let mut shelf = ward(&rt, alloc)?;
-        let disk = MemoryDisk::with_plan(alloc, journal(alloc, &[0])?, Plan::From(3 + stop))?;
+        let disk = MemoryDisk::with_plan(alloc, journal(alloc, &[0])?, Plan::From(4 + stop))?;
         shelf.put_disk(alloc, "d/eve.log", disk)?;
         let run = batch(
             &rt,

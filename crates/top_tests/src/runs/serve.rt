@@ -237,14 +237,14 @@ fn a_journal_is_refused_or_fails(rt: HostRuntime) -> Result<(), Fail> {
     let asks = "login eve abc\nask drug(ann)\nask hiv(bob)\n";
     let rows: [(Plan, bool, u8, &str, &str); 4] = [
         (
-            Plan::At(vec![in alloc; 4]?),
+            Plan::At(vec![in alloc; 5]?),
             true,
             11,
             "welcome\nerror 40\nerror 40\n",
             "cqe: disk fault\n",
         ),
         (
-            Plan::At(vec![in alloc; 4]?),
+            Plan::At(vec![in alloc; 5]?),
             false,
             10,
             "welcome\nerror 40\nerror 40\n",
@@ -257,7 +257,7 @@ fn a_journal_is_refused_or_fails(rt: HostRuntime) -> Result<(), Fail> {
             "welcome\nerror 41\nerror 41\n",
             "cqe: journal eve disk fault\n",
         ),
-        (Plan::From(11), true, 0, "welcome\nno\nno\n", ""),
+        (Plan::From(12), true, 0, "welcome\nno\nno\n", ""),
     ];
     for (plan, is_whole, status, answer, complaint) in rows {
         let mut shelf = ward(&rt, alloc)?;
@@ -280,7 +280,7 @@ fn a_failed_append_is_told_in_later_sessions_too(rt: HostRuntime) -> Result<(), 
     let alloc = rt.alloc();
     let asks = "login eve abc\nask drug(ann)\n";
     let mut shelf = ward(&rt, alloc)?;
-    let disk = MemoryDisk::with_plan(alloc, journal(alloc, &[0])?, Plan::At(vec![in alloc; 4]?))?;
+    let disk = MemoryDisk::with_plan(alloc, journal(alloc, &[0])?, Plan::At(vec![in alloc; 5]?))?;
     shelf.put_disk(alloc, "d/eve.log", disk)?;
     let mut links = MemoryLinks::new(alloc, clients(alloc, &[asks, asks, asks])?);
     let run = serve(&rt, alloc, &["--workers", "1"], &mut shelf, &mut links)?;
