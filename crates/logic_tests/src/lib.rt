@@ -2,10 +2,13 @@
 //!
 //! They call the libraries as any other crate does. A module is named for what it tests: `truths` of `truth_eval`, `grounds`
 //! of `grounding`, `lists` of `clause_store`, `refutations` of `proof_check`, `searches` and `same_searches` of
-//! `clause_solver`, `forms` of `clause_form`, `probes` of `entailment`. They share the schema of a `pharmacy`, and clauses
-//! that are written as numbers (`numbered`). Values that are compared were worked out by hand or by an independent program.
+//! `clause_solver`, `forms` of `clause_form`, `probes` and `budgets` of `entailment`. They share the schema of a `pharmacy`,
+//! and clauses that are written as numbers (`numbered`). Values that are compared were worked out by hand or by an
+//! independent program.
 #![tactic(auto)]
 
+#[cfg(test)]
+mod budgets;
 #[cfg(test)]
 mod forms;
 #[cfg(test)]
