@@ -1,5 +1,5 @@
 -- The bound of the machine's cost grows with the variables, so a bound for more of them suffices too.
-use Rattle.std.proofs.Common.{◌≡◌, ℕ, zero, ◌+◌, ◌*◌, ◌^◌, ◌<◌, ◌≤◌, List, map, Some, None, refl, sym, ap, ◌∙◌, ◌↔◌, arith}
+use Rattle.std.proofs.Common.{◌≡◌, ℕ, ◌+◌, ◌*◌, ◌^◌, ◌<◌, ◌≤◌, List, map, Some, None, refl, sym, ap, ◌∙◌, ◌↔◌, arith}
 use Rattle.std.specs.Prelude.{nat_le, if◌then◌else◌}
 use Rattle.std.proofs.lemmas.Bool.{lt-leb}
 use Rattle.std.proofs.Math.Nat.{pow-le-pow_left, pow-le-pow_right}

@@ -1,3 +1,4 @@
 pub mod Sizes
 pub mod Keeping
 pub mod Asking
+mod Costs

@@ -4,3 +4,4 @@ pub mod Asked
 pub mod UserLogs
 pub mod Nodes
 pub mod Prepared
+pub mod Undecided

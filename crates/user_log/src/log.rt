@@ -12,7 +12,7 @@ ghost use Rattle.user_log.specs.Nodes.{told_nodes};
 ghost use Rattle.user_log.specs.Kept.{IsKept, IsKept-prop};
 
 use crate::{Prepared, Reply, Weighed};
-use censors::{decide, examine};
+use censors::{decide, examine, law_undecided_is_cost};
 use cqe_base::laws::{law_findings_decide, law_legal_grows, law_limits, law_logs, law_reading};
 use cqe_base::schema::Schema;
 use cqe_base::sentence::{Sentence, nodes};
@@ -52,6 +52,7 @@ pub struct UserLog<'w> {
 impl<'w> UserLog<'w> {
     ghost use Rattle.user_log.specs.UserLogs.{kept_schema, kept_world, kept_user, kept_history, IsOfSame};
     ghost use Rattle.user_log.specs.Asked.{IsAnswer, IsWeighed, IsAsked};
+    ghost use Rattle.user_log.specs.Undecided.{IsMarkByCost, IsUndecidedByCost};
     ghost use Rattle.user_log.specs.Replies.{reply_of};
     ghost use Rattle.user_log.specs.Prepared.{IsPrepared, prepared_entry};
 
@@ -109,7 +110,8 @@ impl<'w> UserLog<'w> {
     /// The reply to a text by the entries so far, which it doesn't change.
     pub fn weigh(&self, alloc: Global, text: &str) -> Result<Weighed, AllocError>
         requires { length text.now ≤ 4096 }
-        ensures { IfOk result (IsWeighed (kept_schema self.now) (kept_world self.now) (kept_user self.now) (kept_history self.now) text.now) }
+        ensures weighed { IfOk result (IsWeighed (kept_schema self.now) (kept_world self.now) (kept_user self.now) (kept_history self.now) text.now) }
+        ensures undecided { IfOk result (IsUndecidedByCost (kept_schema self.now) (kept_user self.now) (kept_history self.now)) }
     {
         let query = match read_sentence(alloc, self.schema, text) {
             Ok(query) => query,
@@ -146,11 +148,13 @@ impl<'w> UserLog<'w> {
     fn mark(&self, alloc: Global, query: &Sentence) -> Result<Mark, AllocError>
         requires sentence { is_sentence_of (kept_schema self.now) (formula_of query.now) ≡ true }
         requires small { is_too_large (kept_schema self.now) (kept_user self.now) (kept_history self.now) (formula_of query.now) ≡ false }
-        ensures { IfOk result (λ mark. mark ≡ rule (kept_schema self.now) (kept_world self.now) (kept_user self.now)
+        ensures rule { IfOk result (λ mark. mark ≡ rule (kept_schema self.now) (kept_world self.now) (kept_user self.now)
             (log (kept_user self.now) (kept_history self.now)) (formula_of query.now)) }
+        ensures undecided { IfOk result (λ mark. IsMarkByCost (kept_schema self.now) (kept_user self.now) (kept_history self.now) (formula_of query.now) mark) }
     {
         law_limits();
         law_findings_decide();
+        law_undecided_is_cost();
         let findings = examine(alloc, &self.view, self.user, query)?;
         let truth = holds(self.schema, self.world, query);
         Ok(decide(self.user.method, &findings, truth))

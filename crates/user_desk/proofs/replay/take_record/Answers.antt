@@ -26,6 +26,6 @@ returns-in-Code-clause-taken c =
     let history = kept_history c.args.log.now in
     let kind = c.args.next.now.kind in
     let count = count_of c.entries.result.now history c.entries.ensures in
-    let refused = code_refuses schema world user history kind c.in-Ok.text.now c.in-Code.code _ count (rw c.in-Code.is at c.in_ok-code.ensures) in
+    let refused = code_refuses schema world user history kind c.in-Ok.text.now c.in-Code.code _ count (rw c.in-Code.is at c.in_ok-code.ensures.weighed) in
     subst (λ why. RefusesRecord schema world user history (kind, c.args.next.now.text.items) why) (sym c.refused_by.ensures)
     (subst (λ t. RefusesRecord schema world user history (kind, t) (refused_by c.in-Code.code (length c.entries.result.now))) (c.in-Ok.ensures.cases.0 ∙ c.deref.ensures.value) refused)

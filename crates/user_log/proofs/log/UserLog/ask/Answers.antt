@@ -4,10 +4,10 @@ use Rattle.user_log.proofs.Asking.{code_asked, mark_asked}
 use Rattle.user_log.proofs.log.UserLog.ask.Goals as goal
 
 pub returns-in-Ok-Code-clause-asked : goal.returns-in-Ok-Code-clause-asked
-returns-in-Ok-Code-clause-asked c = code_asked _ _ _ _ _ _ (rw c.in-Ok-Code.field-0-is at c.in-Ok-Code.ensures)
+returns-in-Ok-Code-clause-asked c = code_asked _ _ _ _ _ _ (rw c.in-Ok-Code.field-0-is at c.in-Ok-Code.ensures.weighed)
 
 pub returns-in-Ok-clause-asked : goal.returns-in-Ok-clause-asked
-returns-in-Ok-clause-asked c = mark_asked _ _ _ _ _ _ _ _ (rw c.in-Ok-Answer.field-0-is at c.in-Ok-Answer.ensures) c.in-Ok.ensures.added
+returns-in-Ok-clause-asked c = mark_asked _ _ _ _ _ _ _ _ (rw c.in-Ok-Answer.field-0-is at c.in-Ok-Answer.ensures.weighed) c.in-Ok.ensures.added
 
 pub returns-in-Err-add-clause-asked : goal.returns-in-Err-add-clause-asked
 returns-in-Err-add-clause-asked c = wanted c.in-Err-add.ensures.refused

@@ -4,7 +4,9 @@ use Rattle.cqe_base.specs.History.{profile_of, answered_query_of}
 use Rattle.cqe_base.specs.Censor.{mark_by}
 use Rattle.entailment.specs.Logs.{log_nodes}
 use Rattle.entailment.specs.Views.{log_of}
+use Rattle.user_log.specs.UserLogs.{kept_schema, kept_world, kept_user, kept_history}
 use Rattle.user_log.proofs.Keeping.{decided}
+use Rattle.user_log.proofs.Costs.{mark_by_cost}
 use Rattle.user_log.proofs.log.UserLog.mark.Goals as goal
 
 pub examine-requires-clause-all_nodes : goal.examine-requires-clause-all_nodes
@@ -16,10 +18,15 @@ examine-requires-clause-all_nodes c =
     subst (λ s. log_nodes s (log_of c.args.self.now.view) + nodes s query ≤ 60000) (sym kept.schema_is)
     (subst (λ told. log_nodes schema told + nodes schema query ≤ 60000) (sym kept.log_is) (fits.log_nodes true))
 
-pub returns : goal.returns
-returns c =
+pub returns-clause-rule : goal.returns-clause-rule
+returns-clause-rule c =
     let found = c.in_ok-findings.findings in
     let kept = c.args.self.now.kept in
     c.decide.ensures
     ∙ ap (λ truth. mark_by c.args.self.now.user.now.method found.spent found.implied found.yes_harm found.no_harm truth) c.holds-truth.ensures
-    ∙ decided _ _ _ _ _ _ _ _ _ _ _ kept.schema_is kept.log_is c.law_findings_decide.ensures c.in_ok-findings.ensures
+    ∙ decided _ _ _ _ _ _ _ _ _ _ _ kept.schema_is kept.log_is c.law_findings_decide.ensures c.in_ok-findings.ensures.findings
+
+pub returns-clause-undecided : goal.returns-clause-undecided
+returns-clause-undecided c =
+    let self = c.args.self.now in
+    mark_by_cost c.law_undecided_is_cost.ensures (kept_schema self) (kept_world self) (kept_user self) (kept_history self) (formula_of c.args.query.now) _ (returns-clause-rule c)

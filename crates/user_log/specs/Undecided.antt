@@ -1,0 +1,19 @@
+-- Marks that are undecided.
+use Rattle.std.specs.Prelude.{◌≡◌, ◌↔◌}
+use Rattle.cqe_base.specs.declared.user.Mark.{Mark}
+use Rattle.cqe_base.specs.declared.user.Mark.TheVariants.{Undecided}
+use Rattle.cqe_base.specs.Schema.{DatabaseSchema}
+use Rattle.cqe_base.specs.Formula.{Formula, formula_of}
+use Rattle.cqe_base.specs.History.{UserProfile, History, log}
+use Rattle.censors.specs.Costs.{QueryCostsMore}
+use Rattle.user_log.specs.declared.reply.Weighed.{Weighed}
+use Rattle.user_log.specs.declared.reply.Weighed.TheVariants.{Code, Answer}
+
+-- the mark of a query is undecided exactly where some probe of it costs more than the user's budget
+abbrev pub IsMarkByCost : DatabaseSchema → UserProfile → History → Formula → Mark → Type 0
+IsMarkByCost schema user entries query mark = (mark ≡ Undecided) ↔ QueryCostsMore schema user (log user entries) query
+
+-- so is that of a text that was weighed, where a mark answers it
+abbrev pub IsUndecidedByCost : DatabaseSchema → UserProfile → History → Weighed → Type 0
+IsUndecidedByCost schema user entries (Code code) = Unit {0}
+IsUndecidedByCost schema user entries (Answer query mark) = IsMarkByCost schema user entries (formula_of query) mark
