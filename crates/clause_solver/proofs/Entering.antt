@@ -11,10 +11,10 @@ use Rattle.cqe_base.proofs.MachineRules.{each_has}
 use Rattle.clause_solver.specs.declared.watches.Pair.{Pair}
 use Rattle.clause_solver.specs.declared.watches.Watch.{Watch}
 use Rattle.clause_solver.specs.declared.watches.Watches.{Watches}
-use Rattle.clause_solver.specs.Assigning.{code_of}
+use Rattle.clause_store.specs.Codes.{code_of}
 use Rattle.clause_solver.specs.Watching.{IsAnswered, satisfied, is_unit, is_falsified, IsWatched, IsWatching, IsWatchOf, AllFalseBut, has_number, has_clause, is_caught, lowest, no_pair, HaveSameLiterals}
 use Rattle.clause_solver.specs.WatchesInside.{lists_of}
-use Rattle.clause_solver.proofs.Kept.{code_of-below}
+use Rattle.clause_store.proofs.Marking.{code_of-below}
 use Rattle.clause_solver.proofs.Watching.{watched_more}
 use Rattle.clause_solver.proofs.Looks.{watch_of, more_at, more_has, more_all, last_has}
 use Rattle.clause_solver.proofs.Visits.{lowest_more, lowest_caught, lowest_is}

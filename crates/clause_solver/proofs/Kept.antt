@@ -10,19 +10,10 @@ use Rattle.cqe_base.specs.MachineStates.{is_assigned}
 use Rattle.cqe_base.proofs.ClauseTruth.{same_literal-true, same_literal-same}
 use Rattle.cqe_base.proofs.Trails.{true_is_assigned}
 use Rattle.clause_solver.specs.Entries.{is_decided}
-use Rattle.clause_solver.specs.Assigning.{place_of, code_of, IsKept, IsFirstZero}
+use Rattle.clause_store.specs.Codes.{code_of}
+use Rattle.clause_store.proofs.Marking.{code_of-injective, code_of-below}
+use Rattle.clause_solver.specs.Assigning.{place_of, IsKept, IsFirstZero}
 use Rattle.clause_solver.proofs.Trails.{level-cons}
-
--- each literal has its own code
-pub code_of-injective : (l m : Literal) → code_of l ≡ code_of m → l ≡ m
-code_of-injective (Positive v) (Positive w) e = ap Positive (let x : v ≡ w = omega arith in x)
-code_of-injective (Positive v) (Negative w) e = absurd (omega arith)
-code_of-injective (Negative v) (Positive w) e = absurd (omega arith)
-code_of-injective (Negative v) (Negative w) e = ap Negative (let x : v ≡ w = omega arith in x)
-
-pub code_of-below : (n : ℕ) (l : Literal) → variable_of l < n → code_of l < 2 * n
-code_of-below n (Positive v) h = omega arith
-code_of-below n (Negative v) h = omega arith
 
 pub level_of-variable : (t : List Assigned) (l : Literal) → level_of t l ≡ level_of t (Positive (variable_of l))
 level_of-variable [] l = refl

@@ -11,9 +11,9 @@ use Rattle.cqe_base.specs.MachineStates.{IsDistinct}
 use Rattle.clause_solver.specs.declared.watches.Pair.{Pair}
 use Rattle.clause_solver.specs.declared.watches.Watch.{Watch}
 use Rattle.clause_solver.specs.declared.watches.Watches.{Watches}
-use Rattle.clause_solver.specs.Assigning.{code_of}
+use Rattle.clause_store.specs.Codes.{code_of}
 use Rattle.clause_solver.specs.Watching.{IsWatched, IsHalfWatched, IsWatching, IsWatchOf, AllFalseBut, has_number, has_clause, is_caught, no_pair}
-use Rattle.clause_solver.proofs.Kept.{code_of-injective}
+use Rattle.clause_store.proofs.Marking.{code_of-injective}
 use Rattle.clause_solver.proofs.Watching.{which, watched_more, half_more, IsSteady, watched_push, half_push, none_push, watched_cut}
 use Rattle.clause_solver.specs.WatchesInside.{lists_of}
 

@@ -11,7 +11,7 @@ use Rattle.cqe_base.proofs.Trails.{level_of-le}
 use Rattle.cqe_base.proofs.Conflicts.{two_kept}
 use Rattle.clause_solver.specs.declared.watches.Pair.{Pair}
 use Rattle.clause_solver.specs.declared.watches.Watch.{Watch}
-use Rattle.clause_solver.specs.Assigning.{code_of}
+use Rattle.clause_store.specs.Codes.{code_of}
 use Rattle.clause_solver.specs.Watching.{IsWatched, IsHalfWatched, IsWatching, IsWatchOf, WatchesBeside, AllFalseBut, has_number, has_clause, is_caught, lowest, no_pair}
 use Rattle.clause_solver.proofs.Watching.{watched_half, looked_true, looked_unit, looked_falsified, looked_moved, half_turned, watched_turned, half_more}
 use Rattle.clause_solver.proofs.Looks.{watch_of, looked_watch, looked_kept, looked_gone, looked_stale}

@@ -1,8 +1,9 @@
 -- A trail over numbered variables, and what is kept of it at hand.
 use Rattle.std.specs.Prelude.{◌≡◌, ℕ, suc, ◌<◌, ◌≤◌, ◌+◌, ◌*◌, Bool, true, false, ◌==◌, if◌then◌else◌, List, [], ◌∷◌, length, max, Option, Some, None, slice_index_or}
-use Rattle.cqe_base.specs.Literal.{Literal, Positive, Negative, variable_of, opposite, same_literal}
+use Rattle.cqe_base.specs.Literal.{Literal, Positive, variable_of, opposite, same_literal}
 use Rattle.cqe_base.specs.Machine.{Assigned, assigned_literal, is_true, level, level_of}
 use Rattle.cqe_base.specs.MachineStates.{is_assigned, IsDistinct}
+use Rattle.clause_store.specs.Codes.{code_of}
 
 -- a trail, and how many variables there are
 pub record Assigning : Type 0 where
@@ -23,11 +24,6 @@ place_against (a ∷ trail) l = if same_literal (opposite l) (assigned_literal a
 abbrev pub latest_place : List Assigned → List Literal → ℕ
 latest_place trail [] = 0
 latest_place trail (l ∷ clause) = max (place_against trail l) (latest_place trail clause)
-
--- a number for each literal: twice its variable, and one more where it is negated
-abbrev pub code_of : Literal → ℕ
-code_of (Positive v) = 2 * v
-code_of (Negative v) = 2 * v + 1
 
 -- the truth of each literal, the level and the place of each variable, the level, and a number below which each variable is assigned are those of the trail
 pub record IsKept (n : ℕ) (trail : List Assigned) (truths : List Bool) (levels places : List ℕ) (decisions next : ℕ) : Type 0 where

@@ -6,6 +6,5 @@ pub mod Watching
 pub mod WatchesInside
 pub mod IndexedStates
 pub mod Costs
-pub mod Marking
-pub mod MarkedFields
+pub mod Lines
 pub mod RightEnds

@@ -5,13 +5,13 @@ ghost use Rattle.std.specs.List.{filter, find};
 ghost use Rattle.cqe_base.specs.Literal.{ClausesBelow};
 ghost use Rattle.cqe_base.specs.Machine.{resolved_with, is_current, level_of, current_count, highest_level, kept_count, analysis, conflict_line, State};
 ghost use Rattle.clause_store.specs.PlainLines.{line_of};
-ghost use Rattle.clause_solver.specs.Marking.{line_with};
+ghost use Rattle.clause_solver.specs.Lines.{line_with};
 
 use crate::assignment::Assignment;
 use crate::entry::TrailEntry;
-use crate::marked_clause::MarkedClause;
 use clause_store::clauses::Clauses;
 use clause_store::literal::Lit;
+use clause_store::marked_clause::MarkedClause;
 use clause_store::refutation::Line;
 use std::alloc::{AllocError, Global};
 

@@ -8,8 +8,8 @@ ghost use Rattle.clause_solver.specs.Entries.{is_decided};
 ghost use Rattle.clause_solver.specs.Assigning.{place_of, place_against, latest_place, IsFirstZero};
 ghost use Rattle.clause_solver.specs.Watching.{is_open};
 
-use crate::codes::code;
 use crate::entry::TrailEntry;
+use clause_store::codes::code;
 use clause_store::literal::Lit;
 use std::alloc::{AllocError, Global};
 use std::marker::Model;

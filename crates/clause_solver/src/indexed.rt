@@ -12,10 +12,10 @@ ghost use Rattle.clause_solver.specs.IndexedStates.{plain_of, IsLookedAt, IsInde
 
 use crate::assignment::Assignment;
 use crate::entry::TrailEntry;
-use crate::marked_clause::MarkedClause;
 use crate::watches::{Watches, open_watched};
 use clause_store::clauses::Clauses;
 use clause_store::literal::Lit;
+use clause_store::marked_clause::MarkedClause;
 use clause_store::refutation::Line;
 use std::alloc::AllocError;
 

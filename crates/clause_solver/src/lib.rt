@@ -6,20 +6,19 @@
 //! false. What a clause knows of its watched literals is `IsWatched`, and what is kept of all clauses `IsWatching` (specs/Watching.antt).
 //! The clauses that may be unit lie in a heap (`min_heap`). An assignment that is undone touches no clause.
 //! `plain::search_plain` is the plain program of the same contract: it scans the clauses and the trail at each step.
-//! A conflict is analysed on one clause with a mark for each literal (`marked_clause`), so a resolution looks at each literal once.
+//! A conflict is analysed on one clause with a mark for each literal (`clause_store::marked_clause`), so a resolution looks at each
+//! literal once.
 //!
-//! Read `entry` and `ends`, then `assignment`, `min_heap`, `watches` and `marked_clause`, then `indexed`, `analysis`, `rules` and
-//! `run`. `plain` stands alone.
+//! Read `entry` and `ends`, then `assignment`, `min_heap` and `watches`, then `indexed`, `analysis`, `rules` and `run`.
+//! `plain` stands alone.
 #![tactic(auto)]
 
 mod analysis;
 mod assignment;
-mod codes;
 mod conditions;
 mod ends;
 mod entry;
 mod indexed;
-mod marked_clause;
 mod min_heap;
 pub mod plain;
 mod rules;

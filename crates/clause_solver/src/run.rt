@@ -13,11 +13,11 @@ ghost use Rattle.clause_solver.specs.IndexedStates.{plain_of, IsIndexed, first_t
 use crate::assignment::Assignment;
 use crate::ends::{Advance, Found, Searched};
 use crate::indexed::Indexed;
-use crate::marked_clause::MarkedClause;
 use crate::rules::step;
 use crate::watches::Watches;
 use clause_store::clauses::Clauses;
 use clause_store::literal::Lit;
+use clause_store::marked_clause::MarkedClause;
 use clause_store::refutation::Refutation;
 use cqe_base::machine_laws::{law_budget_is_whole_cost, law_machine_ends_are_right};
 use std::alloc::{AllocError, Global};

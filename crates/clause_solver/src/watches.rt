@@ -4,15 +4,15 @@ ghost use Rattle.std.specs.List.{find};
 ghost use Rattle.std.specs.List.Sorted.{IsPermutation};
 ghost use Rattle.cqe_base.specs.Literal.{Literal, variable_of, same_literal, ClauseBelow, ClausesBelow};
 ghost use Rattle.cqe_base.specs.Machine.{Assigned, is_false, level, level_of};
-ghost use Rattle.clause_solver.specs.Assigning.{code_of};
+ghost use Rattle.clause_store.specs.Codes.{code_of};
 ghost use Rattle.clause_solver.specs.Watching.{IsWatching, IsWatched, HaveSameLiterals, WatchesBeside, kept_with, no_pair, lowest, is_caught, has_number, IsLeast, DropsLeast, IsOpenOf, AreClosed};
 ghost use Rattle.clause_solver.specs.WatchesInside.{AreWatches, lists_of, units_of};
 ghost use Rattle.std.specs.Prelude.{true, false, not, ◌&&◌, ◌||◌, ◌==◌, List, None, map, replicate, take, drop, slice_set, slice_index_or, ◌≡◌, ℕ, ◌<◌, ◌≤◌, ◌+◌, ◌*◌, ◌^◌, [], ◌∷◌, ◌++◌, length, IfOk, IfSome, IfNone};
 
 use crate::assignment::Assignment;
-use crate::codes::code;
 use crate::min_heap::MinHeap;
 use clause_store::clauses::Clauses;
+use clause_store::codes::code;
 use clause_store::literal::Lit;
 use std::alloc::{AllocError, Global};
 use std::mem;

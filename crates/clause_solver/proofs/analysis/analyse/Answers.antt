@@ -2,7 +2,7 @@ use Rattle.std.proofs.Common.{◌≡◌, ◌<◌, ◌≤◌, length, ap, ◌∙�
 use Rattle.std.proofs.lemmas.Bool.{both_ways, cases_lt}
 use Rattle.std.proofs.lemmas.List.{length-reverse}
 use Rattle.cqe_base.specs.Machine.{current_count, resolved_with, latest_against}
-use Rattle.clause_solver.specs.Marking.{line_with}
+use Rattle.clause_solver.specs.Lines.{line_with}
 use Rattle.clause_solver.proofs.Trails.{analysis_more, analysis_done}
 use Rattle.clause_solver.proofs.analysis.analyse.Goals as goal
 

@@ -1,6 +1,6 @@
 use Rattle.std.proofs.Common.{◌≡◌, ◌-◌, length}
 use Rattle.cqe_base.specs.Machine.{analysis}
-use Rattle.clause_solver.specs.Marking.{line_with}
+use Rattle.clause_solver.specs.Lines.{line_with}
 use Rattle.clause_solver.proofs.analysis.analyse.Given as goal
 
 abbrev pub invariant-loop-times : goal.invariant-loop-times

@@ -1,6 +1,6 @@
 use Rattle.std.proofs.Common.{◌≡◌, ◌++◌, ◌∷◌, [], reverse, ap, ◌∙◌}
 use Rattle.cqe_base.specs.Literal.{variable_of}
-use Rattle.clause_solver.specs.Assigning.{code_of}
+use Rattle.clause_store.specs.Codes.{code_of}
 use Rattle.clause_solver.proofs.Kept.{pop_kept, reverse_push}
 use Rattle.clause_solver.proofs.assignment.Assignment.pop.Goals as goal
 

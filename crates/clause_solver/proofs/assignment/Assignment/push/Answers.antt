@@ -4,7 +4,8 @@ use Rattle.cqe_base.specs.Literal.{variable_of}
 use Rattle.cqe_base.specs.Machine.{assigned_literal, level}
 use Rattle.cqe_base.specs.MachineStates.{is_assigned}
 use Rattle.clause_solver.specs.Entries.{is_decided}
-use Rattle.clause_solver.specs.Assigning.{Assigning, code_of}
+use Rattle.clause_store.specs.Codes.{code_of}
+use Rattle.clause_solver.specs.Assigning.{Assigning}
 use Rattle.clause_solver.proofs.Trails.{level-cons}
 use Rattle.cqe_base.proofs.MachineBound.{level_length}
 use Rattle.clause_solver.proofs.Kept.{push_kept, reverse_push}

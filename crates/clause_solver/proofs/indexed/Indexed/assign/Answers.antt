@@ -2,7 +2,8 @@ use Rattle.std.proofs.Common.{◌≡◌, ◌∷◌, [], get_or, sym, ap, ◌∙�
 use Rattle.cqe_base.specs.Literal.{Positive, opposite}
 use Rattle.cqe_base.specs.Machine.{assigned_literal}
 use Rattle.cqe_base.specs.MachineStates.{IsDistinct}
-use Rattle.clause_solver.specs.Assigning.{Assigning, code_of}
+use Rattle.clause_store.specs.Codes.{code_of}
+use Rattle.clause_solver.specs.Assigning.{Assigning}
 use Rattle.clause_solver.specs.Watching.{IsWatching, HaveSameLiterals}
 use Rattle.clause_solver.specs.WatchesInside.{lists_of, units_of}
 use Rattle.clause_solver.proofs.Looks.{looks_begin}

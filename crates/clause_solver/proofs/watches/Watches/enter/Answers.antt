@@ -5,7 +5,7 @@ use Rattle.std.proofs.lemmas.List.Sorted.{list_any-IsPermutation, length_permuta
 use Rattle.cqe_base.specs.Literal.{Literal, Positive, variable_of, same_literal, has_literal, ClauseBelow}
 use Rattle.cqe_base.specs.Machine.{Assigned}
 use Rattle.clause_solver.specs.declared.watches.Pair.{Pair}
-use Rattle.clause_solver.specs.Assigning.{code_of}
+use Rattle.clause_store.specs.Codes.{code_of}
 use Rattle.clause_solver.specs.Watching.{IsWatched, HaveSameLiterals, has_number}
 use Rattle.clause_solver.specs.WatchesInside.{AreWatches, lists_of, units_of}
 use Rattle.clause_solver.proofs.Looks.{watch_of, same_watching, low_listed}

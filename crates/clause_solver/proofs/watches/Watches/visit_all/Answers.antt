@@ -3,10 +3,10 @@ use Rattle.std.specs.List.{AllByRecursion}
 use Rattle.std.proofs.lemmas.List.{length-map, length-set, get_or_read, get_or-map, get_or-set_same, map-set, set-get_or, set-set, drop_more, drop_all, append-nil}
 use Rattle.cqe_base.specs.Literal.{Positive}
 use Rattle.clause_solver.specs.declared.watches.Watch.{Watch}
-use Rattle.clause_solver.specs.Assigning.{code_of}
+use Rattle.clause_store.specs.Codes.{code_of}
 use Rattle.clause_solver.specs.Watching.{IsWatching, IsWatchOf, kept_with}
 use Rattle.clause_solver.specs.WatchesInside.{lists_of, units_of}
-use Rattle.clause_solver.proofs.Kept.{code_of-below}
+use Rattle.clause_store.proofs.Marking.{code_of-below}
 use Rattle.clause_solver.proofs.Looks.{watch_of, same_watching, looks_end, here_of}
 use Rattle.clause_solver.proofs.watches.Watches.visit_all.Goals as goal
 use Rattle.clause_solver.proofs.watches.Watches.visit_all.Goals.{After-index-in-loop-i}

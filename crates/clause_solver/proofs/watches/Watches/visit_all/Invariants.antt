@@ -1,5 +1,5 @@
 use Rattle.std.proofs.Common.{◌≡◌, ◌≤◌, ◌++◌, length, take, drop, set}
-use Rattle.clause_solver.specs.Assigning.{code_of}
+use Rattle.clause_store.specs.Codes.{code_of}
 use Rattle.clause_solver.specs.Watching.{IsWatching}
 use Rattle.clause_solver.specs.WatchesInside.{lists_of, units_of}
 use Rattle.clause_solver.proofs.watches.Watches.visit_all.Given as goal

@@ -6,10 +6,10 @@ use Rattle.cqe_base.specs.Machine.{is_false}
 use Rattle.cqe_base.proofs.Analysis.{each_at}
 use Rattle.cqe_base.proofs.MachineRules.{each_has}
 use Rattle.clause_solver.specs.declared.watches.Watch.{Watch}
-use Rattle.clause_solver.specs.Assigning.{code_of}
+use Rattle.clause_store.specs.Codes.{code_of}
 use Rattle.clause_solver.specs.Watching.{IsWatching, AllFalseBut}
 use Rattle.clause_solver.specs.WatchesInside.{lists_of, units_of}
-use Rattle.clause_solver.proofs.Kept.{code_of-below}
+use Rattle.clause_store.proofs.Marking.{code_of-below}
 use Rattle.clause_solver.proofs.Looks.{same_watching, low_listed}
 use Rattle.clause_solver.proofs.Visits.{next_test, IsNext, found_next, none_next, visited_other, visited_unit, visited_falsified, visited_next}
 use Rattle.clause_solver.proofs.watches.Watches.visit_beside.Goals as goal

@@ -1,6 +1,6 @@
 use Rattle.std.proofs.Common.{◌∙◌, ap, ◌++◌, ◌∷◌, []}
 use Rattle.clause_solver.proofs.Looks.{note_map}
-use Rattle.clause_solver.specs.Assigning.{code_of}
+use Rattle.clause_store.specs.Codes.{code_of}
 use Rattle.clause_solver.proofs.watches.Watches.watch.Goals as goal
 
 pub returns-clause-lists : goal.returns-clause-lists
