@@ -1,4 +1,4 @@
-# Completion of the commands cqe and cqe-ask for bash.
+# Completion of the commands cqe, cqe-ask and cqe-lab for bash.
 
 # The options of a command of cqe.
 _cqe_options() {
@@ -51,6 +51,16 @@ _cqe_value() {
     esac
 }
 
+# The words of cqe-lab: its one option, or a policy and its facts.
+_cqe_lab() {
+    if [[ $1 == -* ]]; then
+        mapfile -t COMPREPLY < <(compgen -W --help -- "$1")
+    elif ((COMP_CWORD < 3)); then
+        compopt -o filenames 2> /dev/null
+        mapfile -t COMPREPLY < <(compgen -f -- "$1")
+    fi
+}
+
 _cqe() {
     local current=${COMP_WORDS[COMP_CWORD]} option=${COMP_WORDS[COMP_CWORD - 1]} choices
     COMPREPLY=()
@@ -58,6 +68,10 @@ _cqe() {
         current=
     elif [[ $option == = ]]; then
         option=${COMP_WORDS[COMP_CWORD - 2]}
+    fi
+    if [[ ${COMP_WORDS[0]##*/} == cqe-lab ]]; then
+        _cqe_lab "$current"
+        return
     fi
     _cqe_value "$option" "$current" && return
     if [[ ${COMP_WORDS[0]##*/} == cqe-ask ]]; then
@@ -72,4 +86,4 @@ _cqe() {
     mapfile -t COMPREPLY < <(compgen -W "$(_cqe_unused $choices)" -- "$current")
 }
 
-complete -F _cqe cqe cqe-ask
+complete -F _cqe cqe cqe-ask cqe-lab

@@ -5,6 +5,7 @@ import pathlib
 import re
 import shutil
 import subprocess
+import sys
 import tempfile
 import unittest
 
@@ -47,12 +48,15 @@ class Installed(Temporary):
         self.make("install")
         commands = {"bin/cqe", "bin/cqe-ask"} | {f"bin/{tool.name}" for tool in TOP.glob("tools/cqe-*")}
         pages = {f"share/man/man{page.suffix[1]}/{page.name}" for page in TOP.glob("docs/*.[17]")}
-        modules = {f"share/cqe/tools/cqe_tools/{module.name}" for module in TOP.glob("tools/cqe_tools/*.py")}
+        modules = {f"share/cqe/tools/cqe_tools/{module.name}" for module in TOP.glob("tools/cqe_tools/*.[ph]*")}
+        pictures = {f"share/doc/cqe/pictures/{picture.name}" for picture in TOP.glob("docs/pictures/*")}
         units = {f"lib/systemd/system/{unit.name}" for unit in TOP.glob("contrib/systemd/*.service")}
         examples = {f"share/doc/cqe/examples/{example.name}" for example in TOP.glob("examples/*")}
         found = files_below(self.root)
-        self.assertLessEqual(commands | pages | modules | units | examples, found)
-        self.assertLessEqual({"share/man/man1/cqe-ask.1", "share/bash-completion/completions/cqe-ask"}, found)
+        self.assertLessEqual(commands | pages | modules | pictures | units | examples, found)
+        self.assertLessEqual({"share/man/man1/cqe-ask.1", "share/cqe/tools/cqe_tools/lab.html"}, found)
+        self.assertLessEqual({f"share/bash-completion/completions/{name}" for name in ("cqe", "cqe-ask", "cqe-lab")},
+                             found)
         self.assertEqual({path for path in found if path.startswith("bin/")}, commands)
         listed = (self.root / "share/cqe/installed-files").read_text().splitlines()
         self.assertEqual(sorted(listed), sorted(found - {"share/cqe/installed-files"}))
@@ -66,10 +70,17 @@ class Installed(Temporary):
                 if "python" not in tool.read_text().partition("\n")[0]:
                     self.run_at("bash", "-n", self.root / "bin" / tool.name)
                     continue
-                done = subprocess.run([self.root / "bin" / tool.name], cwd=self.place, env=CLEAN, capture_output=True,
-                                      stdin=subprocess.DEVNULL, text=True, timeout=60)
+                words = ["--help"] if tool.name == "cqe-lab" else []  # which else serves until a signal comes
+                done = subprocess.run([self.root / "bin" / tool.name, *words], cwd=self.place, env=CLEAN,
+                                      capture_output=True, stdin=subprocess.DEVNULL, text=True, timeout=60)
                 self.assertNotIn("Traceback", done.stderr)
                 self.assertIn(done.returncode, {0, 2})  # without words: nothing to do, or how it is called
+
+    def test_the_page_finds_its_examples(self) -> None:
+        self.make("install")
+        words = [sys.executable, "-c", "from cqe_tools import lab_examples; print(*lab_examples.found())"]
+        done = subprocess.run(words, cwd=self.root / "share/cqe/tools", env=CLEAN, capture_output=True, text=True)
+        self.assertEqual(done.stdout, "ward clinic hospital statistics\n")
 
     def test_anybody_can_read_it(self) -> None:
         self.make("install")
@@ -173,9 +184,19 @@ class Completion(Temporary):
         options = {option for option in re.findall(r"--[a-z-]+", said)}
         self.assertEqual(set(self.completed("cqe-ask", "127.0.0.1", ":", "7007", "nurse", "--")), options)
 
-    def test_both_commands_have_it(self) -> None:
-        done = self.run_at("bash", "-c", 'source "$0"; complete -p cqe cqe-ask', TOP / "contrib/completion/cqe.bash")
-        self.assertEqual(done.stdout, "complete -F _cqe cqe\ncomplete -F _cqe cqe-ask\n")
+    def test_the_words_of_cqe_lab(self) -> None:
+        for name in ("a.policy", "a.facts"):
+            (self.place / name).write_text("")
+        self.assertEqual(self.completed("cqe-lab", "a.p"), ["a.policy"])
+        self.assertEqual(self.completed("cqe-lab", "a.policy", "a.f"), ["a.facts"])
+        self.assertEqual(self.completed("cqe-lab", "a.policy", "a.facts", "a"), [])
+        said = self.run_at(TOP / "tools/cqe-lab", "--help").stdout
+        self.assertEqual(self.completed("cqe-lab", "--"), sorted(set(re.findall(r"--[a-z-]+", said))))
+
+    def test_each_command_has_it(self) -> None:
+        words = ["bash", "-c", 'source "$0"; complete -p cqe cqe-ask cqe-lab', TOP / "contrib/completion/cqe.bash"]
+        self.assertEqual(self.run_at(*words).stdout, "complete -F _cqe cqe\ncomplete -F _cqe cqe-ask\n"
+                         "complete -F _cqe cqe-lab\n")
 
 
 if __name__ == "__main__":

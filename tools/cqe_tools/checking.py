@@ -61,9 +61,12 @@ class Asker:
     def call(self, command, policy, journals, *more, given=b""):
         words = [self.path, command, "--policy", policy, "--facts", self.facts, "--journals", journals, *more]
         try:
-            return subprocess.run(words, input=given, capture_output=True)
+            return self.run(words, given)
         except OSError as error:
             raise Unusable(f"{self.path} can't be started: {error.strerror}") from error
+
+    def run(self, words, given):
+        return subprocess.run(words, input=given, capture_output=True)
 
     def journals_for(self, policy):
         """A directory of new journals for a policy; Refusal where the program refuses a file."""
@@ -101,16 +104,32 @@ class Asker:
         return [line.split(" ", 2)[2] for line in lines]
 
 
-def written(declarations, users):
-    """A policy as TOML: the same domains and relations, and these users."""
+def written(declarations, users, budget=schemas.BUDGET):
+    """A policy as TOML: the same domains and relations, and these users, each with the same budget."""
     lines = ["version = 1", "", "[domains]"]
     lines += [f"{name} = {json.dumps(constants)}" for name, constants in declarations[0]]
     lines += ["", "[relations]"]
     lines += [f"{name} = {json.dumps(columns)}" for name, columns in declarations[1]]
     for name, method, know, secrets in users:
         lines += ["", "[[users]]", f'name = "{name}"', f'method = "{method}"', f"know = {json.dumps(know)}",
-                  f"secrets = {json.dumps(secrets)}", f"budget = {schemas.BUDGET}"]
+                  f"secrets = {json.dumps(secrets)}", f"budget = {budget}"]
     return "\n".join(lines) + "\n"
+
+
+def truths(asker, declarations, texts):
+    """Of each text the reply to it where nothing is hidden; a text that doesn't fit into a line of a batch is left out.
+
+    Each text has a made-up user of its own, since answers stay in the view: no history makes a later search dearer.
+    """
+    texts = [text for text in dict.fromkeys(texts)
+             if text.isascii() and len(f"t{schemas.USERS} 1 ask {text}") <= schemas.TEXT_BYTES]
+    result = {}
+    for begin in range(0, len(texts), schemas.USERS):
+        part = texts[begin:begin + schemas.USERS]
+        made = [(f"t{number}", "lying", [], [NOTHING]) for number in range(len(part))]
+        asks = [(f"t{number}", text) for number, text in enumerate(part)]
+        result.update(zip(part, asker.replies(declarations, made, asks)))
+    return result
 
 
 @dataclass
@@ -147,15 +166,8 @@ class Check:
         return [self.standing(number, user, journals) for number, user in enumerate(users)]
 
     def learn_truths(self, users):
-        """Asks each known sentence of a user who has nothing to hide. The lines of a batch have a greatest length."""
-        texts = list(dict.fromkeys(text for user in users for text in user.get("know", [])))
-        texts = [text for text in texts if len(f"t{schemas.USERS} 1 ask {text}") <= schemas.TEXT_BYTES]
-        # Each user gets one sentence, since answers stay in the view; so no history makes a later search dearer.
-        for begin in range(0, len(texts), schemas.USERS):
-            part = texts[begin:begin + schemas.USERS]
-            made = [(f"t{number}", "lying", [], [NOTHING]) for number in range(len(part))]
-            asks = [(f"t{number}", text) for number, text in enumerate(part)]
-            self.truths.update(zip(part, self.asker.replies(self.declarations, made, asks)))
+        """Asks each known sentence of a user who has nothing to hide."""
+        self.truths = truths(self.asker, self.declarations, [text for user in users for text in user.get("know", [])])
 
     def standing(self, number, user, journals):
         told = self.asker.audit(self.policy.text.name, journals, user["name"])

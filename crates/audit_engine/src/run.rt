@@ -1,7 +1,7 @@
 //! The audit of a user whose journal lies on a shelf.
 ghost use Rattle.std.specs.Prelude.{◌≡◌, ◌≤◌, List, ℕ, false, string_bytes};
 ghost use Rattle.outside.specs.Faults.{Rose};
-ghost use Rattle.outside.specs.Shelf.{bytes_on, image_on, SameOthers};
+ghost use Rattle.outside.specs.Shelf.{bytes_on, image_on, SameOthers, SameNames};
 ghost use Rattle.cqe_base.specs.History.{profile_of};
 ghost use Rattle.cqe_base.specs.Limits.{KeepsLimits};
 ghost use Rattle.log_journal.specs.Names.{journal_name};
@@ -30,7 +30,7 @@ pub fn run_audit<'w, F: Shelf, K: Sink>(
 ) -> AuditEnd
     requires limits { KeepsLimits registry.now.schema.now (profile_of user.now) }
     requires inside { NoneOut (F.is_out shelf.old) }
-    ensures ends { F.told → K.told → IsEnd registry.now.schema.now registry.now.world.now
+    ensures ends { F.tells → K.tells → IsEnd registry.now.schema.now registry.now.world.now
         (header_bytes registry.now.header.now) (string_bytes user.now.name) (profile_of user.now)
         (bytes_on F.D.reads (F.disk shelf.old (journal_name registry.now.directory.now (string_bytes user.now.name))))
         (F.disk_faults shelf.old (journal_name registry.now.directory.now (string_bytes user.now.name)))
@@ -38,9 +38,10 @@ pub fn run_audit<'w, F: Shelf, K: Sink>(
         json result (K.written sink.old) (K.written sink.new) }
     ensures disks { SameOthers (journal_name registry.now.directory.now (string_bytes user.now.name)) (F.disk shelf.old)
         (F.disk shelf.new) }
-    ensures bytes { F.told → SameBytes F.D.reads (F.disk shelf.old) (F.disk shelf.new) }
-    ensures images { F.told → NoNewImages F.D.image (F.disk shelf.old) (F.disk shelf.new) }
+    ensures bytes { F.tells → SameBytes F.D.reads (F.disk shelf.old) (F.disk shelf.new) }
+    ensures images { F.tells → NoNewImages F.D.image (F.disk shelf.old) (F.disk shelf.new) }
     ensures inside { NoneOut (F.is_out shelf.new) }
+    ensures files { SameNames (F.file shelf.old) (F.file shelf.new) }
     ensures looked { F.looked shelf.new ≡ F.looked shelf.old }
     ensures counts { NoneFell (F.disk_faults shelf.old) (F.disk_faults shelf.new) }
     ensures shelf_later { F.faults shelf.old ≤ F.faults shelf.new }
@@ -66,17 +67,18 @@ fn audit_journal<'w, F: Shelf, K: Sink>(
 ) -> AuditEnd
     requires limits { KeepsLimits registry.now.schema.now (profile_of user.now) }
     requires inside { NoneOut (F.is_out shelf.old) }
-    ensures ends { F.told → K.told → IsEnd registry.now.schema.now registry.now.world.now
+    ensures ends { F.tells → K.tells → IsEnd registry.now.schema.now registry.now.world.now
         (header_bytes registry.now.header.now) (string_bytes user.now.name) (profile_of user.now)
         (bytes_on F.D.reads (F.disk shelf.old journal.now)) (F.disk_faults shelf.old journal.now)
         (F.disk_faults shelf.new journal.now)
         json result (K.written sink.old) (K.written sink.new) }
     ensures disks { SameOthers journal.now (F.disk shelf.old) (F.disk shelf.new) }
-    ensures bytes { F.told → bytes_on F.D.reads (F.disk shelf.new journal.now)
+    ensures bytes { F.tells → bytes_on F.D.reads (F.disk shelf.new journal.now)
         ≡ bytes_on F.D.reads (F.disk shelf.old journal.now) }
-    ensures images { F.told → (c : List ℕ) → image_on F.D.image (F.disk shelf.new journal.now) c
+    ensures images { F.tells → (c : List ℕ) → image_on F.D.image (F.disk shelf.new journal.now) c
         → image_on F.D.image (F.disk shelf.old journal.now) c }
     ensures inside { NoneOut (F.is_out shelf.new) }
+    ensures files { SameNames (F.file shelf.old) (F.file shelf.new) }
     ensures looked { F.looked shelf.new ≡ F.looked shelf.old }
     ensures counts { NoneFell (F.disk_faults shelf.old) (F.disk_faults shelf.new) }
     ensures shelf_later { F.faults shelf.old ≤ F.faults shelf.new }

@@ -38,11 +38,11 @@ pub fn audit<D: Disk, K: Sink>(
 ) -> Result<(), AuditError>
     requires schema { schema.now ≡ desk_schema desk.now }
     requires user { profile_of user.now ≡ desk_user desk.now }
-    ensures whole { K.told → OnOk result ((said : AuditSaid)
+    ensures whole { K.tells → OnOk result ((said : AuditSaid)
         × Audits schema.now (string_bytes user.now.name) (profile_of user.now) (desk_standing desk.now)
         (desk_history desk.now) said
         × (K.written sink.new ≡ K.written sink.old ++ audit_text json said)) }
-    ensures part { K.told → result ≡ Err AuditError.WriteFault
+    ensures part { K.tells → result ≡ Err AuditError.WriteFault
         → (said : AuditSaid) × Audits schema.now (string_bytes user.now.name) (profile_of user.now)
         (desk_standing desk.now) (desk_history desk.now) said
         × AppendsPart (K.written sink.old) (K.written sink.new) (audit_text json said) }

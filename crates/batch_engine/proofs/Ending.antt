@@ -1,5 +1,5 @@
 -- A batch from its opening to the disks that are back.
-use Rattle.std.proofs.Common.{◌≡◌, ◌⊎◌, inl, inr, ℕ, Bool, false, true, List, [], ◌∷◌, ◌++◌, map, refl, sym, ap, subst, ◌∙◌}
+use Rattle.std.proofs.Common.{◌≡◌, ◌⊎◌, inl, inr, ℕ, Bool, false, true, List, [], ◌∷◌, ◌++◌, map, take, refl, sym, ap, subst, ◌∙◌}
 use Rattle.std.specs.Prelude.{Option, All}
 use Rattle.std.specs.List.{AllByRecursion}
 use Rattle.std.proofs.lemmas.List.Elements.{All-head, All-tail}
@@ -14,10 +14,11 @@ use Rattle.cqe_base.specs.Transcript.{NamedUser, script_opening, TranscriptIsPri
 use Rattle.cqe_base.specs.declared.user.User.{User}
 use Rattle.user_desk.specs.Causes.{Opens}
 use Rattle.batch_engine.specs.BatchLines.{BatchItem, with_line, batch_of}
+use Rattle.user_desk.specs.declared.standing.DeskError.{DeskError}
 use Rattle.desk_crew.specs.Openings.{OpensNone, IsOpening}
 use Rattle.batch_engine.specs.Batch.{AppendsAll, AppendsSome, AppendsTo, unopened}
 use Rattle.desk_crew.specs.Crew.{named_user}
-use Rattle.desk_crew.specs.Shelved.{journals_on, AreBack, AreSeatsOf}
+use Rattle.desk_crew.specs.Shelved.{Journals, journals_on, AreBack, AreSeatsOf}
 use Rattle.batch_engine.specs.Steps.{Runs, nothing, more, RunsAll, RunsSome, RunsTo, IsLastLine}
 use Rattle.desk_crew.specs.Seats.{DeskSeat}
 use Rattle.batch_engine.proofs.Courses.{IsExclusive}
@@ -29,6 +30,47 @@ use Rattle.batch_engine.proofs.Closing.{bytes_of, count_of, images_of, names_uno
 pub batch_begins : (start : List BatchItem) (bytes : List ℕ) → start ≡ [] → script_from with_line start bytes ≡ batch_of bytes
 unfolding batch_of
 batch_begins start bytes is = ap (λ s. script_from with_line s bytes) is
+
+-- The same runs where no output is told: over an output of its own.
+module _ (schema : DatabaseSchema) (world : FactSet) (header : List ℕ) {D : Type 0} {g h : _} (T : Type 0) (reads : D → List ℕ) (image : D → List ℕ → Type 0) (faults : D → ℕ)
+    (wrote : Type 0) (items : List BatchItem) (old new : List (DeskSeat D g h)) (before after : List ℕ) where
+  pub all_alone : (is_broken : Bool) (all : RunsAll schema world header T reads image faults wrote items old new is_broken before after)
+      → RunsAll schema world header T reads image faults (Unit {0}) items old new is_broken [] all.output
+  all_alone is_broken all = record { output = all.output; appended = λ w. refl; runs = all.runs }
+
+  pub some_alone : (some : RunsSome schema world header T reads image faults wrote items old new before after)
+      → RunsSome schema world header T reads image faults (Unit {0}) items old new [] (some.output ++ take 0 some.line)
+  some_alone some =
+      record {
+        front = some.front;
+        back = some.back;
+        split = some.split;
+        output = some.output;
+        line = some.line;
+        is_broken = some.is_broken;
+        runs = some.runs;
+        last = some.last;
+        appended = λ w. (0, refl);
+      }
+
+pub to_alone : (schema : DatabaseSchema) (world : FactSet) (header : List ℕ) {D : Type 0} {g h : _} (T : Type 0) (reads : D → List ℕ) (image : D → List ℕ → Type 0) (faults : D → ℕ)
+    (wrote : Type 0) (items : List BatchItem) (old new : List (DeskSeat D g h)) (before after : List ℕ) (to : RunsTo schema world header T reads image faults wrote items old new before after)
+    → RunsTo schema world header T reads image faults (Unit {0}) items old new [] to.all.output
+to_alone schema world header T reads image faults wrote items old new before after to =
+    record {
+      front = to.front;
+      rest = to.rest;
+      split = to.split;
+      is_broken = to.is_broken;
+      all = all_alone schema world header T reads image faults wrote to.front old new before after to.is_broken to.all;
+    }
+
+-- what answers items over an output of its own answers them where this was appended
+pub told_all : (schema : DatabaseSchema) (world : FactSet) (header : List ℕ) (journals : Journals) (policy : List NamedUser) (items : List BatchItem) (output old new : List ℕ)
+    (refusals : List (Option DeskError)) (is_broken : Bool) → AppendsAll schema world header journals policy items [] output refusals is_broken → new ≡ old ++ output
+    → AppendsAll schema world header journals policy items old new refusals is_broken
+told_all schema world header journals policy items output old new refusals is_broken all is =
+    record { written = all.written; appended = is ∙ ap (λ w. old ++ w) all.appended; answers = all.answers; refused = all.refused; broken = all.broken }
 
 -- a fact of each user
 pub all_of : {X : Type 0} (P : X → Type 0) (xs : List X) → All P xs → AllByRecursion P xs

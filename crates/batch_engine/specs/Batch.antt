@@ -139,6 +139,19 @@ module _ (schema : DatabaseSchema) (world : FactSet) (header : List ℕ) (journa
     Ends ShelfFault before after old new = LeavesAll old new
     Ends Memory before after old new = LeavesAll old new ⊎ Stops before old new
 
+    -- what each end says of the journals alone, where neither the script nor the output is told:
+    -- they are as they were, or as the answers to some items leave them
+    abbrev pub LeavesJournals : BatchEnd → Type 0
+    LeavesJournals (Done refusals is_broken) = (items : List BatchItem) × (written : List ℕ)
+        × AppendsAll items [] written refusals.items is_broken
+    LeavesJournals (Refused refusal) = AreKept journals
+    LeavesJournals ReadFault = AreKept journals
+    LeavesJournals WriteFault = (items : List BatchItem) × (written : List ℕ)
+        × AppendsSome items [] written
+    LeavesJournals ShelfFault = AreKept journals
+    LeavesJournals Memory = AreKept journals ⊎ ((items : List BatchItem) × (written : List ℕ)
+        × AppendsTo items [] written)
+
 -- the end of a batch whose journals weren't opened
 abbrev pub IsUnopened : BatchEnd → Type 0
 IsUnopened (Done refusals is_broken) = ⊥

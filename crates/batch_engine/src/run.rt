@@ -3,6 +3,7 @@
 ghost use Rattle.std.specs.Prelude.{◌≡◌, ◌≤◌, ◌++◌, ◌∷◌, [], true, false, map, length, All, option_map, IfOk, IfSome, IfNone, OnSome, vec_capacity};
 ghost use Rattle.std.specs.List.{AllByRecursion};
 ghost use Rattle.outside.specs.Faults.{Rose};
+ghost use Rattle.outside.specs.Shelf.{SameNames};
 ghost use Rattle.cqe_base.specs.Schema.{has_duplicate};
 ghost use Rattle.cqe_base.specs.History.{profile_of};
 ghost use Rattle.cqe_base.specs.Limits.{KeepsLimits};
@@ -18,7 +19,7 @@ ghost use Rattle.desk_crew.specs.Shelved.{journals, journals_on, AllOut, AllIn, 
 ghost use Rattle.batch_engine.specs.BatchOf.{items_of};
 ghost use Rattle.batch_engine.specs.AnswerTexts.{answer_text};
 ghost use Rattle.batch_engine.specs.Steps.{Carries, is_broken_reply, IsAnswered, HasSeats, IsCut};
-ghost use Rattle.batch_engine.specs.Batch.{Ends, IsUnopened, IsBroken};
+ghost use Rattle.batch_engine.specs.Batch.{Ends, LeavesJournals, IsUnopened, IsBroken};
 ghost use Rattle.batch_engine.specs.declared.run.BatchEnd.{BatchEnd};
 
 use crate::batch::{Batch, BatchAsk, BatchItem};
@@ -123,10 +124,10 @@ fn carry_out<'w, R: Wait, G: Gate, F: Shelf>(
     requires later { AreLater F.D.faults (F.disk_faults shelf.old) seats.items }
     requires short { is_short_item (item_in item.now) ≡ true }
     ensures carried { IfSome result (λ r. Carries registry.now.schema.now registry.now.world.now
-        (header_bytes registry.now.header.now) F.D.told F.D.reads F.D.image F.D.faults
+        (header_bytes registry.now.header.now) F.D.tells F.D.reads F.D.image F.D.faults
         (item_in item.now) seats.entry.items r.0.items r.1 r.2) }
     ensures untouched { OnSome result (shelf.new ≡ shelf.old) }
-    ensures back { IfNone result (AreBack F.told F.D.reads F.D.image F.D.faults (F.disk shelf.new)
+    ensures back { IfNone result (AreBack F.tells F.D.reads F.D.image F.D.faults (F.disk shelf.new)
         (F.disk_faults shelf.new) seats.entry.items) }
     ensures inside { IfNone result (AllIn (journals seats.entry.items) (F.is_out shelf.new)) }
     ensures restart { IfNone result (item_in item.now ≡ restarted) }
@@ -134,6 +135,7 @@ fn carry_out<'w, R: Wait, G: Gate, F: Shelf>(
     ensures counts { SameBeside (journals seats.entry.items) (F.disk_faults shelf.old) (F.disk_faults shelf.new) }
     ensures disks { SameBeside (journals seats.entry.items) (F.disk shelf.old) (F.disk shelf.new) }
     ensures faults { F.faults shelf.new ≡ F.faults shelf.old }
+    ensures files { SameNames (F.file shelf.old) (F.file shelf.new) }
     ensures looked { F.looked shelf.new ≡ F.looked shelf.old }
 {
     match item {
@@ -169,8 +171,8 @@ fn answer_all<'w, R: Wait, G: Gate, F: Shelf, K: Sink>(
     requires out { AllOut (journals seats.items) (F.is_out shelf.old) }
     requires later { AreLater F.D.faults (F.disk_faults shelf.old) seats.items }
     ensures answered { IsAnswered registry.now.schema.now registry.now.world.now
-        (header_bytes registry.now.header.now) F.D.told F.D.reads F.D.image F.D.faults K.told
-        (λ left. AreBack F.told F.D.reads F.D.image F.D.faults (F.disk shelf.new) (F.disk_faults shelf.new) left)
+        (header_bytes registry.now.header.now) F.D.tells F.D.reads F.D.image F.D.faults K.tells
+        (λ left. AreBack F.tells F.D.reads F.D.image F.D.faults (F.disk shelf.new) (F.disk_faults shelf.new) left)
         (items_of batch.now) seats.entry.items (K.written sink.old) (K.written sink.new) result }
     ensures untouched { HasSeats result → shelf.new ≡ shelf.old }
     ensures inside { (HasSeats result → ⊥) → AllIn (journals seats.entry.items) (F.is_out shelf.new) }
@@ -178,6 +180,7 @@ fn answer_all<'w, R: Wait, G: Gate, F: Shelf, K: Sink>(
     ensures counts { SameBeside (journals seats.entry.items) (F.disk_faults shelf.old) (F.disk_faults shelf.new) }
     ensures disks { SameBeside (journals seats.entry.items) (F.disk shelf.old) (F.disk shelf.new) }
     ensures faults { F.faults shelf.new ≡ F.faults shelf.old }
+    ensures files { SameNames (F.file shelf.old) (F.file shelf.new) }
     ensures looked { F.looked shelf.new ≡ F.looked shelf.old }
     ensures sink_later { K.faults sink.old ≤ K.faults sink.new }
     ensures cause { IsCut result → Rose (K.faults sink.old) (K.faults sink.new) }
@@ -216,17 +219,25 @@ pub fn run_batch<R: Wait, F: Shelf, S: Source, K: Sink, G: Gate>(
     requires limits { All (λ user. KeepsLimits registry.now.schema.now (profile_of user)) registry.now.users.now }
     requires names { has_duplicate (map (λ user. user.name) (map named_user registry.now.users.now)) ≡ false }
     requires inside { NoneOut (F.is_out shelf.old) }
-    ensures ends { F.told → S.told → K.told
+    ensures ends { F.tells → S.tells → K.tells
         → Ends registry.now.schema.now registry.now.world.now (header_bytes registry.now.header.now)
         (journals_on F.D.reads F.D.image registry.now.directory.now (F.disk shelf.old) (F.disk shelf.new)
         (F.disk_faults shelf.old) (F.disk_faults shelf.new))
         (map named_user registry.now.users.now) result (S.left source.old) (S.left source.new) (K.written sink.old)
         (K.written sink.new) }
 
+    // The same of the journals alone, where neither the script nor the output is told.
+    ensures journals { F.tells → LeavesJournals registry.now.schema.now registry.now.world.now
+        (header_bytes registry.now.header.now)
+        (journals_on F.D.reads F.D.image registry.now.directory.now
+        (F.disk shelf.old) (F.disk shelf.new) (F.disk_faults shelf.old) (F.disk_faults shelf.new))
+        (map named_user registry.now.users.now) result }
+
     // No disk but the users' journals is touched, and all are back.
     ensures disks { SameBeside (map (journal_name registry.now.directory.now)
         (map (λ user. user.name) (map named_user registry.now.users.now))) (F.disk shelf.old) (F.disk shelf.new) }
     ensures inside { NoneOut (F.is_out shelf.new) }
+    ensures files { SameNames (F.file shelf.old) (F.file shelf.new) }
     ensures looked { F.looked shelf.new ≡ F.looked shelf.old }
     ensures counts { NoneFell (F.disk_faults shelf.old) (F.disk_faults shelf.new) }
     ensures unopened { IsUnopened result → shelf.new ≡ shelf.old }

@@ -79,7 +79,7 @@ pub fn answer_all<K: Sink>(alloc: Global, parts: &Parts, sink: &mut K) -> CaseEn
     requires short { list_all is_short (map string_bytes parts.now.asks.items) ≡ true }
     requires sentences { is_user_of parts.now.schema (profile_of parts.now.user) ≡ true }
     requires limits { nat_le 1 (vec_len parts.now.asks) ≡ true → KeepsLimits parts.now.schema (profile_of parts.now.user) }
-    ensures answered { K.told → IsAnswered parts.now.schema parts.now.facts (profile_of parts.now.user) (map string_bytes parts.now.asks.items)
+    ensures answered { K.tells → IsAnswered parts.now.schema parts.now.facts (profile_of parts.now.user) (map string_bytes parts.now.asks.items)
         (K.written sink.old) (K.written sink.new) result }
     ensures no_read { result ≡ CaseEnd.ReadFault → ⊥ }
     ensures later { K.faults sink.old ≤ K.faults sink.new }

@@ -21,7 +21,7 @@ use Rattle.desk_crew.specs.Openings.{IsOpening}
 use Rattle.batch_engine.specs.Lives.{RoseBy, is_refused, failures, failures_in, AreCaused}
 use Rattle.desk_crew.specs.Shelved.{Journals}
 use Rattle.batch_engine.specs.Batch.{Serves, AreRefusals, is_broken_line}
-use Rattle.cqe_top.specs.Statuses.{has_refusal}
+use Rattle.cqe_top.specs.Reports.{has_refusal}
 
 -- ---- tests of lists
 

@@ -1,49 +1,109 @@
--- With files, journals and a script that are right, and without a fault, a command does all that it does.
+-- Without a fault, all that is right is done or memory was wanting.
 use Rattle.std.proofs.Common.{◌≡◌, ◌≢◌, ◌⊎◌, inl, inr, ℕ, zero, suc, Bool, true, false, List, [], ◌∷◌, map, Option, None, Some, refl, sym, subst, ◌∙◌}
-use Rattle.std.specs.Prelude.{IsOk, slice_get}
+use Rattle.std.specs.Prelude.{IsOk, slice_get, Vec, if◌then◌else◌}
 use Rattle.std.specs.List.{AllByRecursion}
+use Rattle.std.specs.Borrow.{Bor}
+use Rattle.std.specs.declared.alloc.Global.{Global}
 use Rattle.outside.specs.Faults.{Rose}
+use Rattle.outside.specs.Shelf.{bytes_on}
 use Rattle.cqe_base.specs.Schema.{Text}
 use Rattle.cqe_base.specs.Facts.{FactSet}
 use Rattle.cqe_base.specs.Transcript.{NamedUser}
-use Rattle.user_desk.specs.declared.standing.DeskError.{DeskError}
-use Rattle.user_desk.specs.declared.standing.DeskError.TheVariants as desk_errors
+use Rattle.cqe_base.specs.declared.user.User.{User}
+use Rattle.audit_engine.specs.declared.end.AuditEnd.{AuditEnd}
+use Rattle.audit_engine.specs.declared.end.AuditEnd.TheVariants as audit_end
+use Rattle.batch_engine.specs.Batch.{unopened, with_opening}
+use Rattle.batch_engine.specs.declared.run.BatchEnd.{BatchEnd}
+use Rattle.batch_engine.specs.declared.run.BatchEnd.TheVariants as batch_end
+use Rattle.case_engine.specs.Script.{script_of}
+use Rattle.case_engine.specs.declared.case.CaseEnd.{CaseEnd}
+use Rattle.case_engine.specs.declared.case.CaseEnd.TheVariants as case_end
+use Rattle.command_words.specs.Readings.{FileNames, Reading, runs_case, runs_init, runs_batch, runs_audit, runs_selfrun, runs_serve}
+use Rattle.desk_crew.specs.Shelved.{Journals}
+use Rattle.init_engine.specs.declared.end.InitEnd.{InitEnd}
+use Rattle.init_engine.specs.declared.end.InitEnd.TheVariants as init_end
 use Rattle.log_journal.specs.Names.{journal_name}
 use Rattle.log_journal.specs.Opening.{Refuses, IsRefused}
 use Rattle.log_journal.specs.declared.header.OpenError.{OpenError}
 use Rattle.log_journal.specs.declared.header.OpenError.TheVariants.{NotAJournal, OtherPolicy, Damaged, DiskFault, Memory}
-use Rattle.batch_engine.specs.BatchLines.{batch_of}
-use Rattle.batch_engine.specs.Batch.{unopened, with_opening}
-use Rattle.outside.specs.Shelf.{bytes_on}
-use Rattle.desk_crew.specs.Shelved.{Journals, journals_on}
 use Rattle.policy_files.specs.Policies.{PolicyUser, PolicyValue}
 use Rattle.policy_files.specs.Users.{names_of}
-use Rattle.cqe_top.specs.declared.end.CommandEnd.{CommandEnd}
+use Rattle.selfrun_engine.specs.declared.end.SelfrunEnd.{SelfrunEnd}
+use Rattle.selfrun_engine.specs.declared.end.SelfrunEnd.TheVariants as selfrun_end
+use Rattle.user_desk.specs.Causes.{Opens}
+use Rattle.user_desk.specs.declared.standing.DeskError.{DeskError}
 use Rattle.cqe_top.specs.declared.end.CommandEnd.TheVariants as ends
-use Rattle.cqe_top.specs.Files.{FilesSay, both, Say, new_user}
-use Rattle.cqe_top.specs.Statuses.{status_of, has_refusal}
-use Rattle.cqe_top.specs.Reaches.{InitReaches, BatchReaches, Completes, IsMissing, change_of}
+use Rattle.cqe_top.specs.declared.end.FilesEnd.{FilesEnd}
+use Rattle.cqe_top.specs.declared.end.FilesEnd.TheVariants as files_end
+use Rattle.cqe_top.specs.declared.report.Report.TheVariants as report
+use Rattle.cqe_top.specs.Audit.{NamesNobody, CanBeAudited, Audits, RunsAudit, FindsNobody, AuditSucceeds}
+use Rattle.cqe_top.specs.Batch.{Answers, RunsBatch, BatchSucceeds}
+use Rattle.cqe_top.specs.Case.{RunsCase}
+use Rattle.cqe_top.specs.Files.{FilesSay, both, Say, SayOn, said_on, IsUnread, Refuses as RefusesBoth, journals_of, new_user}
+use Rattle.cqe_top.specs.Init.{Makes, RunsInit, InitSucceeds}
+use Rattle.cqe_top.specs.Promise.{OfReading}
 use Rattle.cqe_top.specs.Ready.{CanBeMade, CanBeOpened}
+use Rattle.cqe_top.specs.Reports.{answers_report, has_refusal, IsDoneUnlessMemory, HasCause}
+use Rattle.cqe_top.specs.Scene.{Scene, IsUntouched, HasRisen, SameInput, SameOutput, SameLinks}
+use Rattle.cqe_top.specs.Tasks.{reading_over}
+use Rattle.cqe_top.specs.declared.over_files.Task.{Task}
+use Rattle.cqe_top.specs.declared.over_files.Task.TheVariants as task
 use Rattle.cqe_top.proofs.Failing.{CanOpen, none_refused, none_broken}
 
 -- ---- what the files say
 
 abbrev pub when_both : (PolicyValue → FactSet → List ℕ → Type 0) → FilesSay → Type 0
 when_both P (both policy world header) = P policy world header
-when_both P files = Unit {0}
+when_both P said = Unit {0}
 
 -- files that say two things say one
-pub agree : (P : PolicyValue → FactSet → List ℕ → Type 0) (files : FilesSay) (first second : PolicyValue) (first_world second_world : FactSet) (first_header second_header : List ℕ)
-    → files ≡ both first first_world first_header → files ≡ both second second_world second_header → P first first_world first_header → P second second_world second_header
-agree P files first second first_world second_world first_header second_header said says holds = subst (when_both P) (sym said ∙ says) holds
+pub agree : (P Q : PolicyValue → FactSet → List ℕ → Type 0) (said : FilesSay) → Say said P → Say said Q → Say said (λ policy world header. P policy world header × Q policy world header)
+agree P Q said (policy, world, header, says, p) (policy', world', header', says', q) =
+    (policy, world, header, says, (p, subst (when_both Q) (sym says' ∙ says) q))
 
 abbrev pub IsBoth : FilesSay → Type 0
 IsBoth (both policy world header) = Unit {0}
-IsBoth files = ⊥
+IsBoth said = ⊥
 
-pub not_missing : (files : FilesSay) (policy_name facts_name name : List ℕ) → IsBoth files → IsMissing files policy_name facts_name name → ⊥
-not_missing files policy_name facts_name name is (inl (none, same)) = subst IsBoth none is
-not_missing files policy_name facts_name name is (inr (none, same)) = subst IsBoth none is
+-- files that say both were read, or the shelf failed or memory was wanting
+module _ (s : Scene) (files : FileNames) where
+  pub read_succeeds : (P : PolicyValue → FactSet → List ℕ → Type 0) (end : FilesEnd) → RefusesBoth s.shelf files end → HasCause s (ends.Files end)
+      → SayOn s.shelf files P → (HasRisen s.shelf.faults → ⊥) → IsDoneUnlessMemory (ends.Files end)
+  read_succeeds P (files_end.Missing name) (inl (none, same)) cause (policy, world, header, says, can) shelf = absurd (subst IsBoth (sym says ∙ none) tt)
+  read_succeeds P (files_end.Missing name) (inr (none, same)) cause (policy, world, header, says, can) shelf = absurd (subst IsBoth (sym says ∙ none) tt)
+  read_succeeds P (files_end.ShelfFault kind) refused cause says shelf = absurd (shelf (cause.shelf refl))
+  read_succeeds P (files_end.Policy why) refused cause (policy, world, header, says, can) shelf = absurd (subst IsBoth (sym says ∙ refused) tt)
+  read_succeeds P (files_end.Facts why) refused cause (policy, world, header, says, can) shelf = absurd (subst IsBoth (sym says ∙ refused) tt)
+  read_succeeds P files_end.Memory refused cause says shelf = inr refl
+
+-- ---- answers to the end
+
+-- where no journal was refused and no append failed, all is done
+pub answers_done : (users : Vec User Global) (refusals : Vec (Option DeskError) Global) (is_broken : Bool) → (has_refusal refusals.items ≡ true → ⊥) → (is_broken ≡ true → ⊥)
+    → answers_report users refusals is_broken ≡ report.Done
+answers_done users refusals is_broken unrefused unbroken = by (has_refusal refusals.items) is_broken unrefused unbroken
+  where
+    by : (refused broken : Bool) → (refused ≡ true → ⊥) → (broken ≡ true → ⊥)
+        → (if refused then report.Journals users refusals else if broken then report.DiskFault else report.Done) ≡ report.Done
+    by true broken unrefused unbroken = absurd (unrefused refl)
+    by false true unrefused unbroken = absurd (unbroken refl)
+    by false false unrefused unbroken = refl
+
+-- ---- a case and a run
+
+pub case_succeeds : (s : Scene) (end : CaseEnd) → RunsCase s end → HasCause s (ends.Case end) → s.input.tells → s.output.tells → IsOk (script_of s.input.left)
+    → (HasRisen s.input.faults → ⊥) → (HasRisen s.output.faults → ⊥) → IsDoneUnlessMemory (ends.Case end)
+case_succeeds s case_end.Done ran cause told out_told script read write = inl refl
+case_succeeds s (case_end.Script refusal) ran cause told out_told script read write =
+    let clash : false ≡ true = subst IsOk (ran.answers told out_told).0 script in absurd cc
+case_succeeds s case_end.ReadFault ran cause told out_told script read write = absurd (read (cause.read refl))
+case_succeeds s case_end.WriteFault ran cause told out_told script read write = absurd (write (cause.write refl))
+case_succeeds s case_end.Memory ran cause told out_told script read write = inr refl
+
+pub selfrun_succeeds : (s : Scene) (end : SelfrunEnd) → HasCause s (ends.Selfrun end) → (HasRisen s.output.faults → ⊥) → IsDoneUnlessMemory (ends.Selfrun end)
+selfrun_succeeds s selfrun_end.Done cause write = inl refl
+selfrun_succeeds s selfrun_end.WriteFault cause write = absurd (write (cause.write refl))
+selfrun_succeeds s selfrun_end.Memory cause write = inr refl
 
 -- ---- a batch
 
@@ -56,34 +116,28 @@ all_open policy world header journals (user ∷ users) (one ∷ known) are can =
     let rest : map unopened users ≡ map new_user known = cc in
     (subst (λ u. CanOpen policy.schema world header journals u) (sym same) can.0, all_open policy world header journals users known rest can.1)
 
-module _ (journals : Journals) (before after old new policy_name facts_name : List ℕ) (files : FilesSay) where
-  answers_all : (policy : PolicyValue) (world : FactSet) (header : List ℕ) (refusals : List (Option DeskError)) (is_broken : Bool) → Completes journals before after old new refusals is_broken policy world header
-      → CanBeOpened journals policy world header → (has_refusal refusals ≡ true → ⊥) × (is_broken ≡ true → ⊥)
-  answers_all policy world header refusals is_broken (ended, items, are, all) can =
-      let open_all = all_open policy world header journals all.answers.users policy.users all.answers.of_policy can in (
-        none_refused policy.schema world header journals all.answers.users (with_opening all.answers.found all.answers.opened all.answers.events) all.answers.users refusals all.answers.each_user open_all all.refused,
-        λ broken. none_broken policy.schema world header journals all.answers.users (with_opening all.answers.found all.answers.opened all.answers.events) all.answers.each_user open_all (sym all.broken ∙ broken),
-      )
-
-  -- a batch over files that say both, with a script and journals that open, is done or finds no memory
-  pub good_batch : (end : CommandEnd) → BatchReaches journals before after old new policy_name facts_name files end → IsOk (batch_of before) → Say files (CanBeOpened journals)
-      → (end ≡ ends.ShelfFault → ⊥) → (end ≡ ends.ReadFault → ⊥) → (end ≡ ends.WriteFault → ⊥) → (status_of end ≡ 0) ⊎ (status_of end ≡ 13)
-  good_batch ends.Done reached script says shelf read write = inl refl
-  good_batch ends.Memory reached script says shelf read write = inr refl
-  good_batch ends.Usage reached script says shelf read write = absurd reached
-  good_batch (ends.Journal name why) reached script says shelf read write = absurd reached
-  good_batch ends.LinksFault reached script says shelf read write = absurd reached
-  good_batch ends.ShelfFault reached script says shelf read write = absurd (shelf refl)
-  good_batch ends.ReadFault reached script says shelf read write = absurd (read refl)
-  good_batch ends.WriteFault reached script says shelf read write = absurd (write refl)
-  good_batch (ends.Policy why) reached script (policy, world, header, say, can) shelf read write = absurd (subst IsBoth (sym say ∙ reached.0) tt)
-  good_batch (ends.Facts why) reached script (policy, world, header, say, can) shelf read write = absurd (subst IsBoth (sym say ∙ reached.0) tt)
-  good_batch (ends.Missing name) reached script (policy, world, header, say, can) shelf read write = absurd (not_missing files policy_name facts_name name.now (subst IsBoth (sym say) tt) reached.0)
-  good_batch (ends.Script refusal) reached script says shelf read write = let clash : false ≡ true = subst IsOk reached.0.4 script in absurd cc
-  good_batch (ends.Journals users refusals) (policy', world', header', say', (refused, same, is_broken, completes)) script (policy, world, header, say, can) shelf read write =
-      absurd ((answers_all policy' world' header' refusals.items is_broken completes (agree (CanBeOpened journals) files policy policy' world world' header header' say say' can)).0 refused)
-  good_batch ends.DiskFault (policy', world', header', say', (refusals, unrefused, completes)) script (policy, world, header, say, can) shelf read write =
-      absurd ((answers_all policy' world' header' refusals true completes (agree (CanBeOpened journals) files policy policy' world world' header header' say say' can)).1 refl)
+module _ (s : Scene) (files : FileNames) where
+  pub batch_succeeds : (users : Vec User Global) (end : BatchEnd) → RunsBatch s.shelf s.input s.output files users end → HasCause s (ends.Batch users end)
+      → BatchSucceeds s.shelf s.input s.output files (ends.Batch users end)
+  batch_succeeds users (batch_end.Done refusals is_broken) ran cause told in_told out_told script says shelf read write =
+      by (agree (Answers s.shelf s.input s.output files users (batch_end.Done refusals is_broken)) (CanBeOpened (journals_of s.shelf files)) (said_on s.shelf files) (ran.over_files told) says)
+    where
+      by : SayOn s.shelf files (λ policy world header. Answers s.shelf s.input s.output files users (batch_end.Done refusals is_broken) policy world header
+          × CanBeOpened (journals_of s.shelf files) policy world header) → IsDoneUnlessMemory (ends.Batch users (batch_end.Done refusals is_broken))
+      by (policy, world, header, said, (over, can)) =
+          let journals = journals_of s.shelf files in
+          let all = (over.answers in_told out_told).3 in
+          let events = with_opening all.answers.found all.answers.opened all.answers.events in
+          let open_all = all_open policy world header journals all.answers.users policy.users all.answers.of_policy can in
+          inl (answers_done users refusals is_broken
+          (none_refused policy.schema world header journals all.answers.users events all.answers.users refusals.items all.answers.each_user open_all all.refused)
+          (λ broken. none_broken policy.schema world header journals all.answers.users events all.answers.each_user open_all (sym all.broken ∙ broken)))
+  batch_succeeds users (batch_end.Script refusal) ran cause told in_told out_told script says shelf read write =
+      let clash : false ≡ true = subst IsOk ((ran.over_files told).4.answers in_told out_told).0 script in absurd cc
+  batch_succeeds users batch_end.ReadFault ran cause told in_told out_told script says shelf read write = absurd (read (cause.read refl))
+  batch_succeeds users batch_end.WriteFault ran cause told in_told out_told script says shelf read write = absurd (write (cause.write refl))
+  batch_succeeds users batch_end.ShelfFault ran cause told in_told out_told script says shelf read write = absurd (shelf (cause.shelf refl))
+  batch_succeeds users batch_end.Memory ran cause told in_told out_told script says shelf read write = inr refl
 
 -- ---- the making of journals
 
@@ -94,50 +148,128 @@ at_number P [] number name all at = let clash : None ≡ Some name = at in absur
 at_number P (user ∷ users) zero name all at = let same : user.name ≡ name = cc in (user, all.0, same)
 at_number P (user ∷ users) (suc number) name all at = at_number P users number name all.1 at
 
-module _ {D : Type 0} (told : Type 0) (reads : D → List ℕ) (image : D → List ℕ → Type 0) (directory : List ℕ) (old new : Text → Option D) (before now : Text → ℕ) (shelf_before shelf_now : ℕ) where
-  -- a user's disk that is empty or shows no reason to be refused isn't refused without a rise of its count
-  unrefused : (header bytes : List ℕ) (count count' : ℕ) (why : OpenError) → told → (bytes ≡ []) ⊎ ((why : OpenError) → Refuses header bytes why → ⊥) → (Rose count count' → ⊥)
-      → (told → bytes ≢ []) × (why ≢ Memory) × IsRefused told header bytes count count' why → ⊥
-  unrefused header bytes count count' why is (inl empty) whole reason = reason.0 is empty
-  unrefused header bytes count count' NotAJournal is (inr shows) whole reason = shows NotAJournal (reason.2 is)
-  unrefused header bytes count count' OtherPolicy is (inr shows) whole reason = shows OtherPolicy (reason.2 is)
-  unrefused header bytes count count' (Damaged number) is (inr shows) whole reason = shows (Damaged number) (reason.2 is)
-  unrefused header bytes count count' DiskFault is (inr shows) whole reason = whole reason.2
-  unrefused header bytes count count' Memory is (inr shows) whole reason = reason.1 refl
+-- a user's disk that is empty or shows no reason to be refused isn't refused without a rise of its count
+not_stopped : (told : Type 0) (header bytes : List ℕ) (count count' : ℕ) (why : OpenError) → told → (bytes ≡ []) ⊎ ((why : OpenError) → Refuses header bytes why → ⊥) → (Rose count count' → ⊥)
+    → (told → bytes ≢ []) × (why ≢ Memory) × IsRefused told header bytes count count' why → ⊥
+not_stopped told header bytes count count' why is (inl empty) whole reason = reason.0 is empty
+not_stopped told header bytes count count' NotAJournal is (inr shows) whole reason = shows NotAJournal (reason.2 is)
+not_stopped told header bytes count count' OtherPolicy is (inr shows) whole reason = shows OtherPolicy (reason.2 is)
+not_stopped told header bytes count count' (Damaged number) is (inr shows) whole reason = shows (Damaged number) (reason.2 is)
+not_stopped told header bytes count count' DiskFault is (inr shows) whole reason = whole reason.2
+not_stopped told header bytes count count' Memory is (inr shows) whole reason = reason.1 refl
 
-  -- a user's disk is as the making of journals needs it
-  abbrev IsMadeOf : List ℕ → PolicyUser → Type 0
-  IsMadeOf header user =
-      ((bytes_on reads (old (journal_name directory user.name)) ≡ []) ⊎ ((why : OpenError) → Refuses header (bytes_on reads (old (journal_name directory user.name))) why → ⊥))
-      × (Rose (before (journal_name directory user.name)) (now (journal_name directory user.name)) → ⊥)
+module _ (s : Scene) (files : FileNames) where
+  -- the disk of this name is as the making of journals needs it
+  abbrev IsReady : List ℕ → Text → Type 0
+  IsReady header name =
+      ((bytes_on s.shelf.Disk.reads (s.shelf.disk (journal_name files.journals name)) ≡ [])
+      ⊎ ((why : OpenError) → Refuses header (bytes_on s.shelf.Disk.reads (s.shelf.disk (journal_name files.journals name))) why → ⊥))
+      × (Rose (s.shelf.disk_faults (journal_name files.journals name)) (s.shelf.disk_faults' (journal_name files.journals name)) → ⊥)
 
-  module _ (policy_name facts_name : List ℕ) (files : FilesSay) where
-    -- without a fault, all journals are made that can be, or memory was wanting
-    pub good_init : (end : CommandEnd) → told → InitReaches told reads image directory (change_of old new before now shelf_before shelf_now) policy_name facts_name files end
-        → Say files (CanBeMade (journals_on reads image directory old new before now)) → (end ≡ ends.ShelfFault → ⊥) → (status_of end ≡ 0) ⊎ (status_of end ≡ 13)
-    good_init ends.Done is reached says shelf = inl refl
-    good_init ends.Memory is reached says shelf = inr refl
-    good_init ends.Usage is reached says shelf = absurd reached
-    good_init (ends.Script refusal) is reached says shelf = absurd reached
-    good_init ends.ReadFault is reached says shelf = absurd reached
-    good_init ends.WriteFault is reached says shelf = absurd reached
-    good_init (ends.Journals users refusals) is reached says shelf = absurd reached
-    good_init ends.LinksFault is reached says shelf = absurd reached
-    good_init ends.ShelfFault is reached says shelf = absurd (shelf refl)
-    good_init (ends.Policy why) is reached (policy, world, header, say, can) shelf = absurd (subst IsBoth (sym say ∙ reached.0) tt)
-    good_init (ends.Facts why) is reached (policy, world, header, say, can) shelf = absurd (subst IsBoth (sym say ∙ reached.0) tt)
-    good_init (ends.Missing name) is reached (policy, world, header, say, can) shelf = absurd (not_missing files policy_name facts_name name.now (subst IsBoth (sym say) tt) reached.0)
-    good_init (ends.Journal name (desk_errors.Stale number)) is reached says shelf = absurd reached
-    good_init (ends.Journal name (desk_errors.Unlawful number stored computed)) is reached says shelf = absurd reached
-    good_init (ends.Journal name (desk_errors.Size number)) is reached says shelf = absurd reached
-    good_init (ends.Journal name (desk_errors.NotAdmitted admission)) is reached says shelf = absurd reached
-    good_init (ends.Journal name (desk_errors.Journal why)) is (policy', world', header', say', (user, at, stops)) (policy, world, header, say, can) shelf =
-        let can' = agree (CanBeMade (journals_on reads image directory old new before now)) files policy policy' world world' header header' say say' can in
-        let one = at_number (IsMadeOf header') policy'.users user stops.name can' stops.is in
-        absurd (unrefused header' (bytes_on reads (old (journal_name directory stops.name))) (before (journal_name directory stops.name)) (now (journal_name directory stops.name)) why is
-        (subst (λ n. (bytes_on reads (old (journal_name directory n)) ≡ []) ⊎ ((why : OpenError) → Refuses header' (bytes_on reads (old (journal_name directory n))) why → ⊥)) one.2 one.1.0)
-        (subst (λ n. Rose (before (journal_name directory n)) (now (journal_name directory n)) → ⊥) one.2 one.1.1) stops.reason)
-    good_init ends.DiskFault is (policy', world', header', say', (user, stops)) (policy, world, header, say, can) shelf =
-        let can' = agree (CanBeMade (journals_on reads image directory old new before now)) files policy policy' world world' header header' say say' can in
-        let one = at_number (IsMadeOf header') policy'.users user stops.name can' stops.is in
-        absurd (subst (λ n. Rose (before (journal_name directory n)) (now (journal_name directory n)) → ⊥) one.2 one.1.1 stops.reason)
+  pub init_succeeds : (users : Vec User Global) (end : InitEnd) → RunsInit s.shelf files users end → HasCause s (ends.Init users end) → InitSucceeds s.shelf files (ends.Init users end)
+  init_succeeds users init_end.Done ran cause told says shelf = inl refl
+  init_succeeds users (init_end.Refused user why) ran cause told says shelf =
+      by (agree (Makes s.shelf files users (init_end.Refused user why)) (CanBeMade (journals_of s.shelf files)) (said_on s.shelf files) (ran.over_files told) says)
+    where
+      by : SayOn s.shelf files (λ policy world header. Makes s.shelf files users (init_end.Refused user why) policy world header × CanBeMade (journals_of s.shelf files) policy world header)
+          → IsDoneUnlessMemory (ends.Init users (init_end.Refused user why))
+      by (policy, world, header, said, (over, can)) =
+          let stops = over.makes in
+          let one = at_number (λ (u : PolicyUser). IsReady header u.name) policy.users user stops.name can stops.is in
+          let ready = subst (IsReady header) one.2 one.1 in
+          absurd (not_stopped s.shelf.tells header _ _ _ why told ready.0 ready.1 stops.reason)
+  init_succeeds users init_end.DiskFault ran cause told says shelf =
+      by (agree (Makes s.shelf files users init_end.DiskFault) (CanBeMade (journals_of s.shelf files)) (said_on s.shelf files) (ran.over_files told) says)
+    where
+      by : SayOn s.shelf files (λ policy world header. Makes s.shelf files users init_end.DiskFault policy world header × CanBeMade (journals_of s.shelf files) policy world header)
+          → IsDoneUnlessMemory (ends.Init users init_end.DiskFault)
+      by (policy, world, header, said, (over, can)) =
+          let stops = over.makes.1 in
+          let one = at_number (λ (u : PolicyUser). IsReady header u.name) policy.users over.makes.0 stops.name can stops.is in
+          absurd ((subst (IsReady header) one.2 one.1).1 stops.reason)
+  init_succeeds users init_end.ShelfFault ran cause told says shelf = absurd (shelf (cause.shelf refl))
+  init_succeeds users init_end.Memory ran cause told says shelf = inr refl
+
+-- ---- an audit
+
+same_one : {one other : PolicyUser} → Some one ≡ Some other → one ≡ other
+same_one both_are = cc
+
+neither : {P Q R : Type 0} → P ⊎ (Q × R) → (P → ⊥) → (Q → ⊥) → ⊥
+neither (inl one) some none = some one
+neither (inr two) some none = none two.0
+
+module _ (s : Scene) (files : FileNames) (user : Text) (json : Bool) where
+  pub audit_succeeds : (name : Bor (List ℕ)) (end : AuditEnd) → RunsAudit s.shelf s.output files user json name.now end → HasCause s (ends.Audit name end)
+      → AuditSucceeds s.shelf s.output files user json (ends.Audit name end)
+  audit_succeeds name audit_end.Done ran cause told out_told says shelf write = inl refl
+  audit_succeeds name (audit_end.Refused why) ran cause told out_told says shelf write =
+      by (agree (Audits s.shelf s.output files user json (audit_end.Refused why)) (CanBeAudited (journals_of s.shelf files) user) (said_on s.shelf files) (ran.over_files told) says)
+    where
+      by : SayOn s.shelf files (λ policy world header. Audits s.shelf s.output files user json (audit_end.Refused why) policy world header
+          × CanBeAudited (journals_of s.shelf files) user policy world header) → IsDoneUnlessMemory (ends.Audit name (audit_end.Refused why))
+      by (policy, world, header, said, ((one, found, ended), (other, found', opened, whole))) =
+          let journals = journals_of s.shelf files in
+          let same : other ≡ one = same_one (sym found' ∙ found) in
+          absurd (neither (ended out_told).1.opening_is
+          (λ opens. subst (λ (u : PolicyUser). Rose (journals.before u.name) (journals.now u.name) → ⊥) same whole ((ended out_told).1.standing_is.1 opens))
+          (λ none. none opened.0 (subst (λ (u : PolicyUser). Opens policy.schema world u.profile header opened.0 (journals.bytes u.name)) same opened.1)))
+  audit_succeeds name audit_end.WriteFault ran cause told out_told says shelf write = absurd (write (cause.write refl))
+  audit_succeeds name audit_end.ShelfFault ran cause told out_told says shelf write = absurd (shelf (cause.shelf refl))
+  audit_succeeds name audit_end.Memory ran cause told out_told says shelf write = inr refl
+
+  -- nor is anybody audited who isn't there
+  pub nobody_succeeds : FindsNobody s.shelf s.output files user json → AuditSucceeds s.shelf s.output files user json ends.Nobody
+  nobody_succeeds ran told out_told says shelf write =
+      by (agree (NamesNobody user) (CanBeAudited (journals_of s.shelf files) user) (said_on s.shelf files) (ran.over_files told) says)
+    where
+      by : SayOn s.shelf files (λ policy world header. NamesNobody user policy world header × CanBeAudited (journals_of s.shelf files) user policy world header) → IsDoneUnlessMemory ends.Nobody
+      by (policy, world, header, said, (nobody, (one, found, opened, whole))) = let clash : None ≡ Some one = sym nobody ∙ found in absurd cc
+
+-- ---- files that weren't read
+
+-- whatever was to be done over them
+pub unread : (s : Scene) (files : FileNames) (task : Task) (end : FilesEnd) → IsUnread s.shelf files end → HasCause s (ends.Files end) → SameInput s.input → SameOutput s.output → SameLinks s.links
+    → OfReading s (Some (reading_over files task)) (ends.Files end)
+unread s files task.Init end is cause input output links = record {
+  ends = is;
+  succeeds = λ told says shelf. read_succeeds s files (CanBeMade (journals_of s.shelf files)) end (is.refused told) cause says shelf;
+  reads_nothing = input;
+  writes_nothing = output;
+  listens_nowhere = links;
+}
+unread s files task.Batch end is cause input output links = record {
+  ends = (is, input, output);
+  succeeds = λ told in_told out_told script says shelf read write. read_succeeds s files (CanBeOpened (journals_of s.shelf files)) end (is.refused told) cause says shelf;
+  listens_nowhere = links;
+}
+unread s files (task.Audit name json) end is cause input output links = record {
+  ends = (is, output);
+  succeeds = λ told out_told says shelf write. read_succeeds s files (CanBeAudited (journals_of s.shelf files) name.now) end (is.refused told) cause says shelf;
+  reads_nothing = input;
+  listens_nowhere = links;
+}
+unread s files (task.Serve listening) end is cause input output links = record {
+  ends = (is, links);
+  succeeds = λ told links_told says shelf links. read_succeeds s files (CanBeOpened (journals_of s.shelf files)) end (is.refused told) cause says shelf;
+  reads_nothing = input;
+  writes_nothing = output;
+}
+
+-- ---- memory that is wanting for the words
+
+pub nothing_begun : (s : Scene) → IsUntouched s → (read : Option Reading) → OfReading s read ends.Memory
+nothing_begun s same None = same
+nothing_begun s same (Some runs_case) = record { ends = same; succeeds = λ told out_told script read write. inr refl }
+nothing_begun s same (Some (runs_init files)) =
+    record { ends = same.shelf; succeeds = λ told says shelf. inr refl; reads_nothing = same.input; writes_nothing = same.output; listens_nowhere = same.links }
+nothing_begun s same (Some (runs_batch files)) = record {
+  ends = (same.shelf, same.input, same.output);
+  succeeds = λ told in_told out_told script says shelf read write. inr refl;
+  listens_nowhere = same.links;
+}
+nothing_begun s same (Some (runs_audit files user json)) =
+    record { ends = (same.shelf, same.output); succeeds = λ told out_told says shelf write. inr refl; reads_nothing = same.input; listens_nowhere = same.links }
+nothing_begun s same (Some (runs_selfrun seed users asks)) = record { ends = same; succeeds = λ write. inr refl }
+nothing_begun s same (Some (runs_serve files address workers sessions)) =
+    record { ends = (same.shelf, same.links); succeeds = λ told links_told says shelf links. inr refl; reads_nothing = same.input; writes_nothing = same.output }

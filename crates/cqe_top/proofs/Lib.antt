@@ -1,11 +1,9 @@
 mod Writing
 mod Users
-mod Reaching
-mod Making
+mod Finding
+mod Numbers
+mod Causes
+mod Over
 mod Failing
 mod Good
-mod Auditing
-mod Numbers
-mod Saying
-mod Selfrunning
 mod Serving

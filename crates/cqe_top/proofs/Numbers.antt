@@ -1,11 +1,12 @@
 -- The numbers of the words are within their limits.
-use Rattle.std.proofs.Common.{◌≡◌, ℕ, ◌^◌, ◌≤◌, Bool, true, false, ◌&&◌, List, [], ◌∷◌, Option, Some, None, refl, subst, arith}
+use Rattle.std.proofs.Common.{◌≡◌, ℕ, ◌≤◌, Bool, true, false, ◌&&◌, List, [], ◌∷◌, Option, Some, None, refl, subst, arith}
 use Rattle.std.specs.Prelude.{IfSome, nat_le, option_map, option_and_then, codes, bytes_eq, cond, if◌then◌else◌}
 use Rattle.std.proofs.lemmas.Bool.{and_parts}
 use Rattle.std.proofs.lemmas.Bool.Decides.{nat_tests}
 use Rattle.command_words.specs.Uses.{Use, uses_of}
 use Rattle.command_words.specs.Numbers.{within, number_from, number_or}
 use Rattle.line_protocol.specs.Words.{number_in}
+use Rattle.cqe_top.specs.Tasks.{ServesBounds}
 use Rattle.command_words.specs.Readings.{Reading, FileNames, runs_init, runs_batch, runs_selfrun, runs_serve, reading_of, reading_with, reading_by, do_fit, CommandRow, case_row, init_row, batch_row, audit_row, selfrun_row, serve_row, files_of, audit_said, selfrun_said, serve_said, value_of, is_used}
 
 -- a number between two, or one of them
@@ -38,22 +39,15 @@ usual_bounds usual least most limit (Some text) lies more = wider (number_from l
     wider (Some n) is = (is.0, omega (arith, is.1, more))
 
 -- the limits of the users and of the asks
-pub record KeepsBounds (users asks : ℕ) : Type 0 where
+pub record RunsBounds (users asks : ℕ) : Type 0 where
   pub some_user : 1 ≤ users
   pub few_users : users ≤ 256
   pub some_ask : 1 ≤ asks
   pub few_asks : asks ≤ 10000
 
--- the limits of the workers and of their connections
-pub record ServesBounds (workers sessions : ℕ) : Type 0 where
-  pub some_worker : 1 ≤ workers
-  pub few_workers : workers ≤ 64
-  pub some_session : 1 ≤ sessions
-  pub few_sessions : sessions ≤ 2 ^ 30
-
 -- the numbers of a reading are within their limits
 abbrev pub Keeps : Reading → Type 0
-Keeps (runs_selfrun seed users asks) = KeepsBounds users asks
+Keeps (runs_selfrun seed users asks) = RunsBounds users asks
 Keeps (runs_serve files address workers sessions) = ServesBounds workers sessions
 Keeps reading = Unit {0}
 

@@ -1,5 +1,6 @@
 -- What is said where a command didn't do all that it does.
-use Rattle.std.specs.Prelude.{ℕ, List, [], ◌∷◌, ◌++◌, Option, Some, None, codes, decimal, string_bytes}
+use Rattle.std.specs.Prelude.{ℕ, List, [], ◌∷◌, ◌++◌, Option, Some, None}
+use Rattle.std.specs.Prelude.{codes, decimal, slice_get, string_bytes}
 use Rattle.cqe_base.specs.Schema.{Text}
 use Rattle.cqe_base.specs.declared.text.ScriptKind.{ScriptKind}
 use Rattle.cqe_base.specs.declared.text.ScriptKind.TheVariants as kinds
@@ -18,8 +19,12 @@ use Rattle.policy_files.specs.declared.error.PolicyError.{PolicyError}
 use Rattle.policy_files.specs.declared.error.PolicyError.TheVariants as policy_errors
 use Rattle.policy_files.specs.declared.error.FactsError.{FactsError}
 use Rattle.policy_files.specs.declared.error.FactsError.TheVariants as facts_errors
-use Rattle.cqe_top.specs.declared.end.CommandEnd.{CommandEnd}
-use Rattle.cqe_top.specs.declared.end.CommandEnd.TheVariants.{Done, Usage, Missing, ShelfFault, Policy, Facts, Script, ReadFault, WriteFault, Journal, Journals, DiskFault, LinksFault, Memory}
+use Rattle.cqe_top.specs.declared.report.Report.{Report}
+use Rattle.cqe_top.specs.declared.report.Report.TheVariants.{Done, Usage, Policy, Facts, Script}
+use Rattle.cqe_top.specs.declared.report.Report.TheVariants.{ReadFault, WriteFault}
+use Rattle.cqe_top.specs.declared.report.Report.TheVariants.{Missing, ShelfFault}
+use Rattle.cqe_top.specs.declared.report.Report.TheVariants.{Journal, JournalAt, Journals}
+use Rattle.cqe_top.specs.declared.report.Report.TheVariants.{DiskFault, LinksFault, Memory}
 
 -- the number of a script's refusal
 abbrev pub kind_number : ScriptKind → ℕ
@@ -34,7 +39,9 @@ kind_number kinds.Order = 8
 
 -- the kind and the line of a script's refusal
 abbrev pub script_complaint : ScriptError → Text
-script_complaint refusal = codes "cqe: script " ++ decimal (kind_number refusal.kind) ++ codes " " ++ decimal refusal.line ++ codes "\n"
+script_complaint refusal =
+    codes "cqe: script " ++ decimal (kind_number refusal.kind) ++ codes " " ++ decimal refusal.line
+    ++ codes "\n"
 
 -- the number of a schema's refusal
 abbrev pub schema_number : SchemaError → ℕ
@@ -62,19 +69,23 @@ cause_text (Some why) = codes " " ++ decimal why.kind ++ codes " " ++ decimal wh
 
 -- a place: the key, as `users[0].know[1]`, and why its text is no sentence
 abbrev pub place_text : Place → Text
-place_text place = user_text place.user ++ place.key ++ index_text place.index ++ cause_text place.text
+place_text place =
+    user_text place.user ++ place.key ++ index_text place.index ++ cause_text place.text
 
 -- the number of a policy's refusal with its place
 abbrev pub place_complaint : ℕ → Place → Text
-place_complaint number place = codes "cqe: policy " ++ decimal number ++ place_text place ++ codes "\n"
+place_complaint number place =
+    codes "cqe: policy " ++ decimal number ++ place_text place ++ codes "\n"
 
--- the number of a policy's refusal, and its place or the number of the schema's refusal where there is one
+-- the number of a policy's refusal, and its place or the number of the schema's refusal where there
+-- is one
 abbrev pub policy_complaint : PolicyError → Text
 policy_complaint policy_errors.NotToml = codes "cqe: policy 1\n"
 policy_complaint (policy_errors.MissingKey place) = place_complaint 2 place
 policy_complaint (policy_errors.WrongKind place) = place_complaint 3 place
 policy_complaint (policy_errors.UnknownKey place) = place_complaint 4 place
-policy_complaint (policy_errors.Schema why) = codes "cqe: policy " ++ decimal 5 ++ codes " " ++ decimal (schema_number why) ++ codes "\n"
+policy_complaint (policy_errors.Schema why) =
+    codes "cqe: policy " ++ decimal 5 ++ codes " " ++ decimal (schema_number why) ++ codes "\n"
 policy_complaint (policy_errors.Sentence place) = place_complaint 6 place
 policy_complaint (policy_errors.Limit place) = place_complaint 7 place
 policy_complaint (policy_errors.DuplicateUser place) = place_complaint 8 place
@@ -97,7 +108,9 @@ facts_line facts_errors.Memory = 0
 
 -- the number and the line of a facts file's refusal
 abbrev pub facts_complaint : FactsError → Text
-facts_complaint why = codes "cqe: facts " ++ decimal (facts_number why) ++ codes " " ++ decimal (facts_line why) ++ codes "\n"
+facts_complaint why =
+    codes "cqe: facts " ++ decimal (facts_number why) ++ codes " " ++ decimal (facts_line why)
+    ++ codes "\n"
 
 -- why a journal isn't opened
 abbrev pub opening_cause : OpenError → Text
@@ -113,12 +126,14 @@ journal_cause (desk_errors.Journal why) = opening_cause why
 journal_cause (desk_errors.Stale number) = codes "stale " ++ decimal number
 journal_cause (desk_errors.Size number) = codes "size " ++ decimal number
 journal_cause (desk_errors.Unlawful number stored computed) =
-    codes "unlawful " ++ decimal number ++ codes " stored " ++ mark_text stored ++ codes " computed " ++ mark_text computed
+    codes "unlawful " ++ decimal number ++ codes " stored " ++ mark_text stored
+    ++ codes " computed " ++ mark_text computed
 journal_cause (desk_errors.NotAdmitted admission) = codes "not admitted"
 
 -- the line of a user whose journal is refused
 abbrev pub journal_line : Text → DeskError → Text
-journal_line name why = codes "cqe: journal " ++ name ++ codes " " ++ journal_cause why ++ codes "\n"
+journal_line name why =
+    codes "cqe: journal " ++ name ++ codes " " ++ journal_cause why ++ codes "\n"
 
 -- the line of a user, if his journal is refused
 abbrev pub refusal_line : Text → Option DeskError → Text
@@ -129,10 +144,16 @@ refusal_line name (Some why) = journal_line name why
 abbrev pub journal_lines : List User → List (Option DeskError) → Text
 journal_lines [] refusals = []
 journal_lines (user ∷ users) [] = []
-journal_lines (user ∷ users) (refusal ∷ refusals) = refusal_line (string_bytes user.name) refusal ++ journal_lines users refusals
+journal_lines (user ∷ users) (refusal ∷ refusals) =
+    refusal_line (string_bytes user.name) refusal ++ journal_lines users refusals
+
+-- the line of a user whose journal isn't opened, if there is such a user
+abbrev pub user_line : Option User → OpenError → Text
+user_line None why = []
+user_line (Some user) why = journal_line (string_bytes user.name) (desk_errors.Journal why)
 
 -- what is said of an end
-abbrev pub complaint_of : CommandEnd → Text
+abbrev pub complaint_of : Report → Text
 complaint_of Done = []
 complaint_of Usage = codes "cqe: usage\n"
 complaint_of (Policy why) = policy_complaint why
@@ -142,7 +163,8 @@ complaint_of ReadFault = codes "cqe: read fault\n"
 complaint_of WriteFault = codes "cqe: write fault\n"
 complaint_of (Missing name) = codes "cqe: missing " ++ name.now ++ codes "\n"
 complaint_of ShelfFault = codes "cqe: shelf fault\n"
-complaint_of (Journal name why) = journal_line (string_bytes name) why
+complaint_of (Journal name why) = journal_line name.now why
+complaint_of (JournalAt users number why) = user_line (slice_get users.items number) why
 complaint_of (Journals users refusals) = journal_lines users.items refusals.items
 complaint_of DiskFault = codes "cqe: disk fault\n"
 complaint_of LinksFault = codes "cqe: links fault\n"

@@ -1,16 +1,32 @@
--- What the policy file and the facts file say.
-use Rattle.std.specs.Prelude.{◌≡◌, ◌⊎◌, ℕ, List, [], ◌∷◌, ◌++◌, map, Option, Some, None, Result, Ok, Err}
+-- What the policy file and the facts file say, and why they weren't read.
+use Rattle.std.specs.Prelude.{◌≡◌, ◌⊎◌, ℕ, List, [], ◌∷◌, ◌++◌, map, Option, Some, None}
+use Rattle.std.specs.Prelude.{Result, Ok, Err}
 use Rattle.sha2.specs.Sha256.{sha256}
+use Rattle.outside.specs.Shelf.{Looks}
 use Rattle.cqe_base.specs.Facts.{FactSet}
+use Rattle.cqe_base.specs.Schema.{Text}
 use Rattle.cqe_base.specs.Transcript.{NamedUser}
+use Rattle.command_words.specs.Readings.{FileNames}
+use Rattle.desk_crew.specs.Shelved.{Journals, journals_on, SameBeside}
+use Rattle.log_journal.specs.Names.{journal_name}
 use Rattle.log_journal.specs.Opening.{first_eight}
 use Rattle.policy_files.specs.declared.error.PolicyError.{PolicyError}
 use Rattle.policy_files.specs.declared.error.FactsError.{FactsError}
 use Rattle.policy_files.specs.Policies.{PolicyUser, PolicyValue}
 use Rattle.policy_files.specs.Policy.{policy_in}
+use Rattle.policy_files.specs.Users.{names_of}
 use Rattle.policy_files.specs.Facts.{facts_of}
+use Rattle.cqe_top.specs.declared.end.FileKind.{FileKind}
+use Rattle.cqe_top.specs.declared.end.FileKind.TheVariants as kind
+use Rattle.cqe_top.specs.declared.end.FilesEnd.{FilesEnd}
+use Rattle.cqe_top.specs.declared.end.FilesEnd.TheVariants.{Missing, ShelfFault, Policy}
+use Rattle.cqe_top.specs.declared.end.FilesEnd.TheVariants.{Facts, Memory}
+use Rattle.cqe_top.specs.Scene.{ShelfScene, SameDisks}
 
--- what two files say: a policy and a world, with the header of the journals that belong to them; or the first of them that isn't there or is refused
+-- ---- what two files say
+
+-- what two files say: a policy and a world, with the header of the journals that belong to them;
+-- or the first of them that isn't there or is refused
 pub data FilesSay : Type 0 where
   no_policy : FilesSay
   bad_policy : (why : PolicyError) → FilesSay
@@ -18,7 +34,8 @@ pub data FilesSay : Type 0 where
   bad_facts : (why : FactsError) → FilesSay
   both : (policy : PolicyValue) → (world : FactSet) → (header : List ℕ) → FilesSay
 
--- the header of the journals that belong to a policy file and a facts file with these bytes: eight bytes, and the digest of each
+-- the header of the journals that belong to a policy file and a facts file with these bytes: eight
+-- bytes, and the digest of each
 abbrev pub header_for : List ℕ → List ℕ → List ℕ
 header_for policy_bytes facts_bytes = first_eight ++ sha256 policy_bytes ++ sha256 facts_bytes
 
@@ -30,7 +47,8 @@ with_world policy header (Err why) = bad_facts why
 -- a policy that was read from these bytes with a facts file, if it is there
 abbrev pub with_facts : PolicyValue → List ℕ → Option (List ℕ) → FilesSay
 with_facts policy policy_bytes None = no_facts
-with_facts policy policy_bytes (Some bytes) = with_world policy (header_for policy_bytes bytes) (facts_of policy.schema bytes)
+with_facts policy policy_bytes (Some bytes) =
+    with_world policy (header_for policy_bytes bytes) (facts_of policy.schema bytes)
 
 -- a policy file with these bytes, as it was read, with a facts file
 abbrev pub with_policy : List ℕ → Result PolicyValue PolicyError → Option (List ℕ) → FilesSay
@@ -44,11 +62,96 @@ files_say (Some bytes) facts = with_policy bytes (policy_in bytes) facts
 
 -- the files say a policy, a world and a header of which this holds
 abbrev pub Say : FilesSay → (PolicyValue → FactSet → List ℕ → Type 0) → Type 0
-Say files P = (policy : PolicyValue) × (world : FactSet) × (header : List ℕ) × (files ≡ both policy world header) × P policy world header
+Say said P =
+    (policy : PolicyValue) × (world : FactSet) × (header : List ℕ)
+    × (said ≡ both policy world header) × P policy world header
 
--- of the files of these names none was looked at, the policy alone, or the policy and then the facts, and no other file
-abbrev pub LooksAt : List ℕ → List ℕ → List (List ℕ) → List (List ℕ) → Type 0
-LooksAt policy facts old new = (new ≡ old) ⊎ (new ≡ old ++ policy ∷ []) ⊎ (new ≡ old ++ policy ∷ facts ∷ [])
+-- a policy is there and isn't refused
+abbrev pub HasPolicy : FilesSay → Type 0
+HasPolicy no_policy = ⊥
+HasPolicy (bad_policy why) = ⊥
+HasPolicy no_facts = Unit {0}
+HasPolicy (bad_facts why) = Unit {0}
+HasPolicy (both policy world header) = Unit {0}
+
+-- one of the files isn't there, and it has this name
+abbrev pub IsMissing : FilesSay → FileNames → Text → Type 0
+IsMissing said files name =
+    ((said ≡ no_policy) × (name ≡ files.policy)) ⊎ ((said ≡ no_facts) × (name ≡ files.facts))
+
+-- ---- why one file wasn't read
+
+-- a file, of this kind and with this name, is not there; or the shelf failed at it
+abbrev pub RefusesFile : FileKind → Text → Option (List ℕ) → FilesEnd → Type 0
+RefusesFile file_kind name file (Missing missing) = (file ≡ None) × (missing.now ≡ name)
+RefusesFile file_kind name file (ShelfFault failed) = failed ≡ file_kind
+RefusesFile file_kind name file Memory = Unit {0}
+RefusesFile file_kind name file end = ⊥
+
+-- why bytes weren't read as a policy
+abbrev pub RefusesPolicy : Result PolicyValue PolicyError → FilesEnd → Type 0
+RefusesPolicy read (Policy why) = read ≡ Err why
+RefusesPolicy read Memory = Unit {0}
+RefusesPolicy read end = ⊥
+
+-- why bytes weren't read as facts
+abbrev pub RefusesFacts : Result FactSet FactsError → FilesEnd → Type 0
+RefusesFacts read (Facts why) = read ≡ Err why
+RefusesFacts read Memory = Unit {0}
+RefusesFacts read end = ⊥
+
+-- the shelf failed
+abbrev pub IsShelfFault : FilesEnd → Type 0
+IsShelfFault (ShelfFault kind) = Unit {0}
+IsShelfFault end = ⊥
+
+-- ---- the files of a command on a shelf, and the journals in their directory
+
+module _ (shelf : ShelfScene) (files : FileNames) where
+  -- what they say
+  abbrev pub said_on : FilesSay
+  said_on = files_say (shelf.file files.policy) (shelf.file files.facts)
+
+  -- they say a policy, a world and a header of which this holds
+  abbrev pub SayOn : (PolicyValue → FactSet → List ℕ → Type 0) → Type 0
+  SayOn P = Say said_on P
+
+  -- the journals before the call and behind it
+  abbrev pub journals_of : Journals
+  journals_of =
+      journals_on shelf.Disk.reads shelf.Disk.image files.journals shelf.disk shelf.disk'
+      shelf.disk_faults shelf.disk_faults'
+
+  -- no disk but the journals of a policy's users was touched
+  abbrev pub TouchesJournals : PolicyValue → Type 0
+  TouchesJournals policy =
+      SameBeside (map (journal_name files.journals) (names_of policy.users)) shelf.disk shelf.disk'
+
+  -- of the files the policy was looked at, and then the facts, and no other
+  abbrev pub LooksAtBoth : Type 0
+  LooksAtBoth = shelf.looked' ≡ shelf.looked ++ files.policy ∷ files.facts ∷ []
+
+  -- none was looked at, the policy alone, or both
+  abbrev pub LooksAt : Type 0
+  LooksAt = Looks files.policy shelf.looked shelf.looked' ⊎ LooksAtBoth
+
+  -- why they weren't read: the first of them that isn't there, is refused, or at which the shelf
+  -- failed
+  abbrev pub Refuses : FilesEnd → Type 0
+  Refuses (Missing name) = IsMissing said_on files name.now
+  Refuses (ShelfFault kind.Policy) = Looks files.policy shelf.looked shelf.looked'
+  Refuses (ShelfFault kind.Facts) = HasPolicy said_on
+  Refuses (Policy why) = said_on ≡ bad_policy why
+  Refuses (Facts why) = said_on ≡ bad_facts why
+  Refuses Memory = Unit {0}
+
+  -- the files weren't read: why, and no disk was touched
+  pub record IsUnread (end : FilesEnd) : Type 0 where
+    pub refused : shelf.tells → Refuses end
+    pub looks : shelf.tells → LooksAt
+    pub disks : SameDisks shelf
+
+-- ---- the users of a policy
 
 -- a user of a policy before his journal is opened, with no entries
 abbrev pub new_user : PolicyUser → NamedUser

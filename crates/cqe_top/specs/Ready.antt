@@ -10,14 +10,18 @@ use Rattle.user_desk.specs.Causes.{Opens}
 use Rattle.desk_crew.specs.Shelved.{Journals}
 use Rattle.policy_files.specs.Policies.{PolicyValue}
 
--- each user's disk is empty or shows no reason to refuse it as a journal with this header, and its count of faults didn't rise
+-- each user's disk is empty or shows no reason to refuse it as a journal with this header, and its
+-- count of faults didn't rise
 abbrev pub CanBeMade : Journals → PolicyValue → FactSet → List ℕ → Type 0
 CanBeMade journals policy world header = AllByRecursion (λ user.
-    ((journals.bytes user.name ≡ []) ⊎ ((why : OpenError) → Refuses header (journals.bytes user.name) why → ⊥))
+    ((journals.bytes user.name ≡ [])
+    ⊎ ((why : OpenError) → Refuses header (journals.bytes user.name) why → ⊥))
     × (Rose (journals.before user.name) (journals.now user.name) → ⊥)) policy.users
 
--- each user's journal stands for a legal history of his within the limits, and the count of its disk's faults didn't rise
+-- each user's journal stands for a legal history of his within the limits, and the count of its
+-- disk's faults didn't rise
 abbrev pub CanBeOpened : Journals → PolicyValue → FactSet → List ℕ → Type 0
 CanBeOpened journals policy world header = AllByRecursion (λ user.
-    ((entries : History) × Opens policy.schema world user.profile header entries (journals.bytes user.name))
+    ((entries : History)
+    × Opens policy.schema world user.profile header entries (journals.bytes user.name))
     × (Rose (journals.before user.name) (journals.now user.name) → ⊥)) policy.users

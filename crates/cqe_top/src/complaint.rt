@@ -1,11 +1,16 @@
 //! What is said where a command didn't do all that it does.
-ghost use Rattle.std.specs.Prelude.{◌≡◌, ◌≤◌, ◌++◌, length, codes, decimal, OnOk, OnErr};
+ghost use Rattle.std.specs.Prelude.{◌≡◌, ◌≤◌, ◌++◌, length, codes, decimal, slice_get};
+ghost use Rattle.std.specs.Prelude.{OnOk, OnErr};
 ghost use Rattle.cqe_base.specs.Transcript.{mark_text};
 ghost use Rattle.outside.specs.Faults.{Rose, HasCause};
 ghost use Rattle.outside.specs.Streams.{AppendsUnless, AppendsPart};
-ghost use Rattle.cqe_top.specs.Complaints.{complaint_of, kind_number, schema_number, place_complaint, script_complaint, policy_complaint, facts_complaint, user_text, index_text, cause_text, opening_cause, journal_cause, journal_line, refusal_line, journal_lines};
+ghost use Rattle.cqe_top.specs.Complaints.{complaint_of, kind_number, schema_number};
+ghost use Rattle.cqe_top.specs.Complaints.{script_complaint, policy_complaint, facts_complaint};
+ghost use Rattle.cqe_top.specs.Complaints.{place_complaint, user_text, index_text, cause_text};
+ghost use Rattle.cqe_top.specs.Complaints.{opening_cause, journal_cause, journal_line, user_line};
+ghost use Rattle.cqe_top.specs.Complaints.{refusal_line, journal_lines};
 
-use crate::end::CommandEnd;
+use crate::report::Report;
 use cqe_base::schema::SchemaError;
 use cqe_base::text::{ScriptError, ScriptKind, TextError};
 use cqe_base::user::{Mark, User};
@@ -15,38 +20,45 @@ use outside::{Failed, Sink, write_all, write_parts};
 use policy_files::{FactsError, Place, PolicyError};
 use user_desk::DeskError;
 
-/// Gives the complaint of an end to a sink. Where that fails nobody is left to be told.
-pub(crate) fn complain<E: Sink>(complaints: &mut E, end: &CommandEnd<'_>)
-    ensures given { E.told → AppendsUnless (complaint_of end.now) (E.written complaints.old) (E.written complaints.new) (Rose (E.faults complaints.old) (E.faults complaints.new)) }
+/// Gives the complaint of a report to a sink. Where that fails nobody is left to be told.
+pub(crate) fn complain<E: Sink>(complaints: &mut E, report: &Report<'_>)
+    ensures given { E.tells → AppendsUnless (complaint_of report.now)
+        (E.written complaints.old) (E.written complaints.new)
+        (Rose (E.faults complaints.old) (E.faults complaints.new)) }
     ensures later { E.faults complaints.old ≤ E.faults complaints.new }
 {
-    let _given = give(complaints, end);
+    let _given = give(complaints, report);
 }
 
-fn give<E: Sink>(complaints: &mut E, end: &CommandEnd<'_>) -> Result<(), Failed>
-    ensures all { E.told → OnOk result (E.written complaints.new ≡ E.written complaints.old ++ complaint_of end.now) }
-    ensures part { E.told → OnErr result (AppendsPart (E.written complaints.old) (E.written complaints.new) (complaint_of end.now)) }
+fn give<E: Sink>(complaints: &mut E, report: &Report<'_>) -> Result<(), Failed>
+    ensures all { E.tells → OnOk result (E.written complaints.new
+        ≡ E.written complaints.old ++ complaint_of report.now) }
+    ensures part { E.tells → OnErr result (AppendsPart (E.written complaints.old)
+        (E.written complaints.new) (complaint_of report.now)) }
     ensures cause { HasCause (E.faults complaints.old) (E.faults complaints.new) result }
 {
-    match end {
-        CommandEnd::Done => Ok(()),
-        CommandEnd::Usage => write_all(complaints, b"cqe: usage\n"),
-        CommandEnd::Missing(name) => {
+    match report {
+        Report::Done => Ok(()),
+        Report::Usage => write_all(complaints, b"cqe: usage\n"),
+        Report::Missing(name) => {
             write_parts(complaints, &[b"cqe: missing ", name.as_bytes(), b"\n"])
         }
-        CommandEnd::ShelfFault => write_all(complaints, b"cqe: shelf fault\n"),
-        CommandEnd::Policy(why) => give_policy(complaints, why),
-        CommandEnd::Facts(why) => write_all(complaints, facts_complaint(*why).bytes()),
-        CommandEnd::Script(refusal) => write_all(complaints, script_complaint(*refusal).bytes()),
-        CommandEnd::ReadFault => write_all(complaints, b"cqe: read fault\n"),
-        CommandEnd::WriteFault => write_all(complaints, b"cqe: write fault\n"),
-        CommandEnd::Journal(name, why) => { give_journal(complaints, name.as_str(), *why) }
-        CommandEnd::Journals(users, refusals) => {
+        Report::ShelfFault => write_all(complaints, b"cqe: shelf fault\n"),
+        Report::Policy(why) => give_policy(complaints, why),
+        Report::Facts(why) => write_all(complaints, facts_complaint(*why).bytes()),
+        Report::Script(refusal) => write_all(complaints, script_complaint(*refusal).bytes()),
+        Report::ReadFault => write_all(complaints, b"cqe: read fault\n"),
+        Report::WriteFault => write_all(complaints, b"cqe: write fault\n"),
+        Report::Journal(name, why) => give_journal(complaints, name, *why),
+        Report::JournalAt(users, number, why) => {
+            give_user(complaints, users.as_slice(), *number, *why)
+        }
+        Report::Journals(users, refusals) => {
             give_journals(complaints, users.as_slice(), refusals.as_slice())
         }
-        CommandEnd::DiskFault => write_all(complaints, b"cqe: disk fault\n"),
-        CommandEnd::LinksFault => write_all(complaints, b"cqe: links fault\n"),
-        CommandEnd::Memory => write_all(complaints, b"cqe: out of memory\n"),
+        Report::DiskFault => write_all(complaints, b"cqe: disk fault\n"),
+        Report::LinksFault => write_all(complaints, b"cqe: links fault\n"),
+        Report::Memory => write_all(complaints, b"cqe: out of memory\n"),
     }
 }
 
@@ -56,8 +68,10 @@ fn give_journals<E: Sink>(
     users: &[User],
     refusals: &[Option<DeskError>],
 ) -> Result<(), Failed>
-    ensures all { E.told → OnOk result (E.written complaints.new ≡ E.written complaints.old ++ journal_lines users.now refusals.now) }
-    ensures part { E.told → OnErr result (AppendsPart (E.written complaints.old) (E.written complaints.new) (journal_lines users.now refusals.now)) }
+    ensures all { E.tells → OnOk result (E.written complaints.new
+        ≡ E.written complaints.old ++ journal_lines users.now refusals.now) }
+    ensures part { E.tells → OnErr result (AppendsPart (E.written complaints.old)
+        (E.written complaints.new) (journal_lines users.now refusals.now)) }
     ensures cause { HasCause (E.faults complaints.old) (E.faults complaints.new) result }
 {
     let Some((user, users)) = users.split_first() else {
@@ -78,8 +92,10 @@ fn give_refusal<E: Sink>(
     name: &str,
     refusal: Option<DeskError>,
 ) -> Result<(), Failed>
-    ensures all { E.told → OnOk result (E.written complaints.new ≡ E.written complaints.old ++ refusal_line name.now refusal) }
-    ensures part { E.told → OnErr result (AppendsPart (E.written complaints.old) (E.written complaints.new) (refusal_line name.now refusal)) }
+    ensures all { E.tells → OnOk result (E.written complaints.new
+        ≡ E.written complaints.old ++ refusal_line name.now refusal) }
+    ensures part { E.tells → OnErr result (AppendsPart (E.written complaints.old)
+        (E.written complaints.new) (refusal_line name.now refusal)) }
     ensures cause { HasCause (E.faults complaints.old) (E.faults complaints.new) result }
 {
     match refusal {
@@ -88,10 +104,31 @@ fn give_refusal<E: Sink>(
     }
 }
 
+/// Gives the line of the user of this number, whose journal isn't opened, if there is such a user.
+fn give_user<E: Sink>(
+    complaints: &mut E,
+    users: &[User],
+    number: usize,
+    why: OpenError,
+) -> Result<(), Failed>
+    ensures all { E.tells → OnOk result (E.written complaints.new
+        ≡ E.written complaints.old ++ user_line (slice_get users.now number) why) }
+    ensures part { E.tells → OnErr result (AppendsPart (E.written complaints.old)
+        (E.written complaints.new) (user_line (slice_get users.now number) why)) }
+    ensures cause { HasCause (E.faults complaints.old) (E.faults complaints.new) result }
+{
+    match users.get(number) {
+        Some(user) => give_journal(complaints, user.name.as_str(), DeskError::Journal(why)),
+        None => Ok(()),
+    }
+}
+
 /// Gives the line of a user whose journal is refused.
 fn give_journal<E: Sink>(complaints: &mut E, name: &str, why: DeskError) -> Result<(), Failed>
-    ensures all { E.told → OnOk result (E.written complaints.new ≡ E.written complaints.old ++ journal_line name.now why) }
-    ensures part { E.told → OnErr result (AppendsPart (E.written complaints.old) (E.written complaints.new) (journal_line name.now why)) }
+    ensures all { E.tells → OnOk result (E.written complaints.new
+        ≡ E.written complaints.old ++ journal_line name.now why) }
+    ensures part { E.tells → OnErr result (AppendsPart (E.written complaints.old)
+        (E.written complaints.new) (journal_line name.now why)) }
     ensures cause { HasCause (E.faults complaints.old) (E.faults complaints.new) result }
 {
     let (cause, marks) = journal_cause(why);
@@ -156,8 +193,10 @@ fn opening_cause(why: OpenError) -> LineText
 
 /// Gives the complaint of a policy's refusal.
 fn give_policy<E: Sink>(complaints: &mut E, why: &PolicyError) -> Result<(), Failed>
-    ensures all { E.told → OnOk result (E.written complaints.new ≡ E.written complaints.old ++ policy_complaint why.now) }
-    ensures part { E.told → OnErr result (AppendsPart (E.written complaints.old) (E.written complaints.new) (policy_complaint why.now)) }
+    ensures all { E.tells → OnOk result (E.written complaints.new
+        ≡ E.written complaints.old ++ policy_complaint why.now) }
+    ensures part { E.tells → OnErr result (AppendsPart (E.written complaints.old)
+        (E.written complaints.new) (policy_complaint why.now)) }
     ensures cause { HasCause (E.faults complaints.old) (E.faults complaints.new) result }
 {
     match why {
@@ -179,8 +218,10 @@ fn give_policy<E: Sink>(complaints: &mut E, why: &PolicyError) -> Result<(), Fai
 
 /// Gives the complaint of a policy's refusal that has a place.
 fn give_place<E: Sink>(complaints: &mut E, number: u32, place: &Place) -> Result<(), Failed>
-    ensures all { E.told → OnOk result (E.written complaints.new ≡ E.written complaints.old ++ place_complaint number place.now) }
-    ensures part { E.told → OnErr result (AppendsPart (E.written complaints.old) (E.written complaints.new) (place_complaint number place.now)) }
+    ensures all { E.tells → OnOk result (E.written complaints.new
+        ≡ E.written complaints.old ++ place_complaint number place.now) }
+    ensures part { E.tells → OnErr result (AppendsPart (E.written complaints.old)
+        (E.written complaints.new) (place_complaint number place.now)) }
     ensures cause { HasCause (E.faults complaints.old) (E.faults complaints.new) result }
 {
     let number = numbered("cqe: policy ", number);

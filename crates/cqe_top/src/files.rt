@@ -1,20 +1,23 @@
 //! The policy file and the facts file of a command, and the header that they give to journals.
-ghost use Rattle.std.specs.Prelude.{◌≡◌, ◌≤◌, ◌++◌, ◌∷◌, [], List, ℕ, false, All, Some, Ok, IfOk, IfErr, OnErr, OnOk};
+ghost use Rattle.std.specs.Prelude.{◌≡◌, ◌≤◌, ◌++◌, ◌∷◌, [], List, ℕ, false, All, Some, Ok};
+ghost use Rattle.std.specs.Prelude.{IfOk, IfErr, OnErr, OnOk};
 ghost use Rattle.cqe_base.specs.Schema.{has_duplicate};
 ghost use Rattle.cqe_base.specs.History.{profile_of};
 ghost use Rattle.cqe_base.specs.Limits.{KeepsLimits};
+ghost use Rattle.command_words.specs.Readings.{names_of_files};
 ghost use Rattle.init_engine.specs.Disks.{user_names};
 ghost use Rattle.log_journal.specs.Opening.{header_bytes};
 ghost use Rattle.outside.specs.Faults.{Rose};
 ghost use Rattle.outside.specs.Shelf.{Looks, SameNames};
 ghost use Rattle.policy_files.specs.Memory.{policy_value_of};
-ghost use Rattle.cqe_top.specs.Files.{files_say, both, header_for, LooksAt};
 ghost use Rattle.policy_files.specs.Policy.{policy_in};
 ghost use Rattle.policy_files.specs.Facts.{facts_of};
-ghost use Rattle.cqe_top.specs.Refusals.{RefusesFiles, RefusesFile, RefusesPolicy, RefusesFacts, IsFileEnd};
-ghost use Rattle.cqe_top.specs.declared.end.CommandEnd.{CommandEnd};
+ghost use Rattle.cqe_top.specs.Files.{both, header_for, said_on, LooksAt, LooksAtBoth, Refuses};
+ghost use Rattle.cqe_top.specs.Files.{RefusesFile, RefusesPolicy, RefusesFacts, IsShelfFault};
+ghost use Rattle.cqe_top.specs.Scene.{shelf_of};
 
-use crate::end::CommandEnd;
+use crate::end::{FileKind, FilesEnd};
+use command_words::Files;
 use cqe_base::schema::Schema;
 use cqe_base::world::World;
 use log_journal::Header;
@@ -35,25 +38,32 @@ pub(crate) struct Inputs {
 pub(crate) fn read_files<'w, F: Shelf>(
     alloc: Global,
     shelf: &mut F,
-    policy: &'w str,
-    facts: &'w str,
-) -> Result<Inputs, CommandEnd<'w>>
-    ensures read { F.told → IfOk result (λ inputs. files_say (F.file shelf.old policy.now) (F.file shelf.old facts.now) ≡ both (policy_value_of inputs.policy) inputs.world (header_bytes inputs.header)) }
-    ensures limits { IfOk result (λ inputs. All (λ user. KeepsLimits inputs.policy.schema (profile_of user)) inputs.policy.users.items) }
-    ensures names { IfOk result (λ inputs. has_duplicate (user_names inputs.policy.users.items) ≡ false) }
-    ensures ends { IfErr result IsFileEnd }
-    ensures refused { IfErr result (λ end. F.told → RefusesFiles policy.now facts.now (files_say (F.file shelf.old policy.now) (F.file shelf.old facts.now)) end) }
-    ensures looked { F.told → LooksAt policy.now facts.now (F.looked shelf.old) (F.looked shelf.new) }
+    files: &Files<'w>,
+) -> Result<Inputs, FilesEnd<'w>>
+    ensures read { F.tells → IfOk result (λ inputs.
+        said_on (shelf_of F.Shelf F.D.Disk shelf.old shelf.new) (names_of_files files.now)
+        ≡ both (policy_value_of inputs.policy) inputs.world (header_bytes inputs.header)) }
+    ensures limits { IfOk result (λ inputs. All (λ user. KeepsLimits inputs.policy.schema
+        (profile_of user)) inputs.policy.users.items) }
+    ensures names { IfOk result (λ inputs.
+        has_duplicate (user_names inputs.policy.users.items) ≡ false) }
+    ensures both { F.tells → OnOk result (LooksAtBoth
+        (shelf_of F.Shelf F.D.Disk shelf.old shelf.new) (names_of_files files.now)) }
+    ensures refused { IfErr result (λ end. F.tells → Refuses
+        (shelf_of F.Shelf F.D.Disk shelf.old shelf.new) (names_of_files files.now) end) }
+    ensures looks { F.tells → LooksAt
+        (shelf_of F.Shelf F.D.Disk shelf.old shelf.new) (names_of_files files.now) }
     ensures disks { SameNames (F.disk shelf.old) (F.disk shelf.new) }
     ensures out { SameNames (F.is_out shelf.old) (F.is_out shelf.new) }
     ensures counts { SameNames (F.disk_faults shelf.old) (F.disk_faults shelf.new) }
-    ensures files { (other : List ℕ) → F.file shelf.new other ≡ F.file shelf.old other }
+    ensures files { SameNames (F.file shelf.old) (F.file shelf.new) }
     ensures later { F.faults shelf.old ≤ F.faults shelf.new }
-    ensures cause { IfErr result (λ end. end ≡ CommandEnd.ShelfFault → Rose (F.faults shelf.old) (F.faults shelf.new)) }
+    ensures cause { IfErr result (λ end. IsShelfFault end
+        → Rose (F.faults shelf.old) (F.faults shelf.new)) }
 {
-    let policy_bytes = read_file(alloc, shelf, policy)?;
+    let policy_bytes = read_file(alloc, shelf, files.policy, FileKind::Policy)?;
     let policy = policy_of(alloc, &policy_bytes)?;
-    let facts_bytes = read_file(alloc, shelf, facts)?;
+    let facts_bytes = read_file(alloc, shelf, files.facts, FileKind::Facts)?;
     let world = world_of(alloc, &policy.schema, &facts_bytes)?;
     let header = header_for(&policy_bytes, &facts_bytes);
     Ok(Inputs {
@@ -78,51 +88,54 @@ fn read_file<'w, F: Shelf>(
     alloc: Global,
     shelf: &mut F,
     name: &'w str,
-) -> Result<Vec<u8>, CommandEnd<'w>>
-    ensures read { F.told → IfOk result (λ bytes. F.file shelf.old name.now ≡ Some bytes.items) }
-    ensures refused { IfErr result (λ end. F.told → RefusesFile name.now (F.file shelf.old name.now) end) }
-    ensures ends { IfErr result IsFileEnd }
-    ensures files { (other : List ℕ) → F.file shelf.new other ≡ F.file shelf.old other }
-    ensures looked { F.told → OnOk result (F.looked shelf.new ≡ F.looked shelf.old ++ name.now ∷ []) }
-    ensures none { F.told → OnErr result (Looks name.now (F.looked shelf.old) (F.looked shelf.new)) }
+    kind: FileKind,
+) -> Result<Vec<u8>, FilesEnd<'w>>
+    ensures read { F.tells → IfOk result (λ bytes. F.file shelf.old name.now ≡ Some bytes.items) }
+    ensures refused { IfErr result (λ end. F.tells
+        → RefusesFile kind name.now (F.file shelf.old name.now) end) }
+    ensures files { SameNames (F.file shelf.old) (F.file shelf.new) }
+    ensures looked { F.tells → OnOk result
+        (F.looked shelf.new ≡ F.looked shelf.old ++ name.now ∷ []) }
+    ensures looks { F.tells → OnErr result
+        (Looks name.now (F.looked shelf.old) (F.looked shelf.new)) }
     ensures disks { SameNames (F.disk shelf.old) (F.disk shelf.new) }
     ensures out { SameNames (F.is_out shelf.old) (F.is_out shelf.new) }
     ensures counts { SameNames (F.disk_faults shelf.old) (F.disk_faults shelf.new) }
     ensures later { F.faults shelf.old ≤ F.faults shelf.new }
-    ensures cause { IfErr result (λ end. end ≡ CommandEnd.ShelfFault → Rose (F.faults shelf.old) (F.faults shelf.new)) }
+    ensures cause { IfErr result (λ end. IsShelfFault end
+        → Rose (F.faults shelf.old) (F.faults shelf.new)) }
 {
     match shelf.read_file(alloc, name) {
         Ok(bytes) => Ok(bytes),
-        Err(ShelfError::Missing) => Err(CommandEnd::Missing(name)),
-        Err(ShelfError::Failed) => Err(CommandEnd::ShelfFault),
-        Err(ShelfError::Memory) => Err(CommandEnd::Memory),
+        Err(ShelfError::Missing) => Err(FilesEnd::Missing(name)),
+        Err(ShelfError::Failed) => Err(FilesEnd::ShelfFault(kind)),
+        Err(ShelfError::Memory) => Err(FilesEnd::Memory),
     }
 }
 
 /// The policy that the bytes are.
-fn policy_of<'w>(alloc: Global, bytes: &[u8]) -> Result<Policy, CommandEnd<'w>>
+fn policy_of<'w>(alloc: Global, bytes: &[u8]) -> Result<Policy, FilesEnd<'w>>
     ensures read { IfOk result (λ policy. policy_in bytes.now ≡ Ok (policy_value_of policy)) }
-    ensures limits { IfOk result (λ policy. All (λ user. KeepsLimits policy.schema (profile_of user)) policy.users.items) }
+    ensures limits { IfOk result (λ policy.
+        All (λ user. KeepsLimits policy.schema (profile_of user)) policy.users.items) }
     ensures names { IfOk result (λ policy. has_duplicate (user_names policy.users.items) ≡ false) }
     ensures refused { IfErr result (RefusesPolicy (policy_in bytes.now)) }
-    ensures ends { IfErr result IsFileEnd }
 {
     match read_policy(alloc, bytes) {
         Ok(policy) => Ok(policy),
-        Err(PolicyError::Memory) => Err(CommandEnd::Memory),
-        Err(why) => Err(CommandEnd::Policy(why)),
+        Err(PolicyError::Memory) => Err(FilesEnd::Memory),
+        Err(why) => Err(FilesEnd::Policy(why)),
     }
 }
 
 /// The database that the bytes are.
-fn world_of<'w>(alloc: Global, schema: &Schema, bytes: &[u8]) -> Result<World, CommandEnd<'w>>
+fn world_of<'w>(alloc: Global, schema: &Schema, bytes: &[u8]) -> Result<World, FilesEnd<'w>>
     ensures read { IfOk result (λ world. facts_of schema.now bytes.now ≡ Ok world) }
     ensures refused { IfErr result (RefusesFacts (facts_of schema.now bytes.now)) }
-    ensures ends { IfErr result IsFileEnd }
 {
     match read_facts(alloc, schema, bytes) {
         Ok(world) => Ok(world),
-        Err(FactsError::Memory) => Err(CommandEnd::Memory),
-        Err(why) => Err(CommandEnd::Facts(why)),
+        Err(FactsError::Memory) => Err(FilesEnd::Memory),
+        Err(why) => Err(FilesEnd::Facts(why)),
     }
 }

@@ -1,19 +1,21 @@
 //! All that the program does: from its words, its files and its streams to its status.
 //!
-//! `top` reads the words, runs their command over a shelf, a source and a sink, writes what went wrong to the
-//! complaints, and answers the status. Its contract says what each end of a command means of the bytes that were read
-//! and written, where a fault may be answered, that all that is right is done, and what the complaints are.
+//! `top` reads the words, runs their command over a shelf, a source, a sink and links, writes what went wrong to the
+//! complaints, and answers the status. Its contract is one record, `Promise`: what the end of each command means of the
+//! bytes that were read and written, where a fault may be told, that all that is right is done, and what the complaints
+//! are.
 //!
-//! Read `specs/Statuses.antt` and `specs/Reaches.antt`, then `end`, `files` and `command`; `complaint` has the texts.
+//! Read `specs/Scene.antt` and `specs/Promise.antt`, and then the file of a command, as `specs/Batch.antt`;
+//! `specs/Reports.antt` has each status, `specs/Complaints.antt` the texts.
 #![tactic(auto)]
 
-mod audit;
 mod command;
 mod complaint;
 mod end;
 mod files;
-mod selfrun;
-mod serve;
+mod over_files;
+mod report;
 
 pub use command::top;
-pub use end::CommandEnd;
+pub use end::{CommandEnd, FileKind, FilesEnd};
+pub use report::Report;

@@ -182,10 +182,10 @@ impl<'w, D: Disk> CounterOf<'w, TicketedDesk<'w, D>> {
         ensures sizes { KeepsSizes (kept_by self.entry).schema (kept_by self.entry).user (history_of (seen pass)) }
         ensures idle { is_open (kept_by self.entry).standing ≡ false
             → (history_of (seen pass) ≡ []) × (flying (seen pass) ≡ None) }
-        ensures whole { D.told → is_sealed (kept_by self.entry).standing ≡ false → has_broke (seen pass) ≡ false
+        ensures whole { D.tells → is_sealed (kept_by self.entry).standing ≡ false → has_broke (seen pass) ≡ false
             → (c : List ℕ) → D.image (desk_disk result) c
             → StandsFor (kept_by self.entry).schema (kept_by self.entry).header (history_of (seen pass)) c }
-        ensures images { D.told → is_sealed (kept_by self.entry).standing ≡ false → (c : List ℕ)
+        ensures images { D.tells → is_sealed (kept_by self.entry).standing ≡ false → (c : List ℕ)
             → D.image (desk_disk result) c
             → Holds (kept_by self.entry).schema (kept_by self.entry).world (kept_by self.entry).user
             (kept_by self.entry).header (state_shown (kept_by self.entry) (seen pass)) c }
@@ -195,7 +195,7 @@ impl<'w, D: Disk> CounterOf<'w, TicketedDesk<'w, D>> {
 
         // Since the opening each image stood for a beginning of it that has all entries at the opening; and where the
         // journal was refused, or nothing was appended, the disk is as it was.
-        ensures since { D.told → is_sealed (kept_by self.entry).standing ≡ false → (c : List ℕ)
+        ensures since { D.tells → is_sealed (kept_by self.entry).standing ≡ false → (c : List ℕ)
             → D.image_since (desk_disk result) (D.moment (kept_by self.entry).disk) c
             → StandsWithin (kept_by self.entry).schema (kept_by self.entry).header (length (kept_by self.entry).opening)
             (history_of (seen pass) ++ option_to_list (flying (seen pass))) c }

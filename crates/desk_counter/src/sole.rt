@@ -124,7 +124,7 @@ impl<'w, D: Disk> SoleOf<'w, TicketedDesk<'w, D>> {
             (history_of (pairs_of_sole self.entry)) }
         ensures idle { is_open (kept_in self.entry).standing ≡ false
             → (history_of (pairs_of_sole self.entry) ≡ []) × (flying (pairs_of_sole self.entry) ≡ None) }
-        ensures images { D.told → is_sealed (kept_in self.entry).standing ≡ false → (c : List ℕ)
+        ensures images { D.tells → is_sealed (kept_in self.entry).standing ≡ false → (c : List ℕ)
             → D.image (desk_disk result) c
             → Holds (kept_in self.entry).schema (kept_in self.entry).world (kept_in self.entry).user
             (kept_in self.entry).header (sole_state self.entry) c }

@@ -51,13 +51,14 @@ pub fn give_back<F: Shelf>(shelf: &mut F, seats: Vec<DeskSeat<'_, F::D>>) -> boo
     requires out { AllOut (journals seats.items) (F.is_out shelf.old) }
     requires later { AreLater F.D.faults (F.disk_faults shelf.old) seats.items }
     ensures broke { result ≡ list_any seat_broke seats.entry.items }
-    ensures back { AreBack F.told F.D.reads F.D.image F.D.faults (F.disk shelf.new)
+    ensures back { AreBack F.tells F.D.reads F.D.image F.D.faults (F.disk shelf.new)
         (F.disk_faults shelf.new) seats.entry.items }
     ensures inside { AllIn (journals seats.entry.items) (F.is_out shelf.new) }
     ensures others_out { SameBeside (journals seats.entry.items) (F.is_out shelf.old) (F.is_out shelf.new) }
     ensures disks { SameBeside (journals seats.entry.items) (F.disk shelf.old) (F.disk shelf.new) }
     ensures counts { SameBeside (journals seats.entry.items) (F.disk_faults shelf.old) (F.disk_faults shelf.new) }
     ensures faults { F.faults shelf.new ≡ F.faults shelf.old }
+    ensures files { SameNames (F.file shelf.old) (F.file shelf.new) }
     ensures looked { F.looked shelf.new ≡ F.looked shelf.old }
 {
     let mut seats = seats;
@@ -83,16 +84,17 @@ pub fn reopen_all<'w, F: Shelf>(
     requires out { AllOut (journals seats.items) (F.is_out shelf.old) }
     requires later { AreLater F.D.faults (F.disk_faults shelf.old) seats.items }
     ensures reopened { IfSome result (λ reopened. AreReopened registry.now.schema.now registry.now.world.now
-        (header_bytes registry.now.header.now) F.D.told F.D.reads F.D.image F.D.faults seats.entry.items
+        (header_bytes registry.now.header.now) F.D.tells F.D.reads F.D.image F.D.faults seats.entry.items
         reopened.items) }
     ensures untouched { OnSome result (shelf.new ≡ shelf.old) }
-    ensures back { IfNone result (AreBack F.told F.D.reads F.D.image F.D.faults (F.disk shelf.new)
+    ensures back { IfNone result (AreBack F.tells F.D.reads F.D.image F.D.faults (F.disk shelf.new)
         (F.disk_faults shelf.new) seats.entry.items) }
     ensures inside { IfNone result (AllIn (journals seats.entry.items) (F.is_out shelf.new)) }
     ensures others_out { SameBeside (journals seats.entry.items) (F.is_out shelf.old) (F.is_out shelf.new) }
     ensures disks { SameBeside (journals seats.entry.items) (F.disk shelf.old) (F.disk shelf.new) }
     ensures counts { SameBeside (journals seats.entry.items) (F.disk_faults shelf.old) (F.disk_faults shelf.new) }
     ensures faults { F.faults shelf.new ≡ F.faults shelf.old }
+    ensures files { SameNames (F.file shelf.old) (F.file shelf.new) }
     ensures looked { F.looked shelf.new ≡ F.looked shelf.old }
 {
     let mut seats = seats;
@@ -128,7 +130,7 @@ fn open_seat<'w, F: Shelf>(
     requires limits { KeepsLimits registry.now.schema.now (profile_of user.now) }
     requires inside { F.is_out shelf.old (journal_name registry.now.directory.now (string_bytes user.now.name))
         ≡ false }
-    ensures opened { IfOk result (IsSeatOf F.told F.D.reads F.D.image F.D.faults F.D.told registry.now.schema.now
+    ensures opened { IfOk result (IsSeatOf F.tells F.D.reads F.D.image F.D.faults F.D.tells registry.now.schema.now
         registry.now.world.now (header_bytes registry.now.header.now) registry.now.directory.now (F.disk shelf.old)
         (F.disk_faults shelf.old) user.now) }
     ensures out { OnOk result (F.is_out shelf.new (journal_name registry.now.directory.now (string_bytes user.now.name))
@@ -139,12 +141,13 @@ fn open_seat<'w, F: Shelf>(
         (F.disk shelf.new) }
     ensures counts { OnOk result (SameNames (F.disk_faults shelf.old) (F.disk_faults shelf.new)) }
     ensures refused_out { OnErr result (SameNames (F.is_out shelf.old) (F.is_out shelf.new)) }
-    ensures refused_bytes { F.told → OnErr result (SameBytes F.D.reads (F.disk shelf.old) (F.disk shelf.new)) }
-    ensures refused_images { F.told → OnErr result (NoNewImages F.D.image (F.disk shelf.old) (F.disk shelf.new)) }
+    ensures refused_bytes { F.tells → OnErr result (SameBytes F.D.reads (F.disk shelf.old) (F.disk shelf.new)) }
+    ensures refused_images { F.tells → OnErr result (NoNewImages F.D.image (F.disk shelf.old) (F.disk shelf.new)) }
     ensures fell { NoneFell (F.disk_faults shelf.old) (F.disk_faults shelf.new) }
     ensures other_counts { SameOthers (journal_name registry.now.directory.now (string_bytes user.now.name))
         (F.disk_faults shelf.old) (F.disk_faults shelf.new) }
     ensures later { F.faults shelf.old ≤ F.faults shelf.new }
+    ensures files { SameNames (F.file shelf.old) (F.file shelf.new) }
     ensures looked { F.looked shelf.new ≡ F.looked shelf.old }
     ensures cause { IsErrOf result NotOpened.Shelf → Rose (F.faults shelf.old) (F.faults shelf.new) }
 {
@@ -177,7 +180,7 @@ pub fn open_all<'w, F: Shelf>(
     requires limits { All (λ user. KeepsLimits registry.now.schema.now (profile_of user)) registry.now.users.now }
     requires distinct { has_duplicate (map (λ user. user.name) (map named_user registry.now.users.now)) ≡ false }
     requires inside { NoneOut (F.is_out shelf.old) }
-    ensures opened { IfOk result (λ seats. AreSeatsOf F.told F.D.reads F.D.image F.D.faults F.D.told
+    ensures opened { IfOk result (λ seats. AreSeatsOf F.tells F.D.reads F.D.image F.D.faults F.D.tells
         registry.now.schema.now registry.now.world.now (header_bytes registry.now.header.now) registry.now.directory.now
         (F.disk shelf.old) (F.disk_faults shelf.old) registry.now.users.now seats.items) }
     ensures out { IfOk result (λ seats. AreOut (journals seats.items) (F.is_out shelf.new)) }
@@ -185,10 +188,11 @@ pub fn open_all<'w, F: Shelf>(
         (map (λ user. user.name) (map named_user registry.now.users.now))) (F.disk shelf.old) (F.disk shelf.new) }
     ensures counts { OnOk result (SameNames (F.disk_faults shelf.old) (F.disk_faults shelf.new)) }
     ensures refused_out { OnErr result (NoneOut (F.is_out shelf.new)) }
-    ensures refused_bytes { F.told → OnErr result (SameBytes F.D.reads (F.disk shelf.old) (F.disk shelf.new)) }
-    ensures refused_images { F.told → OnErr result (NoNewImages F.D.image (F.disk shelf.old) (F.disk shelf.new)) }
+    ensures refused_bytes { F.tells → OnErr result (SameBytes F.D.reads (F.disk shelf.old) (F.disk shelf.new)) }
+    ensures refused_images { F.tells → OnErr result (NoNewImages F.D.image (F.disk shelf.old) (F.disk shelf.new)) }
     ensures fell { NoneFell (F.disk_faults shelf.old) (F.disk_faults shelf.new) }
     ensures later { F.faults shelf.old ≤ F.faults shelf.new }
+    ensures files { SameNames (F.file shelf.old) (F.file shelf.new) }
     ensures looked { F.looked shelf.new ≡ F.looked shelf.old }
     ensures cause { IsErrOf result NotOpened.Shelf → Rose (F.faults shelf.old) (F.faults shelf.new) }
 {

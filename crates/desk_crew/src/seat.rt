@@ -63,7 +63,7 @@ pub(crate) fn seat_at<'w, D: Disk>(
 ) -> Result<DeskSeat<'w, D>, Returned<D>>
     requires { KeepsLimits registry.now.schema.now (profile_of user.now) }
     ensures opened { IfOk result (IsOpenedFrom registry.now.schema.now registry.now.world.now
-        (header_bytes registry.now.header.now) D.told D.reads D.image D.faults disk before) }
+        (header_bytes registry.now.header.now) D.tells D.reads D.image D.faults disk before) }
     ensures user { IfOk result (λ seat. seat_user seat ≡ user.now) }
     ensures journal { journal_seated result ≡ string_bytes journal }
     ensures left { IsLeft D.reads D.image D.faults disk (disk_seated result) }
@@ -117,7 +117,7 @@ pub(crate) fn settle_at<R: Wait, G: Gate, D: Disk>(
 
 /// Closes a desk: its disk, and whether an append to it failed.
 pub(crate) fn close_desk<D: Disk>(desk: SoleCounter<'_, D>) -> (D, bool)
-    ensures closed { IsClosed D.told D.image D.faults desk.entry result.0 }
+    ensures closed { IsClosed D.tells D.image D.faults desk.entry result.0 }
     ensures broke { result.1 ≡ has_broke (pairs_of_sole desk.entry) }
 {
     let desk = desk.close();
@@ -133,9 +133,9 @@ pub(crate) fn reopen<'w, D: Disk>(
 ) -> Result<DeskSeat<'w, D>, Returned<D>>
     requires { KeepsLimits registry.now.schema.now (profile_of (seat_user seat)) }
     ensures reopened { IfOk result (IsReopened registry.now.schema.now registry.now.world.now
-        (header_bytes registry.now.header.now) D.told D.reads D.image D.faults seat.entry) }
+        (header_bytes registry.now.header.now) D.tells D.reads D.image D.faults seat.entry) }
     ensures journal { journal_seated result ≡ seat_journal seat.entry }
-    ensures left { IsLeftBy D.told D.reads D.image D.faults seat.entry.desk (disk_seated result) }
+    ensures left { IsLeftBy D.tells D.reads D.image D.faults seat.entry.desk (disk_seated result) }
 {
     let (disk, _) = close_desk(seat.desk);
     seat_at(alloc, registry, seat.user, seat.journal, seat.refusal, disk)

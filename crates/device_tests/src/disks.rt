@@ -78,7 +78,7 @@ struct UntoldDisk {
 }
 
 impl Disk for UntoldDisk {
-    ghost told = { ⊥ };
+    ghost tells = { ⊥ };
 
     ghost reads = { λ d. [] };
 

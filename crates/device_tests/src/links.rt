@@ -135,7 +135,7 @@ impl Door for UntoldDoor {
 
     type Snk = MemorySink;
 
-    ghost told = { ⊥ };
+    ghost tells = { ⊥ };
 
     ghost given = { λ door. 0 };
 

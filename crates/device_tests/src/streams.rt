@@ -141,7 +141,7 @@ struct UntoldStream {
 }
 
 impl Source for UntoldStream {
-    ghost told = { ⊥ };
+    ghost tells = { ⊥ };
 
     ghost held = { λ stream. [] };
 
@@ -162,7 +162,7 @@ impl Source for UntoldStream {
 }
 
 impl Sink for UntoldStream {
-    ghost told = { ⊥ };
+    ghost tells = { ⊥ };
 
     ghost written = { λ stream. [] };
 

@@ -22,7 +22,7 @@ struct Greeter {
 }
 
 impl<S: Source, K: Sink> Job<S, K> for Greeter {
-    ghost told = { Unit {0} };
+    ghost tells = { Unit {0} };
 
     ghost room = { λ job. job.room };
 

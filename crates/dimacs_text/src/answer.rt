@@ -22,9 +22,9 @@ pub fn answer_input<S: Source, K: Sink, E: Sink>(
     sink: &mut K,
     complaints: &mut E,
 ) -> Ending
-    ensures ends { S.told → K.told →
+    ensures ends { S.tells → K.tells →
         Ends result (S.left source.old) (S.left source.new) (K.written sink.old) (K.written sink.new) }
-    ensures complaint { E.told → AppendsUnless (complaint_of result)
+    ensures complaint { E.tells → AppendsUnless (complaint_of result)
         (E.written complaints.old) (E.written complaints.new)
         (Rose (E.faults complaints.old) (E.faults complaints.new)) }
     ensures read_cause { result ≡ Ending.ReadFault → Rose (S.faults source.old) (S.faults source.new) }
@@ -41,7 +41,7 @@ pub fn answer_input<S: Source, K: Sink, E: Sink>(
 
 // The same without the complaint.
 fn answer<S: Source, K: Sink>(alloc: Global, source: &mut S, sink: &mut K) -> Ending
-    ensures ends { S.told → K.told →
+    ensures ends { S.tells → K.tells →
         Ends result (S.left source.old) (S.left source.new) (K.written sink.old) (K.written sink.new) }
     ensures read_cause { result ≡ Ending.ReadFault → Rose (S.faults source.old) (S.faults source.new) }
     ensures write_cause { result ≡ Ending.WriteFault → Rose (K.faults sink.old) (K.faults sink.new) }

@@ -52,7 +52,7 @@ impl Ending {
 
 /// Gives what is said of an ending to a sink. Where that fails nobody is left to be told.
 pub(crate) fn complain<E: Sink>(complaints: &mut E, ending: Ending)
-    ensures given { E.told → AppendsUnless (complaint_of ending)
+    ensures given { E.tells → AppendsUnless (complaint_of ending)
         (E.written complaints.old) (E.written complaints.new)
         (Rose (E.faults complaints.old) (E.faults complaints.new)) }
     ensures later { E.faults complaints.old ≤ E.faults complaints.new }

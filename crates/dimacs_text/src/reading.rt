@@ -42,7 +42,7 @@ pub enum NextLine {
 
 /// Reads the next line, which has this number. It is refused where it is too long or one too many.
 fn next_line<S: Source>(source: &mut S, buffer: &mut LineBuffer, number: u32) -> NextLine
-    ensures reads { S.told → ReadsLine number result
+    ensures reads { S.tells → ReadsLine number result
         (unread buffer.old (S.left source.old)) (unread buffer.new (S.left source.new)) buffer.new.line }
     ensures few { result ≡ NextLine.Line → number ≤ 1000000 }
     ensures held { S.held source.new ≡ S.held source.old }
@@ -65,7 +65,7 @@ fn next_line<S: Source>(source: &mut S, buffer: &mut LineBuffer, number: u32) ->
 
 /// Reads a file to its end, or to its first line that is refused.
 pub fn read_cnf<S: Source>(alloc: Global, source: &mut S) -> Reading
-    ensures reads { S.told → ReadsFile result (S.left source.old) (S.left source.new) }
+    ensures reads { S.tells → ReadsFile result (S.left source.old) (S.left source.new) }
     ensures held { S.held source.new ≡ S.held source.old }
     ensures later { S.faults source.old ≤ S.faults source.new }
     ensures cause { IsTrue (is_read_fault result) → Rose (S.faults source.old) (S.faults source.new) }

@@ -26,7 +26,7 @@ pub fn run_init<F: Shelf>(
 ) -> InitEnd
     requires names { has_duplicate (user_names users.now) ≡ false }
     requires out { (name : List ℕ) → F.is_out shelf.old name ≡ false }
-    ensures ends { IsEnd F.told F.D.reads F.D.image (header_bytes header.now) directory.now (user_names users.now)
+    ensures ends { IsEnd F.tells F.D.reads F.D.image (header_bytes header.now) directory.now (user_names users.now)
         (record { old = F.disk shelf.old; new = F.disk shelf.new; before = F.disk_faults shelf.old; now = F.disk_faults shelf.new; shelf_before = F.faults shelf.old; shelf_now = F.faults shelf.new }) result }
     ensures out { (name : List ℕ) → F.is_out shelf.new name ≡ false }
     ensures counts { (name : List ℕ) → F.disk_faults shelf.old name ≤ F.disk_faults shelf.new name }

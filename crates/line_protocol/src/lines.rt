@@ -146,9 +146,9 @@ impl LineBuffer {
         ensures more { IfOk result (λ n. length self.new.ahead ≡ length self.old.ahead + n) }
         ensures behind { IfOk result (λ n. self.old.ahead ≡ take (length self.old.ahead) self.new.ahead) }
         ensures same { OnErr result (self.new.ahead ≡ self.old.ahead) }
-        ensures unread { S.told →
+        ensures unread { S.tells →
             unread self.new (S.left source.new) ≡ unread self.old (S.left source.old) }
-        ensures end { S.told → IfOk result (λ n. n ≡ 0 → S.left source.old ≡ []) }
+        ensures end { S.tells → IfOk result (λ n. n ≡ 0 → S.left source.old ≡ []) }
         ensures held { S.held source.new ≡ S.held source.old }
         ensures cause { HasCause (S.faults source.old) (S.faults source.new) result }
     {
@@ -187,7 +187,7 @@ fn content_length(bytes: &[u8]) -> usize
 /// rest without a line feed is a line unless it is empty. Give a source the same buffer each time, since the buffer
 /// has what was taken of the lines behind.
 pub fn read_line<S: Source>(source: &mut S, buffer: &mut LineBuffer) -> LineOutcome
-    ensures reads { S.told → Reads result
+    ensures reads { S.tells → Reads result
         (unread buffer.old (S.left source.old)) (unread buffer.new (S.left source.new)) buffer.new.line }
     ensures held { S.held source.new ≡ S.held source.old }
     ensures later { S.faults source.old ≤ S.faults source.new }

@@ -20,7 +20,7 @@ pub struct Journal<D: Disk> {
     room: Vec<u8>,
     /// An append failed at the disk.
     broken: bool,
-    ghost ends: { broken ≡ false → D.told → EndsAt (D.reads disk) gate },
+    ghost ends: { broken ≡ false → D.tells → EndsAt (D.reads disk) gate },
     ghost durable: { broken ≡ false → Only (D.reads disk) (D.image disk) },
 }
 
@@ -33,7 +33,7 @@ impl<D: Disk> Journal<D> {
 
     /// A journal whose closed gate stands at this place.
     pub(crate) fn at(alloc: Global, disk: D, gate: u64) -> Self
-        requires ends { D.told → EndsAt (D.reads disk) gate }
+        requires ends { D.tells → EndsAt (D.reads disk) gate }
         requires durable { Only (D.reads disk) (D.image disk) }
         ensures disk { disk_of result ≡ disk }
         ensures whole { is_broken result ≡ false }
@@ -69,20 +69,20 @@ impl<D: Disk> Journal<D> {
         requires short { length text.now ≤ 4096 }
 
         // After Ok the disk, and each image, has this record behind the records before it.
-        ensures added { D.told → OnOk result (Adds (D.reads (disk_of self.old)) (kind, text.now)
+        ensures added { D.tells → OnOk result (Adds (D.reads (disk_of self.old)) (kind, text.now)
             (D.reads (disk_of self.new))) }
-        ensures kept { D.told → OnOk result ((c : List ℕ) → D.image (disk_of self.new) c
+        ensures kept { D.tells → OnOk result ((c : List ℕ) → D.image (disk_of self.new) c
             → Adds (D.reads (disk_of self.old)) (kind, text.now) c) }
 
         // At every moment of the call each image has the records before it, or these and this one.
-        ensures moments { D.told → is_broken self.old ≡ false
+        ensures moments { D.tells → is_broken self.old ≡ false
             → (c : List ℕ) → D.image_since (disk_of self.new) (D.moment (disk_of self.old)) c
             → KeepsOrAdds (D.reads (disk_of self.old)) (kind, text.now) c }
         ensures time { Elapses (D.moment (disk_of self.old)) (D.moment (disk_of self.new))
             (D.image_since (disk_of self.old)) (D.image_since (disk_of self.new)) }
 
         // After a failure at the disk each image is one of the two, and no later append touches the disk.
-        ensures either { D.told → IsErrOf result AppendError.DiskFault
+        ensures either { D.tells → IsErrOf result AppendError.DiskFault
             → (c : List ℕ) → D.image (disk_of self.new) c
             → KeepsOrAdds (D.reads (disk_of self.old)) (kind, text.now) c }
         ensures room { (n : ℕ) → HasRoom self.old n → HasRoom self.new n }
@@ -131,16 +131,16 @@ fn put_record<D: Disk>(
     requires low { 1 ≤ kind }
     requires high { kind ≤ 4 }
     requires short { length text.now ≤ 4096 }
-    requires ends { D.told → EndsAt (D.reads disk.old) gate }
+    requires ends { D.tells → EndsAt (D.reads disk.old) gate }
     requires durable { Only (D.reads disk.old) (D.image disk.old) }
 
     ensures size { length room.new.items ≡ length room.old.items }
-    ensures added { D.told → OnOk result (Adds (D.reads disk.old) (kind, text.now) (D.reads disk.new)) }
-    ensures ends { D.told → OnOk result (EndsAt (D.reads disk.new) (gate + 4 + length text.now)) }
+    ensures added { D.tells → OnOk result (Adds (D.reads disk.old) (kind, text.now) (D.reads disk.new)) }
+    ensures ends { D.tells → OnOk result (EndsAt (D.reads disk.new) (gate + 4 + length text.now)) }
     ensures durable { OnOk result (Only (D.reads disk.new) (D.image disk.new)) }
-    ensures images { D.told → (c : List ℕ) → D.image disk.new c → KeepsOrAdds (D.reads disk.old) (kind, text.now) c }
+    ensures images { D.tells → (c : List ℕ) → D.image disk.new c → KeepsOrAdds (D.reads disk.old) (kind, text.now) c }
     ensures time { Elapses (D.moment disk.old) (D.moment disk.new) (D.image_since disk.old) (D.image_since disk.new) }
-    ensures moments { D.told → (c : List ℕ) → D.image_since disk.new (D.moment disk.old) c
+    ensures moments { D.tells → (c : List ℕ) → D.image_since disk.new (D.moment disk.old) c
         → KeepsOrAdds (D.reads disk.old) (kind, text.now) c }
     ensures cause { HasCause (D.faults disk.old) (D.faults disk.new) result }
 {

@@ -42,10 +42,10 @@ fn empty_journal(header: &Header) -> [u8; 73]
 
 /// Writes an empty journal on an empty disk. Where it fails, nothing is said of what the disk holds.
 pub fn format<D: Disk>(disk: &mut D, header: &Header) -> Result<(), Failed>
-    requires empty { D.told → D.reads disk.old ≡ [] }
+    requires empty { D.tells → D.reads disk.old ≡ [] }
     requires synced { Only (D.reads disk.old) (D.image disk.old) }
-    ensures written { D.told → OnOk result (D.reads disk.new ≡ header_bytes header.now ++ 0 ∷ []) }
-    ensures journal { D.told → OnOk result (IsJournal (header_bytes header.now) [] (D.reads disk.new)) }
+    ensures written { D.tells → OnOk result (D.reads disk.new ≡ header_bytes header.now ++ 0 ∷ []) }
+    ensures journal { D.tells → OnOk result (IsJournal (header_bytes header.now) [] (D.reads disk.new)) }
     ensures durable { OnOk result (Only (D.reads disk.new) (D.image disk.new)) }
     ensures time { Elapses (D.moment disk.old) (D.moment disk.new) (D.image_since disk.old) (D.image_since disk.new) }
     ensures cause { HasCause (D.faults disk.old) (D.faults disk.new) result }
@@ -132,12 +132,12 @@ fn record_at<D: Disk>(
     gate: u64,
     number: usize,
 ) -> Result<Option<Record>, OpenError>
-    requires { D.told → gate < length (D.reads disk.old) }
-    ensures found { D.told → IfOk result (λ found. IfSome found (λ record'. HasRecord (drop gate (D.reads disk.old)) record')) }
+    requires { D.tells → gate < length (D.reads disk.old) }
+    ensures found { D.tells → IfOk result (λ found. IfSome found (λ record'. HasRecord (drop gate (D.reads disk.old)) record')) }
     ensures each { IfOk result (λ found. IfSome found IsRecord) }
-    ensures closed { D.told → IfOk result (λ found. IfNone found
+    ensures closed { D.tells → IfOk result (λ found. IfNone found
         (slice_index_or (drop gate (D.reads disk.old)) 0 0 ≢ 1)) }
-    ensures refused { IfErr result (λ why. IsStopped D.told (drop gate (D.reads disk.old)) number (D.faults disk.old)
+    ensures refused { IfErr result (λ why. IsStopped D.tells (drop gate (D.reads disk.old)) number (D.faults disk.old)
         (D.faults disk.new) why) }
     ensures only { IsOnlyRead (D.reads disk.old) (D.reads disk.new) (D.image disk.old) (D.image disk.new)
         (D.moment disk.old) (D.moment disk.new) (D.image_since disk.old) (D.image_since disk.new)
@@ -150,11 +150,11 @@ fn record_at<D: Disk>(
 
 // The records of a disk behind the header, and the place of the closed gate, behind which nothing is read.
 fn read_records<D: Disk>(alloc: Global, disk: &mut D) -> Result<(Vec<Record>, u64), OpenError>
-    requires long { D.told → 73 ≤ length (D.reads disk.old) }
-    requires fits { D.told → length (D.reads disk.old) < 2 ^ 64 }
-    ensures ok { D.told → IfOk result (λ r. IsRead (D.reads disk.old) (map recorded r.0.items) r.1) }
+    requires long { D.tells → 73 ≤ length (D.reads disk.old) }
+    requires fits { D.tells → length (D.reads disk.old) < 2 ^ 64 }
+    ensures ok { D.tells → IfOk result (λ r. IsRead (D.reads disk.old) (map recorded r.0.items) r.1) }
     ensures each { IfOk result (λ r. All IsRecord r.0.items) }
-    ensures refused { IfErr result (IsRefused D.told (take 72 (D.reads disk.old)) (D.reads disk.old)
+    ensures refused { IfErr result (IsRefused D.tells (take 72 (D.reads disk.old)) (D.reads disk.old)
         (D.faults disk.old) (D.faults disk.new)) }
     ensures only { IsOnlyRead (D.reads disk.old) (D.reads disk.new) (D.image disk.old) (D.image disk.new)
         (D.moment disk.old) (D.moment disk.new) (D.image_since disk.old) (D.image_since disk.new)
@@ -174,10 +174,10 @@ fn read_records<D: Disk>(alloc: Global, disk: &mut D) -> Result<(Vec<Record>, u6
 
 // Reads the header of a disk.
 fn read_header<D: Disk>(disk: &mut D, header: &Header) -> Result<(), OpenError>
-    ensures long { D.told → OnOk result (73 ≤ length (D.reads disk.old)) }
-    ensures fits { D.told → OnOk result (length (D.reads disk.old) < 2 ^ 64) }
-    ensures begins { D.told → OnOk result (take 72 (D.reads disk.old) ≡ header_bytes header.now) }
-    ensures refused { IfErr result (IsRefused D.told (header_bytes header.now) (D.reads disk.old) (D.faults disk.old)
+    ensures long { D.tells → OnOk result (73 ≤ length (D.reads disk.old)) }
+    ensures fits { D.tells → OnOk result (length (D.reads disk.old) < 2 ^ 64) }
+    ensures begins { D.tells → OnOk result (take 72 (D.reads disk.old) ≡ header_bytes header.now) }
+    ensures refused { IfErr result (IsRefused D.tells (header_bytes header.now) (D.reads disk.old) (D.faults disk.old)
         (D.faults disk.new)) }
     ensures only { IsOnlyRead (D.reads disk.old) (D.reads disk.new) (D.image disk.old) (D.image disk.new)
         (D.moment disk.old) (D.moment disk.new) (D.image_since disk.old) (D.image_since disk.new)
@@ -198,11 +198,11 @@ fn read_journal<D: Disk>(
     disk: &mut D,
     header: &Header,
 ) -> Result<(Vec<Record>, u64), OpenError>
-    ensures opened { D.told → IfOk result (λ r. IsJournal (header_bytes header.now) (map recorded r.0.items)
+    ensures opened { D.tells → IfOk result (λ r. IsJournal (header_bytes header.now) (map recorded r.0.items)
         (D.reads disk.old)) }
     ensures each { IfOk result (λ r. All IsRecord r.0.items) }
-    ensures ends { D.told → IfOk result (λ r. EndsAt (D.reads disk.new) r.1) }
-    ensures refused { IfErr result (IsRefused D.told (header_bytes header.now) (D.reads disk.old) (D.faults disk.old)
+    ensures ends { D.tells → IfOk result (λ r. EndsAt (D.reads disk.new) r.1) }
+    ensures refused { IfErr result (IsRefused D.tells (header_bytes header.now) (D.reads disk.old) (D.faults disk.old)
         (D.faults disk.new)) }
     ensures only { IsOnlyRead (D.reads disk.old) (D.reads disk.new) (D.image disk.old) (D.image disk.new)
         (D.moment disk.old) (D.moment disk.new) (D.image_since disk.old) (D.image_since disk.new)
@@ -218,11 +218,11 @@ fn read_synced<D: Disk>(
     disk: &mut D,
     header: &Header,
 ) -> Result<(Vec<Record>, u64), OpenError>
-    ensures opened { D.told → IfOk result (λ r. IsJournal (header_bytes header.now) (map recorded r.0.items)
+    ensures opened { D.tells → IfOk result (λ r. IsJournal (header_bytes header.now) (map recorded r.0.items)
         (D.reads disk.old)) }
     ensures each { IfOk result (λ r. All IsRecord r.0.items) }
-    ensures ends { D.told → IfOk result (λ r. EndsAt (D.reads disk.new) r.1) }
-    ensures refused { IfErr result (IsRefused D.told (header_bytes header.now) (D.reads disk.old) (D.faults disk.old)
+    ensures ends { D.tells → IfOk result (λ r. EndsAt (D.reads disk.new) r.1) }
+    ensures refused { IfErr result (IsRefused D.tells (header_bytes header.now) (D.reads disk.old) (D.faults disk.old)
         (D.faults disk.new)) }
     ensures reads { D.reads disk.new ≡ D.reads disk.old }
     ensures durable { OnOk result (Only (D.reads disk.new) (D.image disk.new)) }
@@ -246,17 +246,17 @@ pub fn open<D: Disk>(
     disk: D,
     header: &Header,
 ) -> Result<(Journal<D>, Vec<Record>), Refused<D, OpenError>>
-    ensures opened { D.told → IfOk result (λ r. IsJournal (header_bytes header.now) (map recorded r.1.items)
+    ensures opened { D.tells → IfOk result (λ r. IsJournal (header_bytes header.now) (map recorded r.1.items)
         (D.reads disk)) }
     ensures each { IfOk result (λ r. All IsRecord r.1.items) }
     ensures whole { IfOk result (λ r. is_broken r.0 ≡ false) }
 
     // Bytes are refused exactly where they show a reason: what is opened shows none, a refusal has its cause, and a
     // journal with this header is refused for a fault or for want of memory alone.
-    ensures sound { D.told → OnOk result ((why : OpenError) → ¬ Refuses (header_bytes header.now) (D.reads disk) why) }
-    ensures refused { IfErr result (λ r. IsRefused D.told (header_bytes header.now) (D.reads disk) (D.faults disk)
+    ensures sound { D.tells → OnOk result ((why : OpenError) → ¬ Refuses (header_bytes header.now) (D.reads disk) why) }
+    ensures refused { IfErr result (λ r. IsRefused D.tells (header_bytes header.now) (D.reads disk) (D.faults disk)
         (D.faults r.disk) r.why) }
-    ensures good { D.told → (all : List Recorded) → IsJournal (header_bytes header.now) all (D.reads disk)
+    ensures good { D.tells → (all : List Recorded) → IsJournal (header_bytes header.now) all (D.reads disk)
         → IfErr result (λ r. IsOutside r.why) }
 
     ensures reads { D.reads (disk_after result) ≡ D.reads disk }

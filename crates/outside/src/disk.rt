@@ -12,7 +12,7 @@ use crate::Failed;
 /// and those at the moments of the call, and in its clause `moments` what the latter are.
 pub trait Disk {
     /// Whether clauses are told what the disk reads: over memory they are, over a real file they are not.
-    ghost told: { Type 0 };
+    ghost tells: { Type 0 };
 
     /// The bytes that the disk reads, where clauses are told.
     ghost reads: { Self → List ℕ };
@@ -31,7 +31,7 @@ pub trait Disk {
 
     /// How many bytes the disk has.
     fn length(&mut self) -> Result<u64, Failed>
-        ensures length { told → IfOk result (λ n. n ≡ length (reads self.old)) }
+        ensures length { tells → IfOk result (λ n. n ≡ length (reads self.old)) }
         ensures reads { reads self.new ≡ reads self.old }
         ensures images { (c : List ℕ) → image self.new c → image self.old c }
         ensures time { Elapses (moment self.old) (moment self.new) (image_since self.old) (image_since self.new) }
@@ -41,10 +41,10 @@ pub trait Disk {
     /// Fills the piece from that place on, less only where the disk ends. Nobody reads behind the end: a real disk may
     /// fail there, and a fault is nothing to bring about.
     fn read_at(&mut self, at: u64, into: &mut [u8]) -> Result<usize, Failed>
-        requires within { told → at ≤ length (reads self.old) }
+        requires within { tells → at ≤ length (reads self.old) }
         ensures fits { IfOk result (λ n. n ≤ length into.old) }
-        ensures bytes { told → IfOk result (λ n. Fills (reads self.old) at n into.old into.new) }
-        ensures same_piece { told → OnErr result (into.new ≡ into.old) }
+        ensures bytes { tells → IfOk result (λ n. Fills (reads self.old) at n into.old into.new) }
+        ensures same_piece { tells → OnErr result (into.new ≡ into.old) }
         ensures reads { reads self.new ≡ reads self.old }
         ensures images { (c : List ℕ) → image self.new c → image self.old c }
         ensures time { Elapses (moment self.old) (moment self.new) (image_since self.old) (image_since self.new) }
@@ -53,9 +53,9 @@ pub trait Disk {
 
     /// Writes the whole piece from that place on. Until a sync, a crash may leave any bytes in the range.
     fn write_at(&mut self, at: u64, bytes: &[u8]) -> Result<(), Failed>
-        requires { told → at ≤ length (reads self.old) }
-        ensures written { told → OnOk result (Holds (reads self.old) at bytes.now (reads self.new)) }
-        ensures fits { told → OnOk result (length (reads self.new) < 2 ^ 64) }
+        requires { tells → at ≤ length (reads self.old) }
+        ensures written { tells → OnOk result (Holds (reads self.old) at bytes.now (reads self.new)) }
+        ensures fits { tells → OnOk result (length (reads self.new) < 2 ^ 64) }
         ensures images { Follows (Torn at (length bytes.now)) (image self.old) (image self.new) }
         ensures time { Elapses (moment self.old) (moment self.new) (image_since self.old) (image_since self.new) }
         ensures moments { (c : List ℕ) → image_since self.new (moment self.old) c
@@ -72,7 +72,7 @@ pub trait Disk {
         ensures cause { HasCause (faults self.old) (faults self.new) result };
 
     /// A disk as it reads is one of its images.
-    ghost read_is_image: { (disk : Self) → told → image disk (reads disk) };
+    ghost read_is_image: { (disk : Self) → tells → image disk (reads disk) };
 
     /// This moment is one of those since an earlier one.
     ghost counts_now: { (disk : Self) (t : ℕ) (c : List ℕ) → t ≤ moment disk → image disk c → image_since disk t c };

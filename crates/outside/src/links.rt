@@ -25,7 +25,7 @@ pub trait Door {
     type Snk: Sink + Drop + Send;
 
     /// Whether clauses are told what comes in and goes back: over memory they are, over a real socket they are not.
-    ghost told: { Type 0 };
+    ghost tells: { Type 0 };
 
     /// How many connections it gave, where clauses are told.
     ghost given: { Self → ℕ };
@@ -47,20 +47,20 @@ pub trait Door {
 
     /// The ends of the next connection, or none where no further one will come. It may wait for a client.
     fn next(&mut self) -> Result<Option<(Self::Src, Self::Snk)>, Failed>
-        ensures given { told → given self.new ≡ given self.old + came result }
-        ensures left { told → left self.old ≡ came result + left self.new }
-        ensures last { told → IfCame result (λ source sink. last self.new ≡ Some (Self.Src.held source)) }
-        ensures still_last { told → UnlessCame result (last self.new ≡ last self.old) }
-        ensures back { told → back self.new ≡ back self.old }
+        ensures given { tells → given self.new ≡ given self.old + came result }
+        ensures left { tells → left self.old ≡ came result + left self.new }
+        ensures last { tells → IfCame result (λ source sink. last self.new ≡ Some (Self.Src.held source)) }
+        ensures still_last { tells → UnlessCame result (last self.new ≡ last self.old) }
+        ensures back { tells → back self.new ≡ back self.old }
 
         // Nothing is taken from the ends or written to them, and they haven't failed.
         ensures whole { IfCame result (λ source sink. (Self.Src.faults source ≡ 0) × (Self.Snk.faults sink ≡ 0)) }
-        ensures untaken { IfCame result (λ source sink. Self.Src.told → Self.Src.left source ≡ Self.Src.held source) }
-        ensures unwritten { IfCame result (λ source sink. Self.Snk.told → Self.Snk.written sink ≡ []) }
+        ensures untaken { IfCame result (λ source sink. Self.Src.tells → Self.Src.left source ≡ Self.Src.held source) }
+        ensures unwritten { IfCame result (λ source sink. Self.Snk.tells → Self.Snk.written sink ≡ []) }
 
         // Its answers go to the client whose bytes come.
-        ensures client { told → IfCame result (λ source sink. Self.Snk.answers sink ≡ Self.Src.held source) }
-        ensures none_left { told → OnEnd result (left self.old ≡ 0) }
+        ensures client { tells → IfCame result (λ source sink. Self.Snk.answers sink ≡ Self.Src.held source) }
+        ensures none_left { tells → OnEnd result (left self.old ≡ 0) }
         ensures end { OnEnd result (Rose (ends self.old) (ends self.new)) }
         ensures no_end { UnlessEnd result (ends self.new ≡ ends self.old) }
         ensures later { ends self.old ≤ ends self.new }
@@ -68,21 +68,21 @@ pub trait Door {
 
     /// Takes both ends of the last connection back. It takes no memory.
     fn done(&mut self, source: Self::Src, sink: Self::Snk)
-        requires last { told → last self.old ≡ Some (Self.Src.held source) }
+        requires last { tells → last self.old ≡ Some (Self.Src.held source) }
 
         // What was written went to the client who asked.
-        requires client { told → Self.Snk.answers sink ≡ Self.Src.held source }
-        ensures back { told → back self.new
+        requires client { tells → Self.Snk.answers sink ≡ Self.Src.held source }
+        ensures back { tells → back self.new
             ≡ back self.old ++ visit_of (Self.Src.held source) (Self.Snk.written sink) (Self.Src.faults source)
             (Self.Snk.faults sink) ∷ [] }
-        ensures none { told → last self.new ≡ None }
-        ensures given { told → given self.new ≡ given self.old }
-        ensures left { told → left self.new ≡ left self.old }
+        ensures none { tells → last self.new ≡ None }
+        ensures given { tells → given self.new ≡ given self.old }
+        ensures left { tells → left self.new ≡ left self.old }
         ensures ends { ends self.new ≡ ends self.old }
         ensures faults { faults self.new ≡ faults self.old };
 
     /// A door that tells its connections gives ends that tell their bytes.
-    ghost tells_ends: { told → Self.Src.told × Self.Snk.told };
+    ghost tells_ends: { tells → Self.Src.tells × Self.Snk.tells };
 }
 
 /// What opens doors at an address. Several doors can be open there, so that several threads serve.
@@ -91,7 +91,7 @@ pub trait Links {
     type D: Door + Drop + Send;
 
     /// Whether clauses are told what comes in and goes back: over memory they are, over real sockets they are not.
-    ghost told: { Type 0 };
+    ghost tells: { Type 0 };
 
     /// How many connections the doors gave that are back, where clauses are told.
     ghost given: { Self → ℕ };
@@ -126,24 +126,24 @@ pub trait Links {
     ) -> Result<Vec<Self::D>, LinksError>
         ensures count { IfOk result (λ opened. length opened.items ≡ doors) }
         ensures whole { IfOk result (λ opened. All (λ door. Self.D.faults door ≡ 0) opened.items) }
-        ensures fresh { told → IfOk result (λ opened. All (λ door. (Self.D.given door ≡ 0)
+        ensures fresh { tells → IfOk result (λ opened. All (λ door. (Self.D.given door ≡ 0)
             × (Self.D.back door ≡ [])) opened.items) }
         ensures unended { IfOk result (λ opened. All (λ door. Self.D.ends door ≡ 0) opened.items) }
 
         // The connections at hand are spread over the doors.
-        ensures spread { told → IfOk result (λ opened. sum_by Self.D.left opened.items + at_hand self.new
+        ensures spread { tells → IfOk result (λ opened. sum_by Self.D.left opened.items + at_hand self.new
             ≡ at_hand self.old) }
-        ensures all { told → 0 < doors → OnOk result (at_hand self.new ≡ 0) }
-        ensures kept { told → OnErr result (at_hand self.new ≡ at_hand self.old) }
+        ensures all { tells → 0 < doors → OnOk result (at_hand self.new ≡ 0) }
+        ensures kept { tells → OnErr result (at_hand self.new ≡ at_hand self.old) }
         ensures out { OnOk result (out self.new ≡ out self.old + doors) }
         ensures none_out { OnErr result (out self.new ≡ out self.old) }
         ensures ended { ended self.new ≡ ended self.old }
-        ensures listened { told → OnOk result (listened self.new
+        ensures listened { tells → OnOk result (listened self.new
             ≡ listened self.old ++ place_of address.now doors ∷ []) }
-        ensures unheard { told → OnErr result (listened self.new ≡ listened self.old) }
-        ensures given { told → given self.new ≡ given self.old }
-        ensures left { told → left self.new ≡ left self.old }
-        ensures back { told → back self.new ≡ back self.old }
+        ensures unheard { tells → OnErr result (listened self.new ≡ listened self.old) }
+        ensures given { tells → given self.new ≡ given self.old }
+        ensures left { tells → left self.new ≡ left self.old }
+        ensures back { tells → back self.new ≡ back self.old }
         ensures later { faults self.old ≤ faults self.new }
         ensures cause { IsErrOf result LinksError.Failed → Rose (faults self.old) (faults self.new) };
 
@@ -152,15 +152,15 @@ pub trait Links {
         requires { 0 < out self.old }
         ensures out { out self.old ≡ out self.new + 1 }
         ensures ended { ended self.new ≡ ended self.old + one_if_any (Self.D.ends door) }
-        ensures given { told → given self.new ≡ given self.old + Self.D.given door }
-        ensures left { told → left self.new ≡ left self.old - Self.D.given door }
-        ensures at_hand { told → at_hand self.new ≡ at_hand self.old + Self.D.left door }
-        ensures back { told → back self.new ≡ back self.old ++ Self.D.back door }
-        ensures listened { told → listened self.new ≡ listened self.old }
+        ensures given { tells → given self.new ≡ given self.old + Self.D.given door }
+        ensures left { tells → left self.new ≡ left self.old - Self.D.given door }
+        ensures at_hand { tells → at_hand self.new ≡ at_hand self.old + Self.D.left door }
+        ensures back { tells → back self.new ≡ back self.old ++ Self.D.back door }
+        ensures listened { tells → listened self.new ≡ listened self.old }
         ensures later { faults self.old ≤ faults self.new }
         ensures whole { Self.D.faults door ≡ 0 → faults self.new ≡ faults self.old }
         ensures failed { Self.D.faults door ≢ 0 → Rose (faults self.old) (faults self.new) };
 
     /// Links that tell their connections open doors that tell theirs.
-    ghost tells_doors: { told → Self.D.told };
+    ghost tells_doors: { tells → Self.D.tells };
 }

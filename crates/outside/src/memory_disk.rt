@@ -160,7 +160,7 @@ fn overwrite(alloc: Global, bytes: &[u8], at: usize, piece: &[u8]) -> Result<Vec
 impl Disk for MemoryDisk {
     ghost use Rattle.outside.specs.MemoryDisk.{memory_bytes, memory_faults, memory_moment, IsMemoryImage, IsMemoryImageSince};
 
-    ghost told = { Unit {0} };
+    ghost tells = { Unit {0} };
 
     ghost reads = { memory_bytes };
 

@@ -201,7 +201,7 @@ impl Door for MemoryDoor {
 
     type Snk = MemorySink;
 
-    ghost told = { Unit {0} };
+    ghost tells = { Unit {0} };
 
     ghost given = { door_given };
 

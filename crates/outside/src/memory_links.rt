@@ -171,7 +171,7 @@ impl Links for MemoryLinks {
 
     type D = MemoryDoor;
 
-    ghost told = { Unit {0} };
+    ghost tells = { Unit {0} };
 
     ghost given = { links_given };
 

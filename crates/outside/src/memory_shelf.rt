@@ -140,7 +140,7 @@ impl Shelf for MemoryShelf {
 
     type D = MemoryDisk;
 
-    ghost told = { Unit {0} };
+    ghost tells = { Unit {0} };
 
     ghost file = { file_named };
 

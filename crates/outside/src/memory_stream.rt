@@ -74,7 +74,7 @@ impl MemorySource {
 impl Source for MemorySource {
     ghost use Rattle.outside.specs.MemoryStreams.{source_held, source_left, source_faults};
 
-    ghost told = { Unit {0} };
+    ghost tells = { Unit {0} };
 
     ghost held = { source_held };
 
@@ -183,7 +183,7 @@ impl MemorySink {
 impl Sink for MemorySink {
     ghost use Rattle.outside.specs.MemoryStreams.{sink_written, sink_answers, sink_faults};
 
-    ghost told = { Unit {0} };
+    ghost tells = { Unit {0} };
 
     ghost written = { sink_written };
 

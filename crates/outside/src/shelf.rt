@@ -26,7 +26,7 @@ pub trait Shelf {
     type D: Disk + Drop;
 
     /// Whether clauses are told what it holds: over memory they are, over real files they are not.
-    ghost told: { Type 0 };
+    ghost tells: { Type 0 };
 
     /// The bytes of the file of a name, where there is one and clauses are told.
     ghost file: { Self → List ℕ → Option (List ℕ) };
@@ -48,10 +48,10 @@ pub trait Shelf {
 
     /// Reads the file of this name whole.
     fn read_file(&mut self, alloc: Global, name: &str) -> Result<Vec<u8>, ShelfError>
-        ensures read { told → IfOk result (λ bytes. file self.old name.now ≡ Some bytes.items) }
-        ensures missing { told → IsErrOf result ShelfError.Missing → file self.old name.now ≡ None }
-        ensures looked { told → OnOk result (looked self.new ≡ looked self.old ++ name.now ∷ []) }
-        ensures refused { told → OnErr result (Looks name.now (looked self.old) (looked self.new)) }
+        ensures read { tells → IfOk result (λ bytes. file self.old name.now ≡ Some bytes.items) }
+        ensures missing { tells → IsErrOf result ShelfError.Missing → file self.old name.now ≡ None }
+        ensures looked { tells → OnOk result (looked self.new ≡ looked self.old ++ name.now ∷ []) }
+        ensures refused { tells → OnErr result (Looks name.now (looked self.old) (looked self.new)) }
         ensures files { (name : List ℕ) → file self.new name ≡ file self.old name }
         ensures disks { SameNames (disk self.old) (disk self.new) }
         ensures out { SameNames (is_out self.old) (is_out self.new) }
@@ -62,9 +62,9 @@ pub trait Shelf {
     /// Takes the disk of this name. Where there is none it makes one without bytes, so that it never answers Missing.
     fn take_disk(&mut self, alloc: Global, name: &str) -> Result<Self::D, ShelfError>
         requires { is_out self.old name.now ≡ false }
-        ensures taken { told → IfOk result (IsTaken Self.D.reads Self.D.image (disk self.old name.now)) }
+        ensures taken { tells → IfOk result (IsTaken Self.D.reads Self.D.image (disk self.old name.now)) }
         ensures count { IfOk result (λ taken. Self.D.faults taken ≡ disk_faults self.old name.now) }
-        ensures gone { told → OnOk result (disk self.new name.now ≡ None) }
+        ensures gone { tells → OnOk result (disk self.new name.now ≡ None) }
         ensures disks { SameOthers name.now (disk self.old) (disk self.new) }
         ensures out { OnOk result (is_out self.new name.now ≡ true) }
         ensures others_out { SameOthers name.now (is_out self.old) (is_out self.new) }
@@ -83,7 +83,7 @@ pub trait Shelf {
     fn give_disk(&mut self, name: &str, taken: Self::D)
         requires out { is_out self.old name.now ≡ true }
         requires later { disk_faults self.old name.now ≤ Self.D.faults taken }
-        ensures held { told → disk self.new name.now ≡ Some taken }
+        ensures held { tells → disk self.new name.now ≡ Some taken }
         ensures disks { SameOthers name.now (disk self.old) (disk self.new) }
         ensures back { is_out self.new name.now ≡ false }
         ensures others_out { SameOthers name.now (is_out self.old) (is_out self.new) }
@@ -94,5 +94,5 @@ pub trait Shelf {
         ensures faults { faults self.new ≡ faults self.old };
 
     /// A shelf that tells its disks gives disks that tell their bytes.
-    ghost tells_disks: { told → Self.D.told };
+    ghost tells_disks: { tells → Self.D.tells };
 }

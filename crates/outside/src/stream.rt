@@ -8,7 +8,7 @@ use crate::Failed;
 /// Where bytes come from.
 pub trait Source {
     /// Whether clauses are told what the source gives: over memory they are, over a real stream they are not.
-    ghost told: { Type 0 };
+    ghost tells: { Type 0 };
 
     /// All bytes that the source had when it was made, where clauses are told.
     ghost held: { Self → List ℕ };
@@ -23,21 +23,21 @@ pub trait Source {
     /// input.
     fn take(&mut self, into: &mut [u8]) -> Result<usize, Failed>
         ensures fits { IfOk result (λ n. n ≤ length into.old) }
-        ensures moved { told → IfOk result (λ n. Moves n (left self.old) (left self.new) into.old into.new) }
-        ensures end { told → IfOk result (λ n. n ≡ 0 → 0 < length into.old → left self.old ≡ []) }
-        ensures still_left { told → OnErr result (left self.new ≡ left self.old) }
-        ensures same_piece { told → OnErr result (into.new ≡ into.old) }
+        ensures moved { tells → IfOk result (λ n. Moves n (left self.old) (left self.new) into.old into.new) }
+        ensures end { tells → IfOk result (λ n. n ≡ 0 → 0 < length into.old → left self.old ≡ []) }
+        ensures still_left { tells → OnErr result (left self.new ≡ left self.old) }
+        ensures same_piece { tells → OnErr result (into.new ≡ into.old) }
         ensures held { held self.new ≡ held self.old }
         ensures cause { HasCause (faults self.old) (faults self.new) result };
 
     /// What is left is the end of what the source held.
-    ghost left_of_held: { (source : Self) → told → (front : List ℕ) × (held source ≡ front ++ left source) };
+    ghost left_of_held: { (source : Self) → tells → (front : List ℕ) × (held source ≡ front ++ left source) };
 }
 
 /// Where bytes go.
 pub trait Sink {
     /// Whether clauses are told what is written: over memory they are, over a real stream they are not.
-    ghost told: { Type 0 };
+    ghost tells: { Type 0 };
 
     /// All bytes that were appended, where clauses are told.
     ghost written: { Self → List ℕ };
@@ -51,8 +51,8 @@ pub trait Sink {
     /// Appends the front of a piece and answers its length. For a piece that isn't empty 0 is a failure, and counted.
     fn give(&mut self, bytes: &[u8]) -> Result<usize, Failed>
         ensures fits { IfOk result (λ n. n ≤ length bytes.now) }
-        ensures appended { told → IfOk result (λ n. written self.new ≡ written self.old ++ take n bytes.now) }
-        ensures nothing { told → OnErr result (written self.new ≡ written self.old) }
+        ensures appended { tells → IfOk result (λ n. written self.new ≡ written self.old ++ take n bytes.now) }
+        ensures nothing { tells → OnErr result (written self.new ≡ written self.old) }
         ensures stuck { IfOk result (λ n. n ≡ 0 → 0 < length bytes.now → Rose (faults self.old) (faults self.new)) }
         ensures answers { answers self.new ≡ answers self.old }
         ensures cause { HasCause (faults self.old) (faults self.new) result };

@@ -61,7 +61,7 @@ impl<F> FileDisk<F> {
 impl<F: Read + Write + Seek + OpenFile> Disk for FileDisk<F> {
     ghost use Rattle.real_edge.specs.Counts.{disk_faults, is_writable};
 
-    ghost told = { ⊥ };
+    ghost tells = { ⊥ };
 
     ghost reads = { λ disk. [] };
 

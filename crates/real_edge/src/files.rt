@@ -88,7 +88,7 @@ where
 
     type D = FileDisk<R::File>;
 
-    ghost told = { ⊥ };
+    ghost tells = { ⊥ };
 
     ghost file = { λ shelf name. None };
 

@@ -68,7 +68,7 @@ where
 
     type Snk = StreamSink<L::Stream>;
 
-    ghost told = { ⊥ };
+    ghost tells = { ⊥ };
 
     ghost given = { λ door. 0 };
 
@@ -198,7 +198,7 @@ where
 
     type D = TcpDoor<'r, R, R::Listener>;
 
-    ghost told = { ⊥ };
+    ghost tells = { ⊥ };
 
     ghost given = { λ links. 0 };
 

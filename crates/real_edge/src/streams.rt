@@ -38,7 +38,7 @@ impl<R> StreamSource<R> {
 }
 
 impl<R: Read> Source for StreamSource<R> {
-    ghost told = { ⊥ };
+    ghost tells = { ⊥ };
 
     ghost held = { λ source. [] };
 
@@ -93,7 +93,7 @@ impl<W> StreamSink<W> {
 }
 
 impl<W: Write> Sink for StreamSink<W> {
-    ghost told = { ⊥ };
+    ghost tells = { ⊥ };
 
     ghost written = { λ sink. [] };
 

@@ -38,7 +38,7 @@ pub enum NextLine {
 
 /// Reads the next line, which has this number. It is refused where it is too long or one too many.
 fn next_line<S: Source>(source: &mut S, buffer: &mut LineBuffer, number: u32) -> NextLine
-    ensures reads { S.told → ReadsLine number result (unread buffer.old (S.left source.old)) (unread buffer.new (S.left source.new)) buffer.new.line }
+    ensures reads { S.tells → ReadsLine number result (unread buffer.old (S.left source.old)) (unread buffer.new (S.left source.new)) buffer.new.line }
     ensures few { result ≡ NextLine.Line → number ≤ 100000 }
     ensures held { S.held source.new ≡ S.held source.old }
     ensures later { S.faults source.old ≤ S.faults source.new }
@@ -66,7 +66,7 @@ fn pass_rest<S: Source, T: Drop>(
     error: ScriptError,
 ) -> Reading<T>
     requires { number ≤ 100001 }
-    ensures rest { S.told → ReadsRest number error result (unread buffer.old (S.left source.old)) (S.left source.new) }
+    ensures rest { S.tells → ReadsRest number error result (unread buffer.old (S.left source.old)) (S.left source.new) }
     ensures held { S.held source.new ≡ S.held source.old }
     ensures later { S.faults source.old ≤ S.faults source.new }
     ensures cause { IsTrue (is_read_fault result) → Rose (S.faults source.old) (S.faults source.new) }
@@ -88,7 +88,7 @@ pub fn read_script<S: Source, T: Script + Drop>(
     source: &mut S,
     start: T,
 ) -> Reading<T>
-    ensures reads { S.told → ReadsScript T.step T.said (T.said start) result (S.left source.old) (S.left source.new) }
+    ensures reads { S.tells → ReadsScript T.step T.said (T.said start) result (S.left source.old) (S.left source.new) }
     ensures held { S.held source.new ≡ S.held source.old }
     ensures later { S.faults source.old ≤ S.faults source.new }
     ensures cause { IsTrue (is_read_fault result) → Rose (S.faults source.old) (S.faults source.new) }

@@ -50,7 +50,7 @@ pub fn run_selfrun<R: Wait, K: Sink>(
     requires few_users { users ≤ 256 }
     requires some_ask { 1 ≤ asks }
     requires few_asks { asks ≤ 10000 }
-    ensures ends { K.told → IsEnd seed users asks result (K.written sink.old) (K.written sink.new) }
+    ensures ends { K.tells → IsEnd seed users asks result (K.written sink.old) (K.written sink.new) }
     ensures later { K.faults sink.old ≤ K.faults sink.new }
     ensures cause { result ≡ SelfrunEnd.WriteFault → Rose (K.faults sink.old) (K.faults sink.new) }
 {

@@ -1,18 +1,18 @@
 -- The connections of links, by those of the doors that they opened and took back.
-use Rattle.std.proofs.Common.{◌≡◌, ◌⊎◌, inl, inr, ℕ, ◌+◌, ◌≤◌, Bool, List, [], ◌∷◌, ◌++◌, length, refl, sym, ap, subst, ◌∙◌, append-nil, arith, length-append}
-use Rattle.std.specs.Prelude.{Option, All}
+use Rattle.std.proofs.Common.{◌≡◌, ◌⊎◌, inl, inr, ℕ, ◌+◌, ◌≤◌, Bool, true, false, List, [], ◌∷◌, ◌++◌, length, refl, sym, ap, subst, ◌∙◌, append-nil, arith, length-append}
+use Rattle.std.specs.Prelude.{Option, All, ◌==◌, if◌then◌else◌}
 use Rattle.std.specs.List.{AllZip, sum_by, flat_map}
 use Rattle.std.proofs.lemmas.List.Sums.{sum_by-append}
 use Rattle.std.proofs.lemmas.List.Elements.{All-head, All-tail}
 use Rattle.cqe_base.specs.Schema.{DatabaseSchema}
 use Rattle.cqe_base.specs.Facts.{FactSet}
 use Rattle.cqe_base.specs.declared.user.User.{User}
-use Rattle.outside.specs.Visits.{Visit}
+use Rattle.outside.specs.Visits.{Visit, one_if_any}
 use Rattle.user_desk.specs.declared.standing.DeskError.{DeskError}
 use Rattle.desk_crew.specs.Shelved.{Journals}
 use Rattle.serve_engine.specs.Doors.{AreServedDoors}
 use Rattle.serve_engine.specs.Served.{SessionMarks, Served}
-use Rattle.serve_engine.specs.Serving.{Serves, ServesNobody, ServesNone, ServesDoors, ServesNoDoor, Ends, EndsAt}
+use Rattle.serve_engine.specs.Serving.{Serves, ServesNobody, ServesNone, ServesDoors, ServesNoDoor, Ends, EndsAt, LeavesHistories, LeavesJournals}
 use Rattle.serve_engine.proofs.Standing.{zip_both}
 use Rattle.serve_engine.specs.declared.run.ServeEnd.{ServeEnd}
 use Rattle.serve_engine.specs.declared.run.ServeEnd.TheVariants.{Done, LinksFault, ShelfFault, Memory}
@@ -31,6 +31,26 @@ pub at_end : {O : Type 0} (left_of : O → ℕ) (others : List O) {at_hand : ℕ
     → All (λ door. left_of door ≡ 0) others ⊎ (c ≤ d) → (at_hand' ≡ 0) ⊎ (a ≤ b)
 at_end left_of others at_hand' none is a b more (inl empty) = let nothing = sum_none left_of others empty in inl (omega (arith, none, is, nothing))
 at_end left_of others at_hand' none is a b more (inr most) = inr (more most)
+
+at_most_one : (b : Bool) → (if b then 0 else 1) ≤ 1
+at_most_one true = omega arith
+at_most_one false = omega arith
+
+-- of so many doors no more had answered that no further connection comes
+pub few_ended : {O : Type 0} (ends_of : O → ℕ) (doors : List O) → sum_by (λ door. one_if_any (ends_of door)) doors ≤ length doors
+few_ended ends_of [] = omega arith
+few_ended ends_of (d ∷ doors) =
+    let rest = few_ended ends_of doors in
+    let both = sum_by-append (λ door. one_if_any (ends_of door)) (d ∷ []) doors in
+    let one : one_if_any (ends_of d) ≤ 1 = at_most_one (ends_of d == 0) in
+    omega (arith, rest, both, one)
+
+-- what is longer by one isn't the same
+pub not_longer : {X : Type 0} (xs : List X) (x : X) → xs ++ x ∷ [] ≡ xs → ⊥
+not_longer xs x same =
+    let long = length-append xs (x ∷ []) in
+    let equal = ap length same in
+    omega (arith, long, equal)
 
 module _ {O : Type 0} (given_of : O → ℕ) (back_of : O → List Visit) where
   -- a door that has given nothing yet
@@ -127,3 +147,20 @@ module _ (schema : DatabaseSchema) (world : FactSet) (header : List ℕ) (journa
   ends_of LinksFault is = either is
   ends_of ShelfFault is = serves_nobody is
   ends_of Memory is = none is
+
+-- what an end says of the doors it says of the journals alone
+module _ (schema : DatabaseSchema) (world : FactSet) (header : List ℕ) (journals : Journals) (users : List User) {O : Type 0} (told : Type 0)
+    (given_of left_of faults_of : O → ℕ) (back_of : O → List Visit) (doors others : List O) where
+  leaves_histories : (refusals : List (Option DeskError)) (is_broken : Bool)
+      → ServesDoors schema world header journals users told given_of left_of faults_of back_of doors others refusals is_broken
+      → LeavesHistories schema world header journals users refusals is_broken
+  leaves_histories refusals is_broken serves = record { members = serves.members; each_user = serves.each_user; broken_is = serves.broken_is }
+
+  pub leaves_journals : (end : ServeEnd) → EndsAt schema world header journals users told given_of left_of faults_of back_of doors others end
+      → LeavesJournals schema world header journals users end
+  leaves_journals (Done refusals is_broken) serves = leaves_histories refusals.items is_broken serves
+  leaves_journals LinksFault (inl none) = inl none.kept
+  leaves_journals LinksFault (inr (refusals, is_broken, serves)) = inr (refusals, is_broken, leaves_histories refusals is_broken serves)
+  leaves_journals ShelfFault none = none.kept
+  leaves_journals Memory (inl none) = inl none.kept
+  leaves_journals Memory (inr (refusals, is_broken, serves, of_none)) = inr (refusals, is_broken, leaves_histories refusals is_broken serves)

@@ -20,7 +20,7 @@ use Rattle.log_journal.specs.Names.{journal_name}
 use Rattle.log_journal.specs.declared.header.OpenError.TheVariants as journal_error
 use Rattle.user_desk.specs.Causes.{IsStanding, IsSealedBy}
 use Rattle.user_desk.specs.Lives.{Holds}
-use Rattle.user_desk.specs.Standings.{is_open, is_sealed}
+use Rattle.user_desk.specs.Standings.{is_sealed}
 use Rattle.user_desk.specs.declared.standing.DeskError.{DeskError}
 use Rattle.user_desk.specs.declared.standing.DeskError.TheVariants.{Journal, Stale, Unlawful, Size, NotAdmitted}
 use Rattle.user_desk.specs.declared.standing.Standing.{Standing}
@@ -43,11 +43,6 @@ use Rattle.serve_engine.specs.declared.serving.Outcome.TheVariants as outcome
 use Rattle.serve_engine.specs.declared.run.ServeEnd.TheVariants.{LinksFault}
 use Rattle.serve_engine.proofs.Owning.{told_weight}
 use Rattle.serve_engine.specs.Sharing.{seat_counter, seat_pass, seat_member, IsSeatOn, AreSeatsOn, AreAllIn}
-
-shut_closed : (standing : Standing) → is_sealed standing ≡ true → is_open standing ≡ false
-shut_closed Open sealed = absurd cc
-shut_closed (Closed admission) sealed = refl
-shut_closed (Sealed why) sealed = refl
 
 module _ (schema : DatabaseSchema) (world : FactSet) (user : UserProfile) (header bytes : List ℕ) (T : Type 0) (t : T) where
   -- a cause that is told is one for all, and a count that rose within a longer time rose in it
@@ -134,7 +129,7 @@ module _ (schema : DatabaseSchema) (world : FactSet) (header directory : List �
           broke_is = refl;
           reads = λ served. subst (λ o. Holds schema world (seat_kept new).user header (seat_state new) (bytes_on reads o)) (sym held) (holds served (reads back.now) (left.images (reads back.now) (read_is_image back.now t)));
           stands = λ served c here. holds served c (left.images c (subst (λ o. image_on image o c) held here));
-          refused = λ sealed. (closed.idle (shut_closed standing sealed)).0;
+          idle = λ shut. let none = closed.idle shut in (none.0, ap (λ (o : Option AnsweredQuery). is_some o) none.1);
           kept = λ why. (
             ap (bytes_on reads) held ∙ left.reads_same ∙ ap reads (left_alone new back.left.closed closed why) ∙ ap (λ (f : Fixed D). reads f.disk) kept ∙ opened.left.reads_same ∙ read_was,
             λ c here. subst (λ n. image_on image (disk n) c) opened.journal_is (taken_images reads image (disk (seat_journal old)) opened.taken c (opened.from s)

@@ -33,7 +33,7 @@ first_lines Quit bytes lines hears = ([], sym hears.0 ∙ sym (append-nil lines)
 first_lines InputEnd bytes lines hears = ([], sym hears.0 ∙ sym (append-nil lines))
 first_lines TooLong bytes lines hears = ([], sym hears.0 ∙ sym (append-nil lines))
 first_lines TooMany bytes lines hears = ([], sym hears.0 ∙ sym (append-nil lines))
-first_lines ReadFault bytes lines hears = hears
+first_lines ReadFault bytes lines hears = (hears.0, hears.1)
 first_lines WriteFault bytes lines hears = hears
 
 -- and all of them where no end failed

@@ -1,9 +1,11 @@
 pub mod Served
 pub mod Members
 pub mod Held
-pub mod Keeping
 pub mod Jobs
 pub mod Passing
 pub mod Doors
 pub mod Sharing
 pub mod Serving
+
+-- proofs, which ghost members of a job name; no definitions
+pub mod Keeping

@@ -12,7 +12,7 @@ use Rattle.cqe_base.specs.Hiding.{Hides}
 use Rattle.cqe_base.specs.declared.user.User.{User}
 use Rattle.user_desk.specs.Causes.{IsStanding}
 use Rattle.user_desk.specs.Lives.{Holds, shown}
-use Rattle.user_desk.specs.Standings.{standing_of, is_sealed}
+use Rattle.user_desk.specs.Standings.{standing_of, is_open, is_sealed}
 use Rattle.user_desk.specs.declared.standing.DeskError.{DeskError}
 use Rattle.user_desk.specs.declared.standing.Standing.{Standing}
 use Rattle.desk_crew.specs.Crew.{refusal_of}
@@ -57,8 +57,9 @@ module _ (schema : DatabaseSchema) (world : FactSet) (header : List ℕ) (journa
     pub broke_is : member.broke ≡ is_some in_flight
     pub reads : is_sealed standing ≡ false → Holds schema world member.profile header (shown member.history member.standing in_flight) (journals.reads (string_bytes user.name))
     pub stands : is_sealed standing ≡ false → (c : List ℕ) → journals.image (string_bytes user.name) c → Holds schema world member.profile header (shown member.history member.standing in_flight) c
-    -- where it was refused he has no entries; and where it was, or nothing was appended, it is as it was
-    pub refused : is_sealed standing ≡ true → member.history ≡ []
+    -- only where he is served has he entries, or did an append fail
+    pub idle : is_open standing ≡ false → (member.history ≡ []) × (member.broke ≡ false)
+    -- where it was refused, or nothing was appended, it is as it was
     pub kept : (is_sealed standing ≡ true) ⊎ ((member.history ≡ member.opening) × (member.broke ≡ false)) → IsKept journals (string_bytes user.name)
     -- an append failed only where the count of his disk's faults rose
     pub failed : member.broke ≡ true → Rose (journals.before (string_bytes user.name)) (journals.now (string_bytes user.name))
@@ -92,6 +93,26 @@ module _ (schema : DatabaseSchema) (world : FactSet) (header : List ℕ) (journa
     Ends LinksFault = ServesNobody journals given given' back back' ⊎ ((refusals : List (Option DeskError)) × (is_broken : Bool) × Serves refusals is_broken)
     Ends ShelfFault = ServesNobody journals given given' back back'
     Ends Memory = ServesNone
+
+  -- the users' journals are as their histories say, with the refusal of each, if it was refused;
+  -- and it is said whether an append failed
+  pub record LeavesHistories (users : List User) (refusals : List (Option DeskError))
+      (is_broken : Bool) : Type 0 where
+    pub members : List Member
+    pub each_user : HaveServed users members refusals
+    pub broken_is : is_broken ≡ list_any (λ member. member.broke) members
+
+  -- they are so for some refusals
+  abbrev pub LeavesSome : List User → Type 0
+  LeavesSome users = (refusals : List (Option DeskError)) × (is_broken : Bool)
+      × LeavesHistories users refusals is_broken
+
+  -- what each end says of the journals alone
+  abbrev pub LeavesJournals : List User → ServeEnd → Type 0
+  LeavesJournals users (Done refusals is_broken) = LeavesHistories users refusals.items is_broken
+  LeavesJournals users LinksFault = AreKept journals ⊎ LeavesSome users
+  LeavesJournals users ShelfFault = AreKept journals
+  LeavesJournals users Memory = AreKept journals ⊎ LeavesSome users
 
   -- The same of the doors through which they came.
   module _ (users : List User) {O : Type 0} (told : Type 0) (given_of left_of faults_of : O → ℕ) (back_of : O → List Visit) (doors doors' : List O) where

@@ -71,7 +71,7 @@ impl<'a, 'w, D: Disk, G: Gate, Src: Source, Snk: Sink> Job<Src, Snk>
     ghost use Rattle.serve_engine.specs.Jobs.{job_counters, job_passes, job_runs};
     ghost use Rattle.serve_engine.specs.Keeping.{nothing_served, same_passes, later_passes};
 
-    ghost told = { ⊥ };
+    ghost tells = { ⊥ };
 
     ghost room = { λ job. room_in (passes_in (job_passes job)) };
 

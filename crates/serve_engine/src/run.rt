@@ -2,6 +2,7 @@
 ghost use Rattle.std.specs.Prelude.{◌≡◌, ◌⊎◌, ◌≤◌, ◌+◌, ◌++◌, ◌∷◌, ◌^◌, [], false, All, length, map, sum_by};
 ghost use Rattle.std.specs.List.{flat_map};
 ghost use Rattle.outside.specs.Faults.{Rose};
+ghost use Rattle.outside.specs.Shelf.{SameNames};
 ghost use Rattle.outside.specs.Visits.{place_of, one_if_any};
 ghost use Rattle.cqe_base.specs.Schema.{has_duplicate};
 ghost use Rattle.cqe_base.specs.History.{profile_of};
@@ -11,7 +12,7 @@ ghost use Rattle.log_journal.specs.Names.{journal_name};
 ghost use Rattle.desk_crew.specs.Crew.{named_user};
 ghost use Rattle.desk_crew.specs.Shelved.{journals_on, SameBeside, NoneOut, NoneFell, SomeRose};
 ghost use Rattle.serve_engine.specs.Doors.{SomeFailed};
-ghost use Rattle.serve_engine.specs.Serving.{Ends, EndsAt, IsDone, IsBroken, end_of};
+ghost use Rattle.serve_engine.specs.Serving.{Ends, EndsAt, LeavesJournals, IsDone, IsBroken, end_of};
 ghost use Rattle.serve_engine.specs.declared.run.ServeEnd.{ServeEnd};
 
 use crate::serving::Outcome;
@@ -73,26 +74,36 @@ where
     requires most { listening.sessions ≤ 2 ^ 30 }
 
     // Each connection that was given is served, and each journal is as its user's one history says.
-    ensures ends { F.told → L.told → Ends registry.now.schema.now registry.now.world.now
+    ensures ends { F.tells → L.tells → Ends registry.now.schema.now registry.now.world.now
         (header_bytes registry.now.header.now)
         (journals_on F.D.reads F.D.image registry.now.directory.now (F.disk shelf.old) (F.disk shelf.new)
         (F.disk_faults shelf.old) (F.disk_faults shelf.new))
         registry.now.users.now (L.given links.old) (L.given links.new) (L.back links.old) (L.back links.new) result }
 
-    // It listens at that address alone, with a door for each worker.
-    ensures listens { L.told → (L.listened links.new ≡ L.listened links.old)
+    // The same of the journals alone, where the connections aren't told.
+    ensures journals { F.tells → LeavesJournals registry.now.schema.now registry.now.world.now
+        (header_bytes registry.now.header.now)
+        (journals_on F.D.reads F.D.image registry.now.directory.now
+        (F.disk shelf.old) (F.disk shelf.new) (F.disk_faults shelf.old) (F.disk_faults shelf.new))
+        registry.now.users.now result }
+
+    // It listens at that address alone, with a door for each worker, and before it opens a journal.
+    ensures listens { L.tells → (L.listened links.new ≡ L.listened links.old)
         ⊎ (L.listened links.new
         ≡ L.listened links.old ++ place_of listening.entry.address.now listening.entry.workers ∷ []) }
-    ensures heard { L.told → IsDone result
+    ensures heard { L.tells → IsDone result
         → L.listened links.new
         ≡ L.listened links.old ++ place_of listening.entry.address.now listening.entry.workers ∷ [] }
 
+    ensures unheard { L.tells → L.listened links.new ≡ L.listened links.old → shelf.new ≡ shelf.old }
+
     // There are no more of them than the greatest number.
-    ensures limited { L.told → L.given links.new ≤ L.given links.old + listening.entry.sessions }
+    ensures limited { L.tells → L.given links.new ≤ L.given links.old + listening.entry.sessions }
 
     // It comes to its end where no connection is left, or these reach the greatest number, together with the doors that
-    // answered that no further one comes.
-    ensures ended { L.told → IsDone result
+    // answered that no further one comes. Each worker has one door.
+    ensures few_ended { L.ended links.new ≤ L.ended links.old + listening.entry.workers }
+    ensures ended { L.tells → IsDone result
         → (L.at_hand links.new ≡ 0)
         ⊎ (L.given links.old + listening.entry.sessions + L.ended links.old ≤ L.given links.new + L.ended links.new) }
 
@@ -100,6 +111,7 @@ where
     ensures disks { SameBeside (map (journal_name registry.now.directory.now)
         (map (λ user. user.name) (map named_user registry.now.users.now))) (F.disk shelf.old) (F.disk shelf.new) }
     ensures inside { NoneOut (F.is_out shelf.new) }
+    ensures files { SameNames (F.file shelf.old) (F.file shelf.new) }
     ensures looked { F.looked shelf.new ≡ F.looked shelf.old }
     ensures counts { NoneFell (F.disk_faults shelf.old) (F.disk_faults shelf.new) }
     ensures out { L.out links.new ≡ L.out links.old }
@@ -140,21 +152,22 @@ where
     requires limit { limit ≤ 2 ^ 30 }
     requires whole { All (λ door. O.faults door ≡ 0) doors.items }
     requires unended { All (λ door. O.ends door ≡ 0) doors.items }
-    ensures ends { F.told → O.told → EndsAt registry.now.schema.now registry.now.world.now
+    ensures ends { F.tells → EndsAt registry.now.schema.now registry.now.world.now
         (header_bytes registry.now.header.now)
         (journals_on F.D.reads F.D.image registry.now.directory.now (F.disk shelf.old) (F.disk shelf.new)
         (F.disk_faults shelf.old) (F.disk_faults shelf.new))
-        registry.now.users.now O.told O.given O.left O.faults O.back doors.items result.1.items result.0 }
-    ensures ended { O.told → IsDone result.0
+        registry.now.users.now O.tells O.given O.left O.faults O.back doors.items result.1.items result.0 }
+    ensures ended { O.tells → IsDone result.0
         → All (λ door. O.left door ≡ 0) result.1.items
         ⊎ (sum_by O.given doors.items + limit ≤ sum_by O.given result.1.items
         + sum_by (λ door. one_if_any (O.ends door)) result.1.items) }
-    ensures limited { O.told → sum_by O.given result.1.items ≤ sum_by O.given doors.items + limit }
+    ensures limited { O.tells → sum_by O.given result.1.items ≤ sum_by O.given doors.items + limit }
     ensures failed { result.0 ≡ ServeEnd.LinksFault → SomeFailed O.faults result.1.items }
     ensures doors { length result.1.items ≡ length doors.items }
     ensures disks { SameBeside (map (journal_name registry.now.directory.now)
         (map (λ user. user.name) (map named_user registry.now.users.now))) (F.disk shelf.old) (F.disk shelf.new) }
     ensures inside { NoneOut (F.is_out shelf.new) }
+    ensures files { SameNames (F.file shelf.old) (F.file shelf.new) }
     ensures looked { F.looked shelf.new ≡ F.looked shelf.old }
     ensures counts { NoneFell (F.disk_faults shelf.old) (F.disk_faults shelf.new) }
     ensures shelf_later { F.faults shelf.old ≤ F.faults shelf.new }
@@ -196,11 +209,11 @@ fn end_of(outcome: Outcome, refusals: Vec<Option<DeskError>>, is_broken: bool) -
 fn take_back_all<L: Links>(links: &mut L, doors: Vec<L::D>)
     requires { length doors.items ≤ L.out links.old }
     ensures out { L.out links.old ≡ L.out links.new + length doors.items }
-    ensures given { L.told → L.given links.new ≡ L.given links.old + sum_by L.D.given doors.items }
+    ensures given { L.tells → L.given links.new ≡ L.given links.old + sum_by L.D.given doors.items }
     ensures ended { L.ended links.new ≡ L.ended links.old + sum_by (λ door. one_if_any (L.D.ends door)) doors.items }
-    ensures at_hand { L.told → L.at_hand links.new ≡ L.at_hand links.old + sum_by L.D.left doors.items }
-    ensures back { L.told → L.back links.new ≡ L.back links.old ++ flat_map L.D.back doors.items }
-    ensures listened { L.told → L.listened links.new ≡ L.listened links.old }
+    ensures at_hand { L.tells → L.at_hand links.new ≡ L.at_hand links.old + sum_by L.D.left doors.items }
+    ensures back { L.tells → L.back links.new ≡ L.back links.old ++ flat_map L.D.back doors.items }
+    ensures listened { L.tells → L.listened links.new ≡ L.listened links.old }
     ensures later { L.faults links.old ≤ L.faults links.new }
     ensures failed { SomeFailed L.D.faults doors.items → Rose (L.faults links.old) (L.faults links.new) }
 {

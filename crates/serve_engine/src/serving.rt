@@ -192,11 +192,11 @@ pub(crate) fn serve_doors<
     ensures these { ArePassesOf passes.new counters.now }
     ensures on { AreOn passes.old passes.new }
     ensures shares { HaveShares 65 passes.new }
-    ensures served { (total : ℕ) × (marks : O.told → List SessionMarks)
-        × AreServedDoors O.told O.given O.left O.faults O.back
+    ensures served { (total : ℕ) × (marks : O.tells → List SessionMarks)
+        × AreServedDoors O.tells O.given O.left O.faults O.back
         (IsServedBy counters.now passes.new) total marks doors.items result.1.items
-        × HasOutcome O.told O.left O.ends O.faults limit result.0 total result.1.items × (total ≤ limit)
-        × ((t : O.told) → OwnMore (passes_in passes.old) (passes_in passes.new) (marks t)) }
+        × HasOutcome O.tells O.left O.ends O.faults limit result.0 total result.1.items × (total ≤ limit)
+        × ((t : O.tells) → OwnMore (passes_in passes.old) (passes_in passes.new) (marks t)) }
 {
     let count = doors.len();
     let (Ok(crew_room), Ok(room)) = (room_for(alloc, count), room_for(alloc, count)) else {

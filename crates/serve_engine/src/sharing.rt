@@ -123,11 +123,11 @@ pub(crate) fn serve_seats<
     requires whole { All (λ door. O.faults door ≡ 0) doors.items }
     requires unended { All (λ door. O.ends door ≡ 0) doors.items }
     ensures on { AreSeatsOn seats.entry.items result.1.items }
-    ensures served { (total : ℕ) × (marks : O.told → List SessionMarks)
-        × AreServedDoors O.told O.given O.left O.faults O.back
+    ensures served { (total : ℕ) × (marks : O.tells → List SessionMarks)
+        × AreServedDoors O.tells O.given O.left O.faults O.back
         (IsServedAt users.now result.1.items) total marks doors.items result.2.items
-        × HasOutcome O.told O.left O.ends O.faults limit result.0 total result.2.items × (total ≤ limit)
-        × ((t : O.told) → OwnMore (map seat_pass seats.entry.items) (map seat_pass result.1.items) (marks t)) }
+        × HasOutcome O.tells O.left O.ends O.faults limit result.0 total result.2.items × (total ≤ limit)
+        × ((t : O.tells) → OwnMore (map seat_pass seats.entry.items) (map seat_pass result.1.items) (marks t)) }
 {
     let count = seats.len();
     let (Ok(rooms), Ok(room)) = (rooms_for(alloc, count), room_for(alloc, count)) else {

@@ -1,6 +1,6 @@
 -- The replies to one user, put together.
 use Rattle.std.proofs.Common.{◌≡◌, ℕ, ◌≤◌, ◌+◌, Bool, true, false, List, [], ◌∷◌, ◌++◌, length, refl, sym, ap, ◌∙◌, subst, append_assoc, arith}
-use Rattle.std.specs.Prelude.{is_some}
+use Rattle.std.specs.Prelude.{None, is_some}
 use Rattle.std.proofs.lemmas.List.{append-nil, length-append}
 use Rattle.cqe_base.specs.Schema.{DatabaseSchema, Text}
 use Rattle.cqe_base.specs.Facts.{FactSet}
@@ -18,7 +18,7 @@ use Rattle.user_desk.specs.Standings.{standing_of}
 use Rattle.desk_counter.specs.declared.item.Item.{Item}
 use Rattle.desk_counter.specs.declared.item.Item.TheVariants.{Kept, Broke}
 use Rattle.desk_counter.specs.declared.item.Fixed.{Fixed}
-use Rattle.desk_counter.specs.Items.{history_of, has_broke}
+use Rattle.desk_counter.specs.Items.{history_of, flying, has_broke}
 use Rattle.desk_counter.specs.Asks.{entry_for, NoMark, Adds, answered as adds_answered, broke as adds_broke, coded as adds_coded, wanted as adds_wanted, Asked}
 use Rattle.desk_counter.proofs.Asking.{flying_broke}
 use Rattle.desk_counter.proofs.Pairs.{history_all}
@@ -36,7 +36,8 @@ module _ (schema : DatabaseSchema) (world : FactSet) (user : UserProfile) (stand
   from_earlier history broke {failed' = false} low if (answered before after entry least is read size answer rest) = answered before after entry (omega (arith, low, least)) is read size answer rest
   from_earlier history broke {failed' = true} low if (answered before after entry least is read size answer rest) = let e : false ≡ true = if refl in absurd cc
   from_earlier history broke low if (coded before after now least is on none answer rest) = coded before after now (omega (arith, low, least)) is (λ f. on (if f)) none answer rest
-  from_earlier history broke low if (append_failed rest) = append_failed (from_earlier history broke low (λ f. f) rest)
+  from_earlier history broke {failed' = false} low if (append_failed before after mark least is answer broken rest) = append_failed before after mark (omega (arith, low, least)) is answer broken rest
+  from_earlier history broke {failed' = true} low if (append_failed before after mark least is answer broken rest) = let e : false ≡ true = if refl in absurd cc
   from_earlier history broke low if (wanted rest) = wanted (from_earlier history broke low if rest)
 
   -- and further ones, by all entries that there were in the end
@@ -47,7 +48,8 @@ module _ (schema : DatabaseSchema) (world : FactSet) (user : UserProfile) (stand
       answered before (after ++ more) entry least (ap (λ h. h ++ more) is ∙ append_assoc before (entry ∷ after) more) read size answer (replied_then first more broke broke' on rest last)
   replied_then first more broke broke' on (coded before after now least is if none answer rest) last =
       coded before (after ++ more) now least (ap (λ h. h ++ more) is ∙ append_assoc before after more) if none answer (replied_then first more broke broke' on rest last)
-  replied_then first more broke broke' on (append_failed rest) last = append_failed (replied_then first more broke broke' on rest last)
+  replied_then first more broke broke' on (append_failed before after mark least is answer broken rest) last =
+      append_failed before (after ++ more) mark least (ap (λ h. h ++ more) is ∙ append_assoc before after more) answer (on broken) (replied_then first more broke broke' on rest last)
   replied_then first more broke broke' on (wanted rest) last = wanted (replied_then first more broke broke' on rest last)
 
 -- ---- pairs
@@ -126,15 +128,17 @@ module _ {D : Type 0} (fixed : Fixed D) where
         used = omega (arith, used);
       }
 
+      -- where the desk is served no append had failed
+      never : flying asked.found ≡ None → has_broke (seen old) ≡ true → false ≡ true
+      never none b = sym (ap (λ o. is_some o) none) ∙ failed_before b
+
       of_adds : {code : Reply} → Adds fixed asked.ticket text asked.found (seen new) code → Asks fixed old new ((text, reply_of code) ∷ [])
       of_adds (adds_answered {query = query} {mark = mark} served answer added) =
           let entry = entry_for query mark text in
-          let whole = added in
           let grown : history_of (seen new) ≡ history_of asked.found ++ entry ∷ [] = ap history_of added ∙ history_all asked.found ((asked.ticket, Kept entry) ∷ []) in
           let more = ap length grown ∙ length-append (history_of asked.found) (entry ∷ []) in
-          let never : has_broke (seen old) ≡ true → false ≡ true = λ b. sym (ap (λ o. is_some o) served.1) ∙ failed_before b in
           made (Mark mark) (entry ∷ [])
-          (from_earlier fixed.schema fixed.world fixed.user (standing_of fixed.standing) (history_of (seen new)) (has_broke (seen new)) begun never
+          (from_earlier fixed.schema fixed.world fixed.user (standing_of fixed.standing) (history_of (seen new)) (has_broke (seen new)) begun (never served.1)
           (answered (history_of asked.found) [] entry (omega arith) grown answer.read refl
           (ap (λ s. reply fixed.schema fixed.world fixed.user (history_of asked.found) s false text) served.0 ∙ answer.answer) (nothing (omega (arith, more)) (λ f. absurd cc))))
           (ap history_of (asked.own.one (asked.ticket, Kept entry) added) ∙ history_all (mine old) ((asked.ticket, Kept entry) ∷ []))
@@ -143,7 +147,11 @@ module _ {D : Type 0} (fixed : Fixed D) where
           let entry = entry_for query mark text in
           let same : history_of (seen new) ≡ history_of asked.found ++ [] = ap history_of added ∙ history_all asked.found ((asked.ticket, Broke entry) ∷ []) in
           let still = ap length (same ∙ append-nil (history_of asked.found)) in
-          made Broken [] (append_failed (nothing (omega (arith, begun, still)) (λ f. ap has_broke added ∙ ap (λ o. is_some o) (flying_broke asked.found asked.ticket entry served.1))))
+          let broken : has_broke (seen new) ≡ true = ap has_broke added ∙ ap (λ o. is_some o) (flying_broke asked.found asked.ticket entry served.1) in
+          made Broken []
+          (from_earlier fixed.schema fixed.world fixed.user (standing_of fixed.standing) (history_of (seen new)) (has_broke (seen new)) begun (never served.1)
+          (append_failed (history_of asked.found) [] mark (omega arith) same (ap (λ s. reply fixed.schema fixed.world fixed.user (history_of asked.found) s false text) served.0 ∙ answer.answer) broken
+          (nothing (omega (arith, still)) (λ f. broken))))
           (ap history_of (asked.own.one (asked.ticket, Broke entry) added) ∙ history_all (mine old) ((asked.ticket, Broke entry) ∷ []))
           ((asked.ticket, Broke entry) ∷ [], added)
       of_adds (adds_coded {code = code} none replied same) =

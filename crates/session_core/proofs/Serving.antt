@@ -68,12 +68,12 @@ module _ {D : Type 0} (S K : Type 0) (users : List User) (fixeds : List (Fixed D
         record { lines = so_far.lines; who = who; asks = so_far.asks; texts = so_far.texts; talks = so_far.talks; desks = so_far.desks; few = omega (arith, few, so_far.many); hears = hears; writes = writes }
 
     -- the input is over
-    pub ends_input : count ≤ 100000 → (S → left ≡ []) → Session S K users fixeds InputEnd bytes old now before after
-    ends_input few none = ended_here InputEnd few (λ s. hears_end bytes left so_far.lines (so_far.hears s) (omega (arith, few, so_far.many)) (none s)) so_far.writes
+    pub ends_input : count < 100000 → (S → left ≡ []) → Session S K users fixeds InputEnd bytes old now before after
+    ends_input few none = ended_here InputEnd (omega (arith, few)) (λ s. hears_end bytes left so_far.lines (so_far.hears s) (omega (arith, few, so_far.many)) (none s)) so_far.writes
 
     -- the source failed
-    pub ends_read : count ≤ 100000 → Session S K users fixeds ReadFault bytes old now before after
-    ends_read few = ended_here ReadFault few (λ s. hears_fault bytes left so_far.lines (so_far.hears s) (omega (arith, few, so_far.many))) so_far.writes
+    pub ends_read : count < 100000 → Session S K users fixeds ReadFault bytes old now before after
+    ends_read few = ended_here ReadFault (omega (arith, few)) (λ s. hears_fault bytes left so_far.lines (so_far.hears s) (omega (arith, few, so_far.many))) so_far.writes
 
     -- the greatest number of lines was answered
     pub ends_many : 100000 ≤ count → count ≤ 100000 → Session S K users fixeds TooMany bytes old now before after

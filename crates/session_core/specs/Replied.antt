@@ -4,6 +4,7 @@ use Rattle.cqe_base.specs.Schema.{DatabaseSchema, Text}
 use Rattle.cqe_base.specs.Facts.{FactSet}
 use Rattle.cqe_base.specs.Reading.{reading}
 use Rattle.cqe_base.specs.History.{UserProfile, AnsweredQuery, History}
+use Rattle.cqe_base.specs.declared.user.Mark.{Mark}
 use Rattle.cqe_base.specs.Run.{Standing, Reply, reply, marked, no_sentence, history_full, too_large, user_closed, desk_sealed, desk_broken, no_memory}
 
 -- a reply that is no mark
@@ -21,8 +22,9 @@ IsUnmarked no_memory = Unit {0}
 module _ (schema : DatabaseSchema) (world : FactSet) (user : UserProfile) (standing : Standing) (history : History) (broke : Bool) where
   -- The asks of a session with their replies. Each is replied to by the first entries of the history, of which there are
   -- never fewer than at the ask before; a mark has its own entry just behind them, and the next ask has it among its own.
-  -- Behind an ask that was answered that an append failed, all asks find it failed, and so it is in the end. The last list
-  -- are the entries of the marks.
+  -- That its append failed is told of an ask whose reply would be a mark, at a desk where none had
+  -- failed. Behind it all asks find it failed, and so it is in the end. The last list are the
+  -- entries of the marks.
   pub data Replied : (least : ℕ) (failed : Bool) → List (Text × Reply) → History → Type 0 where
     nothing : {least : ℕ} {failed : Bool} → least ≤ length history → (failed ≡ true → broke ≡ true) → Replied least failed [] []
     answered : {least : ℕ} {text : Text} {asks : List (Text × Reply)} {entries : History} (before after : History) (entry : AnsweredQuery)
@@ -35,9 +37,12 @@ module _ (schema : DatabaseSchema) (world : FactSet) (user : UserProfile) (stand
         → IsUnmarked code → reply schema world user before standing failed_now text ≡ code
         → Replied (length before) failed_now asks entries
         → Replied least failed ((text, code) ∷ asks) entries
-    append_failed : {least : ℕ} {failed : Bool} {text : Text} {asks : List (Text × Reply)} {entries : History}
-        → Replied least true asks entries
-        → Replied least failed ((text, desk_broken) ∷ asks) entries
+    append_failed : {least : ℕ} {text : Text} {asks : List (Text × Reply)} {entries : History}
+        (before after : History) (mark : Mark)
+        → least ≤ length before → history ≡ before ++ after
+        → reply schema world user before standing false text ≡ marked mark → broke ≡ true
+        → Replied (length before) true asks entries
+        → Replied least false ((text, desk_broken) ∷ asks) entries
     wanted : {least : ℕ} {failed : Bool} {text : Text} {asks : List (Text × Reply)} {entries : History}
         → Replied least failed asks entries
         → Replied least failed ((text, no_memory) ∷ asks) entries

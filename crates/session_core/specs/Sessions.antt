@@ -1,5 +1,5 @@
 -- A session: the lines that were read, the lines that were written, and the passes before and after.
-use Rattle.std.specs.Prelude.{◌≡◌, ℕ, ◌≤◌, true, List, [], ◌∷◌, ◌++◌, length, Option, None}
+use Rattle.std.specs.Prelude.{◌≡◌, ℕ, ◌≤◌, ◌<◌, true, List, [], ◌∷◌, ◌++◌, length, Option, None}
 use Rattle.std.specs.List.{list_all}
 use Rattle.cqe_base.specs.Schema.{Text}
 use Rattle.cqe_base.specs.Lines.{text_lines}
@@ -17,12 +17,15 @@ use Rattle.session_core.specs.declared.session.Ended.TheVariants.{Quit, InputEnd
 
 -- What each end says of the lines that were answered: they are all that a session hears of the bytes, up to the word that
 -- ends it, the longer line, the end of the input or the greatest number; where a stream failed, the first of these.
+-- The input ends, and the source fails, only before the greatest number.
 abbrev pub Hears : Ended → List ℕ → List HeardLine → Type 0
 Hears Quit bytes lines = (lines ≡ session_lines bytes) × (front : List HeardLine) × (line : Text) × (lines ≡ front ++ heard line ∷ []) × (request_of line ≡ quit_session)
-Hears InputEnd bytes lines = (lines ≡ session_lines bytes) × (list_all goes_on lines ≡ true) × (length lines ≡ length (text_lines bytes))
+Hears InputEnd bytes lines = (lines ≡ session_lines bytes) × (list_all goes_on lines ≡ true)
+    × (length lines ≡ length (text_lines bytes)) × (length lines < 100000)
 Hears TooLong bytes lines = (lines ≡ session_lines bytes) × (front : List HeardLine) × (lines ≡ front ++ overlong ∷ [])
 Hears TooMany bytes lines = (lines ≡ session_lines bytes) × (list_all goes_on lines ≡ true) × (length lines ≡ 100000)
 Hears ReadFault bytes lines = (rest : List HeardLine) × (session_lines bytes ≡ lines ++ rest)
+    × (length lines < 100000)
 Hears WriteFault bytes lines = (rest : List HeardLine) × (session_lines bytes ≡ lines ++ rest)
 
 -- What was written: a line for each text; where the sink failed, of the last one only a part.

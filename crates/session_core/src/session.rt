@@ -154,7 +154,7 @@ pub fn serve_session<R: Wait, D: Disk, S: Source, K: Sink, G: Gate>(
     requires counted { length (users_of counters.now) ≡ length (fixeds_of counters.now) }
     requires turns { AllByRecursion (λ pass. 2 ^ 26 ≤ turns pass) (passes_in passes.old) }
     ensures passes { ArePassesOf passes.new counters.now }
-    ensures session { Session S.told K.told (users_of counters.now) (fixeds_of counters.now) result (S.left source.old)
+    ensures session { Session S.tells K.tells (users_of counters.now) (fixeds_of counters.now) result (S.left source.old)
         (passes_in passes.old) (passes_in passes.new) (K.written sink.old) (K.written sink.new) }
     ensures held { S.held source.new ≡ S.held source.old }
     ensures answers { K.answers sink.new ≡ K.answers sink.old }
@@ -189,9 +189,9 @@ pub fn serve_session<R: Wait, D: Disk, S: Source, K: Sink, G: Gate>(
 /// Replies to a line that is too long.
 fn end_too_long<K: Sink>(sink: &mut K) -> Ended
     ensures ends { (result ≡ Ended.TooLong) ⊎ (result ≡ Ended.WriteFault) }
-    ensures whole { result ≡ Ended.TooLong → K.told
+    ensures whole { result ≡ Ended.TooLong → K.tells
         → K.written sink.new ≡ K.written sink.old ++ (text_of (Reply.Code 26) ++ codes "\n") }
-    ensures part { result ≡ Ended.WriteFault → K.told
+    ensures part { result ≡ Ended.WriteFault → K.tells
         → AppendsPart (K.written sink.old) (K.written sink.new) (text_of (Reply.Code 26) ++ codes "\n") }
     ensures answers { K.answers sink.new ≡ K.answers sink.old }
     ensures later { K.faults sink.old ≤ K.faults sink.new }

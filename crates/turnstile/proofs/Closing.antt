@@ -7,7 +7,7 @@ use Rattle.turnstile.specs.declared.view.View.{View}
 use Rattle.turnstile.specs.declared.pass.Pass.{Pass}
 use Rattle.turnstile.specs.History.{Entries}
 use Rattle.turnstile.specs.Passes.{view_of, shares}
-use Rattle.turnstile.specs.Rule.{TurnstileRule}
+use Rattle.turnstile.specs.Rule.{TurnstileRule, IsRuled}
 use Rattle.turnstile.proofs.Idle.{idle_view}
 use Rattle.turnstile.proofs.Keeps.{Closes, ends}
 
@@ -22,3 +22,9 @@ module _ {V I F : Type 0} (entries_of : V → Entries I) (fixed_of : V → F) wh
     where
       some_same : (a b : V) → Some a ≡ Some b → a ≡ b
       some_same a b e = cc
+
+  -- the state in which the table was closed meets the rule, and has the pass's view
+  pub ruled_in : (p : Pass I F) (v : View I F) → p.badge.views ≡ v ∷ [] → (fixed : F) (first : Entries I) (id : ℕ) (ws : List ℕ) (xs : List (Option V))
+      → Final (Seen (TurnstileRule entries_of fixed_of fixed first) id v) ws xs → IsRuled entries_of fixed_of fixed first (view_of p)
+  ruled_in p v one fixed first id ws xs final =
+      record { state = final.0; rule = final.1.0; place = id; there = final.1.1 ∙ ap (λ (u : View I F). some u) (idle_view p v one).0 }

@@ -10,7 +10,7 @@ use Rattle.turnstile.specs.declared.view.View.{View}
 use Rattle.turnstile.specs.declared.view.Stage.TheVariants.{Outside, Waiting, Inside}
 use Rattle.turnstile.specs.History.{Entries, count_of, OnceBetween, NoneWith, IsRising, AddsAtMostOne, entries_with, longer, IsOpening, turn_entries}
 use Rattle.turnstile.specs.Views.{tickets_at, held_tickets, spent_view, opening_view, waiting_view, inside_view, outside_view, remaining_view, split_off_view, known_by, joined_view, compared_view, AllKnown, DrewEachOnce}
-use Rattle.turnstile.specs.Rule.{Fits, HasTurn, IsHome, IsOut, TurnstileRule}
+use Rattle.turnstile.specs.Rule.{Fits, HasTurn, IsHome, IsOut, TurnstileRule, IsRuledSince}
 use Rattle.turnstile.specs.Plays.{Drew, Looked, WentOn, Compared}
 use Rattle.list_sums.proofs.Sums.{set_there, sum_set, sum_at, sum_two, sum_some, sum_cut, sum_joined}
 use Rattle.turnstile.proofs.Counts.{count_of-append, count_of-here, counts_more, counts_less, counts_same, counted_within, counted_most}
@@ -69,8 +69,8 @@ module _ {V I F : Type 0} (entries_of : V → Entries I) (fixed_of : V → F) (f
       (λ e. (l.0, l.1, set_else views id l.0 w e ∙ l.2, l.3, l.4))
 
   out_set : (s : St) (id : ℕ) (v w : W) (words : List ℕ) → get_elem? s.views id ≡ some v → ((t : ℕ) → v.stage ≡ Inside t → ⊥) → IsOut entries_of fixed_of s → IsOut entries_of fixed_of record { words = words; homes = s.homes; views = set s.views id w }
-  out_set s id v w words at apart o = let there = o.1 in
-      (o.0, (there.0, there.1, there.2, set_else s.views id there.0 w (λ e. apart there.2 (ap (λ (u : W). u.stage) (some-injective v there.1 (sym at ∙ (ap (get_elem? s.views) (sym e) ∙ there.3))) ∙ there.4)) ∙ there.3, there.4))
+  out_set s id v w words at apart there =
+      (there.0, there.1, there.2, set_else s.views id there.0 w (λ e. apart there.2 (ap (λ (u : W). u.stage) (some-injective v there.1 (sym at ∙ (ap (get_elem? s.views) (sym e) ∙ there.3))) ∙ there.4)) ∙ there.3, there.4)
 
   -- a view that holds a ticket or has a turn left is live
   live_waiting : (v : W) (t : ℕ) → v.stage ≡ Waiting t → (((0 < v.shares) × (v.fixed ≡ Some fixed)) ⊎ (v ≡ spent_view)) → (0 < v.shares) × (v.fixed ≡ Some fixed)
@@ -133,8 +133,12 @@ module _ {V I F : Type 0} (entries_of : V → Entries I) (fixed_of : V → F) (f
         (refl, omega arith, λ x l. let own = sum_at (λ (u : W). count_of x u.drawn) s.views id v at in let none = r.drawn.above x (omega arith) in omega arith),
       )
 
+  -- what a seat's view is of, once a step has kept the rule
+  ruled_at : (s : St) (f : F) (id : ℕ) (w : W) → Rule s → f ≡ fixed → get_elem? s.views id ≡ some w → IsRuledSince entries_of fixed_of f w
+  ruled_at s f id w r same at = (first, record { state = s; rule = subst (λ (z : F). TurnstileRule entries_of fixed_of z first s) (sym same) r; place = id; there = at })
+
   -- two views can't both hold one ticket
-  held_once : (s : St) (r : Rule s) (k id : ℕ) (u v : W) (ticket : ℕ) → k ≢ id → get_elem? s.views k ≡ some u → get_elem? s.views id ≡ some v → held_tickets u ≡ ticket ∷ [] → held_tickets v ≡ ticket ∷ [] → ⊥
+  pub held_once : (s : St) (r : Rule s) (k id : ℕ) (u v : W) (ticket : ℕ) → k ≢ id → get_elem? s.views k ≡ some u → get_elem? s.views id ≡ some v → held_tickets u ≡ ticket ∷ [] → held_tickets v ≡ ticket ∷ [] → ⊥
   held_once s r k id u v ticket apart there at one two =
       let both = sum_two (λ (z : W). count_of ticket (held_tickets z)) s.views k id u v apart there at in
       let a : count_of ticket (held_tickets u) ≡ 1 = ap (count_of ticket) one ∙ count_of-here ticket in
@@ -161,30 +165,31 @@ module _ {V I F : Type 0} (entries_of : V → Entries I) (fixed_of : V → F) (f
       let served : ticket ≡ r.serving = sym now ∙ ap (λ ws. slice_index ws 1) r.words in
       let taken : set s.homes 0 none ≡ none ∷ [] = ap (λ hs. set hs 0 none) home.1 in
       let holds : held_tickets v ≡ ticket ∷ [] = ap tickets_at stage in
-      let later : entries ≡ v.seen ++ fit.behind = home.2 ∙ fit.seen in (
+      let later : entries ≡ v.seen ++ fit.behind = home.2 ∙ fit.seen in
+      let ruled : Rule (stepped s 1 (slice_index s.words 1) id m.1 w (takes 0 (Some y))) = record {
+        ticket = r.ticket;
+        serving = r.serving;
+        history = r.history;
+        words = ap (λ ws. set ws 1 (slice_index ws 1)) r.words;
+        ordered = r.ordered;
+        held = counts_same r.serving r.ticket _ _ r.held (λ x. let e = sum_set (λ (u : W). count_of x (held_tickets u)) s.views id v w at in let z : count_of x (held_tickets v) ≡ count_of x (ticket ∷ []) = ap (count_of x) holds in omega arith);
+        drawn = counts_same 1 r.ticket _ _ r.drawn (λ x. let e = sum_set (λ (u : W). count_of x u.drawn) s.views id v w at in omega arith);
+        shares = let e = sum_set (λ (u : W). u.shares) s.views id v w at in let sum = r.shares in omega arith;
+        turns = let e = sum_set (λ (u : W). u.turns) s.views id v w at in let sum = r.turns in omega arith;
+        each = each_set (λ k u. Fits fixed r.history u) s.views id w (λ k u _. r.each k u)
+            record { behind = []; seen = sym home.2 ∙ sym (append-nil entries); missed = All-nil (Lacks v.drawn); own = λ x. subst (λ (l : List ℕ). count_of x l ≤ count_of x v.drawn) holds (fit.own x); live = inl live; joined = tt; agreed = tt };
+        longest = (id, w, set_there s.views id v w at, live.0, home.2);
+        rising = r.rising;
+        added = r.added;
+        slot = inr (id, w, ticket, set_there s.views id v w at, refl);
+        in_turn = each_set (λ _ u. HasTurn r.serving r.history (set s.homes 0 none) u) s.views id w
+            (λ k u _ e t stage''. absurd (some_none (Some y) (sym home.1 ∙ (r.in_turn k u e t stage'').2)))
+            (λ t e. (sym (inside-same ticket t e) ∙ served, home.2, taken));
+      } in (
         w,
         takes 0 (Some y),
         ap (λ hs. get_elem? hs 0) home.1,
-        record {
-          ticket = r.ticket;
-          serving = r.serving;
-          history = r.history;
-          words = ap (λ ws. set ws 1 (slice_index ws 1)) r.words;
-          ordered = r.ordered;
-          held = counts_same r.serving r.ticket _ _ r.held (λ x. let e = sum_set (λ (u : W). count_of x (held_tickets u)) s.views id v w at in let z : count_of x (held_tickets v) ≡ count_of x (ticket ∷ []) = ap (count_of x) holds in omega arith);
-          drawn = counts_same 1 r.ticket _ _ r.drawn (λ x. let e = sum_set (λ (u : W). count_of x u.drawn) s.views id v w at in omega arith);
-          shares = let e = sum_set (λ (u : W). u.shares) s.views id v w at in let sum = r.shares in omega arith;
-          turns = let e = sum_set (λ (u : W). u.turns) s.views id v w at in let sum = r.turns in omega arith;
-          each = each_set (λ k u. Fits fixed r.history u) s.views id w (λ k u _. r.each k u)
-              record { behind = []; seen = sym home.2 ∙ sym (append-nil entries); missed = All-nil (Lacks v.drawn); own = λ x. subst (λ (l : List ℕ). count_of x l ≤ count_of x v.drawn) holds (fit.own x); live = inl live; joined = tt; agreed = tt };
-          longest = (id, w, set_there s.views id v w at, live.0, home.2);
-          rising = r.rising;
-          added = r.added;
-          slot = inr (taken, (id, w, ticket, set_there s.views id v w at, refl));
-          in_turn = each_set (λ _ u. HasTurn r.serving r.history (set s.homes 0 none) u) s.views id w
-              (λ k u _ e t stage''. absurd (some_none (Some y) (sym home.1 ∙ (r.in_turn k u e t stage'').2)))
-              (λ t e. (sym (inside-same ticket t e) ∙ served, home.2, taken));
-        },
+        ruled,
         λ t stage'. let same : ticket ≡ t = waiting_same ticket t (sym stage ∙ stage') in (
           (λ other. absurd (other (now ∙ same))),
           λ _. (
@@ -196,6 +201,7 @@ module _ {V I F : Type 0} (entries_of : V → Entries I) (fixed_of : V → F) (f
               own = entries_with_seen v.drawn v.seen fit.behind entries later fit.missed;
               rising = subst (λ (z : ℕ). IsRising 0 z entries) (sym served ∙ same) (subst (IsRising 0 r.serving) (sym home.2) r.rising);
               fixed = live.1 ∙ ap (λ (f : F). Some f) (sym home.3);
+              ruled = ruled_at (stepped s 1 (slice_index s.words 1) id m.1 w (takes 0 (Some y))) (fixed_of y) id w ruled home.3 (set_there s.views id v w at);
             },
           ),
         ),
@@ -204,7 +210,7 @@ module _ {V I F : Type 0} (entries_of : V → Entries I) (fixed_of : V → F) (f
   pub looks : (slots id : ℕ) (m : M) (ticket : ℕ) → m.0.stage ≡ Waiting ticket → m.1 ≡ [] → Allows Rule slots id m 1 (λ n. n) (Looked entries_of fixed_of (step slots 1 0 0 none) m)
   looks slots id m ticket stage empty s r _ at _ = dite (ℕ_discrete (slice_index s.words 1) ticket)
       (λ now. ⊎_elim (λ home. looks_in slots id m ticket stage empty s r at now home)
-      (λ (o : IsOut entries_of fixed_of s). let there = o.1 in let k : ℕ = there.0 in let u : W = there.1 in let t : ℕ = there.2 in
+      (λ (there : IsOut entries_of fixed_of s). let k : ℕ = there.0 in let u : W = there.1 in let t : ℕ = there.2 in
       let served : t ≡ ticket = (r.in_turn k u there.3 t there.4).0 ∙ (sym (ap (λ ws. slice_index ws 1) r.words) ∙ now) in
       absurd (held_once s r k id u m.0 ticket (λ e. inside-waiting t ticket (sym there.4 ∙ (ap (λ (z : W). z.stage) (some-injective u m.0 (sym there.3 ∙ (ap (get_elem? s.views) e ∙ at))) ∙ stage))) there.3 at
       (ap tickets_at there.4 ∙ ap (λ (z : ℕ). z ∷ []) served) (ap tickets_at stage)))
@@ -266,40 +272,44 @@ module _ {V I F : Type 0} (entries_of : V → Entries I) (fixed_of : V → F) (f
       let both = sum_two (λ (z : W). count_of n z.drawn) s.views k id u v apart there at in
       let own = fit.own n in
       let any : 0 < sum_by (λ (z : W). count_of n z.drawn) s.views = omega arith in
-      let c = (counted_within 1 r.ticket n (λ x. sum_by (λ (z : W). count_of x z.drawn) s.views) r.drawn any).2 in omega arith in (
+      let c = (counted_within 1 r.ticket n (λ x. sum_by (λ (z : W). count_of x z.drawn) s.views) r.drawn any).2 in omega arith in
+      let ruled : Rule (stepped s 1 ((n + 1) % 2 ^ 64) id m.1 w gives) = record {
+        ticket = r.ticket;
+        serving = n + 1;
+        history = entries;
+        words = ap (λ ws. set ws 1 ((n + 1) % 2 ^ 64)) r.words ∙ ap (λ (k : ℕ). r.ticket ∷ k ∷ []) (word_add n small);
+        ordered = (omega arith, omega arith);
+        held = counts_less r.serving r.ticket n _ _ r.held is (omega arith) (λ x. let e = sum_set (λ (u : W). count_of x (held_tickets u)) s.views id v w at in let z : count_of x (held_tickets v) ≡ count_of x (n ∷ []) = ap (count_of x) holds in omega arith);
+        drawn = counts_same 1 r.ticket _ _ r.drawn (λ x. let e = sum_set (λ (u : W). count_of x u.drawn) s.views id v w at in omega arith);
+        shares = let e = sum_set (λ (u : W). u.shares) s.views id v w at in let sum = r.shares in omega arith;
+        turns = let e = sum_set (λ (u : W). u.turns) s.views id v w at in let sum = r.turns in omega arith;
+        each = each_set (λ k u. Fits fixed entries u) s.views id w
+            (λ k u apart there. let f = r.each k u there in record {
+              behind = f.behind ++ g.0;
+              seen = g.1 ∙ (ap (λ (h : Entries I). h ++ g.0) f.seen ∙ append_assoc u.seen f.behind g.0);
+              missed = All-append (Lacks u.drawn) f.behind g.0 f.missed (g.3 u.drawn (not_drawn k u apart there));
+              own = f.own;
+              live = f.live;
+              joined = f.joined;
+              agreed = f.agreed;
+            })
+            record { behind = []; seen = sym (append-nil entries); missed = All-nil (Lacks v.drawn); own = λ x. omega arith; live = inl live; joined = tt; agreed = tt };
+        longest = (id, w, set_there s.views id v w at, live.0, refl);
+        rising = g.2;
+        added = added_more r.history n y (omega arith) r.added (subst (λ (z : ℕ × Entries I). AddsAtMostOne z.0 z.1 entries) (λ i. (served i, mine.1 i)) grows);
+        slot = inl (y, homes, refl, fixed_same);
+        in_turn = each_set (λ _ u. HasTurn (n + 1) entries (Rattle.atomic_table.specs.Table.put_back s.homes m.1) u) s.views id w
+            (λ k u apart there t stage''. absurd (held_once s r k id u v n apart there at (ap tickets_at stage'' ∙ ap (λ (z : ℕ). z ∷ []) ((r.in_turn k u there t stage'').0 ∙ sym is)) holds))
+            (λ t e. absurd (inside-outside t (sym e)));
+      } in (
         w,
         gives,
         tt,
-        record {
-          ticket = r.ticket;
-          serving = n + 1;
-          history = entries;
-          words = ap (λ ws. set ws 1 ((n + 1) % 2 ^ 64)) r.words ∙ ap (λ (k : ℕ). r.ticket ∷ k ∷ []) (word_add n small);
-          ordered = (omega arith, omega arith);
-          held = counts_less r.serving r.ticket n _ _ r.held is (omega arith) (λ x. let e = sum_set (λ (u : W). count_of x (held_tickets u)) s.views id v w at in let z : count_of x (held_tickets v) ≡ count_of x (n ∷ []) = ap (count_of x) holds in omega arith);
-          drawn = counts_same 1 r.ticket _ _ r.drawn (λ x. let e = sum_set (λ (u : W). count_of x u.drawn) s.views id v w at in omega arith);
-          shares = let e = sum_set (λ (u : W). u.shares) s.views id v w at in let sum = r.shares in omega arith;
-          turns = let e = sum_set (λ (u : W). u.turns) s.views id v w at in let sum = r.turns in omega arith;
-          each = each_set (λ k u. Fits fixed entries u) s.views id w
-              (λ k u apart there. let f = r.each k u there in record {
-                behind = f.behind ++ g.0;
-                seen = g.1 ∙ (ap (λ (h : Entries I). h ++ g.0) f.seen ∙ append_assoc u.seen f.behind g.0);
-                missed = All-append (Lacks u.drawn) f.behind g.0 f.missed (g.3 u.drawn (not_drawn k u apart there));
-                own = f.own;
-                live = f.live;
-                joined = f.joined;
-                agreed = f.agreed;
-              })
-              record { behind = []; seen = sym (append-nil entries); missed = All-nil (Lacks v.drawn); own = λ x. omega arith; live = inl live; joined = tt; agreed = tt };
-          longest = (id, w, set_there s.views id v w at, live.0, refl);
-          rising = g.2;
-          added = added_more r.history n y (omega arith) r.added (subst (λ (z : ℕ × Entries I). AddsAtMostOne z.0 z.1 entries) (λ i. (served i, mine.1 i)) grows);
-          slot = inl (y, homes, refl, fixed_same);
-          in_turn = each_set (λ _ u. HasTurn (n + 1) entries (Rattle.atomic_table.specs.Table.put_back s.homes m.1) u) s.views id w
-              (λ k u apart there t stage''. absurd (held_once s r k id u v n apart there at (ap tickets_at stage'' ∙ ap (λ (z : ℕ). z ∷ []) ((r.in_turn k u there t stage'').0 ∙ sym is)) holds))
-              (λ t e. absurd (inside-outside t (sym e)));
+        ruled,
+        λ y' hand'. let same : y ≡ y' = hand_same y y' (sym hand ∙ hand') in record {
+          given = λ i. (outside_view v (entries_of (same i)), Rattle.atomic_table.specs.Table.rest (hand i));
+          ruled = ruled_at (stepped s 1 ((n + 1) % 2 ^ 64) id m.1 w gives) (fixed_of y') id w ruled (ap fixed_of (sym same) ∙ fixed_same) (set_there s.views id v w at);
         },
-        λ y' hand'. let same : y ≡ y' = hand_same y y' (sym hand ∙ hand') in λ i. (outside_view v (entries_of (same i)), Rattle.atomic_table.specs.Table.rest (hand i)),
       )
     where
       some_same : (a b : F) → Some a ≡ Some b → a ≡ b
@@ -345,8 +355,8 @@ module _ {V I F : Type 0} (entries_of : V → Entries I) (fixed_of : V → F) (f
         longest = let l = longest_set s.views id v left r.history at r.longest (λ e. e) (omega arith) in (l.0, l.1, at_longer (set s.views id left) (right ∷ []) l.0 l.1 l.2, l.3, l.4);
         rising = r.rising;
         added = r.added;
-        slot = ⊎_elim (λ h. inl h) (λ o. let out = out_set s id v left s.words at (λ t e. inside-outside t (sym e ∙ stage)) o in let there = out.1 in
-            inr (out.0, (there.0, there.1, there.2, at_longer (set s.views id left) (right ∷ []) there.0 there.1 there.3, there.4))) r.slot;
+        slot = ⊎_elim (λ h. inl h) (λ o. let there = out_set s id v left s.words at (λ t e. inside-outside t (sym e ∙ stage)) o in
+            inr (there.0, there.1, there.2, at_longer (set s.views id left) (right ∷ []) there.0 there.1 there.3, there.4)) r.slot;
         in_turn = each_cut (λ u. HasTurn r.serving r.history s.homes u) s.views id left right r.in_turn (λ t e. absurd (inside-outside t (sym e ∙ stage))) (λ t e. absurd (inside-outside t (sym e)));
       }
 
@@ -496,7 +506,7 @@ module _ {V I F : Type 0} (entries_of : V → Entries I) (fixed_of : V → F) (f
           fixed = live.1 ∙ ap (λ (f : F). Some f) (sym home.3);
         },
       ))
-      (λ (o : IsOut entries_of fixed_of s). let there = o.1 in let u : W = there.1 in
+      (λ (there : IsOut entries_of fixed_of s). let u : W = there.1 in
       let live' = live_inside u there.2 there.4 (r.each there.0 u there.3).live in
       let p = live'.0 in
       let two = sum_two (λ (z : W). z.shares) s.views there.0 id u v (λ e. inside-outside there.2 (sym there.4 ∙ (ap (λ (z : W). z.stage) (some-injective u v (sym there.3 ∙ (ap (get_elem? s.views) e ∙ at))) ∙ stage))) there.3 at in

@@ -4,6 +4,7 @@ use Rattle.atomic_table.specs.Table.{Me, Step}
 use Rattle.turnstile.specs.declared.view.View.{View}
 use Rattle.turnstile.specs.declared.view.Stage.TheVariants.{Waiting}
 use Rattle.turnstile.specs.History.{Entries, count_of, IsPrefix, IsRising, entries_with}
+use Rattle.turnstile.specs.Rule.{IsRuledSince}
 use Rattle.turnstile.specs.Views.{waiting_view, inside_view, outside_view, compared_view, AllKnown, AllFixed}
 
 module _ {V I F : Type 0} (entries_of : V → Entries I) (fixed_of : V → F) where
@@ -19,6 +20,7 @@ module _ {V I F : Type 0} (entries_of : V → Entries I) (fixed_of : V → F) wh
     pub own : entries_with m.0.drawn (entries_of y) ≡ entries_with m.0.drawn m.0.seen
     pub rising : IsRising 0 ticket (entries_of y)
     pub fixed : m.0.fixed ≡ Some (fixed_of y)
+    pub ruled : IsRuledSince entries_of fixed_of (fixed_of y) m'.0
 
   -- draw: the ticket is the number found
   abbrev pub Drew : Step (Option V) → Hand → ℕ → Hand → Type 0
@@ -28,9 +30,14 @@ module _ {V I F : Type 0} (entries_of : V → Entries I) (fixed_of : V → F) wh
   abbrev pub Looked : Step (Option V) → Hand → ℕ → Hand → Type 0
   Looked at m found m' = (ticket : ℕ) → m.0.stage ≡ Waiting ticket → (found ≢ ticket → m' ≡ m) × (found ≡ ticket → (y : V) × Lends m ticket y m')
 
-  -- next: the value goes home, and the pass has seen its entries
+  -- The value is given back: it is at home, and the pass has seen its entries.
+  pub record GivesBack (m : Hand) (y : V) (m' : Hand) : Type 0 where
+    pub given : m' ≡ (outside_view m.0 (entries_of y), [])
+    pub ruled : IsRuledSince entries_of fixed_of (fixed_of y) m'.0
+
+  -- next: what the pass had goes home
   abbrev pub WentOn : Step (Option V) → Hand → ℕ → Hand → Type 0
-  WentOn at m found m' = (y : V) → m.1 ≡ (0, Some y) ∷ [] → m' ≡ (outside_view m.0 (entries_of y), [])
+  WentOn at m found m' = (y : V) → m.1 ≡ (0, Some y) ∷ [] → GivesBack m y m'
 
   -- compare: a look after a join, which tells that both lists begin the longer one, and that no ticket was drawn twice
   abbrev pub Compared : Step (Option V) → Hand → ℕ → Hand → Type 0

@@ -34,9 +34,9 @@ module _ {V I F : Type 0} (entries_of : V → Entries I) (fixed_of : V → F) wh
   abbrev pub IsHome : F → Entries I → State (Option V) (View I F) → Type 0
   IsHome fixed history s = (y : V) × (s.homes ≡ some (Some y) ∷ []) × (entries_of y ≡ history) × (fixed_of y ≡ fixed)
 
-  -- the slot is empty, and a pass has the value in its turn
+  -- a pass has the value in its turn
   abbrev pub IsOut : State (Option V) (View I F) → Type 0
-  IsOut s = (s.homes ≡ none ∷ []) × ((k : ℕ) × (v : View I F) × (ticket : ℕ) × (get_elem? s.views k ≡ some v) × (v.stage ≡ Inside ticket))
+  IsOut s = (k : ℕ) × (v : View I F) × (ticket : ℕ) × (get_elem? s.views k ≡ some v) × (v.stage ≡ Inside ticket)
 
   -- the rule, between any two steps
   pub record TurnstileRule (fixed : F) (first : Entries I) (s : State (Option V) (View I F)) : Type 0 where
@@ -64,3 +64,26 @@ module _ {V I F : Type 0} (entries_of : V → Entries I) (fixed_of : V → F) wh
     -- the value is at home or in a turn
     pub slot : IsHome fixed history s ⊎ IsOut s
     pub in_turn : (k : ℕ) (v : View I F) → get_elem? s.views k ≡ some v → HasTurn serving history s.homes v
+
+  -- the view is one of those in a state that meets the rule
+  pub record IsRuled (fixed : F) (first : Entries I) (v : View I F) : Type 0 where
+    pub state : State (Option V) (View I F)
+    pub rule : TurnstileRule fixed first state
+    pub place : ℕ
+    pub there : get_elem? state.views place ≡ some v
+
+  -- the same, whatever was there at the start, since a step isn't told that
+  abbrev pub IsRuledSince : F → View I F → Type 0
+  IsRuledSince fixed v = (first : Entries I) × IsRuled fixed first v
+
+  -- Each ticket that was drawn and isn't done with is held by a pass, so none is lost.
+  abbrev pub EachIsHeld : Type 0
+  EachIsHeld = (fixed : F) (first : Entries I) (s : State (Option V) (View I F)) → (rule : TurnstileRule fixed first s)
+      → (x : ℕ) → rule.serving ≤ x → x < rule.ticket
+      → (k : ℕ) × (v : View I F) × (get_elem? s.views k ≡ some v) × (held_tickets v ≡ x ∷ [])
+
+  -- Two passes in their turns are one, and the value isn't at home meanwhile.
+  abbrev pub OneIsInside : Type 0
+  OneIsInside = (fixed : F) (first : Entries I) (s : State (Option V) (View I F)) → TurnstileRule fixed first s
+      → (j k : ℕ) (v w : View I F) (x y : ℕ) → get_elem? s.views j ≡ some v → get_elem? s.views k ≡ some w
+      → v.stage ≡ Inside x → w.stage ≡ Inside y → (j ≡ k) × (s.homes ≡ none ∷ [])

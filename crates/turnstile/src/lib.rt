@@ -9,11 +9,13 @@
 //! holds between any two atomic steps, over any number of threads.
 #![tactic(auto)]
 
+mod laws;
 mod pass;
 mod steps;
 mod turnstile;
 mod view;
 
+pub use laws::law_turns;
 pub use pass::{Pass, PassError};
 pub use steps::{Recorded, Ticketed};
 pub use turnstile::{Turn, Turnstile};

@@ -46,6 +46,7 @@ impl<V: Recorded> Turnstile<V> {
     ghost use Rattle.std.specs.Prelude.{◌⊎◌, ◌++◌, ℕ, ◌^◌, Some, IfOk, IfErr, OnOk};
     ghost use Rattle.turnstile.specs.declared.pass.PassError.TheVariants.{TooMany};
     ghost use Rattle.turnstile.specs.History.{IsPrefix, AddsAtMostOne, AddsAlike, IsOpening, Interleaves, IsRising, entries_with, turn_entries};
+    ghost use Rattle.turnstile.specs.Rule.{IsRuled, IsRuledSince};
     ghost use Rattle.turnstile.specs.Views.{opening_view, turn_view, outside_view, remaining_view, split_off_view, view_of_both, DrewEachOnce};
     ghost use Rattle.turnstile.specs.Passes.{IsReady, IsAway, IsOf, first_value, IsAt, view_of, seen, tickets, mine, fixed, shares, turns, ticket_of, view_in, entries_before, mine_before};
 
@@ -164,6 +165,10 @@ impl<V: Recorded> Turnstile<V> {
         ensures added { V.entries result ≡ V.entries (first_value self) ++ mine pass }
         ensures drew { DrewEachOnce (view_of pass) }
         ensures fixed { fixed pass ≡ Some (V.fixed result) }
+
+        // The table is closed in a state that meets the rule and has the pass's view.
+        ensures rule { IsRuled V.entries V.fixed (V.fixed (first_value self)) (V.entries (first_value self))
+            (view_of pass) }
     {
         let Pass { badge, shares: _ } = pass;
         let Turnstile { table } = self;
@@ -191,6 +196,9 @@ impl<V: Recorded> Turnstile<V> {
         // The tickets of the entries rise and are below this one, and so are all that the pass drew before.
         ensures order { IsRising 0 (ticket_of result) (V.entries result.value) }
         ensures fresh { (x : ℕ) → ticket_of result ≤ x → count_of x (tickets pass.old) ≡ 0 }
+
+        // The state in which the value was taken meets the rule and has the view of this turn.
+        ensures rule { IsRuledSince V.entries V.fixed (V.fixed result.value) (view_in result) }
     {
         let Pass { badge, shares } = mem::replace(pass, Pass::away());
         let mut seat = badge.into_seat();
@@ -220,6 +228,8 @@ impl<V: Recorded> Turnstile<V> {
         ensures view { view_of pass.new ≡ outside_view (view_in turn) (V.entries turn.value) }
         // What the turn added is the pass's own.
         ensures mine { AddsAlike (entries_before turn) (V.entries turn.value) (mine_before turn) (mine pass.new) }
+        // The state in which the value was given back meets the rule and has the pass's view.
+        ensures rule { IsRuledSince V.entries V.fixed (V.fixed turn.value) (view_of pass.new) }
     {
         let Turn {
             value,

@@ -34,10 +34,10 @@ pub struct Desk<'w, D: Disk> {
     pub(crate) in_flight: Option<Entry>,
     /// How many entries there were at the opening.
     pub(crate) opened: usize,
-    ghost kept: { IsKept D.told (D.image (stored_disk store)) (kept_schema log) (kept_world log) (kept_user log)
+    ghost kept: { IsKept D.tells (D.image (stored_disk store)) (kept_schema log) (kept_world log) (kept_user log)
         (header_bytes header) standing (kept_history log) (option_map answered_query_of in_flight) (has_journal store)
         (has_failed store) } by { IsKept-prop _ _ _ _ _ _ _ _ _ _ _ },
-    ghost since: { StandsSince D.told (D.image_since (stored_disk store) (D.moment (opened_disk store)))
+    ghost since: { StandsSince D.tells (D.image_since (stored_disk store) (D.moment (opened_disk store)))
         (kept_schema log) (header_bytes header) standing opened (kept_history log)
         (option_map answered_query_of in_flight) (has_journal store) } by { StandsSince-prop _ _ _ _ _ _ _ _ _ },
     ghost still: { opened ≡ length (kept_history log) → option_map answered_query_of in_flight ≡ None
@@ -88,11 +88,11 @@ impl<'w, D: Disk> Desk<'w, D> {
         ensures sizes { KeepsSizes (desk_schema self.now) (desk_user self.now) (desk_history self.now) }
         ensures legal { IsLegal (desk_schema self.now) (desk_world self.now) (desk_user self.now)
             (desk_history self.now) }
-        ensures images { D.told → is_sealed (desk_standing self.now) ≡ false → (c : List ℕ)
+        ensures images { D.tells → is_sealed (desk_standing self.now) ≡ false → (c : List ℕ)
             → D.image (desk_disk self.now) c
             → Holds (desk_schema self.now) (desk_world self.now) (desk_user self.now) (desk_header self.now)
             (state_of self.now) c }
-        ensures whole { D.told → is_sealed (desk_standing self.now) ≡ false → is_broken_desk self.now ≡ false
+        ensures whole { D.tells → is_sealed (desk_standing self.now) ≡ false → is_broken_desk self.now ≡ false
             → (c : List ℕ) → D.image (desk_disk self.now) c
             → StandsFor (desk_schema self.now) (desk_header self.now) (desk_history self.now) c }
         ensures admits { is_open (desk_standing self.now) ≡ true
@@ -103,7 +103,7 @@ impl<'w, D: Disk> Desk<'w, D> {
         // Since the opening each image stands for a beginning of the entries, with the one in flight, that has the
         // entries at the opening; where the journal was refused, or nothing was appended, the disk is as it was.
         ensures begins { opening_count self.now ≤ length (desk_history self.now) }
-        ensures since { D.told → is_sealed (desk_standing self.now) ≡ false → (c : List ℕ)
+        ensures since { D.tells → is_sealed (desk_standing self.now) ≡ false → (c : List ℕ)
             → D.image_since (desk_disk self.now) (D.moment (opening_disk self.now)) c
             → StandsWithin (desk_schema self.now) (desk_header self.now) (opening_count self.now)
             (desk_history self.now ++ option_to_list (entry_in_flight self.now)) c }
@@ -141,7 +141,7 @@ impl<'w, D: Disk> Desk<'w, D> {
         ensures count { D.faults (desk_disk self.old) ≤ D.faults (desk_disk self.new) }
 
         // At every moment of the call each image stands for what a crash of this ask leaves.
-        ensures moments { D.told → is_sealed (desk_standing self.old) ≡ false → (c : List ℕ)
+        ensures moments { D.tells → is_sealed (desk_standing self.old) ≡ false → (c : List ℕ)
             → D.image_since (desk_disk self.new) (D.moment (desk_disk self.old)) c
             → Holds (desk_schema self.old) (desk_world self.old) (desk_user self.old) (desk_header self.old)
             (after_event (desk_schema self.old) (desk_world self.old) (desk_user self.old) (state_of self.old)
@@ -193,7 +193,7 @@ impl<'w, D: Disk> Desk<'w, D> {
         ensures broken { (result ≡ Reply.Broken) ↔ IsTrue (is_broken_desk self.new) }
         ensures untouched { HasNoWrite result → desk_disk self.new ≡ desk_disk self.old }
         ensures count { D.faults (desk_disk self.old) ≤ D.faults (desk_disk self.new) }
-        ensures moments { D.told → (c : List ℕ) → D.image_since (desk_disk self.new) (D.moment (desk_disk self.old)) c
+        ensures moments { D.tells → (c : List ℕ) → D.image_since (desk_disk self.new) (D.moment (desk_disk self.old)) c
             → Holds (desk_schema self.old) (desk_world self.old) (desk_user self.old) (desk_header self.old)
             (after_event (desk_schema self.old) (desk_world self.old) (desk_user self.old) (state_of self.old)
             (stop text.now)) c }

@@ -43,11 +43,11 @@ impl<D: Disk> Medium<D> {
         requires high { kind ≤ 4 }
         requires short { length text.now ≤ 4096 }
         ensures journal { is_journal self.new ≡ true }
-        ensures added { D.told → OnOk result ((c : List ℕ) → D.image (medium_disk self.new) c
+        ensures added { D.tells → OnOk result ((c : List ℕ) → D.image (medium_disk self.new) c
             → Adds (D.reads (medium_disk self.old)) (kind, text.now) c) }
-        ensures either { D.told → OnErr result ((c : List ℕ) → D.image (medium_disk self.new) c
+        ensures either { D.tells → OnErr result ((c : List ℕ) → D.image (medium_disk self.new) c
             → KeepsOrAdds (D.reads (medium_disk self.old)) (kind, text.now) c) }
-        ensures moments { D.told → (c : List ℕ)
+        ensures moments { D.tells → (c : List ℕ)
             → D.image_since (medium_disk self.new) (D.moment (medium_disk self.old)) c
             → KeepsOrAdds (D.reads (medium_disk self.old)) (kind, text.now) c }
         ensures time { Elapses (D.moment (medium_disk self.old)) (D.moment (medium_disk self.new))

@@ -47,10 +47,10 @@ pub fn open_desk<'w, D: Disk>(
     ensures header { IfOk result (λ desk. desk_header desk ≡ header_bytes header.now) }
 
     // The standing has its cause, and a desk that isn't sealed has the entries that the bytes open it with.
-    ensures standing { IfOk result (λ desk. IsStanding schema.now world.now (profile_of user.now) D.told
+    ensures standing { IfOk result (λ desk. IsStanding schema.now world.now (profile_of user.now) D.tells
         (header_bytes header.now) (D.reads disk) (desk_history desk)
         (D.faults disk) (D.faults (desk_disk desk)) (desk_standing desk)) }
-    ensures sound { D.told → IfOk result (λ desk. is_sealed (desk_standing desk) ≡ false
+    ensures sound { D.tells → IfOk result (λ desk. is_sealed (desk_standing desk) ≡ false
         → Opens schema.now world.now (profile_of user.now) (header_bytes header.now) (desk_history desk)
         (D.reads disk)) }
     ensures whole { IfOk result (λ desk. is_broken_desk desk ≡ false) }
@@ -59,7 +59,7 @@ pub fn open_desk<'w, D: Disk>(
         × (opening_disk desk ≡ desk_disk desk)) }
 
     // It is a restart of each state that the bytes hold, which is refused only for a fault of the disk.
-    ensures restarted { D.told → IfOk result (λ desk. (state : UserState)
+    ensures restarted { D.tells → IfOk result (λ desk. (state : UserState)
         → Holds schema.now world.now (profile_of user.now) (header_bytes header.now) state (D.reads disk)
         → Restarts schema.now world.now (profile_of user.now) (IsIn desk) state (D.faults disk)
         (D.faults (desk_disk desk))) }

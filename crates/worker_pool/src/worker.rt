@@ -10,7 +10,7 @@ use std::sync::Wait;
 /// What a worker does with each connection.
 pub trait Job<Src: Source, Snk: Sink> {
     /// Whether clauses are told the numbers that it was run with.
-    ghost told: { Type 0 };
+    ghost tells: { Type 0 };
 
     /// How many runs it may still make.
     ghost room: { Self → ℕ };
@@ -33,14 +33,14 @@ pub trait Job<Src: Source, Snk: Sink> {
         requires few { ran self.old < 2 ^ 31 }
         ensures room { room self.old ≤ room self.new + 1 }
         ensures ran { ran self.new ≡ ran self.old + 1 }
-        ensures numbers { told → numbers self.new ≡ numbers self.old ++ number ∷ [] }
+        ensures numbers { tells → numbers self.new ≡ numbers self.old ++ number ∷ [] }
         ensures held { Src.held source.new ≡ Src.held source.old }
         ensures answers { Snk.answers sink.new ≡ Snk.answers sink.old }
         ensures keeps { keeps self.old self.new }
 
         // Where both ends tell their bytes and are untouched as it begins, the visit stands with the job behind all
         // before.
-        ensures visit { AreUntouchedEnds Src.told Snk.told (Src.held source.old) (Src.left source.old)
+        ensures visit { AreUntouchedEnds Src.tells Snk.tells (Src.held source.old) (Src.left source.old)
             (Snk.written sink.old) (Src.faults source.old) (Snk.faults sink.old) → (first : Self) (visits : List Visit)
             → stands first self.old visits
             → stands first self.new (visits ++ visit_of (Src.held source.new) (Snk.written sink.new)

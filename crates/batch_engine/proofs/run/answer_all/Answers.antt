@@ -14,7 +14,7 @@ use Rattle.batch_engine.proofs.run.answer_all.Goals as goal
 
 pub loop-item-init : goal.loop-item-init
 loop-item-init g c =
-    record { so_far = runs_first c.args.registry.now.schema.now c.args.registry.now.world.now (header_bytes c.args.registry.now.header.now) g.F.D.Disk.told g.F.D.Disk.reads g.F.D.Disk.image g.F.D.Disk.faults g.K.Sink.told c.args.seats.items (g.K.Sink.written c.args.sink.now); same = refl; later = omega arith }
+    record { so_far = runs_first c.args.registry.now.schema.now c.args.registry.now.world.now (header_bytes c.args.registry.now.header.now) g.F.D.Disk.tells g.F.D.Disk.reads g.F.D.Disk.image g.F.D.Disk.faults g.K.Sink.tells c.args.seats.items (g.K.Sink.written c.args.sink.now); same = refl; later = omega arith }
 
 pub carry_out-requires-clause-limits : goal.carry_out-requires-clause-limits
 carry_out-requires-clause-limits g c =
@@ -60,7 +60,7 @@ returns-in_default-clause-answered g c =
     let items = c.items-item-items.result.now in
     let i = c.loop-item.item-index in
     let next = items_more items i c.item-item.result c.loop-item-test.true c.item-item.is in
-    (c.loop-item.seats.items, runs_stopped c.args.registry.now.schema.now c.args.registry.now.world.now (header_bytes c.args.registry.now.header.now) g.F.D.Disk.told g.F.D.Disk.reads g.F.D.Disk.image g.F.D.Disk.faults g.K.Sink.told (items_of c.args.batch.now) (map item_in (take i items)) (map item_in (drop (i + 1) items)) (item_in c.item-item.result) c.args.seats.items c.loop-item.seats.items c.loop-item.is_broken _ _ (sym c.items-item-items.ensures.items ∙ items_split items (i + 1) ∙ ap (λ l. l ++ map item_in (drop (i + 1) items)) next) c.in_default.ensures.restart so_far, c.in_default.ensures.back)
+    (c.loop-item.seats.items, runs_stopped c.args.registry.now.schema.now c.args.registry.now.world.now (header_bytes c.args.registry.now.header.now) g.F.D.Disk.tells g.F.D.Disk.reads g.F.D.Disk.image g.F.D.Disk.faults g.K.Sink.tells (items_of c.args.batch.now) (map item_in (take i items)) (map item_in (drop (i + 1) items)) (item_in c.item-item.result) c.args.seats.items c.loop-item.seats.items c.loop-item.is_broken _ _ (sym c.items-item-items.ensures.items ∙ items_split items (i + 1) ∙ ap (λ l. l ++ map item_in (drop (i + 1) items)) next) c.in_default.ensures.restart so_far, c.in_default.ensures.back)
 
 pub returns-in_default-clause-inside : goal.returns-in_default-clause-inside
 returns-in_default-clause-inside g c =
@@ -95,7 +95,7 @@ returns-in-Err-clause-answered g c =
     let items = c.items-item-items.result.now in
     let i = c.loop-item.item-index in
     let next = items_more items i c.item-item.result c.loop-item-test.true c.item-item.is in
-    runs_cut c.args.registry.now.schema.now c.args.registry.now.world.now (header_bytes c.args.registry.now.header.now) g.F.D.Disk.told g.F.D.Disk.reads g.F.D.Disk.image g.F.D.Disk.faults g.K.Sink.told (items_of c.args.batch.now) (map item_in (take i items)) (map item_in (drop (i + 1) items)) (item_in c.item-item.result) c.args.seats.items c.loop-item.seats.items c.in-Some.next.items c.loop-item.is_broken c.in-Some.says_broken _ _ _ c.in-Some.line (sym c.items-item-items.ensures.items ∙ items_split items (i + 1) ∙ ap (λ l. l ++ map item_in (drop (i + 1) items)) next) so_far c.in-Some.ensures.carried (λ told. subst (AppendsPart (g.K.Sink.written c.loop-item.sink) (g.K.Sink.written c.write_all.new.sink)) c.bytes.ensures (c.in-Err.ensures.part told))
+    runs_cut c.args.registry.now.schema.now c.args.registry.now.world.now (header_bytes c.args.registry.now.header.now) g.F.D.Disk.tells g.F.D.Disk.reads g.F.D.Disk.image g.F.D.Disk.faults g.K.Sink.tells (items_of c.args.batch.now) (map item_in (take i items)) (map item_in (drop (i + 1) items)) (item_in c.item-item.result) c.args.seats.items c.loop-item.seats.items c.in-Some.next.items c.loop-item.is_broken c.in-Some.says_broken _ _ _ c.in-Some.line (sym c.items-item-items.ensures.items ∙ items_split items (i + 1) ∙ ap (λ l. l ++ map item_in (drop (i + 1) items)) next) so_far c.in-Some.ensures.carried (λ told. subst (AppendsPart (g.K.Sink.written c.loop-item.sink) (g.K.Sink.written c.write_all.new.sink)) c.bytes.ensures (c.in-Err.ensures.part told))
 
 pub returns-in-Err-clause-cause : goal.returns-in-Err-clause-cause
 returns-in-Err-clause-cause g c =
@@ -112,7 +112,7 @@ loop-item-preserved g c =
     let before = c.loop-item.invariant.later in
     let on = c.in-Ok.ensures.cause.later in
     record {
-      so_far = subst (λ done. RunsAll c.args.registry.now.schema.now c.args.registry.now.world.now (header_bytes c.args.registry.now.header.now) g.F.D.Disk.told g.F.D.Disk.reads g.F.D.Disk.image g.F.D.Disk.faults g.K.Sink.told done c.args.seats.items c.in-Some.next.items c.if-is_broken.is_broken (g.K.Sink.written c.args.sink.now) (g.K.Sink.written c.write_all.new.sink)) (sym next) (runs_more c.args.registry.now.schema.now c.args.registry.now.world.now (header_bytes c.args.registry.now.header.now) g.F.D.Disk.told g.F.D.Disk.reads g.F.D.Disk.image g.F.D.Disk.faults g.K.Sink.told (map item_in (take i items)) (item_in c.item-item.result) c.args.seats.items c.loop-item.seats.items c.in-Some.next.items c.loop-item.is_broken c.in-Some.says_broken c.if-is_broken.is_broken _ _ _ c.in-Some.line joined so_far c.in-Some.ensures.carried (λ told. c.in-Ok.ensures.all told ∙ ap (λ l. g.K.Sink.written c.loop-item.sink ++ l) c.bytes.ensures));
+      so_far = subst (λ done. RunsAll c.args.registry.now.schema.now c.args.registry.now.world.now (header_bytes c.args.registry.now.header.now) g.F.D.Disk.tells g.F.D.Disk.reads g.F.D.Disk.image g.F.D.Disk.faults g.K.Sink.tells done c.args.seats.items c.in-Some.next.items c.if-is_broken.is_broken (g.K.Sink.written c.args.sink.now) (g.K.Sink.written c.write_all.new.sink)) (sym next) (runs_more c.args.registry.now.schema.now c.args.registry.now.world.now (header_bytes c.args.registry.now.header.now) g.F.D.Disk.tells g.F.D.Disk.reads g.F.D.Disk.image g.F.D.Disk.faults g.K.Sink.tells (map item_in (take i items)) (item_in c.item-item.result) c.args.seats.items c.loop-item.seats.items c.in-Some.next.items c.loop-item.is_broken c.in-Some.says_broken c.if-is_broken.is_broken _ _ _ c.in-Some.line joined so_far c.in-Some.ensures.carried (λ told. c.in-Ok.ensures.all told ∙ ap (λ l. g.K.Sink.written c.loop-item.sink ++ l) c.bytes.ensures));
       same = c.in-Some.ensures.untouched ∙ same;
       later = omega (arith, before, on);
     }
@@ -121,4 +121,4 @@ pub returns-clause-answered : goal.returns-clause-answered
 returns-clause-answered g c =
     let items = c.items-item-items.result.now in
     let i = c.loop-item.item-index in
-    subst (λ done. RunsAll c.args.registry.now.schema.now c.args.registry.now.world.now (header_bytes c.args.registry.now.header.now) g.F.D.Disk.told g.F.D.Disk.reads g.F.D.Disk.image g.F.D.Disk.faults g.K.Sink.told done c.args.seats.items c.loop-item.seats.items c.loop-item.is_broken (g.K.Sink.written c.args.sink.now) (g.K.Sink.written c.loop-item.sink)) (ap (map item_in) (take_all i items (omega (arith, c.loop-item-test.false))) ∙ c.items-item-items.ensures.items) c.loop-item.invariant.so_far
+    subst (λ done. RunsAll c.args.registry.now.schema.now c.args.registry.now.world.now (header_bytes c.args.registry.now.header.now) g.F.D.Disk.tells g.F.D.Disk.reads g.F.D.Disk.image g.F.D.Disk.faults g.K.Sink.tells done c.args.seats.items c.loop-item.seats.items c.loop-item.is_broken (g.K.Sink.written c.args.sink.now) (g.K.Sink.written c.loop-item.sink)) (ap (map item_in) (take_all i items (omega (arith, c.loop-item-test.false))) ∙ c.items-item-items.ensures.items) c.loop-item.invariant.so_far

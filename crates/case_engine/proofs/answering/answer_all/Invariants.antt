@@ -8,7 +8,7 @@ use Rattle.case_engine.proofs.answering.answer_all.Given as goal
 -- the asks so far were answered with what was written
 abbrev pub invariant-loop-text : goal.invariant-loop-text
 invariant-loop-text g l = record {
-  so_far : g.K.Sink.told → Told l.parts.schema l.parts.facts (profile_of l.parts.user) l.is_open (map string_bytes (take l.text-index l.parts.asks.items))
+  so_far : g.K.Sink.tells → Told l.parts.schema l.parts.facts (profile_of l.parts.user) l.is_open (map string_bytes (take l.text-index l.parts.asks.items))
       (g.K.Sink.written l.fn.sink) (g.K.Sink.written l.sink) (kept_history l.log);
   schema : kept_schema l.log ≡ l.parts.schema;
   world : kept_world l.log ≡ l.parts.facts;

@@ -60,6 +60,6 @@ returns-in-LinksFault-clause-part g c = λ told.
 pub returns-in-Journals-clause-part : goal.returns-in-Journals-clause-part
 returns-in-Journals-clause-part g c = λ told.
     subst (λ text. OnErr c.give_journals.result (AppendsPart (g.E.Sink.written c.args.complaints.now) (g.E.Sink.written c.give_journals.new.complaints) text))
-    (ap (λ users. journal_lines users c.as_slice-in-Journals.result.now) c.as_slice.ensures.value
-    ∙ ap (journal_lines c.in-Journals.users.items) c.as_slice-in-Journals.ensures.value ∙ ap complaint_of (sym c.in-Journals.is))
+    (ap (λ users. journal_lines users c.as_slice-in-Journals-2.result.now) c.as_slice-in-Journals.ensures.value
+    ∙ ap (journal_lines c.in-Journals.users.items) c.as_slice-in-Journals-2.ensures.value ∙ ap complaint_of (sym c.in-Journals.is))
     (c.give_journals.ensures.part told)

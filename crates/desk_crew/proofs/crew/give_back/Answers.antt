@@ -4,7 +4,7 @@ use Rattle.desk_crew.proofs.Shelving.{given_none, given_out, given_later, given_
 use Rattle.desk_crew.proofs.crew.give_back.Goals as goal
 
 pub loop-seat-init : goal.loop-seat-init
-loop-seat-init g c = record { so_far = given_none _ _ _ _ _ _ _ _; faults = refl; looked = refl; broke = broke_none c.args.seats.items }
+loop-seat-init g c = record { so_far = given_none _ _ _ _ _ _ _ _; faults = refl; looked = refl; files = λ name. refl; broke = broke_none c.args.seats.items }
 
 pub give_disk-requires-clause-out : goal.give_disk-requires-clause-out
 give_disk-requires-clause-out g c =
@@ -30,6 +30,7 @@ loop-seat-preserved g c =
           (λ told. given.held told) given.disks given.back given.others_out given.count given.other_counts;
       faults = given.faults ∙ c.loop-seat.invariant.faults;
       looked = given.looked ∙ c.loop-seat.invariant.looked;
+      files = λ name. given.files name ∙ c.loop-seat.invariant.files name;
       broke = broke_more c.pop.new.self.items c.in-Some.seat c.loop-seat.seats.items _ _ c.loop-seat.is_broken split c.loop-seat.invariant.broke c.close_desk-disk.ensures.broke;
     }
 

@@ -1,6 +1,7 @@
 use Rattle.std.proofs.Common.{◌≡◌}
 use Rattle.std.specs.Prelude.{vec_len, ◌||◌}
 use Rattle.std.specs.List.{list_any}
+use Rattle.outside.specs.Shelf.{SameNames}
 use Rattle.desk_crew.specs.Crew.{seat_broke}
 use Rattle.desk_crew.proofs.Shelving.{Given}
 use Rattle.desk_crew.proofs.crew.give_back.Given as goal
@@ -8,11 +9,12 @@ use Rattle.desk_crew.proofs.crew.give_back.Given as goal
 -- the disks of the last seats are back, and it is known whether an append failed at one of them
 abbrev pub invariant-loop-seat : goal.invariant-loop-seat
 invariant-loop-seat g l = record {
-  so_far : Given g.F.Shelf.told g.F.D.Disk.reads g.F.D.Disk.image g.F.D.Disk.faults l.fn.seats.items (g.F.Shelf.disk l.fn.shelf) (g.F.Shelf.is_out l.fn.shelf) (g.F.Shelf.disk_faults l.fn.shelf)
+  so_far : Given g.F.Shelf.tells g.F.D.Disk.reads g.F.D.Disk.image g.F.D.Disk.faults l.fn.seats.items (g.F.Shelf.disk l.fn.shelf) (g.F.Shelf.is_out l.fn.shelf) (g.F.Shelf.disk_faults l.fn.shelf)
       l.seats.items (g.F.Shelf.disk l.shelf) (g.F.Shelf.is_out l.shelf) (g.F.Shelf.disk_faults l.shelf);
   broke : list_any seat_broke l.fn.seats.items ≡ (list_any seat_broke l.seats.items || l.is_broken);
   faults : g.F.Shelf.faults l.shelf ≡ g.F.Shelf.faults l.fn.shelf;
   looked : g.F.Shelf.looked l.shelf ≡ g.F.Shelf.looked l.fn.shelf;
+  files : SameNames (g.F.Shelf.file l.fn.shelf) (g.F.Shelf.file l.shelf);
 }
 
 abbrev pub decreases-loop-seat : goal.decreases-loop-seat

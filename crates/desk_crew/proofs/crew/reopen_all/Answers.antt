@@ -24,8 +24,8 @@ loop-alloc-preserved g c =
     let grown = c.push_reserved.ensures.len in
     let space = c.push_reserved.ensures.capacity in
     record {
-      half = subst (Halfway _ _ _ g.F.D.Disk.told g.F.Shelf.told g.F.D.Disk.reads g.F.D.Disk.image g.F.D.Disk.faults c.args.seats.items c.remove-seat.new.self.items) (sym c.push_reserved.ensures.items)
-          (halfway_more _ _ _ g.F.D.Disk.told g.F.Shelf.told g.F.D.Disk.reads g.F.D.Disk.image g.F.D.Disk.faults c.args.seats.items c.loop-alloc.seats.items c.remove-seat.new.self.items c.loop-alloc.reopened.items c.remove-seat.result c.in-Ok.seat first c.loop-alloc.invariant.half c.in-Ok.ensures.reopened);
+      half = subst (Halfway _ _ _ g.F.D.Disk.tells g.F.Shelf.tells g.F.D.Disk.reads g.F.D.Disk.image g.F.D.Disk.faults c.args.seats.items c.remove-seat.new.self.items) (sym c.push_reserved.ensures.items)
+          (halfway_more _ _ _ g.F.D.Disk.tells g.F.Shelf.tells g.F.D.Disk.reads g.F.D.Disk.image g.F.D.Disk.faults c.args.seats.items c.loop-alloc.seats.items c.remove-seat.new.self.items c.loop-alloc.reopened.items c.remove-seat.result c.in-Ok.seat first c.loop-alloc.invariant.half c.in-Ok.ensures.reopened);
       same = c.loop-alloc.invariant.same;
       room = omega (arith, room, one, grown, space);
     }
@@ -39,7 +39,7 @@ give_disk-requires-clause-out g c =
     let out = subst (λ s. AllOut (journals c.args.seats.items) (g.F.Shelf.is_out s)) (sym same) c.requires.out in
     let later = subst (λ s. AreLater g.F.D.Disk.faults (g.F.Shelf.disk_faults s) c.args.seats.items) (sym same) c.requires.later in
     let named = c.as_str.ensures.value ∙ c.in-Err.ensures.journal in
-    ap (g.F.Shelf.is_out shelf) named ∙ fail_out _ _ _ g.F.D.Disk.told g.F.Shelf.told g.F.D.Disk.reads g.F.D.Disk.image g.F.D.Disk.faults c.args.seats.items c.loop-alloc.seats.items c.remove-seat.new.self.items c.loop-alloc.reopened.items c.remove-seat.result first half (g.F.Shelf.disk shelf) (g.F.Shelf.is_out shelf) (g.F.Shelf.disk_faults shelf) c.requires.distinct out later
+    ap (g.F.Shelf.is_out shelf) named ∙ fail_out _ _ _ g.F.D.Disk.tells g.F.Shelf.tells g.F.D.Disk.reads g.F.D.Disk.image g.F.D.Disk.faults c.args.seats.items c.loop-alloc.seats.items c.remove-seat.new.self.items c.loop-alloc.reopened.items c.remove-seat.result first half (g.F.Shelf.disk shelf) (g.F.Shelf.is_out shelf) (g.F.Shelf.disk_faults shelf) c.requires.distinct out later
 
 pub give_disk-requires-clause-later : goal.give_disk-requires-clause-later
 give_disk-requires-clause-later g c =
@@ -50,7 +50,7 @@ give_disk-requires-clause-later g c =
     let out = subst (λ s. AllOut (journals c.args.seats.items) (g.F.Shelf.is_out s)) (sym same) c.requires.out in
     let later = subst (λ s. AreLater g.F.D.Disk.faults (g.F.Shelf.disk_faults s) c.args.seats.items) (sym same) c.requires.later in
     let named = c.as_str.ensures.value ∙ c.in-Err.ensures.journal in
-    let least : g.F.Shelf.disk_faults shelf (seat_journal c.remove-seat.result) ≤ g.F.D.Disk.faults (seat_disk c.remove-seat.result) = fail_later _ _ _ g.F.D.Disk.told g.F.Shelf.told g.F.D.Disk.reads g.F.D.Disk.image g.F.D.Disk.faults c.args.seats.items c.loop-alloc.seats.items c.remove-seat.new.self.items c.loop-alloc.reopened.items c.remove-seat.result first half (g.F.Shelf.disk shelf) (g.F.Shelf.is_out shelf) (g.F.Shelf.disk_faults shelf) c.requires.distinct out later in
+    let least : g.F.Shelf.disk_faults shelf (seat_journal c.remove-seat.result) ≤ g.F.D.Disk.faults (seat_disk c.remove-seat.result) = fail_later _ _ _ g.F.D.Disk.tells g.F.Shelf.tells g.F.D.Disk.reads g.F.D.Disk.image g.F.D.Disk.faults c.args.seats.items c.loop-alloc.seats.items c.remove-seat.new.self.items c.loop-alloc.reopened.items c.remove-seat.result first half (g.F.Shelf.disk shelf) (g.F.Shelf.is_out shelf) (g.F.Shelf.disk_faults shelf) c.requires.distinct out later in
     let closed = c.in-Err.ensures.left.is_closed.later in
     let on = c.in-Err.ensures.left.left.later in
     subst (λ n. g.F.Shelf.disk_faults shelf n ≤ g.F.D.Disk.faults c.in-Err.returned.disk) (sym named) (omega (arith, least, closed, on))
@@ -64,7 +64,7 @@ give_back-requires-in-Err-clause-distinct g c =
     let out = subst (λ s. AllOut (journals c.args.seats.items) (g.F.Shelf.is_out s)) (sym same) c.requires.out in
     let later = subst (λ s. AreLater g.F.D.Disk.faults (g.F.Shelf.disk_faults s) c.args.seats.items) (sym same) c.requires.later in
     let named = c.as_str.ensures.value ∙ c.in-Err.ensures.journal in
-    rest_distinct _ _ _ g.F.D.Disk.told g.F.Shelf.told g.F.D.Disk.reads g.F.D.Disk.image g.F.D.Disk.faults c.args.seats.items c.loop-alloc.seats.items c.remove-seat.new.self.items c.loop-alloc.reopened.items c.remove-seat.result first half (g.F.Shelf.disk shelf) (g.F.Shelf.is_out shelf) (g.F.Shelf.disk_faults shelf) c.requires.distinct out later c.in-Err.returned.disk (g.F.Shelf.disk c.give_disk.new.self) (g.F.Shelf.is_out c.give_disk.new.self) (g.F.Shelf.disk_faults c.give_disk.new.self) c.as_str.result.now named g.met.F.Shelf.tells_disks c.in-Err.ensures.left c.give_disk.ensures.held c.give_disk.ensures.disks c.give_disk.ensures.back c.give_disk.ensures.others_out c.give_disk.ensures.count c.give_disk.ensures.other_counts
+    rest_distinct _ _ _ g.F.D.Disk.tells g.F.Shelf.tells g.F.D.Disk.reads g.F.D.Disk.image g.F.D.Disk.faults c.args.seats.items c.loop-alloc.seats.items c.remove-seat.new.self.items c.loop-alloc.reopened.items c.remove-seat.result first half (g.F.Shelf.disk shelf) (g.F.Shelf.is_out shelf) (g.F.Shelf.disk_faults shelf) c.requires.distinct out later c.in-Err.returned.disk (g.F.Shelf.disk c.give_disk.new.self) (g.F.Shelf.is_out c.give_disk.new.self) (g.F.Shelf.disk_faults c.give_disk.new.self) c.as_str.result.now named g.met.F.Shelf.tells_disks c.in-Err.ensures.left c.give_disk.ensures.held c.give_disk.ensures.disks c.give_disk.ensures.back c.give_disk.ensures.others_out c.give_disk.ensures.count c.give_disk.ensures.other_counts
 
 pub give_back-requires-in-Err-clause-out : goal.give_back-requires-in-Err-clause-out
 give_back-requires-in-Err-clause-out g c =
@@ -75,7 +75,7 @@ give_back-requires-in-Err-clause-out g c =
     let out = subst (λ s. AllOut (journals c.args.seats.items) (g.F.Shelf.is_out s)) (sym same) c.requires.out in
     let later = subst (λ s. AreLater g.F.D.Disk.faults (g.F.Shelf.disk_faults s) c.args.seats.items) (sym same) c.requires.later in
     let named = c.as_str.ensures.value ∙ c.in-Err.ensures.journal in
-    rest_out _ _ _ g.F.D.Disk.told g.F.Shelf.told g.F.D.Disk.reads g.F.D.Disk.image g.F.D.Disk.faults c.args.seats.items c.loop-alloc.seats.items c.remove-seat.new.self.items c.loop-alloc.reopened.items c.remove-seat.result first half (g.F.Shelf.disk shelf) (g.F.Shelf.is_out shelf) (g.F.Shelf.disk_faults shelf) c.requires.distinct out later c.in-Err.returned.disk (g.F.Shelf.disk c.give_disk.new.self) (g.F.Shelf.is_out c.give_disk.new.self) (g.F.Shelf.disk_faults c.give_disk.new.self) c.as_str.result.now named g.met.F.Shelf.tells_disks c.in-Err.ensures.left c.give_disk.ensures.held c.give_disk.ensures.disks c.give_disk.ensures.back c.give_disk.ensures.others_out c.give_disk.ensures.count c.give_disk.ensures.other_counts
+    rest_out _ _ _ g.F.D.Disk.tells g.F.Shelf.tells g.F.D.Disk.reads g.F.D.Disk.image g.F.D.Disk.faults c.args.seats.items c.loop-alloc.seats.items c.remove-seat.new.self.items c.loop-alloc.reopened.items c.remove-seat.result first half (g.F.Shelf.disk shelf) (g.F.Shelf.is_out shelf) (g.F.Shelf.disk_faults shelf) c.requires.distinct out later c.in-Err.returned.disk (g.F.Shelf.disk c.give_disk.new.self) (g.F.Shelf.is_out c.give_disk.new.self) (g.F.Shelf.disk_faults c.give_disk.new.self) c.as_str.result.now named g.met.F.Shelf.tells_disks c.in-Err.ensures.left c.give_disk.ensures.held c.give_disk.ensures.disks c.give_disk.ensures.back c.give_disk.ensures.others_out c.give_disk.ensures.count c.give_disk.ensures.other_counts
 
 pub give_back-requires-in-Err-clause-later : goal.give_back-requires-in-Err-clause-later
 give_back-requires-in-Err-clause-later g c =
@@ -86,7 +86,7 @@ give_back-requires-in-Err-clause-later g c =
     let out = subst (λ s. AllOut (journals c.args.seats.items) (g.F.Shelf.is_out s)) (sym same) c.requires.out in
     let later = subst (λ s. AreLater g.F.D.Disk.faults (g.F.Shelf.disk_faults s) c.args.seats.items) (sym same) c.requires.later in
     let named = c.as_str.ensures.value ∙ c.in-Err.ensures.journal in
-    rest_later _ _ _ g.F.D.Disk.told g.F.Shelf.told g.F.D.Disk.reads g.F.D.Disk.image g.F.D.Disk.faults c.args.seats.items c.loop-alloc.seats.items c.remove-seat.new.self.items c.loop-alloc.reopened.items c.remove-seat.result first half (g.F.Shelf.disk shelf) (g.F.Shelf.is_out shelf) (g.F.Shelf.disk_faults shelf) c.requires.distinct out later c.in-Err.returned.disk (g.F.Shelf.disk c.give_disk.new.self) (g.F.Shelf.is_out c.give_disk.new.self) (g.F.Shelf.disk_faults c.give_disk.new.self) c.as_str.result.now named g.met.F.Shelf.tells_disks c.in-Err.ensures.left c.give_disk.ensures.held c.give_disk.ensures.disks c.give_disk.ensures.back c.give_disk.ensures.others_out c.give_disk.ensures.count c.give_disk.ensures.other_counts
+    rest_later _ _ _ g.F.D.Disk.tells g.F.Shelf.tells g.F.D.Disk.reads g.F.D.Disk.image g.F.D.Disk.faults c.args.seats.items c.loop-alloc.seats.items c.remove-seat.new.self.items c.loop-alloc.reopened.items c.remove-seat.result first half (g.F.Shelf.disk shelf) (g.F.Shelf.is_out shelf) (g.F.Shelf.disk_faults shelf) c.requires.distinct out later c.in-Err.returned.disk (g.F.Shelf.disk c.give_disk.new.self) (g.F.Shelf.is_out c.give_disk.new.self) (g.F.Shelf.disk_faults c.give_disk.new.self) c.as_str.result.now named g.met.F.Shelf.tells_disks c.in-Err.ensures.left c.give_disk.ensures.held c.give_disk.ensures.disks c.give_disk.ensures.back c.give_disk.ensures.others_out c.give_disk.ensures.count c.give_disk.ensures.other_counts
 
 pub give_back-requires-in-Err-2-clause-distinct : goal.give_back-requires-in-Err-2-clause-distinct
 give_back-requires-in-Err-2-clause-distinct g c =
@@ -97,7 +97,7 @@ give_back-requires-in-Err-2-clause-distinct g c =
     let out = subst (λ s. AllOut (journals c.args.seats.items) (g.F.Shelf.is_out s)) (sym same) c.requires.out in
     let later = subst (λ s. AreLater g.F.D.Disk.faults (g.F.Shelf.disk_faults s) c.args.seats.items) (sym same) c.requires.later in
     let named = c.as_str.ensures.value ∙ c.in-Err.ensures.journal in
-    done_distinct _ _ _ g.F.D.Disk.told g.F.Shelf.told g.F.D.Disk.reads g.F.D.Disk.image g.F.D.Disk.faults c.args.seats.items c.loop-alloc.seats.items c.remove-seat.new.self.items c.loop-alloc.reopened.items c.remove-seat.result first half (g.F.Shelf.disk shelf) (g.F.Shelf.is_out shelf) (g.F.Shelf.disk_faults shelf) c.requires.distinct out later c.in-Err.returned.disk (g.F.Shelf.disk c.give_disk.new.self) (g.F.Shelf.is_out c.give_disk.new.self) (g.F.Shelf.disk_faults c.give_disk.new.self) c.as_str.result.now named g.met.F.Shelf.tells_disks c.in-Err.ensures.left c.give_disk.ensures.held c.give_disk.ensures.disks c.give_disk.ensures.back c.give_disk.ensures.others_out c.give_disk.ensures.count c.give_disk.ensures.other_counts (g.F.Shelf.disk c.give_back-in-Err.new.shelf) (g.F.Shelf.is_out c.give_back-in-Err.new.shelf) (g.F.Shelf.disk_faults c.give_back-in-Err.new.shelf) c.give_back-in-Err.ensures.back c.give_back-in-Err.ensures.inside c.give_back-in-Err.ensures.others_out c.give_back-in-Err.ensures.disks c.give_back-in-Err.ensures.counts
+    done_distinct _ _ _ g.F.D.Disk.tells g.F.Shelf.tells g.F.D.Disk.reads g.F.D.Disk.image g.F.D.Disk.faults c.args.seats.items c.loop-alloc.seats.items c.remove-seat.new.self.items c.loop-alloc.reopened.items c.remove-seat.result first half (g.F.Shelf.disk shelf) (g.F.Shelf.is_out shelf) (g.F.Shelf.disk_faults shelf) c.requires.distinct out later c.in-Err.returned.disk (g.F.Shelf.disk c.give_disk.new.self) (g.F.Shelf.is_out c.give_disk.new.self) (g.F.Shelf.disk_faults c.give_disk.new.self) c.as_str.result.now named g.met.F.Shelf.tells_disks c.in-Err.ensures.left c.give_disk.ensures.held c.give_disk.ensures.disks c.give_disk.ensures.back c.give_disk.ensures.others_out c.give_disk.ensures.count c.give_disk.ensures.other_counts (g.F.Shelf.disk c.give_back-in-Err.new.shelf) (g.F.Shelf.is_out c.give_back-in-Err.new.shelf) (g.F.Shelf.disk_faults c.give_back-in-Err.new.shelf) c.give_back-in-Err.ensures.back c.give_back-in-Err.ensures.inside c.give_back-in-Err.ensures.others_out c.give_back-in-Err.ensures.disks c.give_back-in-Err.ensures.counts
 
 pub give_back-requires-in-Err-2-clause-out : goal.give_back-requires-in-Err-2-clause-out
 give_back-requires-in-Err-2-clause-out g c =
@@ -108,7 +108,7 @@ give_back-requires-in-Err-2-clause-out g c =
     let out = subst (λ s. AllOut (journals c.args.seats.items) (g.F.Shelf.is_out s)) (sym same) c.requires.out in
     let later = subst (λ s. AreLater g.F.D.Disk.faults (g.F.Shelf.disk_faults s) c.args.seats.items) (sym same) c.requires.later in
     let named = c.as_str.ensures.value ∙ c.in-Err.ensures.journal in
-    done_out _ _ _ g.F.D.Disk.told g.F.Shelf.told g.F.D.Disk.reads g.F.D.Disk.image g.F.D.Disk.faults c.args.seats.items c.loop-alloc.seats.items c.remove-seat.new.self.items c.loop-alloc.reopened.items c.remove-seat.result first half (g.F.Shelf.disk shelf) (g.F.Shelf.is_out shelf) (g.F.Shelf.disk_faults shelf) c.requires.distinct out later c.in-Err.returned.disk (g.F.Shelf.disk c.give_disk.new.self) (g.F.Shelf.is_out c.give_disk.new.self) (g.F.Shelf.disk_faults c.give_disk.new.self) c.as_str.result.now named g.met.F.Shelf.tells_disks c.in-Err.ensures.left c.give_disk.ensures.held c.give_disk.ensures.disks c.give_disk.ensures.back c.give_disk.ensures.others_out c.give_disk.ensures.count c.give_disk.ensures.other_counts (g.F.Shelf.disk c.give_back-in-Err.new.shelf) (g.F.Shelf.is_out c.give_back-in-Err.new.shelf) (g.F.Shelf.disk_faults c.give_back-in-Err.new.shelf) c.give_back-in-Err.ensures.back c.give_back-in-Err.ensures.inside c.give_back-in-Err.ensures.others_out c.give_back-in-Err.ensures.disks c.give_back-in-Err.ensures.counts
+    done_out _ _ _ g.F.D.Disk.tells g.F.Shelf.tells g.F.D.Disk.reads g.F.D.Disk.image g.F.D.Disk.faults c.args.seats.items c.loop-alloc.seats.items c.remove-seat.new.self.items c.loop-alloc.reopened.items c.remove-seat.result first half (g.F.Shelf.disk shelf) (g.F.Shelf.is_out shelf) (g.F.Shelf.disk_faults shelf) c.requires.distinct out later c.in-Err.returned.disk (g.F.Shelf.disk c.give_disk.new.self) (g.F.Shelf.is_out c.give_disk.new.self) (g.F.Shelf.disk_faults c.give_disk.new.self) c.as_str.result.now named g.met.F.Shelf.tells_disks c.in-Err.ensures.left c.give_disk.ensures.held c.give_disk.ensures.disks c.give_disk.ensures.back c.give_disk.ensures.others_out c.give_disk.ensures.count c.give_disk.ensures.other_counts (g.F.Shelf.disk c.give_back-in-Err.new.shelf) (g.F.Shelf.is_out c.give_back-in-Err.new.shelf) (g.F.Shelf.disk_faults c.give_back-in-Err.new.shelf) c.give_back-in-Err.ensures.back c.give_back-in-Err.ensures.inside c.give_back-in-Err.ensures.others_out c.give_back-in-Err.ensures.disks c.give_back-in-Err.ensures.counts
 
 pub give_back-requires-in-Err-2-clause-later : goal.give_back-requires-in-Err-2-clause-later
 give_back-requires-in-Err-2-clause-later g c =
@@ -119,7 +119,7 @@ give_back-requires-in-Err-2-clause-later g c =
     let out = subst (λ s. AllOut (journals c.args.seats.items) (g.F.Shelf.is_out s)) (sym same) c.requires.out in
     let later = subst (λ s. AreLater g.F.D.Disk.faults (g.F.Shelf.disk_faults s) c.args.seats.items) (sym same) c.requires.later in
     let named = c.as_str.ensures.value ∙ c.in-Err.ensures.journal in
-    done_later _ _ _ g.F.D.Disk.told g.F.Shelf.told g.F.D.Disk.reads g.F.D.Disk.image g.F.D.Disk.faults c.args.seats.items c.loop-alloc.seats.items c.remove-seat.new.self.items c.loop-alloc.reopened.items c.remove-seat.result first half (g.F.Shelf.disk shelf) (g.F.Shelf.is_out shelf) (g.F.Shelf.disk_faults shelf) c.requires.distinct out later c.in-Err.returned.disk (g.F.Shelf.disk c.give_disk.new.self) (g.F.Shelf.is_out c.give_disk.new.self) (g.F.Shelf.disk_faults c.give_disk.new.self) c.as_str.result.now named g.met.F.Shelf.tells_disks c.in-Err.ensures.left c.give_disk.ensures.held c.give_disk.ensures.disks c.give_disk.ensures.back c.give_disk.ensures.others_out c.give_disk.ensures.count c.give_disk.ensures.other_counts (g.F.Shelf.disk c.give_back-in-Err.new.shelf) (g.F.Shelf.is_out c.give_back-in-Err.new.shelf) (g.F.Shelf.disk_faults c.give_back-in-Err.new.shelf) c.give_back-in-Err.ensures.back c.give_back-in-Err.ensures.inside c.give_back-in-Err.ensures.others_out c.give_back-in-Err.ensures.disks c.give_back-in-Err.ensures.counts
+    done_later _ _ _ g.F.D.Disk.tells g.F.Shelf.tells g.F.D.Disk.reads g.F.D.Disk.image g.F.D.Disk.faults c.args.seats.items c.loop-alloc.seats.items c.remove-seat.new.self.items c.loop-alloc.reopened.items c.remove-seat.result first half (g.F.Shelf.disk shelf) (g.F.Shelf.is_out shelf) (g.F.Shelf.disk_faults shelf) c.requires.distinct out later c.in-Err.returned.disk (g.F.Shelf.disk c.give_disk.new.self) (g.F.Shelf.is_out c.give_disk.new.self) (g.F.Shelf.disk_faults c.give_disk.new.self) c.as_str.result.now named g.met.F.Shelf.tells_disks c.in-Err.ensures.left c.give_disk.ensures.held c.give_disk.ensures.disks c.give_disk.ensures.back c.give_disk.ensures.others_out c.give_disk.ensures.count c.give_disk.ensures.other_counts (g.F.Shelf.disk c.give_back-in-Err.new.shelf) (g.F.Shelf.is_out c.give_back-in-Err.new.shelf) (g.F.Shelf.disk_faults c.give_back-in-Err.new.shelf) c.give_back-in-Err.ensures.back c.give_back-in-Err.ensures.inside c.give_back-in-Err.ensures.others_out c.give_back-in-Err.ensures.disks c.give_back-in-Err.ensures.counts
 
 pub returns-in-Err-clause-back : goal.returns-in-Err-clause-back
 returns-in-Err-clause-back g c =
@@ -130,7 +130,7 @@ returns-in-Err-clause-back g c =
     let out = subst (λ s. AllOut (journals c.args.seats.items) (g.F.Shelf.is_out s)) (sym same) c.requires.out in
     let later = subst (λ s. AreLater g.F.D.Disk.faults (g.F.Shelf.disk_faults s) c.args.seats.items) (sym same) c.requires.later in
     let named = c.as_str.ensures.value ∙ c.in-Err.ensures.journal in
-    (failed _ _ _ g.F.D.Disk.told g.F.Shelf.told g.F.D.Disk.reads g.F.D.Disk.image g.F.D.Disk.faults c.args.seats.items c.loop-alloc.seats.items c.remove-seat.new.self.items c.loop-alloc.reopened.items c.remove-seat.result first half (g.F.Shelf.disk shelf) (g.F.Shelf.is_out shelf) (g.F.Shelf.disk_faults shelf) c.requires.distinct out later c.in-Err.returned.disk (g.F.Shelf.disk c.give_disk.new.self) (g.F.Shelf.is_out c.give_disk.new.self) (g.F.Shelf.disk_faults c.give_disk.new.self) c.as_str.result.now named g.met.F.Shelf.tells_disks c.in-Err.ensures.left c.give_disk.ensures.held c.give_disk.ensures.disks c.give_disk.ensures.back c.give_disk.ensures.others_out c.give_disk.ensures.count c.give_disk.ensures.other_counts (g.F.Shelf.disk c.give_back-in-Err.new.shelf) (g.F.Shelf.is_out c.give_back-in-Err.new.shelf) (g.F.Shelf.disk_faults c.give_back-in-Err.new.shelf) c.give_back-in-Err.ensures.back c.give_back-in-Err.ensures.inside c.give_back-in-Err.ensures.others_out c.give_back-in-Err.ensures.disks c.give_back-in-Err.ensures.counts (g.F.Shelf.disk c.give_back-in-Err-2.new.shelf) (g.F.Shelf.is_out c.give_back-in-Err-2.new.shelf) (g.F.Shelf.disk_faults c.give_back-in-Err-2.new.shelf) c.give_back-in-Err-2.ensures.back c.give_back-in-Err-2.ensures.inside c.give_back-in-Err-2.ensures.others_out c.give_back-in-Err-2.ensures.disks c.give_back-in-Err-2.ensures.counts).back
+    (failed _ _ _ g.F.D.Disk.tells g.F.Shelf.tells g.F.D.Disk.reads g.F.D.Disk.image g.F.D.Disk.faults c.args.seats.items c.loop-alloc.seats.items c.remove-seat.new.self.items c.loop-alloc.reopened.items c.remove-seat.result first half (g.F.Shelf.disk shelf) (g.F.Shelf.is_out shelf) (g.F.Shelf.disk_faults shelf) c.requires.distinct out later c.in-Err.returned.disk (g.F.Shelf.disk c.give_disk.new.self) (g.F.Shelf.is_out c.give_disk.new.self) (g.F.Shelf.disk_faults c.give_disk.new.self) c.as_str.result.now named g.met.F.Shelf.tells_disks c.in-Err.ensures.left c.give_disk.ensures.held c.give_disk.ensures.disks c.give_disk.ensures.back c.give_disk.ensures.others_out c.give_disk.ensures.count c.give_disk.ensures.other_counts (g.F.Shelf.disk c.give_back-in-Err.new.shelf) (g.F.Shelf.is_out c.give_back-in-Err.new.shelf) (g.F.Shelf.disk_faults c.give_back-in-Err.new.shelf) c.give_back-in-Err.ensures.back c.give_back-in-Err.ensures.inside c.give_back-in-Err.ensures.others_out c.give_back-in-Err.ensures.disks c.give_back-in-Err.ensures.counts (g.F.Shelf.disk c.give_back-in-Err-2.new.shelf) (g.F.Shelf.is_out c.give_back-in-Err-2.new.shelf) (g.F.Shelf.disk_faults c.give_back-in-Err-2.new.shelf) c.give_back-in-Err-2.ensures.back c.give_back-in-Err-2.ensures.inside c.give_back-in-Err-2.ensures.others_out c.give_back-in-Err-2.ensures.disks c.give_back-in-Err-2.ensures.counts).back
 
 pub returns-in-Err-clause-inside : goal.returns-in-Err-clause-inside
 returns-in-Err-clause-inside g c =
@@ -141,7 +141,7 @@ returns-in-Err-clause-inside g c =
     let out = subst (λ s. AllOut (journals c.args.seats.items) (g.F.Shelf.is_out s)) (sym same) c.requires.out in
     let later = subst (λ s. AreLater g.F.D.Disk.faults (g.F.Shelf.disk_faults s) c.args.seats.items) (sym same) c.requires.later in
     let named = c.as_str.ensures.value ∙ c.in-Err.ensures.journal in
-    (failed _ _ _ g.F.D.Disk.told g.F.Shelf.told g.F.D.Disk.reads g.F.D.Disk.image g.F.D.Disk.faults c.args.seats.items c.loop-alloc.seats.items c.remove-seat.new.self.items c.loop-alloc.reopened.items c.remove-seat.result first half (g.F.Shelf.disk shelf) (g.F.Shelf.is_out shelf) (g.F.Shelf.disk_faults shelf) c.requires.distinct out later c.in-Err.returned.disk (g.F.Shelf.disk c.give_disk.new.self) (g.F.Shelf.is_out c.give_disk.new.self) (g.F.Shelf.disk_faults c.give_disk.new.self) c.as_str.result.now named g.met.F.Shelf.tells_disks c.in-Err.ensures.left c.give_disk.ensures.held c.give_disk.ensures.disks c.give_disk.ensures.back c.give_disk.ensures.others_out c.give_disk.ensures.count c.give_disk.ensures.other_counts (g.F.Shelf.disk c.give_back-in-Err.new.shelf) (g.F.Shelf.is_out c.give_back-in-Err.new.shelf) (g.F.Shelf.disk_faults c.give_back-in-Err.new.shelf) c.give_back-in-Err.ensures.back c.give_back-in-Err.ensures.inside c.give_back-in-Err.ensures.others_out c.give_back-in-Err.ensures.disks c.give_back-in-Err.ensures.counts (g.F.Shelf.disk c.give_back-in-Err-2.new.shelf) (g.F.Shelf.is_out c.give_back-in-Err-2.new.shelf) (g.F.Shelf.disk_faults c.give_back-in-Err-2.new.shelf) c.give_back-in-Err-2.ensures.back c.give_back-in-Err-2.ensures.inside c.give_back-in-Err-2.ensures.others_out c.give_back-in-Err-2.ensures.disks c.give_back-in-Err-2.ensures.counts).inside
+    (failed _ _ _ g.F.D.Disk.tells g.F.Shelf.tells g.F.D.Disk.reads g.F.D.Disk.image g.F.D.Disk.faults c.args.seats.items c.loop-alloc.seats.items c.remove-seat.new.self.items c.loop-alloc.reopened.items c.remove-seat.result first half (g.F.Shelf.disk shelf) (g.F.Shelf.is_out shelf) (g.F.Shelf.disk_faults shelf) c.requires.distinct out later c.in-Err.returned.disk (g.F.Shelf.disk c.give_disk.new.self) (g.F.Shelf.is_out c.give_disk.new.self) (g.F.Shelf.disk_faults c.give_disk.new.self) c.as_str.result.now named g.met.F.Shelf.tells_disks c.in-Err.ensures.left c.give_disk.ensures.held c.give_disk.ensures.disks c.give_disk.ensures.back c.give_disk.ensures.others_out c.give_disk.ensures.count c.give_disk.ensures.other_counts (g.F.Shelf.disk c.give_back-in-Err.new.shelf) (g.F.Shelf.is_out c.give_back-in-Err.new.shelf) (g.F.Shelf.disk_faults c.give_back-in-Err.new.shelf) c.give_back-in-Err.ensures.back c.give_back-in-Err.ensures.inside c.give_back-in-Err.ensures.others_out c.give_back-in-Err.ensures.disks c.give_back-in-Err.ensures.counts (g.F.Shelf.disk c.give_back-in-Err-2.new.shelf) (g.F.Shelf.is_out c.give_back-in-Err-2.new.shelf) (g.F.Shelf.disk_faults c.give_back-in-Err-2.new.shelf) c.give_back-in-Err-2.ensures.back c.give_back-in-Err-2.ensures.inside c.give_back-in-Err-2.ensures.others_out c.give_back-in-Err-2.ensures.disks c.give_back-in-Err-2.ensures.counts).inside
 
 pub returns-in-Err-clause-others_out : goal.returns-in-Err-clause-others_out
 returns-in-Err-clause-others_out g c =
@@ -152,7 +152,7 @@ returns-in-Err-clause-others_out g c =
     let out = subst (λ s. AllOut (journals c.args.seats.items) (g.F.Shelf.is_out s)) (sym same) c.requires.out in
     let later = subst (λ s. AreLater g.F.D.Disk.faults (g.F.Shelf.disk_faults s) c.args.seats.items) (sym same) c.requires.later in
     let named = c.as_str.ensures.value ∙ c.in-Err.ensures.journal in
-    subst (λ s. SameBeside (journals c.args.seats.items) (g.F.Shelf.is_out s) (g.F.Shelf.is_out c.give_back-in-Err-2.new.shelf)) same (failed _ _ _ g.F.D.Disk.told g.F.Shelf.told g.F.D.Disk.reads g.F.D.Disk.image g.F.D.Disk.faults c.args.seats.items c.loop-alloc.seats.items c.remove-seat.new.self.items c.loop-alloc.reopened.items c.remove-seat.result first half (g.F.Shelf.disk shelf) (g.F.Shelf.is_out shelf) (g.F.Shelf.disk_faults shelf) c.requires.distinct out later c.in-Err.returned.disk (g.F.Shelf.disk c.give_disk.new.self) (g.F.Shelf.is_out c.give_disk.new.self) (g.F.Shelf.disk_faults c.give_disk.new.self) c.as_str.result.now named g.met.F.Shelf.tells_disks c.in-Err.ensures.left c.give_disk.ensures.held c.give_disk.ensures.disks c.give_disk.ensures.back c.give_disk.ensures.others_out c.give_disk.ensures.count c.give_disk.ensures.other_counts (g.F.Shelf.disk c.give_back-in-Err.new.shelf) (g.F.Shelf.is_out c.give_back-in-Err.new.shelf) (g.F.Shelf.disk_faults c.give_back-in-Err.new.shelf) c.give_back-in-Err.ensures.back c.give_back-in-Err.ensures.inside c.give_back-in-Err.ensures.others_out c.give_back-in-Err.ensures.disks c.give_back-in-Err.ensures.counts (g.F.Shelf.disk c.give_back-in-Err-2.new.shelf) (g.F.Shelf.is_out c.give_back-in-Err-2.new.shelf) (g.F.Shelf.disk_faults c.give_back-in-Err-2.new.shelf) c.give_back-in-Err-2.ensures.back c.give_back-in-Err-2.ensures.inside c.give_back-in-Err-2.ensures.others_out c.give_back-in-Err-2.ensures.disks c.give_back-in-Err-2.ensures.counts).others_out
+    subst (λ s. SameBeside (journals c.args.seats.items) (g.F.Shelf.is_out s) (g.F.Shelf.is_out c.give_back-in-Err-2.new.shelf)) same (failed _ _ _ g.F.D.Disk.tells g.F.Shelf.tells g.F.D.Disk.reads g.F.D.Disk.image g.F.D.Disk.faults c.args.seats.items c.loop-alloc.seats.items c.remove-seat.new.self.items c.loop-alloc.reopened.items c.remove-seat.result first half (g.F.Shelf.disk shelf) (g.F.Shelf.is_out shelf) (g.F.Shelf.disk_faults shelf) c.requires.distinct out later c.in-Err.returned.disk (g.F.Shelf.disk c.give_disk.new.self) (g.F.Shelf.is_out c.give_disk.new.self) (g.F.Shelf.disk_faults c.give_disk.new.self) c.as_str.result.now named g.met.F.Shelf.tells_disks c.in-Err.ensures.left c.give_disk.ensures.held c.give_disk.ensures.disks c.give_disk.ensures.back c.give_disk.ensures.others_out c.give_disk.ensures.count c.give_disk.ensures.other_counts (g.F.Shelf.disk c.give_back-in-Err.new.shelf) (g.F.Shelf.is_out c.give_back-in-Err.new.shelf) (g.F.Shelf.disk_faults c.give_back-in-Err.new.shelf) c.give_back-in-Err.ensures.back c.give_back-in-Err.ensures.inside c.give_back-in-Err.ensures.others_out c.give_back-in-Err.ensures.disks c.give_back-in-Err.ensures.counts (g.F.Shelf.disk c.give_back-in-Err-2.new.shelf) (g.F.Shelf.is_out c.give_back-in-Err-2.new.shelf) (g.F.Shelf.disk_faults c.give_back-in-Err-2.new.shelf) c.give_back-in-Err-2.ensures.back c.give_back-in-Err-2.ensures.inside c.give_back-in-Err-2.ensures.others_out c.give_back-in-Err-2.ensures.disks c.give_back-in-Err-2.ensures.counts).others_out
 
 pub returns-in-Err-clause-disks : goal.returns-in-Err-clause-disks
 returns-in-Err-clause-disks g c =
@@ -163,7 +163,7 @@ returns-in-Err-clause-disks g c =
     let out = subst (λ s. AllOut (journals c.args.seats.items) (g.F.Shelf.is_out s)) (sym same) c.requires.out in
     let later = subst (λ s. AreLater g.F.D.Disk.faults (g.F.Shelf.disk_faults s) c.args.seats.items) (sym same) c.requires.later in
     let named = c.as_str.ensures.value ∙ c.in-Err.ensures.journal in
-    subst (λ s. SameBeside (journals c.args.seats.items) (g.F.Shelf.disk s) (g.F.Shelf.disk c.give_back-in-Err-2.new.shelf)) same (failed _ _ _ g.F.D.Disk.told g.F.Shelf.told g.F.D.Disk.reads g.F.D.Disk.image g.F.D.Disk.faults c.args.seats.items c.loop-alloc.seats.items c.remove-seat.new.self.items c.loop-alloc.reopened.items c.remove-seat.result first half (g.F.Shelf.disk shelf) (g.F.Shelf.is_out shelf) (g.F.Shelf.disk_faults shelf) c.requires.distinct out later c.in-Err.returned.disk (g.F.Shelf.disk c.give_disk.new.self) (g.F.Shelf.is_out c.give_disk.new.self) (g.F.Shelf.disk_faults c.give_disk.new.self) c.as_str.result.now named g.met.F.Shelf.tells_disks c.in-Err.ensures.left c.give_disk.ensures.held c.give_disk.ensures.disks c.give_disk.ensures.back c.give_disk.ensures.others_out c.give_disk.ensures.count c.give_disk.ensures.other_counts (g.F.Shelf.disk c.give_back-in-Err.new.shelf) (g.F.Shelf.is_out c.give_back-in-Err.new.shelf) (g.F.Shelf.disk_faults c.give_back-in-Err.new.shelf) c.give_back-in-Err.ensures.back c.give_back-in-Err.ensures.inside c.give_back-in-Err.ensures.others_out c.give_back-in-Err.ensures.disks c.give_back-in-Err.ensures.counts (g.F.Shelf.disk c.give_back-in-Err-2.new.shelf) (g.F.Shelf.is_out c.give_back-in-Err-2.new.shelf) (g.F.Shelf.disk_faults c.give_back-in-Err-2.new.shelf) c.give_back-in-Err-2.ensures.back c.give_back-in-Err-2.ensures.inside c.give_back-in-Err-2.ensures.others_out c.give_back-in-Err-2.ensures.disks c.give_back-in-Err-2.ensures.counts).disks
+    subst (λ s. SameBeside (journals c.args.seats.items) (g.F.Shelf.disk s) (g.F.Shelf.disk c.give_back-in-Err-2.new.shelf)) same (failed _ _ _ g.F.D.Disk.tells g.F.Shelf.tells g.F.D.Disk.reads g.F.D.Disk.image g.F.D.Disk.faults c.args.seats.items c.loop-alloc.seats.items c.remove-seat.new.self.items c.loop-alloc.reopened.items c.remove-seat.result first half (g.F.Shelf.disk shelf) (g.F.Shelf.is_out shelf) (g.F.Shelf.disk_faults shelf) c.requires.distinct out later c.in-Err.returned.disk (g.F.Shelf.disk c.give_disk.new.self) (g.F.Shelf.is_out c.give_disk.new.self) (g.F.Shelf.disk_faults c.give_disk.new.self) c.as_str.result.now named g.met.F.Shelf.tells_disks c.in-Err.ensures.left c.give_disk.ensures.held c.give_disk.ensures.disks c.give_disk.ensures.back c.give_disk.ensures.others_out c.give_disk.ensures.count c.give_disk.ensures.other_counts (g.F.Shelf.disk c.give_back-in-Err.new.shelf) (g.F.Shelf.is_out c.give_back-in-Err.new.shelf) (g.F.Shelf.disk_faults c.give_back-in-Err.new.shelf) c.give_back-in-Err.ensures.back c.give_back-in-Err.ensures.inside c.give_back-in-Err.ensures.others_out c.give_back-in-Err.ensures.disks c.give_back-in-Err.ensures.counts (g.F.Shelf.disk c.give_back-in-Err-2.new.shelf) (g.F.Shelf.is_out c.give_back-in-Err-2.new.shelf) (g.F.Shelf.disk_faults c.give_back-in-Err-2.new.shelf) c.give_back-in-Err-2.ensures.back c.give_back-in-Err-2.ensures.inside c.give_back-in-Err-2.ensures.others_out c.give_back-in-Err-2.ensures.disks c.give_back-in-Err-2.ensures.counts).disks
 
 pub returns-in-Err-clause-counts : goal.returns-in-Err-clause-counts
 returns-in-Err-clause-counts g c =
@@ -174,8 +174,8 @@ returns-in-Err-clause-counts g c =
     let out = subst (λ s. AllOut (journals c.args.seats.items) (g.F.Shelf.is_out s)) (sym same) c.requires.out in
     let later = subst (λ s. AreLater g.F.D.Disk.faults (g.F.Shelf.disk_faults s) c.args.seats.items) (sym same) c.requires.later in
     let named = c.as_str.ensures.value ∙ c.in-Err.ensures.journal in
-    subst (λ s. SameBeside (journals c.args.seats.items) (g.F.Shelf.disk_faults s) (g.F.Shelf.disk_faults c.give_back-in-Err-2.new.shelf)) same (failed _ _ _ g.F.D.Disk.told g.F.Shelf.told g.F.D.Disk.reads g.F.D.Disk.image g.F.D.Disk.faults c.args.seats.items c.loop-alloc.seats.items c.remove-seat.new.self.items c.loop-alloc.reopened.items c.remove-seat.result first half (g.F.Shelf.disk shelf) (g.F.Shelf.is_out shelf) (g.F.Shelf.disk_faults shelf) c.requires.distinct out later c.in-Err.returned.disk (g.F.Shelf.disk c.give_disk.new.self) (g.F.Shelf.is_out c.give_disk.new.self) (g.F.Shelf.disk_faults c.give_disk.new.self) c.as_str.result.now named g.met.F.Shelf.tells_disks c.in-Err.ensures.left c.give_disk.ensures.held c.give_disk.ensures.disks c.give_disk.ensures.back c.give_disk.ensures.others_out c.give_disk.ensures.count c.give_disk.ensures.other_counts (g.F.Shelf.disk c.give_back-in-Err.new.shelf) (g.F.Shelf.is_out c.give_back-in-Err.new.shelf) (g.F.Shelf.disk_faults c.give_back-in-Err.new.shelf) c.give_back-in-Err.ensures.back c.give_back-in-Err.ensures.inside c.give_back-in-Err.ensures.others_out c.give_back-in-Err.ensures.disks c.give_back-in-Err.ensures.counts (g.F.Shelf.disk c.give_back-in-Err-2.new.shelf) (g.F.Shelf.is_out c.give_back-in-Err-2.new.shelf) (g.F.Shelf.disk_faults c.give_back-in-Err-2.new.shelf) c.give_back-in-Err-2.ensures.back c.give_back-in-Err-2.ensures.inside c.give_back-in-Err-2.ensures.others_out c.give_back-in-Err-2.ensures.disks c.give_back-in-Err-2.ensures.counts).counts
+    subst (λ s. SameBeside (journals c.args.seats.items) (g.F.Shelf.disk_faults s) (g.F.Shelf.disk_faults c.give_back-in-Err-2.new.shelf)) same (failed _ _ _ g.F.D.Disk.tells g.F.Shelf.tells g.F.D.Disk.reads g.F.D.Disk.image g.F.D.Disk.faults c.args.seats.items c.loop-alloc.seats.items c.remove-seat.new.self.items c.loop-alloc.reopened.items c.remove-seat.result first half (g.F.Shelf.disk shelf) (g.F.Shelf.is_out shelf) (g.F.Shelf.disk_faults shelf) c.requires.distinct out later c.in-Err.returned.disk (g.F.Shelf.disk c.give_disk.new.self) (g.F.Shelf.is_out c.give_disk.new.self) (g.F.Shelf.disk_faults c.give_disk.new.self) c.as_str.result.now named g.met.F.Shelf.tells_disks c.in-Err.ensures.left c.give_disk.ensures.held c.give_disk.ensures.disks c.give_disk.ensures.back c.give_disk.ensures.others_out c.give_disk.ensures.count c.give_disk.ensures.other_counts (g.F.Shelf.disk c.give_back-in-Err.new.shelf) (g.F.Shelf.is_out c.give_back-in-Err.new.shelf) (g.F.Shelf.disk_faults c.give_back-in-Err.new.shelf) c.give_back-in-Err.ensures.back c.give_back-in-Err.ensures.inside c.give_back-in-Err.ensures.others_out c.give_back-in-Err.ensures.disks c.give_back-in-Err.ensures.counts (g.F.Shelf.disk c.give_back-in-Err-2.new.shelf) (g.F.Shelf.is_out c.give_back-in-Err-2.new.shelf) (g.F.Shelf.disk_faults c.give_back-in-Err-2.new.shelf) c.give_back-in-Err-2.ensures.back c.give_back-in-Err-2.ensures.inside c.give_back-in-Err-2.ensures.others_out c.give_back-in-Err-2.ensures.disks c.give_back-in-Err-2.ensures.counts).counts
 
 pub returns-clause-reopened : goal.returns-clause-reopened
 returns-clause-reopened g c =
-    halfway_all _ _ _ g.F.D.Disk.told g.F.Shelf.told g.F.D.Disk.reads g.F.D.Disk.image g.F.D.Disk.faults c.args.seats.items c.loop-alloc.seats.items c.loop-alloc.reopened.items (none_left c.loop-alloc.seats.items (ap (λ n. n == 0) (sym c.loop-alloc.seats.ok.0) ∙ sym c.loop-alloc-test.ensures)) c.loop-alloc.invariant.half
+    halfway_all _ _ _ g.F.D.Disk.tells g.F.Shelf.tells g.F.D.Disk.reads g.F.D.Disk.image g.F.D.Disk.faults c.args.seats.items c.loop-alloc.seats.items c.loop-alloc.reopened.items (none_left c.loop-alloc.seats.items (ap (λ n. n == 0) (sym c.loop-alloc.seats.ok.0) ∙ sym c.loop-alloc-test.ensures)) c.loop-alloc.invariant.half

@@ -7,7 +7,7 @@ use Rattle.dimacs_text.proofs.reading.read_cnf.Given as goal
 -- the problem so far goes on with the lines to come
 abbrev pub invariant-loop-number : goal.invariant-loop-number
 invariant-loop-number g l = record {
-  so_far : g.S.Source.told → cnf_after l.number l.problem (text_lines (unread l.buffer (g.S.Source.left l.source))) ≡ cnf_in (g.S.Source.left l.fn.source);
+  so_far : g.S.Source.tells → cnf_after l.number l.problem (text_lines (unread l.buffer (g.S.Source.left l.source))) ≡ cnf_in (g.S.Source.left l.fn.source);
   low : l.number ≤ 1000001;
   held : g.S.Source.held l.source ≡ g.S.Source.held l.fn.source;
   later : g.S.Source.faults l.fn.source ≤ g.S.Source.faults l.source;

@@ -8,7 +8,7 @@ abbrev pub invariant-loop-at : goal.invariant-loop-at
 invariant-loop-at g l = record {
   searched : IsSearched l.searched l.buffer.ahead;
   no_line : l.buffer.line ≡ [];
-  unread : g.S.Source.told → unread l.buffer (g.S.Source.left l.source) ≡ unread l.fn.buffer (g.S.Source.left l.fn.source);
+  unread : g.S.Source.tells → unread l.buffer (g.S.Source.left l.source) ≡ unread l.fn.buffer (g.S.Source.left l.fn.source);
   held : g.S.Source.held l.source ≡ g.S.Source.held l.fn.source;
   later : g.S.Source.faults l.fn.source ≤ g.S.Source.faults l.source;
 }

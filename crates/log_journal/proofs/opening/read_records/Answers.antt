@@ -25,7 +25,7 @@ returns-in_err-record-clause-refused g c =
     let R' = g.D.Disk.reads c.loop.disk in
     let length_is : length c.loop.records.items ≡ c.len.result = search rules in
     let count : c.len.result ≡ length (map recorded c.loop.records.items) = sym (length-map c.loop.records.items recorded ∙ length_is) in
-    rw (p.1, p.2) (refused_at g.D.Disk.told (g.D.Disk.reads c.args.disk.now) R' (map recorded c.loop.records.items) c.loop.gate c.len.result
+    rw (p.1, p.2) (refused_at g.D.Disk.tells (g.D.Disk.reads c.args.disk.now) R' (map recorded c.loop.records.items) c.loop.gate c.len.result
     (g.D.Disk.faults c.args.disk.now) (g.D.Disk.faults c.loop.disk) (g.D.Disk.faults c.record_at.new.disk) c.in_err-record.field-0.0
     c.loop.invariant.only.count c.requires.long c.loop.invariant.only.reads c.loop.invariant.so_far count c.in_err-record.ensures.refused)
 

@@ -7,7 +7,7 @@ use Rattle.script_lines.proofs.reading.pass_rest.Given as goal
 -- a line to come that is refused whatever it says is one of those behind the refused line
 abbrev pub invariant-loop-next : goal.invariant-loop-next
 invariant-loop-next g l = record {
-  cut : g.S.Source.told → is_cut_short l.next (text_lines (unread l.buffer (g.S.Source.left l.source))) ≡ true
+  cut : g.S.Source.tells → is_cut_short l.next (text_lines (unread l.buffer (g.S.Source.left l.source))) ≡ true
       → is_cut_short l.fn.number (text_lines (unread l.fn.buffer (g.S.Source.left l.fn.source))) ≡ true;
   low : l.next ≤ 100001;
   held : g.S.Source.held l.source ≡ g.S.Source.held l.fn.source;

@@ -1,9 +1,9 @@
-use Rattle.std.proofs.Common.{inr, ◌++◌, ◌+◌, ap, ◌∙◌, arith}
+use Rattle.std.proofs.Common.{inr, ◌++◌, ◌+◌, ap, sym, ◌∙◌, arith}
 use Rattle.std.specs.List.{sum_by, flat_map}
 use Rattle.outside.specs.Visits.{one_if_any}
 use Rattle.log_journal.specs.Opening.{header_bytes}
 use Rattle.desk_crew.specs.Shelved.{journals_on}
-use Rattle.serve_engine.proofs.Connections.{ends_of, new_given, at_end}
+use Rattle.serve_engine.proofs.Connections.{ends_of, new_given, at_end, leaves_journals, few_ended, not_longer}
 use Rattle.serve_engine.proofs.run.run_serve.Goals as goal
 
 pub returns-clause-ends : goal.returns-clause-ends
@@ -11,11 +11,11 @@ returns-clause-ends g c shelf_told links_told =
     let heard = c.in-Ok.ensures in
     let back = c.take_back_all.ensures in
     let door_told = g.met.L.Links.tells_doors links_told in
-    ends_of c.args.registry.now.schema.now c.args.registry.now.world.now (header_bytes c.args.registry.now.header.now) (journals_on g.F.D.Disk.reads g.F.D.Disk.image c.args.registry.now.directory.now (g.F.Shelf.disk c.args.shelf.now) (g.F.Shelf.disk c.serve_opened-end.new.shelf) (g.F.Shelf.disk_faults c.args.shelf.now) (g.F.Shelf.disk_faults c.serve_opened-end.new.shelf)) c.args.registry.now.users.now g.L.D.Door.told door_told g.L.D.Door.given g.L.D.Door.left g.L.D.Door.faults g.L.D.Door.back c.in-Ok.doors.items c.serve_opened-end.result.1.items (heard.fresh links_told)
+    ends_of c.args.registry.now.schema.now c.args.registry.now.world.now (header_bytes c.args.registry.now.header.now) (journals_on g.F.D.Disk.reads g.F.D.Disk.image c.args.registry.now.directory.now (g.F.Shelf.disk c.args.shelf.now) (g.F.Shelf.disk c.serve_opened-end.new.shelf) (g.F.Shelf.disk_faults c.args.shelf.now) (g.F.Shelf.disk_faults c.serve_opened-end.new.shelf)) c.args.registry.now.users.now g.L.D.Door.tells door_told g.L.D.Door.given g.L.D.Door.left g.L.D.Door.faults g.L.D.Door.back c.in-Ok.doors.items c.serve_opened-end.result.1.items (heard.fresh links_told)
     (g.L.Links.given c.args.links.now) (g.L.Links.given c.take_back_all.new.links) (g.L.Links.back c.args.links.now) (g.L.Links.back c.take_back_all.new.links)
     (back.given links_told ∙ ap (λ n. n + sum_by g.L.D.Door.given c.serve_opened-end.result.1.items) (heard.given links_told))
     (back.back links_told ∙ ap (λ l. l ++ flat_map g.L.D.Door.back c.serve_opened-end.result.1.items) (heard.back links_told))
-    c.serve_opened-end.result.0 (c.serve_opened-end.ensures.ends shelf_told door_told)
+    c.serve_opened-end.result.0 (c.serve_opened-end.ensures.ends shelf_told)
 
 pub returns-clause-ended : goal.returns-clause-ended
 returns-clause-ended g c links_told done =
@@ -41,3 +41,24 @@ returns-clause-listens g c links_told = inr (c.take_back_all.ensures.listened li
 
 pub returns-clause-heard : goal.returns-clause-heard
 returns-clause-heard g c links_told done = c.take_back_all.ensures.listened links_told ∙ c.in-Ok.ensures.listened links_told
+
+pub returns-clause-journals : goal.returns-clause-journals
+returns-clause-journals g c shelf_told =
+    leaves_journals c.args.registry.now.schema.now c.args.registry.now.world.now (header_bytes c.args.registry.now.header.now)
+    (journals_on g.F.D.Disk.reads g.F.D.Disk.image c.args.registry.now.directory.now (g.F.Shelf.disk c.args.shelf.now) (g.F.Shelf.disk c.serve_opened-end.new.shelf)
+    (g.F.Shelf.disk_faults c.args.shelf.now) (g.F.Shelf.disk_faults c.serve_opened-end.new.shelf)) c.args.registry.now.users.now g.L.D.Door.tells
+    g.L.D.Door.given g.L.D.Door.left g.L.D.Door.faults g.L.D.Door.back c.in-Ok.doors.items c.serve_opened-end.result.1.items
+    c.serve_opened-end.result.0 (c.serve_opened-end.ensures.ends shelf_told)
+
+pub returns-clause-unheard : goal.returns-clause-unheard
+returns-clause-unheard g c links_told same =
+    absurd (not_longer _ _ (sym (c.take_back_all.ensures.listened links_told ∙ c.in-Ok.ensures.listened links_told) ∙ same))
+
+pub returns-clause-few_ended : goal.returns-clause-few_ended
+returns-clause-few_ended g c =
+    let heard = c.in-Ok.ensures.ended in
+    let back = c.take_back_all.ensures.ended in
+    let few = few_ended g.L.D.Door.ends c.serve_opened-end.result.1.items in
+    let many = c.serve_opened-end.ensures.doors in
+    let count = c.in-Ok.ensures.count in
+    omega (arith, heard, back, few, many, count)

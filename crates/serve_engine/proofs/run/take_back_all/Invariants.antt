@@ -12,10 +12,10 @@ invariant-loop-door g l = record {
   rest : l.yielded ++ into_iter_items l.door-iterator ≡ l.fn.doors.items;
   out : g.L.Links.out l.fn.links ≡ g.L.Links.out l.links + length l.yielded;
   ended : g.L.Links.ended l.links ≡ g.L.Links.ended l.fn.links + sum_by (λ door. one_if_any (g.L.D.Door.ends door)) l.yielded;
-  given : g.L.Links.told → g.L.Links.given l.links ≡ g.L.Links.given l.fn.links + sum_by g.L.D.Door.given l.yielded;
-  at_hand : g.L.Links.told → g.L.Links.at_hand l.links ≡ g.L.Links.at_hand l.fn.links + sum_by g.L.D.Door.left l.yielded;
-  back : g.L.Links.told → g.L.Links.back l.links ≡ g.L.Links.back l.fn.links ++ flat_map g.L.D.Door.back l.yielded;
-  listened : g.L.Links.told → g.L.Links.listened l.links ≡ g.L.Links.listened l.fn.links;
+  given : g.L.Links.tells → g.L.Links.given l.links ≡ g.L.Links.given l.fn.links + sum_by g.L.D.Door.given l.yielded;
+  at_hand : g.L.Links.tells → g.L.Links.at_hand l.links ≡ g.L.Links.at_hand l.fn.links + sum_by g.L.D.Door.left l.yielded;
+  back : g.L.Links.tells → g.L.Links.back l.links ≡ g.L.Links.back l.fn.links ++ flat_map g.L.D.Door.back l.yielded;
+  listened : g.L.Links.tells → g.L.Links.listened l.links ≡ g.L.Links.listened l.fn.links;
   later : g.L.Links.faults l.fn.links ≤ g.L.Links.faults l.links;
   failed : SomeFailed g.L.D.Door.faults l.yielded → Rose (g.L.Links.faults l.fn.links) (g.L.Links.faults l.links);
 }

@@ -25,13 +25,13 @@ returns-in_default-clause-on g c = on_same (passes_in c.args.passes.now)
 
 pub returns-in_default-clause-served : goal.returns-in_default-clause-served
 returns-in_default-clause-served g c =
-    (0, λ t. [], none_served g.O.Door.told g.O.Door.given g.O.Door.left g.O.Door.faults g.O.Door.back (IsServedBy c.args.counters.now c.args.passes.now) c.args.doors.items, refl, omega arith, λ t weight place. omega arith)
+    (0, λ t. [], none_served g.O.Door.tells g.O.Door.given g.O.Door.left g.O.Door.faults g.O.Door.back (IsServedBy c.args.counters.now c.args.passes.now) c.args.doors.items, refl, omega arith, λ t weight place. omega arith)
 
 pub returns-in_default-split_all-clause-served : goal.returns-in_default-split_all-clause-served
 returns-in_default-split_all-clause-served g c = (
   0,
   λ t. [],
-  none_served g.O.Door.told g.O.Door.given g.O.Door.left g.O.Door.faults g.O.Door.back (IsServedBy c.args.counters.now c.split_all.new.passes) c.args.doors.items,
+  none_served g.O.Door.tells g.O.Door.given g.O.Door.left g.O.Door.faults g.O.Door.back (IsServedBy c.args.counters.now c.split_all.new.passes) c.args.doors.items,
   refl,
   omega arith,
   λ t weight place. let same = c.split_all.ensures.own weight place in omega (arith, same),
@@ -64,7 +64,7 @@ dismiss-requires-clause-room g c κs within =
     let items = c.args.doors.ok.0 in
     let doors = ap length c.crew_of-crew.ensures.doors in
     let crew = length-map c.crew_of-crew.result.items (λ worker. worker.door) in
-    let same = as_long g.O.Door.told g.O.Door.given g.O.Door.left g.O.Door.ends g.O.Door.faults g.O.Door.back c.crew_of-crew.result.items c.in-Ok.crew.items c.in-Ok.ensures.served in
+    let same = as_long g.O.Door.tells g.O.Door.given g.O.Door.left g.O.Door.ends g.O.Door.faults g.O.Door.back c.crew_of-crew.result.items c.in-Ok.crew.items c.in-Ok.ensures.served in
     let space = c.in-Ok-Ok.ensures'.room in
     omega (arith, counted, items, doors, crew, same, space)
 
@@ -73,7 +73,7 @@ dismiss-requires-clause-crew g c κs within =
     let first = c.args.passes.now in
     let counters = c.args.counters.now in
     All-from_recursion (IsBack counters) c.in-Ok.crew.items
-    (are_back g.O.Door.told g.O.Door.given g.O.Door.left g.O.Door.ends g.O.Door.faults g.O.Door.back counters first c.crew_of-crew.result.items c.in-Ok.crew.items
+    (are_back g.O.Door.tells g.O.Door.given g.O.Door.left g.O.Door.ends g.O.Door.faults g.O.Door.back counters first c.crew_of-crew.result.items c.in-Ok.crew.items
     (recursion_from_All (IsFresh counters first) c.crew_of-crew.result.items (c.crew_of-crew.ensures.fresh first c.in-Some.ensures.parts)) c.in-Ok.ensures.served)
 
 pub dismiss-requires-clause-rest : goal.dismiss-requires-clause-rest
@@ -82,7 +82,7 @@ dismiss-requires-clause-rest g c κs within =
     let items = c.args.doors.ok.0 in
     let doors = ap length c.crew_of-crew.ensures.doors in
     let crew = length-map c.crew_of-crew.result.items (λ worker. worker.door) in
-    let same = as_long g.O.Door.told g.O.Door.given g.O.Door.left g.O.Door.ends g.O.Door.faults g.O.Door.back c.crew_of-crew.result.items c.in-Ok.crew.items c.in-Ok.ensures.served in
+    let same = as_long g.O.Door.tells g.O.Door.given g.O.Door.left g.O.Door.ends g.O.Door.faults g.O.Door.back c.crew_of-crew.result.items c.in-Ok.crew.items c.in-Ok.ensures.served in
     let rest = c.in-Some.ensures.rest in
     let total = rest.2 in
     (rest.0, rest.1, omega (arith, counted, items, doors, crew, same, total))
@@ -113,7 +113,7 @@ returns-in-Ok-clause-on g c = on_then (passes_in c.args.passes.now) (passes_in c
 pub returns-in-Ok-clause-served : goal.returns-in-Ok-clause-served
 returns-in-Ok-clause-served g c =
     let first = c.args.passes.now in
-    served_together g.O.Door.told g.O.Door.given g.O.Door.left g.O.Door.ends g.O.Door.faults g.O.Door.back c.args.counters.now first c.dismiss.new.passes c.args.limit c.outcome_of-outcome.result c.args.doors.items c.dismiss.result.items
+    served_together g.O.Door.tells g.O.Door.given g.O.Door.left g.O.Door.ends g.O.Door.faults g.O.Door.back c.args.counters.now first c.dismiss.new.passes c.args.limit c.outcome_of-outcome.result c.args.doors.items c.dismiss.result.items
     c.crew_of-crew.result.items c.in-Ok.crew.items c.crew_of-crew.ensures.doors c.dismiss.ensures.doors (search rules) c.requires.whole c.requires.unended (c.crew_of-crew.ensures.fresh first c.in-Some.ensures.parts) c.dismiss.ensures.all_on c.in-Ok.ensures.reached c.in-Ok.ensures.served c.in-Ok.ensures.limit
     (λ weight place.
     let all = c.dismiss.ensures.own weight place in
@@ -131,8 +131,8 @@ returns-in-Err-clause-served g c =
     let fresh = c.crew_of-crew.ensures.fresh c.args.passes.now c.in-Some.ensures.parts in (
       0,
       λ t. [],
-      subst (λ ds. AreServedDoors g.O.Door.told g.O.Door.given g.O.Door.left g.O.Door.faults g.O.Door.back stands 0 (λ t. []) c.args.doors.items ds) (sym back)
-          (none_served g.O.Door.told g.O.Door.given g.O.Door.left g.O.Door.faults g.O.Door.back stands c.args.doors.items),
+      subst (λ ds. AreServedDoors g.O.Door.tells g.O.Door.given g.O.Door.left g.O.Door.faults g.O.Door.back stands 0 (λ t. []) c.args.doors.items ds) (sym back)
+          (none_served g.O.Door.tells g.O.Door.given g.O.Door.left g.O.Door.faults g.O.Door.back stands c.args.doors.items),
       refl,
       omega arith,
       λ t weight place.

@@ -86,7 +86,7 @@ returns-clause-served g c =
     let served = c.serve_doors-outcome.ensures.served in (
       served.0,
       served.1,
-      served_still g.O.Door.told g.O.Door.given g.O.Door.left g.O.Door.faults g.O.Door.back _ (IsServedAt c.args.users.now c.put_together-seats.result.items)
+      served_still g.O.Door.tells g.O.Door.given g.O.Door.left g.O.Door.faults g.O.Door.back _ (IsServedAt c.args.users.now c.put_together-seats.result.items)
           (λ visit marks is. served_at c.args.users.now c.put_together-seats.result.items (map kept_by c.new-counters.result.0.counters.items) c.serve_doors-outcome.new.passes.passes.items
           (ap (map kept_by) (sym (again.counters ∙ parts.counters))) (sym (again.passes ∙ parts.passes)) visit marks
           (λ schema world all. subst (λ us. Served schema world us (members_of (map kept_by c.new-counters.result.0.counters.items) c.serve_doors-outcome.new.passes.passes.items) visit marks) made.users (is schema world all)))
@@ -102,4 +102,4 @@ returns-in_default-clause-on g c = seats_same c.args.seats.items
 
 pub returns-in_default-clause-served : goal.returns-in_default-clause-served
 returns-in_default-clause-served g c =
-    (0, λ t. [], none_served g.O.Door.told g.O.Door.given g.O.Door.left g.O.Door.faults g.O.Door.back (IsServedAt c.args.users.now c.args.seats.items) c.args.doors.items, refl, omega arith, λ t weight place. omega arith)
+    (0, λ t. [], none_served g.O.Door.tells g.O.Door.given g.O.Door.left g.O.Door.faults g.O.Door.back (IsServedAt c.args.users.now c.args.seats.items) c.args.doors.items, refl, omega arith, λ t weight place. omega arith)

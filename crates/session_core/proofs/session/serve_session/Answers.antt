@@ -16,7 +16,7 @@ loop-init g c =
     let counters = c.args.counters.now in
     let left = g.S.Source.left c.args.source.now in
     record {
-      so_far = nothing_yet g.S.Source.told g.K.Sink.told (users_of counters) (fixeds_of counters) left (passes_in c.args.passes.now) (g.K.Sink.written c.args.sink.now) (unread c.new-buffer.result left) (ap (λ a. a ++ left) c.new-buffer.ensures.ahead);
+      so_far = nothing_yet g.S.Source.tells g.K.Sink.tells (users_of counters) (fixeds_of counters) left (passes_in c.args.passes.now) (g.K.Sink.written c.args.sink.now) (unread c.new-buffer.result left) (ap (λ a. a ++ left) c.new-buffer.ensures.ahead);
       passes = c.requires.passes;
       place = tt;
       held = refl;

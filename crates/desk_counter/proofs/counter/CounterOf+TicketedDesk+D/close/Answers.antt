@@ -37,11 +37,11 @@ returns-clause-sizes g c = closed_sizes c.into_desk-desk.result (kept_by c.args.
 
 pub returns-clause-whole : goal.returns-clause-whole
 returns-clause-whole g c =
-    closed_whole c.into_desk-desk.result (kept_by c.args.self) (seen c.args.pass) (returns-clause-kept g c) (returns-clause-history g c) (returns-clause-in_flight g c) g.D.Disk.told (λ i. g.D.Disk.image (desk_disk c.into_desk-desk.result) i) c.known.ensures.whole
+    closed_whole c.into_desk-desk.result (kept_by c.args.self) (seen c.args.pass) (returns-clause-kept g c) (returns-clause-history g c) (returns-clause-in_flight g c) g.D.Disk.tells (λ i. g.D.Disk.image (desk_disk c.into_desk-desk.result) i) c.known.ensures.whole
 
 pub returns-clause-images : goal.returns-clause-images
 returns-clause-images g c =
-    closed_images c.into_desk-desk.result (kept_by c.args.self) (seen c.args.pass) (returns-clause-kept g c) (returns-clause-history g c) (returns-clause-in_flight g c) g.D.Disk.told (λ i. g.D.Disk.image (desk_disk c.into_desk-desk.result) i) c.known.ensures.images
+    closed_images c.into_desk-desk.result (kept_by c.args.self) (seen c.args.pass) (returns-clause-kept g c) (returns-clause-history g c) (returns-clause-in_flight g c) g.D.Disk.tells (λ i. g.D.Disk.image (desk_disk c.into_desk-desk.result) i) c.known.ensures.images
 
 pub returns-clause-cause : goal.returns-clause-cause
 returns-clause-cause g c =
@@ -53,9 +53,9 @@ returns-clause-since g c =
     let same = returns-clause-kept g c in
     subst
     (λ (f : Fixed g.row.D.Denot).
-    g.D.Disk.told → is_sealed kept.standing ≡ false → (i : List ℕ) → g.D.Disk.image_since (desk_disk c.into_desk-desk.result) (g.D.Disk.moment f.disk) i
+    g.D.Disk.tells → is_sealed kept.standing ≡ false → (i : List ℕ) → g.D.Disk.image_since (desk_disk c.into_desk-desk.result) (g.D.Disk.moment f.disk) i
     → StandsWithin kept.schema kept.header (length kept.opening) (history_of (seen c.args.pass) ++ option_to_list (flying (seen c.args.pass))) i) same
-    (closed_since c.into_desk-desk.result kept (seen c.args.pass) same (returns-clause-history g c) (returns-clause-in_flight g c) g.D.Disk.told
+    (closed_since c.into_desk-desk.result kept (seen c.args.pass) same (returns-clause-history g c) (returns-clause-in_flight g c) g.D.Disk.tells
     (λ i. g.D.Disk.image_since (desk_disk c.into_desk-desk.result) (g.D.Disk.moment (fixed_of c.into_desk-desk.result).disk) i) c.known.ensures.begins c.known.ensures.since)
 
 pub returns-clause-still : goal.returns-clause-still

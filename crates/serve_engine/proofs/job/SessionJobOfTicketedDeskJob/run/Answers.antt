@@ -58,7 +58,7 @@ returns-clause-visit g c =
     let later = members_later fixeds old new (sees_more old new (of_passes session.who fixeds old new session.asks session.desks)) in
     let openings = have_opened old counters (are_passes old counters job.many job.held) job.opened in
     λ untouched first visits stood. served_more job.counters.now first.passes job.passes now.passes visits _ (marks_of session.who fixeds old new session.asks session.desks) stood later
-    (λ schema world within. session_served g.Src.Source.told g.Snk.Sink.told (users_of job.counters.now) fixeds c.serve_session-ended.result
+    (λ schema world within. session_served g.Src.Source.tells g.Snk.Sink.tells (users_of job.counters.now) fixeds c.serve_session-ended.result
     (g.Src.Source.held c.args.source.now) (g.Src.Source.held now.source) (g.Src.Source.left c.args.source.now) old new (g.Snk.Sink.written c.args.sink.now) (g.Snk.Sink.written now.sink)
     (g.Src.Source.faults c.args.source.now) (g.Snk.Sink.faults c.args.sink.now) (g.Src.Source.faults now.source) (g.Snk.Sink.faults now.sink)
     session untouched says.held says.read_cause says.write_cause schema world within openings)

@@ -2,7 +2,7 @@ use Rattle.std.proofs.Common.{rules, ◌≡◌, Some, ap, ◌∙◌}
 use Rattle.turnstile.specs.declared.view.View.{View}
 use Rattle.turnstile.proofs.Idle.{idle_view}
 use Rattle.turnstile.proofs.Keeps.{ends}
-use Rattle.turnstile.proofs.Closing.{closing}
+use Rattle.turnstile.proofs.Closing.{closing, ruled_in}
 use Rattle.turnstile.proofs.turnstile.Turnstile.close.Goals as goal
 
 pub unwrap-requires : goal.unwrap-requires
@@ -27,3 +27,6 @@ returns-clause-drew g c = (closing g.V.Recorded.entries g.V.Recorded.fixed c.arg
 
 pub returns-clause-fixed : goal.returns-clause-fixed
 returns-clause-fixed g c = (closing g.V.Recorded.entries g.V.Recorded.fixed c.args.pass _ c.into_seat.ensures.2 c.requires.all _ _ _ _ _ _ c.close_with-closed.ensures.values.2 c.take-value.ensures.value c.unwrap.ensures).fixed
+
+pub returns-clause-rule : goal.returns-clause-rule
+returns-clause-rule g c = ruled_in g.V.Recorded.entries g.V.Recorded.fixed c.args.pass _ c.into_seat.ensures.2 _ _ _ _ _ c.close_with-closed.ensures.values.2

@@ -5,7 +5,7 @@ use Rattle.turnstile.specs.History.{entries_with, count_of}
 use Rattle.turnstile.specs.Passes.{view_of}
 use Rattle.turnstile.specs.declared.view.View.{View}
 use Rattle.turnstile.proofs.Idle.{idle_view}
-use Rattle.turnstile.proofs.Mine.{mine_taken}
+use Rattle.turnstile.proofs.Mine.{mine_taken, ruled_taken}
 use Rattle.turnstile.proofs.Keeps.{draws, looks}
 use Rattle.turnstile.proofs.turnstile.Turnstile.enter.Goals as goal
 
@@ -54,3 +54,10 @@ returns-then-serving-ticket-clause-fresh g c =
     let idle = idle_view c.replace-badge.result c.into_seat-seat.result.me.0 c.into_seat-seat.ensures.2 in
     let is : c.into_seat-seat.result.me.0 ≡ view_of c.args.pass.now = idle.0 ∙ ap view_of c.replace-badge.ensures.value in
     subst (λ (v : View g.row.V-Item.Denot g.row.V-Fixed.Denot). (x : ℕ) → c.fetch_add-ticket.result ≤ x → count_of x v.drawn ≡ 0) is c.fetch_add-ticket.ensures.2.2
+
+pub returns-then-serving-ticket-clause-rule : goal.returns-then-serving-ticket-clause-rule
+returns-then-serving-ticket-clause-rule g c =
+    let t = c.fetch_add-ticket.result in
+    let waits = c.loop.invariant.2 ∙ c.fetch_add-ticket.ensures.2.0 in
+    let took = (c.load-serving.ensures.2 t (ap (λ m. m.0.stage) waits)).1 c.if-serving-ticket.true in
+    ruled_taken g.V.Recorded.entries g.V.Recorded.fixed _ _ t _ _ _ _ took c.exchange.ensures.2 c.unwrap-value.ensures (ap (λ m. m.0) c.exchange.ensures.3)

@@ -1,6 +1,8 @@
 use Rattle.std.proofs.Common.{rules, ◌≡◌, sym, ap, ◌∙◌, subst}
 use Rattle.turnstile.specs.declared.view.View.{View}
 use Rattle.turnstile.specs.History.{AddsAtMostOne}
+use Rattle.turnstile.specs.Rule.{IsRuledSince}
+use Rattle.turnstile.specs.Passes.{view_or_spent}
 use Rattle.turnstile.proofs.Keeps.{goes_on}
 use Rattle.turnstile.proofs.turnstile.Turnstile.leave.Goals as goal
 
@@ -15,3 +17,8 @@ fetch_add-requires g c =
           (ap (λ (v : View g.row.V-Item.Denot g.row.V-Fixed.Denot). v.fixed) same ∙ c.requires.fixed)
           (subst (λ (v : View g.row.V-Item.Denot g.row.V-Fixed.Denot). AddsAtMostOne c.args.turn.ticket v.seen (g.V.Recorded.entries c.args.turn.value)) (sym same) c.requires.grows),
     )
+
+pub returns-clause-rule : goal.returns-clause-rule
+returns-clause-rule g c =
+    let back = c.fetch_add.ensures.2 c.args.turn.value (search rules) in
+    subst (λ v. IsRuledSince g.V.Recorded.entries g.V.Recorded.fixed (g.V.Recorded.fixed c.args.turn.value) v) (sym (ap view_or_spent c.into_badge.ensures.2)) back.ruled

@@ -32,7 +32,7 @@ invariant_of-self-in-Ok-append g c =
     let same = c.in-Ok.ensures.same in
     let legal = legal_back _ _ _ _ _ _ (kept_history desk.log) _ entry _ same.schema same.world same.user c.in-Ok.ensures.unchanged c.in-Ok.ensures.entry c.in-Ok.ensures.legal in
     let sizes = sizes_back _ _ _ _ (kept_history desk.log) _ entry _ same.schema same.user c.in-Ok.ensures.unchanged c.in-Ok.ensures.entry c.in-Ok.ensures.sizes in
-    let read = λ (told : g.D.Disk.told). subst (λ d. g.D.Disk.image d bytes) c.reserve.ensures.disk (g.met.D.Disk.read_is_image (stored_disk store) told) in
+    let read = λ (told : g.D.Disk.tells). subst (λ d. g.D.Disk.image d bytes) c.reserve.ensures.disk (g.met.D.Disk.read_is_image (stored_disk store) told) in
     let is = record_of_answer (kept_schema desk.log) c.args.text.now c.as_bytes.result.now (formula_of c.args.query) c.args.mark c.kind_of.result c.as_bytes.ensures.value c.kind_of.ensures.back c.requires.answer.read in
     let grows = growing _ _ _ _ _ _ _ _ _ _ _ entry next bytes desk.kept c.requires.opened c.requires.whole c.known.ensures.legal c.known.ensures.sizes legal sizes read is in
     let again = c.commit.ensures.same in
@@ -41,7 +41,7 @@ invariant_of-self-in-Ok-append g c =
       still = λ count none. absurd (omega (arith, count, desk.since.begins, ap length grown, length-append (kept_history desk.log) (entry ∷ [])));
       kept = kept_added _ _ _ _ _ _ _ _ _ entry next bytes grows _ _ _ _ _ _ _ (again.schema ∙ same.schema) (again.world ∙ same.world) (again.user ∙ same.user) grown
           c.append.ensures.journal c.in-Ok-append.ensures.whole c.in-Ok-append.ensures.added;
-      since = since_added g.D.Disk.told (λ i. g.D.Disk.image (stored_disk desk.store) i) _ _ _ _ _ _ _ entry next bytes grows
+      since = since_added g.D.Disk.tells (λ i. g.D.Disk.image (stored_disk desk.store) i) _ _ _ _ _ _ _ entry next bytes grows
           (λ i. g.D.Disk.image_since (stored_disk desk.store) (g.D.Disk.moment (opened_disk desk.store)) i) (λ i. g.D.Disk.image_since (stored_disk c.append.new.self) (g.D.Disk.moment (opened_disk c.append.new.self)) i) desk.opened _ desk.since
           (λ told. split_moments g.D.Disk.moment g.D.Disk.image_since (opened_disk desk.store) (opened_disk c.append.new.self) (stored_disk desk.store) (stored_disk store) (stored_disk c.append.new.self) (λ i. KeepsOrAdds bytes next i)
           c.reserve.ensures.disk (c.append.ensures.opened ∙ c.reserve.ensures.opened) c.known-2.ensures.time.later c.append.ensures.time (c.append.ensures.moments told))
@@ -58,14 +58,14 @@ invariant_of-self-in-Err g c =
     let same = c.in-Ok.ensures.same in
     let legal = legal_back _ _ _ _ _ _ (kept_history desk.log) _ entry _ same.schema same.world same.user c.in-Ok.ensures.unchanged c.in-Ok.ensures.entry c.in-Ok.ensures.legal in
     let sizes = sizes_back _ _ _ _ (kept_history desk.log) _ entry _ same.schema same.user c.in-Ok.ensures.unchanged c.in-Ok.ensures.entry c.in-Ok.ensures.sizes in
-    let read = λ (told : g.D.Disk.told). subst (λ d. g.D.Disk.image d bytes) c.reserve.ensures.disk (g.met.D.Disk.read_is_image (stored_disk store) told) in
+    let read = λ (told : g.D.Disk.tells). subst (λ d. g.D.Disk.image d bytes) c.reserve.ensures.disk (g.met.D.Disk.read_is_image (stored_disk store) told) in
     let is = record_of_answer (kept_schema desk.log) c.args.text.now c.as_bytes.result.now (formula_of c.args.query) c.args.mark c.kind_of.result c.as_bytes.ensures.value c.kind_of.ensures.back c.requires.answer.read in
     let grows = growing _ _ _ _ _ _ _ _ _ _ _ entry next bytes desk.kept c.requires.opened c.requires.whole c.known.ensures.legal c.known.ensures.sizes legal sizes read is in
     record {
       still = λ count none. absurd (some_not_none none);
       kept = kept_flying _ _ _ _ _ _ _ _ _ entry next bytes grows _ _ _ _ _ _ _ _ same.schema same.world same.user c.in-Ok.ensures.unchanged (c.into_entry.ensures ∙ c.in-Ok.ensures.entry)
           c.append.ensures.journal c.in-Err.ensures.failed c.in-Err.ensures.either;
-      since = since_flying g.D.Disk.told (λ i. g.D.Disk.image (stored_disk desk.store) i) _ _ _ _ _ _ _ entry next bytes grows
+      since = since_flying g.D.Disk.tells (λ i. g.D.Disk.image (stored_disk desk.store) i) _ _ _ _ _ _ _ entry next bytes grows
           (λ i. g.D.Disk.image_since (stored_disk desk.store) (g.D.Disk.moment (opened_disk desk.store)) i) (λ i. g.D.Disk.image_since (stored_disk c.append.new.self) (g.D.Disk.moment (opened_disk c.append.new.self)) i) desk.opened _ desk.since
           (λ told. split_moments g.D.Disk.moment g.D.Disk.image_since (opened_disk desk.store) (opened_disk c.append.new.self) (stored_disk desk.store) (stored_disk store) (stored_disk c.append.new.self) (λ i. KeepsOrAdds bytes next i)
           c.reserve.ensures.disk (c.append.ensures.opened ∙ c.reserve.ensures.opened) c.known-2.ensures.time.later c.append.ensures.time (c.append.ensures.moments told))
@@ -82,7 +82,7 @@ returns-in-Ok-append-clause-moments g c told c' here =
     let same = c.in-Ok.ensures.same in
     let legal = legal_back _ _ _ _ _ _ (kept_history desk.log) _ entry _ same.schema same.world same.user c.in-Ok.ensures.unchanged c.in-Ok.ensures.entry c.in-Ok.ensures.legal in
     let sizes = sizes_back _ _ _ _ (kept_history desk.log) _ entry _ same.schema same.user c.in-Ok.ensures.unchanged c.in-Ok.ensures.entry c.in-Ok.ensures.sizes in
-    let read = λ (told : g.D.Disk.told). subst (λ d. g.D.Disk.image d bytes) c.reserve.ensures.disk (g.met.D.Disk.read_is_image (stored_disk store) told) in
+    let read = λ (told : g.D.Disk.tells). subst (λ d. g.D.Disk.image d bytes) c.reserve.ensures.disk (g.met.D.Disk.read_is_image (stored_disk store) told) in
     let is = record_of_answer (kept_schema desk.log) c.args.text.now c.as_bytes.result.now (formula_of c.args.query) c.args.mark c.kind_of.result c.as_bytes.ensures.value c.kind_of.ensures.back c.requires.answer.read in
     let grows = growing _ _ _ _ _ _ _ _ _ _ _ entry next bytes desk.kept c.requires.opened c.requires.whole c.known.ensures.legal c.known.ensures.sizes legal sizes read is in
     let since = subst (λ d. g.D.Disk.image_since (stored_disk c.append.new.self) (g.D.Disk.moment d) c') (sym c.reserve.ensures.disk) here in
@@ -109,7 +109,7 @@ returns-in-Err-clause-moments g c told c' here =
     let same = c.in-Ok.ensures.same in
     let legal = legal_back _ _ _ _ _ _ (kept_history desk.log) _ entry _ same.schema same.world same.user c.in-Ok.ensures.unchanged c.in-Ok.ensures.entry c.in-Ok.ensures.legal in
     let sizes = sizes_back _ _ _ _ (kept_history desk.log) _ entry _ same.schema same.user c.in-Ok.ensures.unchanged c.in-Ok.ensures.entry c.in-Ok.ensures.sizes in
-    let read = λ (told : g.D.Disk.told). subst (λ d. g.D.Disk.image d bytes) c.reserve.ensures.disk (g.met.D.Disk.read_is_image (stored_disk store) told) in
+    let read = λ (told : g.D.Disk.tells). subst (λ d. g.D.Disk.image d bytes) c.reserve.ensures.disk (g.met.D.Disk.read_is_image (stored_disk store) told) in
     let is = record_of_answer (kept_schema desk.log) c.args.text.now c.as_bytes.result.now (formula_of c.args.query) c.args.mark c.kind_of.result c.as_bytes.ensures.value c.kind_of.ensures.back c.requires.answer.read in
     let grows = growing _ _ _ _ _ _ _ _ _ _ _ entry next bytes desk.kept c.requires.opened c.requires.whole c.known.ensures.legal c.known.ensures.sizes legal sizes read is in
     let since = subst (λ d. g.D.Disk.image_since (stored_disk c.append.new.self) (g.D.Disk.moment d) c') (sym c.reserve.ensures.disk) here in

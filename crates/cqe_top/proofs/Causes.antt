@@ -1,0 +1,112 @@
+-- A fault that is told has its cause: for each end, from the clauses of its engine.
+use Rattle.std.proofs.Common.{◌≡◌, ℕ, List, Bool, true, false, refl, sym, subst}
+use Rattle.std.specs.Prelude.{Vec, Option, if◌then◌else◌}
+use Rattle.std.specs.declared.alloc.Global.{Global}
+use Rattle.std.specs.Borrow.{Bor}
+use Rattle.cqe_base.specs.declared.user.User.{User}
+use Rattle.user_desk.specs.declared.standing.DeskError.{DeskError}
+use Rattle.audit_engine.specs.declared.end.AuditEnd.{AuditEnd}
+use Rattle.audit_engine.specs.declared.end.AuditEnd.TheVariants as audit_end
+use Rattle.batch_engine.specs.Batch as batch
+use Rattle.batch_engine.specs.declared.run.BatchEnd.{BatchEnd}
+use Rattle.batch_engine.specs.declared.run.BatchEnd.TheVariants as batch_end
+use Rattle.case_engine.specs.declared.case.CaseEnd.{CaseEnd}
+use Rattle.case_engine.specs.declared.case.CaseEnd.TheVariants as case_end
+use Rattle.desk_crew.specs.Shelved.{SomeRose}
+use Rattle.init_engine.specs.declared.end.InitEnd.{InitEnd}
+use Rattle.init_engine.specs.declared.end.InitEnd.TheVariants as init_end
+use Rattle.selfrun_engine.specs.declared.end.SelfrunEnd.{SelfrunEnd}
+use Rattle.selfrun_engine.specs.declared.end.SelfrunEnd.TheVariants as selfrun_end
+use Rattle.serve_engine.specs.Serving as serving
+use Rattle.serve_engine.specs.declared.run.ServeEnd.{ServeEnd}
+use Rattle.serve_engine.specs.declared.run.ServeEnd.TheVariants as serve_end
+use Rattle.cqe_top.specs.declared.end.CommandEnd.{CommandEnd}
+use Rattle.cqe_top.specs.declared.end.CommandEnd.TheVariants as ends
+use Rattle.cqe_top.specs.declared.end.FilesEnd.{FilesEnd}
+use Rattle.cqe_top.specs.declared.end.FilesEnd.TheVariants as files_end
+use Rattle.cqe_top.specs.declared.report.Report.{Report}
+use Rattle.cqe_top.specs.declared.report.Report.TheVariants as report
+use Rattle.cqe_top.specs.Files.{IsShelfFault}
+use Rattle.cqe_top.specs.Reports.{report_of, answers_report, has_refusal, HasCause}
+use Rattle.cqe_top.specs.Scene.{Scene, HasRisen}
+
+module _ (s : Scene) where
+  -- the fault of which a report tells rose
+  abbrev pub CauseOf : Report → Type 0
+  CauseOf report.ReadFault = HasRisen s.input.faults
+  CauseOf report.WriteFault = HasRisen s.output.faults
+  CauseOf report.ShelfFault = HasRisen s.shelf.faults
+  CauseOf report.DiskFault = SomeRose s.shelf.disk_faults s.shelf.disk_faults'
+  CauseOf report.LinksFault = HasRisen s.links.faults
+  CauseOf report = Unit {0}
+
+  pub has_cause : (end : CommandEnd) → CauseOf (report_of end) → HasCause s end
+  has_cause end cause = record {
+    read = λ is. subst CauseOf is cause;
+    write = λ is. subst CauseOf is cause;
+    shelf = λ is. subst CauseOf is cause;
+    disk = λ is. subst CauseOf is cause;
+    links = λ is. subst CauseOf is cause;
+  }
+
+  pub files_cause : (end : FilesEnd) → (IsShelfFault end → HasRisen s.shelf.faults) → HasCause s (ends.Files end)
+  files_cause (files_end.Missing name) shelf = has_cause _ tt
+  files_cause (files_end.ShelfFault kind) shelf = has_cause _ (shelf tt)
+  files_cause (files_end.Policy why) shelf = has_cause _ tt
+  files_cause (files_end.Facts why) shelf = has_cause _ tt
+  files_cause files_end.Memory shelf = has_cause _ tt
+
+  pub case_cause : (end : CaseEnd) → (end ≡ case_end.ReadFault → HasRisen s.input.faults)
+      → (end ≡ case_end.WriteFault → HasRisen s.output.faults) → HasCause s (ends.Case end)
+  case_cause case_end.Done read write = has_cause _ tt
+  case_cause (case_end.Script refusal) read write = has_cause _ tt
+  case_cause case_end.ReadFault read write = has_cause _ (read refl)
+  case_cause case_end.WriteFault read write = has_cause _ (write refl)
+  case_cause case_end.Memory read write = has_cause _ tt
+
+  pub init_cause : (users : Vec User Global) (end : InitEnd) → (end ≡ init_end.ShelfFault → HasRisen s.shelf.faults)
+      → (end ≡ init_end.DiskFault → SomeRose s.shelf.disk_faults s.shelf.disk_faults') → HasCause s (ends.Init users end)
+  init_cause users init_end.Done shelf disk = has_cause _ tt
+  init_cause users (init_end.Refused user why) shelf disk = has_cause _ tt
+  init_cause users init_end.DiskFault shelf disk = has_cause _ (disk refl)
+  init_cause users init_end.ShelfFault shelf disk = has_cause _ (shelf refl)
+  init_cause users init_end.Memory shelf disk = has_cause _ tt
+
+  -- asks that were answered to their end
+  answers_cause : (users : Vec User Global) (refusals : Vec (Option DeskError) Global) (is_refused is_broken : Bool) → has_refusal refusals.items ≡ is_refused
+      → (is_broken ≡ true → SomeRose s.shelf.disk_faults s.shelf.disk_faults') → CauseOf (answers_report users refusals is_broken)
+  answers_cause users refusals true is_broken is disk =
+      subst (λ b. CauseOf (if b then report.Journals users refusals else if is_broken then report.DiskFault else report.Done)) (sym is) tt
+  answers_cause users refusals false true is disk = subst (λ b. CauseOf (if b then report.Journals users refusals else report.DiskFault)) (sym is) (disk refl)
+  answers_cause users refusals false false is disk = subst (λ b. CauseOf (if b then report.Journals users refusals else report.Done)) (sym is) tt
+
+  pub batch_cause : (users : Vec User Global) (end : BatchEnd) → (end ≡ batch_end.ReadFault → HasRisen s.input.faults) → (end ≡ batch_end.WriteFault → HasRisen s.output.faults)
+      → (end ≡ batch_end.ShelfFault → HasRisen s.shelf.faults) → (batch.IsBroken end → SomeRose s.shelf.disk_faults s.shelf.disk_faults') → HasCause s (ends.Batch users end)
+  batch_cause users (batch_end.Done refusals is_broken) read write shelf disk =
+      has_cause _ (answers_cause users refusals (has_refusal refusals.items) is_broken refl disk)
+  batch_cause users (batch_end.Script refusal) read write shelf disk = has_cause _ tt
+  batch_cause users batch_end.ReadFault read write shelf disk = has_cause _ (read refl)
+  batch_cause users batch_end.WriteFault read write shelf disk = has_cause _ (write refl)
+  batch_cause users batch_end.ShelfFault read write shelf disk = has_cause _ (shelf refl)
+  batch_cause users batch_end.Memory read write shelf disk = has_cause _ tt
+
+  pub audit_cause : (name : Bor (List ℕ)) (end : AuditEnd) → (end ≡ audit_end.WriteFault → HasRisen s.output.faults) → (end ≡ audit_end.ShelfFault → HasRisen s.shelf.faults)
+      → HasCause s (ends.Audit name end)
+  audit_cause name audit_end.Done write shelf = has_cause _ tt
+  audit_cause name (audit_end.Refused why) write shelf = has_cause _ tt
+  audit_cause name audit_end.WriteFault write shelf = has_cause _ (write refl)
+  audit_cause name audit_end.ShelfFault write shelf = has_cause _ (shelf refl)
+  audit_cause name audit_end.Memory write shelf = has_cause _ tt
+
+  pub selfrun_cause : (end : SelfrunEnd) → (end ≡ selfrun_end.WriteFault → HasRisen s.output.faults) → HasCause s (ends.Selfrun end)
+  selfrun_cause selfrun_end.Done write = has_cause _ tt
+  selfrun_cause selfrun_end.WriteFault write = has_cause _ (write refl)
+  selfrun_cause selfrun_end.Memory write = has_cause _ tt
+
+  pub serve_cause : (users : Vec User Global) (end : ServeEnd) → (end ≡ serve_end.LinksFault → HasRisen s.links.faults) → (end ≡ serve_end.ShelfFault → HasRisen s.shelf.faults)
+      → (serving.IsBroken end → SomeRose s.shelf.disk_faults s.shelf.disk_faults') → HasCause s (ends.Serve users end)
+  serve_cause users (serve_end.Done refusals is_broken) links shelf disk =
+      has_cause _ (answers_cause users refusals (has_refusal refusals.items) is_broken refl disk)
+  serve_cause users serve_end.LinksFault links shelf disk = has_cause _ (links refl)
+  serve_cause users serve_end.ShelfFault links shelf disk = has_cause _ (shelf refl)
+  serve_cause users serve_end.Memory links shelf disk = has_cause _ tt

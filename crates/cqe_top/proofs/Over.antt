@@ -1,0 +1,147 @@
+-- What an engine did over a shelf whose files were read before it, the call did.
+use Rattle.std.proofs.Common.{◌≡◌, ℕ, zero, suc, ◌≤◌, ◌<◌, List, [], ◌∷◌, length, map, sym, ap, subst, ◌∙◌, arith}
+use Rattle.std.specs.Prelude.{Some, None, slice_get}
+use Rattle.outside.proofs.Rises.{rose_since}
+use Rattle.outside.specs.Faults.{Rose}
+use Rattle.outside.specs.Shelf.{SameNames, SameOthers, bytes_on, image_on}
+use Rattle.outside.specs.Visits.{Visit}
+use Rattle.outside.specs.declared.disk.Disk.{Ghosts as DiskGhosts}
+use Rattle.outside.specs.declared.shelf.Shelf.{Ghosts as ShelfGhosts}
+use Rattle.cqe_base.specs.Facts.{FactSet}
+use Rattle.cqe_base.specs.Schema.{Text}
+use Rattle.cqe_base.specs.declared.user.User.{User}
+use Rattle.batch_engine.specs.Batch as batch
+use Rattle.batch_engine.specs.declared.run.BatchEnd.{BatchEnd}
+use Rattle.command_words.specs.Readings.{FileNames}
+use Rattle.desk_crew.specs.Crew.{named_user}
+use Rattle.desk_crew.specs.Shelved.{Journals, journals_on, is_among, SameBeside, SameBytes, NoNewImages, NoneFell, SomeRose}
+use Rattle.init_engine.specs.Disks as init
+use Rattle.init_engine.specs.Ends.{Change, IsEnd}
+use Rattle.init_engine.specs.declared.end.InitEnd.{InitEnd}
+use Rattle.init_engine.specs.declared.end.InitEnd.TheVariants as init_end
+use Rattle.log_journal.specs.Names.{journal_name}
+use Rattle.policy_files.specs.Memory.{policy_value_of}
+use Rattle.policy_files.specs.Users.{names_of}
+use Rattle.policy_files.specs.declared.policy.Policy.{Policy}
+use Rattle.serve_engine.specs.Serving as serving
+use Rattle.serve_engine.specs.declared.run.ServeEnd.{ServeEnd}
+use Rattle.cqe_top.specs.Files.{TouchesJournals, journals_of, new_users}
+use Rattle.cqe_top.specs.Init.{change_on, IsOneOf}
+use Rattle.cqe_top.specs.Scene.{shelf_of}
+use Rattle.cqe_top.proofs.Users.{names_are, batch_names_are, new_users_are}
+
+module _ {F D : Type 0} (Shelf : ShelfGhosts F D) (Disk : DiskGhosts D) (old mid new : F)
+    (disks : SameNames (Shelf.disk old) (Shelf.disk mid)) (counts : SameNames (Shelf.disk_faults old) (Shelf.disk_faults mid)) where
+  -- no count fell
+  pub none_fell : NoneFell (Shelf.disk_faults mid) (Shelf.disk_faults new) → NoneFell (Shelf.disk_faults old) (Shelf.disk_faults new)
+  none_fell fell name = subst (λ n. n ≤ Shelf.disk_faults new name) (counts name) (fell name)
+
+  -- a count that rose behind the files rose in the call
+  pub some_rose : SomeRose (Shelf.disk_faults mid) (Shelf.disk_faults new) → SomeRose (Shelf.disk_faults old) (Shelf.disk_faults new)
+  some_rose (name, rose) = (name, subst (λ n. Rose n (Shelf.disk_faults new name)) (counts name) rose)
+
+  module _ (files : FileNames) where
+    -- the journals are the same
+    pub same_journals : journals_of (shelf_of Shelf Disk mid new) files ≡ journals_of (shelf_of Shelf Disk old new) files
+    same_journals = λ i. journals_on Disk.reads Disk.image files.journals (λ name. disks name i) (Shelf.disk new) (λ name. counts name i) (Shelf.disk_faults new)
+
+    -- no disk but the journals of the policy's users was touched
+    pub touches_over : (policy : Policy) (users : List User) → users ≡ policy.users.items
+        → SameBeside (map (journal_name files.journals) (map (λ user. user.name) (map named_user users))) (Shelf.disk mid) (Shelf.disk new)
+        → TouchesJournals (shelf_of Shelf Disk old new) files (policy_value_of policy)
+    touches_over policy users are touched name none = touched name (ap (λ ns. is_among (map (journal_name files.journals) ns) name) names ∙ none) ∙ disks name
+      where
+        names : map (λ user. user.name) (map named_user users) ≡ names_of (policy_value_of policy).users
+        names = ap (λ us. map (λ user. user.name) (map named_user us)) are ∙ batch_names_are policy.users.items ∙ names_are policy.users.items
+
+    -- the making of journals ended so, by the disks and the counts of a change
+    abbrev Ended : List ℕ → Policy → Change D → InitEnd → Type 0
+    Ended header policy change made = IsEnd Shelf.tells Disk.reads Disk.image header files.journals (names_of (policy_value_of policy).users) change made
+
+    pub init_over : (header : List ℕ) (policy : Policy) (users : List User) (made : InitEnd) → users ≡ policy.users.items → Shelf.faults old ≤ Shelf.faults mid
+        → IsEnd Shelf.tells Disk.reads Disk.image header files.journals (init.user_names users) (change_on (shelf_of Shelf Disk mid new)) made
+        → IsEnd Shelf.tells Disk.reads Disk.image header files.journals (names_of (policy_value_of policy).users) (change_on (shelf_of Shelf Disk old new)) made
+    init_over header policy users made are later ended =
+        earlier made (subst (λ c. Ended header policy c made) (λ i. record {
+          old = λ name. disks name i;
+          new = Shelf.disk new;
+          before = λ name. counts name i;
+          now = Shelf.disk_faults new;
+          shelf_before = Shelf.faults mid;
+          shelf_now = Shelf.faults new;
+        }) (subst (λ names. IsEnd Shelf.tells Disk.reads Disk.image header files.journals names (change_on (shelf_of Shelf Disk mid new)) made) (ap init.user_names are ∙ names_are policy.users.items) ended))
+      where
+        rose : Rose (Shelf.faults mid) (Shelf.faults new) → Rose (Shelf.faults old) (Shelf.faults new)
+        rose = rose_since (Shelf.faults old) (Shelf.faults mid) (Shelf.faults new) later
+
+        earlier : (made : InitEnd) → Ended header policy (record (change_on (shelf_of Shelf Disk old new)) { shelf_before = Shelf.faults mid }) made → Ended header policy (change_on (shelf_of Shelf Disk old new)) made
+        earlier init_end.Done ended = ended
+        earlier (init_end.Refused user why) ended = record { name = ended.name; is = ended.is; reason = ended.reason; kept = ended.kept; ready = ended.ready }
+        earlier init_end.DiskFault (user, ended) = (user, record { name = ended.name; is = ended.is; reason = ended.reason; kept = ended.kept; ready = ended.ready })
+        earlier init_end.ShelfFault (user, ended) = (user, record { name = ended.name; is = ended.is; reason = rose ended.reason; kept = ended.kept; ready = ended.ready })
+        earlier init_end.Memory (user, ended) = (user, record { name = ended.name; is = ended.is; reason = ended.reason; kept = ended.kept; ready = ended.ready })
+
+  -- ---- the look at one disk
+
+  pub others_over : (directory name owner : Text) → owner ≡ name → SameOthers (journal_name directory owner) (Shelf.disk mid) (Shelf.disk new) → SameOthers (journal_name directory name) (Shelf.disk old) (Shelf.disk new)
+  others_over directory name owner same others other apart = subst (λ n. SameOthers (journal_name directory n) (Shelf.disk mid) (Shelf.disk new)) same others other apart ∙ disks other
+
+  pub bytes_over : SameBytes Disk.reads (Shelf.disk mid) (Shelf.disk new) → SameBytes Disk.reads (Shelf.disk old) (Shelf.disk new)
+  bytes_over bytes other = bytes other ∙ ap (bytes_on Disk.reads) (disks other)
+
+  pub images_over : NoNewImages Disk.image (Shelf.disk mid) (Shelf.disk new) → NoNewImages Disk.image (Shelf.disk old) (Shelf.disk new)
+  images_over images other c left = subst (λ d. image_on Disk.image d c) (disks other) (images other c left)
+
+-- the end of a batch over other journals that are the same, and over the users of the policy
+pub batch_over : (policy : Policy) (world : FactSet) (header : List ℕ) (users : List User) (journals journals' : Journals) (end : BatchEnd) (before after old new : List ℕ)
+    → journals ≡ journals' → users ≡ policy.users.items → batch.Ends policy.schema world header journals (map named_user users) end before after old new
+    → batch.Ends policy.schema world header journals' (new_users (policy_value_of policy)) end before after old new
+batch_over policy world header users journals journals' end before after old new same are ended =
+    subst (λ (j : Journals). batch.Ends policy.schema world header j (new_users (policy_value_of policy)) end before after old new) same
+    (subst (λ us. batch.Ends policy.schema world header journals us end before after old new) (sym (new_users_are policy ∙ ap (map named_user) (sym are))) ended)
+
+-- so does what it leaves of them
+pub batch_left : (policy : Policy) (world : FactSet) (header : List ℕ) (users : List User) (journals journals' : Journals) (end : BatchEnd)
+    → journals ≡ journals' → users ≡ policy.users.items → batch.LeavesJournals policy.schema world header journals (map named_user users) end
+    → batch.LeavesJournals policy.schema world header journals' (new_users (policy_value_of policy)) end
+batch_left policy world header users journals journals' end same are left =
+    subst (λ (j : Journals). batch.LeavesJournals policy.schema world header j (new_users (policy_value_of policy)) end) same
+    (subst (λ us. batch.LeavesJournals policy.schema world header journals us end) (sym (new_users_are policy ∙ ap (map named_user) (sym are))) left)
+
+-- so does that of a serving
+pub serve_over : (policy : Policy) (world : FactSet) (header : List ℕ) (users : List User) (journals journals' : Journals) (end : ServeEnd) (given given' : ℕ) (back back' : List Visit)
+    → journals ≡ journals' → users ≡ policy.users.items → serving.Ends policy.schema world header journals users given given' back back' end
+    → serving.Ends policy.schema world header journals' policy.users.items given given' back back' end
+serve_over policy world header users journals journals' end given given' back back' same are ended =
+    subst (λ (j : Journals). serving.Ends policy.schema world header j policy.users.items given given' back back' end) same
+    (subst (λ us. serving.Ends policy.schema world header journals us given given' back back' end) are ended)
+
+pub serve_left : (policy : Policy) (world : FactSet) (header : List ℕ) (users : List User) (journals journals' : Journals) (end : ServeEnd)
+    → journals ≡ journals' → users ≡ policy.users.items → serving.LeavesJournals policy.schema world header journals users end
+    → serving.LeavesJournals policy.schema world header journals' policy.users.items end
+serve_left policy world header users journals journals' end same are left =
+    subst (λ (j : Journals). serving.LeavesJournals policy.schema world header j policy.users.items end) same
+    (subst (λ us. serving.LeavesJournals policy.schema world header journals us end) are left)
+
+-- a user at whom the making of journals stopped is one of them
+is_within : (users : List User) (number : ℕ) (name : Text) → slice_get (init.user_names users) number ≡ Some name → number < length users
+is_within [] number name at = let clash : None ≡ Some name = at in absurd cc
+is_within (user ∷ users) zero name at = omega arith
+is_within (user ∷ users) (suc number) name at = let less : number < length users = is_within users number name at in omega (arith, less)
+
+pub one_of : {D : Type 0} (told : Type 0) (reads : D → List ℕ) (image : D → List ℕ → Type 0) (header directory : List ℕ) (users others : List User) (change : Change D) (made : InitEnd)
+    → users ≡ others → IsEnd told reads image header directory (init.user_names users) change made → IsOneOf others made
+one_of told reads image header directory users others change (init_end.Refused user why) are ended = subst (λ us. user < length us) are (is_within users user ended.name ended.is)
+one_of told reads image header directory users others change init_end.Done are ended = tt
+one_of told reads image header directory users others change init_end.DiskFault are ended = tt
+one_of told reads image header directory users others change init_end.ShelfFault are ended = tt
+one_of told reads image header directory users others change init_end.Memory are ended = tt
+
+-- the making of journals stops for a fault only where the count rose
+pub init_caused : {D : Type 0} (told : Type 0) (reads : D → List ℕ) (image : D → List ℕ → Type 0) (header directory : List ℕ) (names : List Text) (change : Change D) (made : InitEnd)
+    → IsEnd told reads image header directory names change made
+    → (made ≡ init_end.ShelfFault → Rose change.shelf_before change.shelf_now) × (made ≡ init_end.DiskFault → SomeRose change.before change.now)
+init_caused told reads image header directory names change made ended = (
+  λ is. (subst (λ m. IsEnd told reads image header directory names change m) is ended).1.reason,
+  λ is. let stops = subst (λ m. IsEnd told reads image header directory names change m) is ended in (journal_name directory stops.1.name, stops.1.reason),
+)

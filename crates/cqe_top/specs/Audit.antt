@@ -1,0 +1,86 @@
+-- The command `audit`: what the journal of one user holds, to the output.
+use Rattle.std.specs.Prelude.{◌≡◌, ℕ, Bool, List, find, bytes_eq, Option, Some, None}
+use Rattle.outside.specs.Faults.{Rose}
+use Rattle.outside.specs.Shelf.{SameOthers}
+use Rattle.audit_engine.specs.Ends.{IsEnd}
+use Rattle.audit_engine.specs.declared.end.AuditEnd.{AuditEnd}
+use Rattle.cqe_base.specs.Facts.{FactSet}
+use Rattle.cqe_base.specs.History.{History}
+use Rattle.cqe_base.specs.Schema.{Text}
+use Rattle.command_words.specs.Readings.{FileNames}
+use Rattle.desk_crew.specs.Shelved.{Journals, SameBytes, NoNewImages}
+use Rattle.log_journal.specs.Names.{journal_name}
+use Rattle.policy_files.specs.Policies.{PolicyUser, PolicyValue}
+use Rattle.user_desk.specs.Causes.{Opens}
+use Rattle.cqe_top.specs.declared.end.CommandEnd.{CommandEnd}
+use Rattle.cqe_top.specs.declared.end.CommandEnd.TheVariants as end
+use Rattle.cqe_top.specs.Files.{SayOn, LooksAtBoth, IsUnread, journals_of}
+use Rattle.cqe_top.specs.Reports.{IsDoneUnlessMemory}
+use Rattle.cqe_top.specs.Scene.{Scene, ShelfScene, Output, HasRisen, SameDisks}
+use Rattle.cqe_top.specs.Scene.{SameShelf, SameInput, SameOutput, SameLinks}
+
+-- the user of this name, if there is one
+abbrev pub user_named : Text → List PolicyUser → Option PolicyUser
+user_named name users = find (λ user. bytes_eq user.name name) users
+
+-- the policy has no user of this name
+abbrev pub NamesNobody : Text → PolicyValue → FactSet → List ℕ → Type 0
+NamesNobody name policy world header = user_named name policy.users ≡ None
+
+-- the policy has a user of this name, whose journal stands for a legal history of his within the
+-- limits, and the count of its disk's faults didn't rise
+abbrev pub CanBeAudited : Journals → Text → PolicyValue → FactSet → List ℕ → Type 0
+CanBeAudited journals name policy world header =
+    (user : PolicyUser) × (user_named name policy.users ≡ Some user)
+    × ((entries : History)
+    × Opens policy.schema world user.profile header entries (journals.bytes user.name))
+    × (Rose (journals.before user.name) (journals.now user.name) → ⊥)
+
+module _ (shelf : ShelfScene) (output : Output) (files : FileNames) (user : Text) (json : Bool)
+  where
+    -- the policy has a user of the name, and his audit ended so
+    abbrev pub Audits : AuditEnd → PolicyValue → FactSet → List ℕ → Type 0
+    Audits end policy world header =
+        (one : PolicyUser) × (user_named user policy.users ≡ Some one)
+        × (output.tells → let journals = journals_of shelf files in
+        IsEnd policy.schema world header one.name one.profile (journals.bytes one.name)
+        (journals.before one.name) (journals.now one.name) json end output.written output.written')
+
+    -- It ran over files that were read. His disk alone was looked at: the others are untouched, and
+    -- all have their bytes and no image that they hadn't before.
+    pub record RunsAudit (name : Text) (end : AuditEnd) : Type 0 where
+      pub name_is : name ≡ user
+      pub over_files : shelf.tells → SayOn shelf files (Audits end)
+      pub looks : shelf.tells → LooksAtBoth shelf files
+      pub others : shelf.tells → SameOthers (journal_name files.journals user) shelf.disk shelf.disk'
+      pub bytes : shelf.tells → SameBytes shelf.Disk.reads shelf.disk shelf.disk'
+      pub images : shelf.tells → NoNewImages shelf.Disk.image shelf.disk shelf.disk'
+
+    -- the policy has no user of the name, and no disk was touched
+    pub record FindsNobody : Type 0 where
+      pub over_files : shelf.tells → SayOn shelf files (NamesNobody user)
+      pub looks : shelf.tells → LooksAtBoth shelf files
+      pub disks : SameDisks shelf
+      pub writes_nothing : SameOutput output
+
+    -- the ends that it may have
+    abbrev pub AuditEnds : CommandEnd → Type 0
+    AuditEnds (end.Audit name end) = RunsAudit name.now end
+    AuditEnds end.Nobody = FindsNobody
+    AuditEnds (end.Files end) = IsUnread shelf files end × SameOutput output
+    AuditEnds end.Memory = SameShelf shelf × SameOutput output
+    AuditEnds end = ⊥
+
+    -- without a fault, a user whose journal can be opened is audited
+    abbrev pub AuditSucceeds : CommandEnd → Type 0
+    AuditSucceeds end =
+        shelf.tells → output.tells → SayOn shelf files (CanBeAudited (journals_of shelf files) user)
+        → (HasRisen shelf.faults → ⊥) → (HasRisen output.faults → ⊥) → IsDoneUnlessMemory end
+
+-- `audit` of the user of this name, over the files of these names; it has no input
+pub record OfAudit (s : Scene) (files : FileNames) (user : Text) (json : Bool) (end : CommandEnd)
+    : Type 0 where
+  pub ends : AuditEnds s.shelf s.output files user json end
+  pub succeeds : AuditSucceeds s.shelf s.output files user json end
+  pub reads_nothing : SameInput s.input
+  pub listens_nowhere : SameLinks s.links

@@ -1,0 +1,71 @@
+-- The command `init`: an empty journal on the disk of each user of a policy, where that is empty.
+use Rattle.std.specs.Prelude.{◌≡◌, ◌<◌, List, ℕ, length, map, Vec}
+use Rattle.std.specs.declared.alloc.Global.{Global}
+use Rattle.cqe_base.specs.Facts.{FactSet}
+use Rattle.cqe_base.specs.declared.user.User.{User}
+use Rattle.command_words.specs.Readings.{FileNames}
+use Rattle.init_engine.specs.Ends.{Change, IsEnd}
+use Rattle.init_engine.specs.declared.end.InitEnd.{InitEnd}
+use Rattle.init_engine.specs.declared.end.InitEnd.TheVariants as init_end
+use Rattle.policy_files.specs.Memory.{policy_user_of}
+use Rattle.policy_files.specs.Policies.{PolicyValue}
+use Rattle.policy_files.specs.Users.{names_of}
+use Rattle.cqe_top.specs.declared.end.CommandEnd.{CommandEnd}
+use Rattle.cqe_top.specs.declared.end.CommandEnd.TheVariants as end
+use Rattle.cqe_top.specs.Files.{SayOn, LooksAtBoth, IsUnread, journals_of}
+use Rattle.cqe_top.specs.Ready.{CanBeMade}
+use Rattle.cqe_top.specs.Reports.{IsDoneUnlessMemory}
+use Rattle.cqe_top.specs.Scene.{Scene, ShelfScene, HasRisen}
+use Rattle.cqe_top.specs.Scene.{SameShelf, SameInput, SameOutput, SameLinks}
+
+-- the disks of a shelf before and after, with the counts of their faults and the shelf's own
+abbrev pub change_on : (shelf : ShelfScene) → Change shelf.D
+change_on shelf = record {
+  old = shelf.disk;
+  new = shelf.disk';
+  before = shelf.disk_faults;
+  now = shelf.disk_faults';
+  shelf_before = shelf.faults.before;
+  shelf_now = shelf.faults.now;
+}
+
+-- a user whose journal is refused is one of these
+abbrev pub IsOneOf : List User → InitEnd → Type 0
+IsOneOf users (init_end.Refused user why) = user < length users
+IsOneOf users end = Unit {0}
+
+module _ (shelf : ShelfScene) (files : FileNames) where
+  -- the journals of these users of the policy were made, or it stopped at the first who can't be
+  -- served
+  pub record Makes (users : Vec User Global) (end : InitEnd) (policy : PolicyValue)
+      (world : FactSet) (header : List ℕ) : Type 0 where
+    pub of_policy : map policy_user_of users.items ≡ policy.users
+    pub makes : IsEnd shelf.tells shelf.Disk.reads shelf.Disk.image header files.journals
+        (names_of policy.users) (change_on shelf) end
+
+  -- it ran over files that were read
+  pub record RunsInit (users : Vec User Global) (end : InitEnd) : Type 0 where
+    pub over_files : shelf.tells → SayOn shelf files (Makes users end)
+    pub looks : shelf.tells → LooksAtBoth shelf files
+    pub within : IsOneOf users.items end
+
+  -- the ends that it may have
+  abbrev pub InitEnds : CommandEnd → Type 0
+  InitEnds (end.Init users end) = RunsInit users end
+  InitEnds (end.Files end) = IsUnread shelf files end
+  InitEnds end.Memory = SameShelf shelf
+  InitEnds end = ⊥
+
+  -- without a fault of the shelf, the journals of all users are made where that can be
+  abbrev pub InitSucceeds : CommandEnd → Type 0
+  InitSucceeds end =
+      shelf.tells → SayOn shelf files (CanBeMade (journals_of shelf files))
+      → (HasRisen shelf.faults → ⊥) → IsDoneUnlessMemory end
+
+-- `init` over the files of these names; it has no input and no output
+pub record OfInit (s : Scene) (files : FileNames) (end : CommandEnd) : Type 0 where
+  pub ends : InitEnds s.shelf files end
+  pub succeeds : InitSucceeds s.shelf files end
+  pub reads_nothing : SameInput s.input
+  pub writes_nothing : SameOutput s.output
+  pub listens_nowhere : SameLinks s.links

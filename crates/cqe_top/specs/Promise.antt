@@ -1,0 +1,65 @@
+-- What the program promises of a call.
+use Rattle.std.specs.Prelude.{◌≡◌, ℕ, List, Option, Some, None}
+use Rattle.outside.specs.Shelf.{SameNames}
+use Rattle.outside.specs.Streams.{AppendsUnless}
+use Rattle.cqe_base.specs.Schema.{Text}
+use Rattle.command_words.specs.Readings.{Reading, reading_of, runs_case, runs_init, runs_batch}
+use Rattle.command_words.specs.Readings.{runs_audit, runs_selfrun, runs_serve}
+use Rattle.desk_crew.specs.Shelved.{NoneOut, NoneFell}
+use Rattle.cqe_top.specs.declared.end.CommandEnd.{CommandEnd}
+use Rattle.cqe_top.specs.declared.end.CommandEnd.TheVariants as end
+use Rattle.cqe_top.specs.Audit.{OfAudit}
+use Rattle.cqe_top.specs.Batch.{OfBatch}
+use Rattle.cqe_top.specs.Case.{OfCase}
+use Rattle.cqe_top.specs.Complaints.{complaint_of}
+use Rattle.cqe_top.specs.Init.{OfInit}
+use Rattle.cqe_top.specs.Reports.{status_of, report_of, HasCause}
+use Rattle.cqe_top.specs.Scene.{Scene, ShelfScene, Output, HasRisen, IsLater, IsUntouched}
+use Rattle.cqe_top.specs.Selfrun.{OfSelfrun}
+use Rattle.cqe_top.specs.Serve.{OfServe}
+
+-- words without a reading: nothing is done
+abbrev pub OfUsage : Scene → CommandEnd → Type 0
+OfUsage s end.Usage = IsUntouched s
+OfUsage s end.Memory = IsUntouched s
+OfUsage s end = ⊥
+
+-- what an end says by the reading of the words
+abbrev pub OfReading : Scene → Option Reading → CommandEnd → Type 0
+OfReading s None end = OfUsage s end
+OfReading s (Some runs_case) end = OfCase s end
+OfReading s (Some (runs_init files)) end = OfInit s files end
+OfReading s (Some (runs_batch files)) end = OfBatch s files end
+OfReading s (Some (runs_audit files user json)) end = OfAudit s files user json end
+OfReading s (Some (runs_selfrun seed users asks)) end = OfSelfrun s seed users asks end
+OfReading s (Some (runs_serve files address workers sessions)) end =
+    OfServe s files address workers sessions end
+
+-- of a shelf, whatever comes: its files are what they were, all its disks are back, and no count fell
+pub record KeepsShelf (shelf : ShelfScene) : Type 0 where
+  pub files : SameNames shelf.file shelf.file'
+  pub inside : NoneOut shelf.is_out'
+  pub counts : NoneFell shelf.disk_faults shelf.disk_faults'
+  pub later : IsLater shelf.faults
+
+-- whatever comes: all disks and doors are back, the input holds what it held, and no count fell
+pub record Always (s : Scene) : Type 0 where
+  pub shelf : KeepsShelf s.shelf
+  pub held : s.input.held' ≡ s.input.held
+  pub doors : s.links.out' ≡ s.links.out
+  pub input_later : IsLater s.input.faults
+  pub output_later : IsLater s.output.faults
+  pub links_later : IsLater s.links.faults
+
+-- The status is that of an end, of which the complaints are told: one of the command of the words.
+-- A fault has its cause.
+pub record Promise (words : List Text) (s : Scene) (complaints : Output) (status : ℕ)
+    : Type 0 where
+  pub end : CommandEnd
+  pub of_status : status ≡ status_of (report_of end)
+  pub complaint : complaints.tells → AppendsUnless (complaint_of (report_of end))
+      complaints.written complaints.written' (HasRisen complaints.faults)
+  pub command : OfReading s (reading_of words) end
+  pub cause : HasCause s end
+  pub always : Always s
+  pub complaints_later : IsLater complaints.faults

@@ -1,0 +1,28 @@
+-- The command `selfrun`: a workload, run over nothing but memory, and its summary to the output.
+use Rattle.std.specs.Prelude.{ℕ}
+use Rattle.selfrun_engine.specs.Runs.{IsEnd}
+use Rattle.selfrun_engine.specs.declared.end.SelfrunEnd.{SelfrunEnd}
+use Rattle.cqe_top.specs.declared.end.CommandEnd.{CommandEnd}
+use Rattle.cqe_top.specs.declared.end.CommandEnd.TheVariants as end
+use Rattle.cqe_top.specs.Reports.{IsDoneUnlessMemory}
+use Rattle.cqe_top.specs.Scene.{Scene, IsUntouched, HasRisen, SameShelf, SameInput, SameLinks}
+
+module _ (s : Scene) (seed users asks : ℕ) where
+  -- it ran: the summary counts the replies of the run of the workload of this seed, with so many
+  -- users and asks, in which every journal was opened and no append failed
+  pub record RunsSelfrun (end : SelfrunEnd) : Type 0 where
+    pub sums_up : s.output.tells → IsEnd seed users asks end s.output.written s.output.written'
+    pub takes_nothing : SameShelf s.shelf
+    pub reads_nothing : SameInput s.input
+    pub listens_nowhere : SameLinks s.links
+
+  -- the ends that it may have
+  abbrev pub SelfrunEnds : CommandEnd → Type 0
+  SelfrunEnds (end.Selfrun end) = RunsSelfrun end
+  SelfrunEnds end.Memory = IsUntouched s
+  SelfrunEnds end = ⊥
+
+  -- `selfrun` with these numbers; it is done where no fault comes
+  pub record OfSelfrun (end : CommandEnd) : Type 0 where
+    pub ends : SelfrunEnds end
+    pub succeeds : (HasRisen s.output.faults → ⊥) → IsDoneUnlessMemory end

@@ -1,0 +1,81 @@
+-- The command `serve`: connections at an address, side by side, over the journals of a policy's
+-- users.
+use Rattle.std.specs.Prelude.{◌≡◌, ◌⊎◌, ◌++◌, ◌∷◌, [], ◌+◌, ◌≤◌, ℕ, List, map, Vec}
+use Rattle.std.specs.declared.alloc.Global.{Global}
+use Rattle.outside.specs.Visits.{place_of}
+use Rattle.cqe_base.specs.Facts.{FactSet}
+use Rattle.cqe_base.specs.Schema.{Text}
+use Rattle.cqe_base.specs.declared.user.User.{User}
+use Rattle.command_words.specs.Readings.{FileNames}
+use Rattle.policy_files.specs.Memory.{policy_user_of}
+use Rattle.policy_files.specs.Policies.{PolicyValue}
+use Rattle.serve_engine.specs.Serving as serving
+use Rattle.serve_engine.specs.Serving.{IsDone}
+use Rattle.serve_engine.specs.declared.run.ServeEnd.{ServeEnd}
+use Rattle.cqe_top.specs.declared.end.CommandEnd.{CommandEnd}
+use Rattle.cqe_top.specs.declared.end.CommandEnd.TheVariants as end
+use Rattle.cqe_top.specs.Files.{SayOn, LooksAtBoth, IsUnread, TouchesJournals, journals_of}
+use Rattle.cqe_top.specs.Ready.{CanBeOpened}
+use Rattle.cqe_top.specs.Reports.{IsDoneUnlessMemory}
+use Rattle.cqe_top.specs.Scene.{Scene, ShelfScene, LinksScene, HasRisen}
+use Rattle.cqe_top.specs.Scene.{SameDisks, SameShelf, SameInput, SameOutput, SameLinks}
+
+-- the links listened once more, at this address and with so many doors
+abbrev pub ListensAt : LinksScene → Text → ℕ → Type 0
+ListensAt links address doors = links.listened' ≡ links.listened ++ place_of address doors ∷ []
+
+-- no connection is at hand, or those that were given in this call and the doors that answered that
+-- no further one comes are together at least so many
+abbrev pub IsServedOut : LinksScene → ℕ → Type 0
+IsServedOut links sessions =
+    (links.at_hand' ≡ 0) ⊎ (links.given + sessions + links.ended ≤ links.given' + links.ended')
+
+module _ (shelf : ShelfScene) (links : LinksScene) (files : FileNames) (address : Text)
+    (workers sessions : ℕ) where
+  -- connections were served to these users of the policy, by the one history of each
+  pub record Serves (users : Vec User Global) (end : ServeEnd) (policy : PolicyValue)
+      (world : FactSet) (header : List ℕ) : Type 0 where
+    pub of_policy : map policy_user_of users.items ≡ policy.users
+    pub touches : TouchesJournals shelf files policy
+    -- what it leaves of the journals, whatever the links tell
+    pub journals : serving.LeavesJournals policy.schema world header (journals_of shelf files)
+        users.items end
+    pub serves : links.tells
+        → serving.Ends policy.schema world header (journals_of shelf files) users.items
+        links.given links.given' links.back links.back' end
+
+  -- it ran over files that were read: it listens at the address alone, with a door for each worker,
+  -- and gives at most so many connections
+  pub record RunsServe (users : Vec User Global) (end : ServeEnd) : Type 0 where
+    pub over_files : shelf.tells → SayOn shelf files (Serves users end)
+    pub looks : shelf.tells → LooksAtBoth shelf files
+    pub listens : links.tells
+        → (links.listened' ≡ links.listened) ⊎ ListensAt links address workers
+    -- where it didn't listen it touched no disk
+    pub unheard : links.tells → links.listened' ≡ links.listened → SameDisks shelf
+    pub heard : links.tells → IsDone end → ListensAt links address workers
+    pub ends : links.tells → IsDone end → IsServedOut links sessions
+    pub few_ended : links.ended' ≤ links.ended + workers
+    pub limited : links.tells → links.given' ≤ links.given + sessions
+
+  -- the ends that it may have
+  abbrev pub ServeEnds : CommandEnd → Type 0
+  ServeEnds (end.Serve users end) = RunsServe users end
+  ServeEnds (end.Files end) = IsUnread shelf files end × SameLinks links
+  ServeEnds end.Memory = SameShelf shelf × SameLinks links
+  ServeEnds end = ⊥
+
+  -- without a fault, it serves to its end over journals that can be opened
+  abbrev pub ServeSucceeds : CommandEnd → Type 0
+  ServeSucceeds end =
+      shelf.tells → links.tells → SayOn shelf files (CanBeOpened (journals_of shelf files))
+      → (HasRisen shelf.faults → ⊥) → (HasRisen links.faults → ⊥) → IsDoneUnlessMemory end
+
+-- `serve` over the files of these names, at this address, with so many workers and for so many
+-- connections; it has no input and no output but these
+pub record OfServe (s : Scene) (files : FileNames) (address : Text) (workers sessions : ℕ)
+    (end : CommandEnd) : Type 0 where
+  pub ends : ServeEnds s.shelf s.links files address workers sessions end
+  pub succeeds : ServeSucceeds s.shelf s.links files address workers sessions end
+  pub reads_nothing : SameInput s.input
+  pub writes_nothing : SameOutput s.output

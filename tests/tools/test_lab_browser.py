@@ -1,0 +1,225 @@
+"""The page of cqe-lab in a headless Chromium: what is typed, read and seen. Without Chromium nothing of it is run.
+
+Where the environment variable CQE_PICTURES names a directory, a picture of each example is put there.
+"""
+
+import json
+import os
+import struct
+from pathlib import Path
+
+import browser
+import lab_run
+import program
+from told import FACTS, POLICY, InDirectory
+
+PICTURES = program.TOP / "docs/pictures"
+MOST_BYTES = 200_000
+WIDE, NARROW = (1600, 1000), (360, 1400)
+SCALE = 0.68
+
+# Of each example: whom the picture shows, and the questions that they are asked.
+SHOWN = {
+    "ward": (["nurse", "clerk", "head"], ["hiv(ann) or hiv(bob)", "hiv(ann)"]),
+    "clinic": (["lying", "refusal", "combined"], ["drug(ann)"]),
+    "hospital": (["registry", "press"], ["has(p17, hiv) or has(p23, hiv)", "has(p17, hiv)"]),
+    "statistics": (["bank", "owner", "newspaper", "pupils"],
+                   ["exists f: firm . in_branch(f, brewery) and in_region(f, south) and made_loss(f)"]),
+}
+# The replies and the truth of the last of them, worked out by the rules of the methods.
+LAST = {
+    # The head was told yes to the first: a no would tell of bob.
+    "ward": (["no", "refused", "refused"], "yes"),
+    "clinic": (["no", "refused", "no"], "yes"),
+    # Who refuses looks at both answers. The press was told yes to the first: a no would tell of p23.
+    "hospital": (["refused", "refused"], "yes"),
+    "statistics": (["yes", "refused", "yes", "no"], "yes"),
+}
+# What the page shows of a round: the cards' users and replies, and of each other database its facts.
+ROUND = """(() => {
+  const round = document.querySelector('.round');
+  const texts = (place, what) => [...place.querySelectorAll(what)].map((one) => one.textContent);
+  return {
+    asked: round.querySelector('.asked .sentence').textContent,
+    truth: texts(round, '.truth strong').join(),
+    cards: [...round.querySelectorAll('.card')].map((card) => ({
+      user: card.dataset.user, reply: card.querySelector('.word').textContent,
+      tag: card.querySelector('.tag').textContent,
+      worlds: [...card.querySelectorAll('.world')].map((world) => ({
+        secrets: texts(world, 'h4 code'), checks: texts(world, '.check'),
+        facts: texts(world, '.facts td:nth-child(2) code'), there: texts(world, '.facts td.there code'),
+        here: texts(world, '.facts td.here code'),
+      })),
+    })),
+  };
+})()"""
+FOCUSED = "document.activeElement.id || document.activeElement.textContent.trim().slice(0, 30)"
+SEEN = "getComputedStyle(document.activeElement).outlineStyle !== 'none'"
+
+
+@browser.needed
+class OnThePage(InDirectory):
+    """Tests with a running lab and a browser that shows its page."""
+
+    def cqe(self):
+        return lab_run.stand_in(self.directory)
+
+    def setUp(self):
+        super().setUp()
+        temporary = self.directory / "temporary"
+        temporary.mkdir()
+        self.lab = self.enterContext(lab_run.Lab(temporary, self.cqe()))
+        self.page = self.enterContext(browser.Browser(self.directory))
+        self.page.look(*WIDE)
+        self.page.go(self.lab.address)
+        self.ready()
+
+    def ready(self):
+        """Waits until the page has what it asked for."""
+        self.page.wait("document.querySelector('#names input') && document.body.getAttribute('aria-busy') !== 'true' "
+                       "&& !document.querySelector('.why[aria-busy=true]')")
+
+    def load(self, example):
+        self.page.value(f"document.getElementById('example').value = '{example}'")
+        self.page.value("document.querySelector('#loading button').click()")
+        self.ready()
+
+    def choose(self, names):
+        """Takes these users and no other."""
+        self.page.value("for (const box of document.querySelectorAll('#names input')) {"
+                        f"box.checked = {json.dumps(names)}.includes(box.value); }}")
+
+    def ask(self, text):
+        """Types a question, presses Enter, and answers what the page shows of it."""
+        self.page.value("document.getElementById('question').focus(); document.getElementById('question').select()")
+        self.page.type(text)
+        self.page.press("Enter")
+        self.ready()
+        return self.page.value(ROUND)
+
+
+class ByTheKeyboard(OnThePage):
+    def test_tab_reaches_everything_in_its_order(self):
+        order = []
+        while len(order) < 60:
+            self.page.press("Tab")
+            order.append(self.page.value(FOCUSED))
+            self.assertTrue(self.page.value(SEEN), order)
+            if order[-1] == "Ask":
+                break
+        self.assertEqual([order[0], order[1], order[2], order[-2]], ["To the question", "example", "Load", "question"])
+        self.assertLess(order.index("Users"), order.index("question"))
+        self.page.press("Tab", shift=True)
+        self.page.type("true")
+        self.page.press("Enter")
+        self.ready()
+        self.assertEqual(self.page.value(ROUND)["asked"], "true")
+        self.assertEqual(self.page.value("document.getElementById('heard').textContent"),
+                         "nurse: no. clerk: no. head: no. The truth: no")
+        self.assertEqual(self.page.value(FOCUSED), "question")
+
+    def test_the_skip_link_and_a_question_to_try(self):
+        self.page.press("Tab")
+        self.page.press("Enter")
+        self.assertEqual(self.page.value(FOCUSED), "question")
+        self.page.value("document.querySelector('#questions button').focus()")
+        self.page.press("Enter")
+        self.assertEqual(self.page.value("document.getElementById('question').value"), "drug(ann)")
+        self.assertEqual(self.page.value(FOCUSED), "question")
+
+    def test_each_field_has_a_label(self):
+        bare = ("[...document.querySelectorAll('input, select, textarea')].filter((one) => one.labels.length === 0)"
+                ".map((one) => one.id)")
+        self.assertEqual(self.page.value(bare), [])
+        self.assertEqual(self.page.value("document.getElementById('heard').getAttribute('aria-live')"), "polite")
+
+
+class AsText(OnThePage):
+    def test_what_comes_from_files_and_questions_stays_text(self):
+        tag = "<img src=x onerror=document.title='run'><script>document.title='run'</script>"
+        policy = POLICY.replace("[[users]]", f"# {tag}\n[[users]]")
+        self.page.value(f"document.getElementById('policy-text').value = {json.dumps(policy)};"
+                        f"document.getElementById('facts-text').value = {json.dumps(FACTS)};"
+                        "document.querySelector('#own button').click()")
+        self.page.wait("document.getElementById('users').textContent.includes('eve')")
+        self.ready()
+        self.assertIn(tag, self.page.value("document.getElementById('users').textContent"))
+        self.assertEqual(self.ask(tag)["asked"], tag)
+        self.assertEqual(self.page.value("[document.images.length, document.scripts.length, document.title]"),
+                         [0, 1, "cqe lab"])
+        self.assertEqual(self.page.errors, [])
+
+    def test_garbage_is_answered(self):
+        for text in (" ", "a" * 6000, "\u202e\u200b", "'\"&lt;"):
+            self.ask(text)
+        self.choose([])
+        self.page.press("Enter")
+        self.page.wait("document.getElementById('trouble').textContent.includes('at least one user')")
+        self.assertEqual(self.page.errors, [])
+
+
+@program.needed
+class WithProgram(OnThePage):
+    def cqe(self):
+        return program.path()
+
+    def fits(self):
+        """That nothing stands out of the page at either size, light and dark."""
+        for size in (WIDE, NARROW):
+            for scheme in ("light", "dark"):
+                self.page.look(*size, scheme)
+                self.assertLessEqual(self.page.value("document.documentElement.scrollWidth"), size[0])
+        self.page.look(*WIDE)
+
+    def keep(self, example):
+        """A picture, where a directory for it is named."""
+        if os.environ.get("CQE_PICTURES"):
+            self.page.value("document.activeElement.blur(); document.querySelector('#asking details').open = false;"
+                            "window.scrollTo(0, 0)")
+            Path(os.environ["CQE_PICTURES"], f"{example}.png").write_bytes(self.page.picture(*WIDE, SCALE))
+
+    def test_examples(self):
+        for example, (names, questions) in SHOWN.items():
+            with self.subTest(example):
+                self.load(example)
+                self.choose(names)
+                for text in questions:
+                    shown = self.ask(text)
+                replies, truth = LAST[example]
+                self.assertEqual((shown["asked"], shown["truth"]), (questions[-1], truth))
+                self.assertEqual([(card["user"], card["reply"]) for card in shown["cards"]], list(zip(names, replies)))
+                for card in shown["cards"]:
+                    tags = {"refused": "withheld", truth: "the truth"}
+                    self.assertEqual(card["tag"], tags.get(card["reply"], "a lie"))
+                self.assertWorlds(shown, example, names, questions)
+                self.fits()
+                self.keep(example)
+        self.assertEqual(self.page.errors, [])
+
+    def assertWorlds(self, shown, example, names, questions):
+        """That the page shows the other databases that the program names for the same questions."""
+        trial = self.lab.opened(example=example)["trial"]
+        for text in questions:
+            self.lab.shown("ask", trial=trial, users=names, text=text)
+        for card in shown["cards"]:
+            why = self.lab.shown("why", trial=trial, user=card["user"], number=len(questions))
+            found = [{"secrets": [secret["text"] for secret in world["secrets"]],
+                      "facts": world["there_alone"]["items"] + world["in_both"]["items"],
+                      "there": world["there_alone"]["items"], "here": world["here_alone"]["items"]}
+                     for world in why["worlds"]]
+            self.assertTrue(found)
+            for world, its in zip(card["worlds"], found, strict=True):
+                self.assertEqual(len(world["checks"]), 2)
+                self.assertTrue(all(line.startswith("Checked: ") for line in world.pop("checks")))
+                self.assertEqual({key: sorted(value) for key, value in world.items()},
+                                 {key: sorted(value) for key, value in its.items()})
+
+
+class Pictures(InDirectory):
+    def test_each_example_has_a_small_one(self):
+        self.assertEqual(sorted(path.name for path in PICTURES.iterdir()), sorted(f"{name}.png" for name in SHOWN))
+        for picture in PICTURES.iterdir():
+            data = picture.read_bytes()
+            self.assertEqual(data[:8], b"\x89PNG\r\n\x1a\n")
+            self.assertLess(len(data), MOST_BYTES)
+            self.assertEqual(struct.unpack(">II", data[16:24]), tuple(round(side * SCALE) for side in WIDE))
