@@ -6,6 +6,5 @@ pub mod Passing
 pub mod Doors
 pub mod Sharing
 pub mod Serving
-
 -- proofs, which ghost members of a job name; no definitions
 pub mod Keeping

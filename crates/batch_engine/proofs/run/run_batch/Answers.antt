@@ -90,9 +90,12 @@ give_back-requires-in-Cut-clause-later g c =
 pub returns-in-All-clause-journals : goal.returns-in-All-clause-journals
 returns-in-All-clause-journals g c =
     λ shelf_told.
-    let all = c.in-All.ensures.answered in
-    (items_of c.in-Whole.batch, all.output, subst (λ l. AppendsAll c.args.registry.now.schema.now c.args.registry.now.world.now (header_bytes c.args.registry.now.header.now) (journals_on g.F.D.Disk.reads g.F.D.Disk.image c.args.registry.now.directory.now (g.F.Shelf.disk c.args.shelf.now) (g.F.Shelf.disk c.give_back.new.shelf) (g.F.Shelf.disk_faults c.args.shelf.now) (g.F.Shelf.disk_faults c.give_back.new.shelf)) (map named_user c.args.registry.now.users.now) (items_of c.in-Whole.batch) [] all.output l c.in-All.is_broken) (sym (c.refusals_of-refusals.ensures ∙ ap (map (λ x. x.refusal)) c.as_slice.ensures.value)) (finish_all c.args.registry.now.schema.now c.args.registry.now.world.now (header_bytes c.args.registry.now.header.now) c.args.registry.now.directory.now g.F.D.Disk.tells g.F.Shelf.tells (g.met.F.Shelf.tells_disks shelf_told) shelf_told g.F.D.Disk.reads g.F.D.Disk.image g.F.D.Disk.faults g.met.F.D.Disk.read_is_image (g.F.Shelf.disk c.args.shelf.now) (g.F.Shelf.disk c.give_back.new.shelf) (g.F.Shelf.disk_faults c.args.shelf.now) (g.F.Shelf.disk_faults c.give_back.new.shelf) (λ (user : UserProfile) entries bytes why. c.law_openings.ensures.unrefused c.args.registry.now.schema.now c.args.registry.now.world.now user c.args.registry.now.header.now bytes entries why) (λ (user : UserProfile) bytes. c.law_openings.ensures.decided c.args.registry.now.schema.now c.args.registry.now.world.now user (header_bytes c.args.registry.now.header.now) bytes) c.law_legal_grows.ensures.empty c.law_runs_legal.ensures c.law_scripts_hide.ensures c.law_private.ensures c.known.ensures c.args.registry.now.users.now c.requires.limits c.requires.names c.in-Ok-open_all.seats.items c.in-Ok-open_all.ensures.opened (Unit {0}) tt (items_of c.in-Whole.batch) c.in-All.seats.items c.in-All.is_broken [] all.output
-      (all_alone c.args.registry.now.schema.now c.args.registry.now.world.now (header_bytes c.args.registry.now.header.now) g.F.D.Disk.tells g.F.D.Disk.reads g.F.D.Disk.image g.F.D.Disk.faults g.K.Sink.tells (items_of c.in-Whole.batch) c.in-Ok-open_all.seats.items c.in-All.seats.items _ _ c.in-All.is_broken all) c.give_back.ensures.back))
+    let all = c.in-All.ensures.answered in (
+      items_of c.in-Whole.batch,
+      all.output,
+      subst (λ l. AppendsAll c.args.registry.now.schema.now c.args.registry.now.world.now (header_bytes c.args.registry.now.header.now) (journals_on g.F.D.Disk.reads g.F.D.Disk.image c.args.registry.now.directory.now (g.F.Shelf.disk c.args.shelf.now) (g.F.Shelf.disk c.give_back.new.shelf) (g.F.Shelf.disk_faults c.args.shelf.now) (g.F.Shelf.disk_faults c.give_back.new.shelf)) (map named_user c.args.registry.now.users.now) (items_of c.in-Whole.batch) [] all.output l c.in-All.is_broken) (sym (c.refusals_of-refusals.ensures ∙ ap (map (λ x. x.refusal)) c.as_slice.ensures.value)) (finish_all c.args.registry.now.schema.now c.args.registry.now.world.now (header_bytes c.args.registry.now.header.now) c.args.registry.now.directory.now g.F.D.Disk.tells g.F.Shelf.tells (g.met.F.Shelf.tells_disks shelf_told) shelf_told g.F.D.Disk.reads g.F.D.Disk.image g.F.D.Disk.faults g.met.F.D.Disk.read_is_image (g.F.Shelf.disk c.args.shelf.now) (g.F.Shelf.disk c.give_back.new.shelf) (g.F.Shelf.disk_faults c.args.shelf.now) (g.F.Shelf.disk_faults c.give_back.new.shelf) (λ (user : UserProfile) entries bytes why. c.law_openings.ensures.unrefused c.args.registry.now.schema.now c.args.registry.now.world.now user c.args.registry.now.header.now bytes entries why) (λ (user : UserProfile) bytes. c.law_openings.ensures.decided c.args.registry.now.schema.now c.args.registry.now.world.now user (header_bytes c.args.registry.now.header.now) bytes) c.law_legal_grows.ensures.empty c.law_runs_legal.ensures c.law_scripts_hide.ensures c.law_private.ensures c.known.ensures c.args.registry.now.users.now c.requires.limits c.requires.names c.in-Ok-open_all.seats.items c.in-Ok-open_all.ensures.opened (Unit {0}) tt (items_of c.in-Whole.batch) c.in-All.seats.items c.in-All.is_broken [] all.output
+          (all_alone c.args.registry.now.schema.now c.args.registry.now.world.now (header_bytes c.args.registry.now.header.now) g.F.D.Disk.tells g.F.D.Disk.reads g.F.D.Disk.image g.F.D.Disk.faults g.K.Sink.tells (items_of c.in-Whole.batch) c.in-Ok-open_all.seats.items c.in-All.seats.items _ _ c.in-All.is_broken all) c.give_back.ensures.back),
+    )
 
 pub returns-in-All-clause-ends : goal.returns-in-All-clause-ends
 unfolding returns-in-All-clause-journals
@@ -100,10 +103,13 @@ returns-in-All-clause-ends g c =
     λ shelf_told source_told sink_told.
     let reads = c.in-Whole.ensures.reads source_told in
     let all = c.in-All.ensures.answered in
-    let alone = returns-in-All-clause-journals g c shelf_told in
-    (reads.1, items_of c.in-Whole.batch, sym (batch_begins _ _ c.new.ensures) ∙ reads.0,
+    let alone = returns-in-All-clause-journals g c shelf_told in (
+      reads.1,
+      items_of c.in-Whole.batch,
+      sym (batch_begins _ _ c.new.ensures) ∙ reads.0,
       told_all c.args.registry.now.schema.now c.args.registry.now.world.now (header_bytes c.args.registry.now.header.now) (journals_on g.F.D.Disk.reads g.F.D.Disk.image c.args.registry.now.directory.now (g.F.Shelf.disk c.args.shelf.now) (g.F.Shelf.disk c.give_back.new.shelf) (g.F.Shelf.disk_faults c.args.shelf.now) (g.F.Shelf.disk_faults c.give_back.new.shelf))
-      (map named_user c.args.registry.now.users.now) (items_of c.in-Whole.batch) all.output _ _ _ _ alone.2 (all.appended sink_told))
+          (map named_user c.args.registry.now.users.now) (items_of c.in-Whole.batch) all.output _ _ _ _ alone.2 (all.appended sink_told),
+    )
 
 pub returns-in-All-clause-inside : goal.returns-in-All-clause-inside
 returns-in-All-clause-inside g c =
@@ -125,9 +131,12 @@ returns-in-All-clause-counts g c =
 pub returns-in-Cut-clause-journals : goal.returns-in-Cut-clause-journals
 returns-in-Cut-clause-journals g c =
     λ shelf_told.
-    let some = c.in-Cut.ensures.answered in
-    (items_of c.in-Whole.batch, some.output ++ take 0 some.line, finish_some c.args.registry.now.schema.now c.args.registry.now.world.now (header_bytes c.args.registry.now.header.now) c.args.registry.now.directory.now g.F.D.Disk.tells g.F.Shelf.tells (g.met.F.Shelf.tells_disks shelf_told) shelf_told g.F.D.Disk.reads g.F.D.Disk.image g.F.D.Disk.faults g.met.F.D.Disk.read_is_image (g.F.Shelf.disk c.args.shelf.now) (g.F.Shelf.disk c.give_back-in-Cut.new.shelf) (g.F.Shelf.disk_faults c.args.shelf.now) (g.F.Shelf.disk_faults c.give_back-in-Cut.new.shelf) (λ (user : UserProfile) entries bytes why. c.law_openings.ensures.unrefused c.args.registry.now.schema.now c.args.registry.now.world.now user c.args.registry.now.header.now bytes entries why) (λ (user : UserProfile) bytes. c.law_openings.ensures.decided c.args.registry.now.schema.now c.args.registry.now.world.now user (header_bytes c.args.registry.now.header.now) bytes) c.law_legal_grows.ensures.empty c.law_runs_legal.ensures c.law_scripts_hide.ensures c.law_private.ensures c.known.ensures c.args.registry.now.users.now c.requires.limits c.requires.names c.in-Ok-open_all.seats.items c.in-Ok-open_all.ensures.opened (Unit {0}) tt (items_of c.in-Whole.batch) c.in-Cut.seats.items [] (some.output ++ take 0 some.line)
-      (some_alone c.args.registry.now.schema.now c.args.registry.now.world.now (header_bytes c.args.registry.now.header.now) g.F.D.Disk.tells g.F.D.Disk.reads g.F.D.Disk.image g.F.D.Disk.faults g.K.Sink.tells (items_of c.in-Whole.batch) c.in-Ok-open_all.seats.items c.in-Cut.seats.items _ _ some) c.give_back-in-Cut.ensures.back)
+    let some = c.in-Cut.ensures.answered in (
+      items_of c.in-Whole.batch,
+      some.output ++ take 0 some.line,
+      finish_some c.args.registry.now.schema.now c.args.registry.now.world.now (header_bytes c.args.registry.now.header.now) c.args.registry.now.directory.now g.F.D.Disk.tells g.F.Shelf.tells (g.met.F.Shelf.tells_disks shelf_told) shelf_told g.F.D.Disk.reads g.F.D.Disk.image g.F.D.Disk.faults g.met.F.D.Disk.read_is_image (g.F.Shelf.disk c.args.shelf.now) (g.F.Shelf.disk c.give_back-in-Cut.new.shelf) (g.F.Shelf.disk_faults c.args.shelf.now) (g.F.Shelf.disk_faults c.give_back-in-Cut.new.shelf) (λ (user : UserProfile) entries bytes why. c.law_openings.ensures.unrefused c.args.registry.now.schema.now c.args.registry.now.world.now user c.args.registry.now.header.now bytes entries why) (λ (user : UserProfile) bytes. c.law_openings.ensures.decided c.args.registry.now.schema.now c.args.registry.now.world.now user (header_bytes c.args.registry.now.header.now) bytes) c.law_legal_grows.ensures.empty c.law_runs_legal.ensures c.law_scripts_hide.ensures c.law_private.ensures c.known.ensures c.args.registry.now.users.now c.requires.limits c.requires.names c.in-Ok-open_all.seats.items c.in-Ok-open_all.ensures.opened (Unit {0}) tt (items_of c.in-Whole.batch) c.in-Cut.seats.items [] (some.output ++ take 0 some.line)
+          (some_alone c.args.registry.now.schema.now c.args.registry.now.world.now (header_bytes c.args.registry.now.header.now) g.F.D.Disk.tells g.F.D.Disk.reads g.F.D.Disk.image g.F.D.Disk.faults g.K.Sink.tells (items_of c.in-Whole.batch) c.in-Ok-open_all.seats.items c.in-Cut.seats.items _ _ some) c.give_back-in-Cut.ensures.back,
+    )
 
 pub returns-in-Cut-clause-ends : goal.returns-in-Cut-clause-ends
 returns-in-Cut-clause-ends g c =
@@ -157,8 +166,12 @@ pub returns-clause-journals : goal.returns-clause-journals
 returns-clause-journals g c =
     λ shelf_told.
     let left = c.in-Memory-answer_all.ensures.answered in
-    inr (items_of c.in-Whole.batch, left.1.all.output, finish_to c.args.registry.now.schema.now c.args.registry.now.world.now (header_bytes c.args.registry.now.header.now) c.args.registry.now.directory.now g.F.D.Disk.tells g.F.Shelf.tells (g.met.F.Shelf.tells_disks shelf_told) shelf_told g.F.D.Disk.reads g.F.D.Disk.image g.F.D.Disk.faults g.met.F.D.Disk.read_is_image (g.F.Shelf.disk c.args.shelf.now) (g.F.Shelf.disk c.answer_all.new.shelf) (g.F.Shelf.disk_faults c.args.shelf.now) (g.F.Shelf.disk_faults c.answer_all.new.shelf) (λ (user : UserProfile) entries bytes why. c.law_openings.ensures.unrefused c.args.registry.now.schema.now c.args.registry.now.world.now user c.args.registry.now.header.now bytes entries why) (λ (user : UserProfile) bytes. c.law_openings.ensures.decided c.args.registry.now.schema.now c.args.registry.now.world.now user (header_bytes c.args.registry.now.header.now) bytes) c.law_legal_grows.ensures.empty c.law_runs_legal.ensures c.law_scripts_hide.ensures c.law_private.ensures c.known.ensures c.args.registry.now.users.now c.requires.limits c.requires.names c.in-Ok-open_all.seats.items c.in-Ok-open_all.ensures.opened (Unit {0}) tt (items_of c.in-Whole.batch) left.0 [] left.1.all.output
-      (to_alone c.args.registry.now.schema.now c.args.registry.now.world.now (header_bytes c.args.registry.now.header.now) g.F.D.Disk.tells g.F.D.Disk.reads g.F.D.Disk.image g.F.D.Disk.faults g.K.Sink.tells (items_of c.in-Whole.batch) c.in-Ok-open_all.seats.items left.0 _ _ left.1) left.2)
+    inr (
+      items_of c.in-Whole.batch,
+      left.1.all.output,
+      finish_to c.args.registry.now.schema.now c.args.registry.now.world.now (header_bytes c.args.registry.now.header.now) c.args.registry.now.directory.now g.F.D.Disk.tells g.F.Shelf.tells (g.met.F.Shelf.tells_disks shelf_told) shelf_told g.F.D.Disk.reads g.F.D.Disk.image g.F.D.Disk.faults g.met.F.D.Disk.read_is_image (g.F.Shelf.disk c.args.shelf.now) (g.F.Shelf.disk c.answer_all.new.shelf) (g.F.Shelf.disk_faults c.args.shelf.now) (g.F.Shelf.disk_faults c.answer_all.new.shelf) (λ (user : UserProfile) entries bytes why. c.law_openings.ensures.unrefused c.args.registry.now.schema.now c.args.registry.now.world.now user c.args.registry.now.header.now bytes entries why) (λ (user : UserProfile) bytes. c.law_openings.ensures.decided c.args.registry.now.schema.now c.args.registry.now.world.now user (header_bytes c.args.registry.now.header.now) bytes) c.law_legal_grows.ensures.empty c.law_runs_legal.ensures c.law_scripts_hide.ensures c.law_private.ensures c.known.ensures c.args.registry.now.users.now c.requires.limits c.requires.names c.in-Ok-open_all.seats.items c.in-Ok-open_all.ensures.opened (Unit {0}) tt (items_of c.in-Whole.batch) left.0 [] left.1.all.output
+          (to_alone c.args.registry.now.schema.now c.args.registry.now.world.now (header_bytes c.args.registry.now.header.now) g.F.D.Disk.tells g.F.D.Disk.reads g.F.D.Disk.image g.F.D.Disk.faults g.K.Sink.tells (items_of c.in-Whole.batch) c.in-Ok-open_all.seats.items left.0 _ _ left.1) left.2,
+    )
 
 pub returns-clause-ends : goal.returns-clause-ends
 returns-clause-ends g c =
