@@ -1,5 +1,4 @@
 pub mod SignedNumbers
-pub mod LiteralInside
 pub mod Ends
 pub mod PlainLines
 pub mod Codes

@@ -10,10 +10,5 @@ use crate::literal::Lit;
 pub fn code(literal: Lit) -> usize
     ensures { result ≡ code_of literal }
 {
-    let even = 2 * literal.variable() as usize;
-    if literal.is_positive() {
-        even
-    } else {
-        even + 1
-    }
+    literal.code() as usize
 }
