@@ -1,6 +1,6 @@
 -- A trail over numbered variables, and what is kept of it at hand.
-use Rattle.std.specs.Prelude.{◌≡◌, ℕ, suc, ◌<◌, ◌≤◌, ◌+◌, ◌*◌, Bool, true, false, ◌==◌, if◌then◌else◌, List, [], ◌∷◌, length, max, Option, Some, None, slice_index_or}
-use Rattle.cqe_base.specs.Literal.{Literal, Positive, variable_of, opposite, same_literal}
+use Rattle.std.specs.Prelude.{◌≡◌, ℕ, suc, ◌<◌, ◌≤◌, ◌*◌, Bool, true, false, ◌==◌, if◌then◌else◌, List, [], ◌∷◌, length, Option, Some, None, slice_index_or}
+use Rattle.cqe_base.specs.Literal.{Literal, Positive, variable_of}
 use Rattle.cqe_base.specs.Machine.{Assigned, assigned_literal, is_true, level, level_of}
 use Rattle.cqe_base.specs.MachineStates.{is_assigned, IsDistinct}
 use Rattle.clause_store.specs.Codes.{code_of}
@@ -14,16 +14,6 @@ pub record Assigning : Type 0 where
 abbrev pub place_of : List Assigned → ℕ → ℕ
 place_of [] v = 0
 place_of (a ∷ trail) v = if v == variable_of (assigned_literal a) then suc (length trail) else place_of trail v
-
--- how long the trail is up to and with the opposite of a literal, and 0 where that isn't on it
-abbrev pub place_against : List Assigned → Literal → ℕ
-place_against [] l = 0
-place_against (a ∷ trail) l = if same_literal (opposite l) (assigned_literal a) then suc (length trail) else place_against trail l
-
--- and the longest such part for a clause
-abbrev pub latest_place : List Assigned → List Literal → ℕ
-latest_place trail [] = 0
-latest_place trail (l ∷ clause) = max (place_against trail l) (latest_place trail clause)
 
 -- the truth of each literal, the level and the place of each variable, the level, and a number below which each variable is assigned are those of the trail
 pub record IsKept (n : ℕ) (trail : List Assigned) (truths : List Bool) (levels places : List ℕ) (decisions next : ℕ) : Type 0 where

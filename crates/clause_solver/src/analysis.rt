@@ -1,9 +1,11 @@
 //! The analysis of a conflict with the levels and the marks at hand.
 
-ghost use Rattle.std.specs.Prelude.{◌≡◌, ◌<◌, ◌^◌, ◌↔◌, IsTrue, [], length, not, max, if◌then◌else◌, IfOk, slice_index_or};
-ghost use Rattle.std.specs.List.{filter, find};
+ghost use Rattle.std.specs.Prelude.{◌≡◌, ◌<◌, ◌^◌, ◌↔◌, IsTrue, [], length, not, max, if◌then◌else◌, Some, IfOk, slice_index_or};
+ghost use Rattle.std.specs.List.{filter, find, position_from, list_all};
 ghost use Rattle.cqe_base.specs.Literal.{ClausesBelow};
-ghost use Rattle.cqe_base.specs.Machine.{resolved_with, is_current, level_of, current_count, highest_level, kept_count, analysis, conflict_line, State};
+ghost use Rattle.cqe_base.specs.Machine.{resolved_with, is_current, is_false, level_of, current_count, highest_level, kept_count, conflict_line, State};
+ghost use Rattle.cqe_base.specs.MachineStates.{IsReached};
+ghost use Rattle.cqe_base.proofs.Analysis.{walk_back};
 ghost use Rattle.clause_store.specs.PlainLines.{line_of};
 ghost use Rattle.clause_solver.specs.Lines.{line_with};
 
@@ -43,20 +45,17 @@ fn clause_or_none(clauses: &Clauses, number: usize) -> &[Lit]
     }
 }
 
-/// Resolves a clause with the cause of a literal, whose number joins the chain; a decision has none.
+/// Resolves a clause with the cause of an entry, whose number joins the chain; a decision has none.
 fn resolve_with(
     clauses: &Clauses,
-    latest: Option<TrailEntry>,
+    entry: TrailEntry,
     clause: &mut MarkedClause,
     chain: &mut Vec<u32>,
 ) -> Result<(), AllocError>
     requires { ClausesBelow clause.old.variables clauses.now }
-    ensures line { IfOk result (λ _. line_with clause.new.clause chain.new.items ≡ resolved_with clauses.now latest (line_with clause.old.clause chain.old.items)) }
+    ensures line { IfOk result (λ _. line_with clause.new.clause chain.new.items ≡ resolved_with clauses.now (Some entry) (line_with clause.old.clause chain.old.items)) }
     ensures variables { IfOk result (λ _. clause.new.variables ≡ clause.old.variables) }
 {
-    let Some(entry) = latest else {
-        return Ok(());
-    };
     if entry.is_decided() {
         return Ok(());
     }
@@ -66,7 +65,8 @@ fn resolve_with(
     Ok(())
 }
 
-/// Resolves until few enough literals of the current level are left. Each resolution goes back along the trail, so its length bounds their number.
+/// Walks back along the trail once, and resolves at each entry whose opposite the clause has, until few enough literals of the
+/// current level are left.
 fn analyse(
     clauses: &Clauses,
     assignment: &Assignment,
@@ -75,15 +75,16 @@ fn analyse(
     chain: &mut Vec<u32>,
 ) -> Result<(), AllocError>
     requires { ClausesBelow clause.old.variables clauses.now }
-    ensures line { IfOk result (λ _. line_with clause.new.clause chain.new.items ≡ analysis clauses.now assignment.now.trail keep (length assignment.now.trail) (line_with clause.old.clause chain.old.items)) }
+    ensures line { IfOk result (λ _. line_with clause.new.clause chain.new.items ≡ walk_back clauses.now assignment.now.trail keep assignment.now.trail (line_with clause.old.clause chain.old.items)) }
     ensures variables { IfOk result (λ _. clause.new.variables ≡ clause.old.variables) }
 {
-    for times in 0..assignment.entries().len() {
-        if !has_more_current(assignment, clause.literals(), keep) {
-            return Ok(());
+    for entry in assignment.entries().iter().rev() {
+        if clause.has(entry.literal().opposite()) {
+            if !has_more_current(assignment, clause.literals(), keep) {
+                return Ok(());
+            }
+            resolve_with(clauses, *entry, clause, chain)?;
         }
-        let latest = assignment.latest_against(clause.literals());
-        resolve_with(clauses, latest, clause, chain)?;
     }
     Ok(())
 }
@@ -107,6 +108,8 @@ pub fn conflict_line(
     requires fits { number < 2 ^ 32 }
     requires below { ClausesBelow clause.old.variables clauses.now }
     requires empty { clause.old.clause ≡ [] }
+    requires conflict { position_from (list_all (is_false assignment.now.trail)) 0 clauses.now ≡ Some number }
+    requires reached { IsReached clause.old.variables (record { clauses = clauses.now; trail = assignment.now.trail; lines = [] }) }
     ensures line { IfOk result (λ line. line_of line ≡ conflict_line (record { clauses = clauses.now; trail = assignment.now.trail; lines = [] }) number) }
     ensures same { IfOk result (λ _. clause.new ≡ clause.old) }
 {

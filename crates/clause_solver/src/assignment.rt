@@ -2,10 +2,10 @@
 
 ghost use Rattle.std.specs.Prelude.{◌≡◌, ◌<◌, ◌≤◌, ◌^◌, ◌+◌, ◌-◌, ◌*◌, false, [], ◌∷◌, length, reverse, IfOk, IfSome, IfNone, if◌then◌else◌};
 ghost use Rattle.cqe_base.specs.Literal.{variable_of};
-ghost use Rattle.cqe_base.specs.Machine.{Assigned, assigned_literal, is_true, is_false, level, level_of, is_current, latest_against, first_unassigned};
+ghost use Rattle.cqe_base.specs.Machine.{Assigned, assigned_literal, is_true, is_false, level, level_of, is_current, first_unassigned};
 ghost use Rattle.cqe_base.specs.MachineStates.{is_assigned};
 ghost use Rattle.clause_solver.specs.Entries.{is_decided};
-ghost use Rattle.clause_solver.specs.Assigning.{place_of, place_against, latest_place, IsFirstZero};
+ghost use Rattle.clause_solver.specs.Assigning.{IsFirstZero};
 ghost use Rattle.clause_solver.specs.Watching.{is_open};
 
 use crate::entry::TrailEntry;
@@ -113,51 +113,6 @@ impl Assignment {
         ensures { result ≡ is_current self.now.trail literal }
     {
         self.level_of(literal) == self.level()
-    }
-
-    /// The place of a variable, or 0.
-    fn place_of(&self, variable: u32) -> usize
-        ensures { result ≡ place_of self.now.trail variable }
-    {
-        let at = variable as usize;
-        if at < self.places.len() {
-            self.places[at]
-        } else {
-            0
-        }
-    }
-
-    /// The place of a literal's opposite on the trail, or 0.
-    fn place_against(&self, literal: Lit) -> usize
-        ensures { result ≡ place_against self.now.trail literal }
-    {
-        let _ = &self.variables;
-        if self.is_false(literal) {
-            self.place_of(literal.variable())
-        } else {
-            0
-        }
-    }
-
-    /// The place of the latest literal of the trail whose opposite a clause has, or 0.
-    fn latest_place(&self, clause: &[Lit]) -> usize
-        ensures { result ≡ latest_place self.now.trail clause.now }
-    {
-        let mut latest = 0;
-        for literal in clause {
-            latest = latest.max(self.place_against(*literal));
-        }
-        latest
-    }
-
-    /// The latest literal of the trail whose opposite a clause has.
-    pub fn latest_against(&self, clause: &[Lit]) -> Option<TrailEntry>
-        ensures { result ≡ latest_against self.now.trail clause.now }
-    {
-        match self.latest_place(clause) {
-            0 => None,
-            place => self.entries().get(place - 1).copied(),
-        }
     }
 
     /// An entry joins the trail.
