@@ -74,12 +74,19 @@ impl Assignment {
         self.decisions
     }
 
+    /// Whether a literal of these variables is true.
+    pub fn holds(&self, literal: Lit) -> bool
+        requires { variable_of literal < self.now.variables }
+        ensures { result ≡ is_true self.now.trail literal }
+    {
+        self.truths[code(literal)]
+    }
+
     /// Whether a literal is true.
     pub fn is_true(&self, literal: Lit) -> bool
         ensures { result ≡ is_true self.now.trail literal }
     {
-        let at = code(literal);
-        at < self.truths.len() && self.truths[at]
+        literal.variable() < self.variables && self.holds(literal)
     }
 
     /// Whether a literal is false.

@@ -50,12 +50,15 @@ pub struct Watches {
 
 /// The first literal that isn't false and isn't this one.
 fn other_open(assignment: &Assignment, clause: &[Lit], literal: Lit) -> Option<Lit>
+    requires { ClauseBelow assignment.now.variables clause.now }
     ensures { result ≡ find (λ l. not (is_false assignment.now.trail l) && not (same_literal l literal)) clause.now }
 {
-    clause
-        .iter()
-        .copied()
-        .find(|l| !assignment.is_false(*l) && !l.is(literal))
+    for other in clause {
+        if !assignment.holds(other.opposite()) && !other.is(literal) {
+            return Some(*other);
+        }
+    }
+    None
 }
 
 impl Watches {
@@ -160,6 +163,7 @@ impl Watches {
         requires current { level_of assignment.now.trail literal ≡ level assignment.now.trail }
         requires listed { code_of literal < length self.old.lists.items }
         requires within { clause < length self.old.sorted }
+        requires blocker { variable_of blocker < assignment.now.variables }
         requires lists_room { length self.old.lists.items ≡ 2 * assignment.now.variables }
         requires pairs_room { length self.old.pairs.items ≡ length self.old.sorted }
         requires below { ClausesBelow assignment.now.variables self.old.sorted }
@@ -168,7 +172,7 @@ impl Watches {
         ensures lists_room { length self.new.lists.items ≡ length self.old.lists.items }
         ensures pairs_room { length self.new.pairs.items ≡ length self.old.pairs.items }
     {
-        if assignment.is_true(blocker) {
+        if assignment.holds(blocker) {
             return Ok(Some(blocker));
         }
         match other_watched(&self.pairs[clause as usize], literal) {

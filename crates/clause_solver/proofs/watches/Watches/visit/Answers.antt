@@ -8,11 +8,11 @@ use Rattle.clause_solver.proofs.Visits.{visited_blocker, visited_stale}
 use Rattle.clause_solver.proofs.watches.Watches.visit.Goals as goal
 use Rattle.clause_solver.proofs.Looks.{low_listed}
 
-pub returns-then-is_true-clause-watching : goal.returns-then-is_true-clause-watching
-returns-then-is_true-clause-watching c =
+pub returns-then-holds-clause-watching : goal.returns-then-holds-clause-watching
+returns-then-holds-clause-watching c =
     let s = c.args.self.now in
     λ kept rest h.
-    visited_blocker c.args.assignment.now.variables c.args.assignment.now.trail s.sorted (lists_of s) s.pairs.items (units_of s) s.falsified c.args.literal c.requires.current c.args.clause c.args.blocker (low_listed s (code_of c.args.literal) c.requires.listed) kept rest h (sym c.is_true.ensures ∙ c.if-is_true.true)
+    visited_blocker c.args.assignment.now.variables c.args.assignment.now.trail s.sorted (lists_of s) s.pairs.items (units_of s) s.falsified c.args.literal c.requires.current c.args.clause c.args.blocker (low_listed s (code_of c.args.literal) c.requires.listed) kept rest h (sym c.holds.ensures ∙ c.if-holds.true)
 
 pub returns-in-None-clause-watching : goal.returns-in-None-clause-watching
 returns-in-None-clause-watching c =

@@ -1,7 +1,9 @@
 use Rattle.std.proofs.Common.{◌≡◌, ◌<◌, ◌+◌, ◌*◌, List, [], ◌∷◌, ◌++◌, length, get_or, set, map, take, drop, refl, sym, ap, ◌∙◌, subst, arith}
 use Rattle.std.specs.List.{AllByRecursion}
 use Rattle.std.proofs.lemmas.List.{length-map, length-set, get_or_read, get_or-map, get_or-set_same, map-set, set-get_or, set-set, drop_more, drop_all, append-nil}
-use Rattle.cqe_base.specs.Literal.{Positive}
+use Rattle.cqe_base.specs.Literal.{Positive, variable_of, ClauseBelow}
+use Rattle.cqe_base.proofs.Analysis.{each_at}
+use Rattle.cqe_base.proofs.MachineRules.{each_has}
 use Rattle.clause_solver.specs.declared.watches.Watch.{Watch}
 use Rattle.clause_store.specs.Codes.{code_of}
 use Rattle.clause_solver.specs.Watching.{IsWatching, IsWatchOf, kept_with}
@@ -56,15 +58,25 @@ Looking c left = IsWatching c.args.assignment.now.variables c.args.assignment.no
 looking : (c : After-index-in-loop-i) → Looking c (watch c ∷ drop (c.loop-i.i + 1) (list c))
 looking c = subst (Looking c) (opened c) c.loop-i.invariant.watching
 
-pub visit-requires-clause-within : goal.visit-requires-clause-within
-visit-requires-clause-within c =
-    let d = (goal.at.visit-requires-clause-within c).After-index-in-loop-i in
+-- the watch that is looked at is of a clause, and its blocker is a literal of that
+seen : (c : After-index-in-loop-i) → IsWatchOf c.loop-i.self.sorted (watch c)
+seen c =
     let s = c.loop-i.self in
     let k = code_of c.args.literal in
-    let h = looking d in
-    let ws = take c.loop-i.kept (list d) ++ watch d ∷ drop (c.loop-i.i + 1) (list d) in
+    let h = looking c in
+    let ws = take c.loop-i.kept (list c) ++ watch c ∷ drop (c.loop-i.i + 1) (list c) in
     let low : k < length (lists_of s) = (let e = code_of-below c.args.assignment.now.variables c.args.literal c.requires.below in let room = h.lists_room in let same = length-set (lists_of s) k ws in omega arith) in
-    (here_of (IsWatchOf s.sorted) (take c.loop-i.kept (list d)) (drop (c.loop-i.i + 1) (list d)) (watch d) (subst (AllByRecursion (IsWatchOf s.sorted)) (get_or-set_same (lists_of s) k ws [] low) (h.watches c.args.literal))).within
+    here_of (IsWatchOf s.sorted) (take c.loop-i.kept (list c)) (drop (c.loop-i.i + 1) (list c)) (watch c) (subst (AllByRecursion (IsWatchOf s.sorted)) (get_or-set_same (lists_of s) k ws [] low) (h.watches c.args.literal))
+
+pub visit-requires-clause-within : goal.visit-requires-clause-within
+visit-requires-clause-within c = (seen (goal.at.visit-requires-clause-within c).After-index-in-loop-i).within
+
+pub visit-requires-clause-blocker : goal.visit-requires-clause-blocker
+visit-requires-clause-blocker c =
+    let d = (goal.at.visit-requires-clause-blocker c).After-index-in-loop-i in
+    let n = c.args.assignment.now.variables in
+    let clause = c.index.result.now.clause in
+    each_has (λ l. variable_of l < n) (get_or c.loop-i.self.sorted clause []) c.index-in-loop-i.result.now.blocker (each_at (ClauseBelow n) c.loop-i.self.sorted clause (looking d).below tt) (seen d).blocker
 
 pub loop-i-preserved : goal.loop-i-preserved
 loop-i-preserved c =

@@ -1,4 +1,4 @@
-use Rattle.std.proofs.Common.{◌≡◌, ◌<◌, Bool, true, false, List, [], ◌∷◌, ◌++◌, length, get_or, set, map, refl, sym, ap, ◌∙◌, arith}
+use Rattle.std.proofs.Common.{◌≡◌, ◌<◌, Bool, true, false, List, [], ◌∷◌, ◌++◌, length, get_or, set, map, refl, sym, ap, ◌∙◌, subst, arith}
 use Rattle.std.specs.List.{find}
 use Rattle.std.proofs.lemmas.List.{get_or_read}
 use Rattle.cqe_base.specs.Literal.{variable_of, ClauseBelow}
@@ -38,6 +38,11 @@ returns-then-is_true-clause-watching c =
     let s = c.args.self.now in
     λ kept rest h.
     visited_other c.args.assignment.now.variables c.args.assignment.now.trail s.sorted (lists_of s) s.pairs.items (units_of s) s.falsified c.args.literal c.requires.current c.args.clause c.args.blocker (low_listed s (code_of c.args.literal) c.requires.listed) kept rest h c.args.other c.requires.beside (sym c.is_true.ensures ∙ c.if-is_true.true)
+
+pub other_open-requires : goal.other_open-requires
+other_open-requires c =
+    let n = c.args.assignment.now.variables in
+    subst (ClauseBelow n) (sym (get_or_read c.args.self.now.sorted c.args.clause c.clause.result.now c.requires.within c.clause.ensures [])) (each_at (ClauseBelow n) c.args.self.now.sorted c.args.clause c.requires.below tt)
 
 pub watch-requires : goal.watch-requires
 watch-requires c = room (goal.at.watch-requires c).In-Some
