@@ -1,13 +1,13 @@
 //! The analysis of a conflict with the levels and the marks at hand.
 
 ghost use Rattle.std.specs.Prelude.{◌≡◌, ◌<◌, ◌^◌, ◌↔◌, IsTrue, [], length, not, max, if◌then◌else◌, Some, IfOk, slice_index_or};
-ghost use Rattle.std.specs.List.{filter, find, position_from, list_all};
+ghost use Rattle.std.specs.List.{filter, find};
 ghost use Rattle.cqe_base.specs.Literal.{ClausesBelow};
-ghost use Rattle.cqe_base.specs.Machine.{resolved_with, is_current, is_false, level_of, current_count, highest_level, kept_count, conflict_line, State};
+ghost use Rattle.cqe_base.specs.Machine.{resolved_with, is_current, level_of, current_count, highest_level, kept_count, conflict_line};
 ghost use Rattle.cqe_base.specs.MachineStates.{IsReached};
 ghost use Rattle.cqe_base.proofs.Analysis.{walk_back};
 ghost use Rattle.clause_store.specs.PlainLines.{line_of};
-ghost use Rattle.clause_solver.specs.Lines.{line_with};
+ghost use Rattle.clause_solver.specs.Lines.{line_with, state_at, IsConflict};
 
 use crate::assignment::Assignment;
 use crate::entry::TrailEntry;
@@ -65,8 +65,8 @@ fn resolve_with(
     Ok(())
 }
 
-/// Walks back along the trail once, and resolves at each entry whose opposite the clause has, until few enough literals of the
-/// current level are left.
+/// Walks back along the trail once, and resolves at each entry whose opposite the clause has, until
+/// few enough literals of the current level are left.
 fn analyse(
     clauses: &Clauses,
     assignment: &Assignment,
@@ -108,9 +108,9 @@ pub fn conflict_line(
     requires fits { number < 2 ^ 32 }
     requires below { ClausesBelow clause.old.variables clauses.now }
     requires empty { clause.old.clause ≡ [] }
-    requires conflict { position_from (list_all (is_false assignment.now.trail)) 0 clauses.now ≡ Some number }
-    requires reached { IsReached clause.old.variables (record { clauses = clauses.now; trail = assignment.now.trail; lines = [] }) }
-    ensures line { IfOk result (λ line. line_of line ≡ conflict_line (record { clauses = clauses.now; trail = assignment.now.trail; lines = [] }) number) }
+    requires conflict { IsConflict (state_at clauses.now assignment.now.trail) number }
+    requires reached { IsReached clause.old.variables (state_at clauses.now assignment.now.trail) }
+    ensures line { IfOk result (λ line. line_of line ≡ conflict_line (state_at clauses.now assignment.now.trail) number) }
     ensures same { IfOk result (λ _. clause.new ≡ clause.old) }
 {
     clause.append(clauses.clause(number))?;

@@ -1,16 +1,15 @@
 use Rattle.std.proofs.Common.{[], ◌∷◌, ◌++◌, ap, sym, ◌∙◌}
 use Rattle.std.proofs.lemmas.List.{get_or_read}
-use Rattle.cqe_base.specs.Machine.{State}
 use Rattle.cqe_base.proofs.Analysis.{walk_back}
 use Rattle.cqe_base.proofs.Conflicts.{conflict_begins, conflict_line-is}
-use Rattle.clause_solver.specs.Lines.{line_with}
+use Rattle.clause_solver.specs.Lines.{line_with, state_at}
 use Rattle.clause_store.specs.Marking.{Marking}
 use Rattle.clause_solver.proofs.analysis.conflict_line.Goals as goal
 
 pub returns-clause-line : goal.returns-clause-line
 returns-clause-line c =
     let n = c.args.clause.now.variables in
-    let s : State = record { clauses = c.args.clauses.now; trail = c.args.assignment.now.trail; lines = [] } in
+    let s = state_at c.args.clauses.now c.args.assignment.now.trail in
     let found = get_or_read s.clauses c.args.number c.clause.result.now c.requires.number c.clause.ensures [] in
     let clause = ap (λ (m : Marking). m.clause) c.in_ok-append.ensures ∙ (λ i. c.requires.empty i ++ found i) in
     let chain = c.in_ok-push.ensures.items ∙ ap (λ xs. xs ++ c.args.number ∷ []) c.new-chain.ensures.items in
