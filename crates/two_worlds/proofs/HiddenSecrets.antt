@@ -84,6 +84,6 @@ one-for-lies schema user entries secret found is lies other =
     let guards_one : guard_at user secret ≡ guard_at user other =
     ap (λ m. guard_by m user.secrets (secret_at user secret)) lies
     ∙ ap (λ m. guard_by m user.secrets (secret_at user other)) (sym lies) in
-    is
-    ∙ ap (λ goal. world_in (verdict_of_probe schema (log user entries) (goal, true) admission_budget))
-    guards_one
+    let found_for : Formula → Option FactSet =
+    λ goal. world_in (verdict_of_probe schema (log user entries) (goal, true) admission_budget) in
+    is ∙ ap found_for guards_one

@@ -31,10 +31,11 @@ pub fn law_hides()
     cqe_base::laws::law_hides();
 }
 
-/// A world in which what the user knows is true and this secret false, that admits him and for which his entries are
-/// legal, so that he gets the same replies there. It is the world of the machine's model of the log and of what is guarded
-/// for the secret, negated; so for lying one and the same world answers for all secrets. `None` where the search for it
-/// needs more than the admission budget of 4,000,000.
+/// A world in which what the user knows is true and this secret false, that admits him and for
+/// which his entries are legal, so that he gets the same replies there. It is that of the machine's
+/// model in which the log is true and what is guarded for the secret false; so for lying one and
+/// the same world answers for all secrets. `None` where the search for it needs more than the
+/// admission budget of 4,000,000.
 pub fn other_world(
     alloc: Global,
     schema: &Schema,
