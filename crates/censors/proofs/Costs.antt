@@ -17,7 +17,7 @@ use Rattle.cqe_base.specs.Censor.{Probe, probes, spent, implied, yes_harm, no_ha
 use Rattle.entailment.specs.Budgets.{CostsMore}
 use Rattle.censors.specs.declared.examination.Findings.{Findings}
 use Rattle.censors.specs.Found.{HasFindings}
-use Rattle.censors.specs.Costs.{ProbeCostsMore, QueryCostsMore, AreSpentByCost, UndecidedIsCost}
+use Rattle.censors.specs.Costs.{ProbeCostsMore, QueryCostsMore, AreSpentByCost, UndecidedIsCost, DecideUndecided}
 
 any-weaker : {X : Type 0} (P Q : X → Type 0) → ((x : X) → P x → Q x) → (xs : List X) → Any P xs → Any Q xs
 any-weaker P Q go xs h = (h.0, h.1, h.2, h.3, go h.1 h.4)
@@ -87,3 +87,11 @@ undecided-is-cost law schema world user log query =
     let mark = undecided-is user.method (spent schema user log query) (implied schema user log query) (yes_harm schema user log query) (no_harm schema user log query) (true_in schema world query) in
     let cost = query-cost law schema user log query in
     (λ h. cost.0 (mark.0 h), λ h. mark.1 (cost.1 h))
+
+-- so findings that are spent by cost decide undecided
+pub decide-undecided : UndecidedIsCost → (schema : DatabaseSchema) (user : UserProfile)
+    (log : List Signed) (query : Formula) (found : Findings)
+    → AreSpentByCost schema user log query found → DecideUndecided schema user log query found
+decide-undecided law schema user log query found spent world =
+    let mark = law schema world user log query in
+    (λ h. spent.1 (mark.0 h), λ h. mark.1 (spent.0 h))

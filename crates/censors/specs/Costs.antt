@@ -28,3 +28,8 @@ abbrev pub UndecidedIsCost : Type 0
 UndecidedIsCost =
     (schema : DatabaseSchema) (world : FactSet) (user : UserProfile) (log : List Signed) (query : Formula)
     → (rule schema world user log query ≡ Undecided) ↔ QueryCostsMore schema user log query
+
+-- in any world, the rule gives undecided exactly where the findings are spent
+abbrev pub DecideUndecided : DatabaseSchema → UserProfile → List Signed → Formula → Findings → Type 0
+DecideUndecided schema user log query found =
+    (world : FactSet) → (rule schema world user log query ≡ Undecided) ↔ (found.spent ≡ true)

@@ -10,10 +10,10 @@ ghost use Rattle.entailment.specs.Logs.{log_nodes, sentence_nodes};
 ghost use Rattle.entailment.specs.Views.{schema_of, log_of};
 ghost use Rattle.entailment.specs.Probes.{premise_of, goal_of, signed_at};
 ghost use Rattle.censors.specs.Found.{HasFindings};
-ghost use Rattle.censors.specs.Costs.{AreSpentByCost};
+ghost use Rattle.censors.specs.Costs.{AreSpentByCost, DecideUndecided};
 ghost use Rattle.censors.specs.Asked.{IsAnswer, IsAnswerOfAll, AreHarms, IsImplied, together, findings_of};
 
-use crate::disjunction;
+use crate::{disjunction, law_undecided_is_cost};
 use cqe_base::laws::{law_entailment, law_limits};
 use cqe_base::machine_laws::law_spent_is_cost;
 use cqe_base::sentence::Sentence;
@@ -70,9 +70,12 @@ pub fn examine(
     requires all_nodes { log_nodes (schema_of view.now) (log_of view.now) + nodes (schema_of view.now) (formula_of query.now) ≤ 60000 }
     ensures findings { IfOk result (HasFindings (schema_of view.now) (profile_of user.now) (log_of view.now) (formula_of query.now)) }
     ensures spent { IfOk result (AreSpentByCost (schema_of view.now) (profile_of user.now) (log_of view.now) (formula_of query.now)) }
+    ensures undecided { IfOk result (DecideUndecided (schema_of view.now) (profile_of user.now)
+        (log_of view.now) (formula_of query.now)) }
 {
     law_limits();
     law_spent_is_cost();
+    law_undecided_is_cost();
     let mut view = view.copy(alloc)?;
     let secrets = user.secrets.as_slice();
     match user.method {

@@ -3,3 +3,5 @@ mod LogNodes
 mod LogForms
 mod LogItems
 mod CostBounds
+mod ModelWorlds
+mod Verdicts

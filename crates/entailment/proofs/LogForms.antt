@@ -6,17 +6,13 @@ use Rattle.std.proofs.lemmas.List.Folds.{list_all-append}
 use Rattle.std.proofs.lemmas.Bool.{and_from}
 use Rattle.cqe_base.specs.Schema.{DatabaseSchema, is_valid_schema}
 use Rattle.cqe_base.specs.Ground.{GroundingKeepsNodes}
-use Rattle.cqe_base.specs.Entailment.{Signed, IsCountermodel, are_sentences_of}
-use Rattle.cqe_base.specs.Outcome.{outcome, ground_outcome, outcome_of_end, grounded_signed, grounded_probe}
-use Rattle.cqe_base.specs.Machine.{end_within_budget}
+use Rattle.cqe_base.specs.Entailment.{Signed, are_sentences_of}
+use Rattle.cqe_base.specs.Outcome.{grounded_signed, grounded_probe}
 use Rattle.cqe_base.specs.Formula.{nodes, is_sentence_of}
-use Rattle.cqe_base.specs.MachineLaws.{RefutationEntails, ModelIsCountermodel, ClauseFormUsesItsVariables, ClauseFormHasNoRepeat, VariablesAreFew, NumberedFactsAreFew, NumberedFactsAreOfSchema}
+use Rattle.cqe_base.specs.MachineLaws.{ClauseFormUsesItsVariables, ClauseFormHasNoRepeat, VariablesAreFew, NumberedFactsAreFew, NumberedFactsAreOfSchema}
 use Rattle.clause_form.specs.Forms.{Form, form_of, with_formula, AddedFormsGrow}
 use Rattle.entailment.specs.Logs.{log_nodes, sentence_nodes}
-use Rattle.entailment.specs.Forms.{form_of_log, with_negated, HasAdded, IsSearchable, IsChecked}
-use Rattle.entailment.specs.Probes.{IsTrueVerdict}
-use Rattle.entailment.specs.declared.probes.Verdict.{Verdict}
-use Rattle.entailment.specs.declared.probes.Verdict.TheVariants.{Follows, Open, Spent}
+use Rattle.entailment.specs.Forms.{form_of_log, with_negated, HasAdded, IsSearchable}
 use Rattle.entailment.proofs.ClauseCount.{clauses_are_few}
 use Rattle.entailment.proofs.LogNodes.{grounded-nodes, sentence_nodes-le, probe-nodes}
 
@@ -98,25 +94,3 @@ probe-searchable few keeps below no_repeat few_facts of_schema schema log premis
     subst (IsSearchable schema) (sym is)
     (log-searchable few keeps below no_repeat few_facts of_schema schema (with_negated (log ++ premise) goal) valid
     (probe-sentences schema log premise goal of_log of_premise of_goal) (omega arith))
-
--- what the search of a probe's form ends with is the probe's outcome
-pub outcome-of-form : (schema : DatabaseSchema) (premises : List Signed) (goal : Signed) (budget : ℕ) (form : Form) → form ≡ form_of_log schema (with_negated premises goal)
-    → outcome_of_end form.clauses (end_within_budget form.clauses form.numbering.variables budget) ≡ outcome schema premises goal budget
-unfolding outcome ground_outcome
-outcome-of-form schema premises goal budget form is =
-    ap (λ f. outcome_of_end f.clauses (end_within_budget f.clauses f.numbering.variables budget)) (is ∙ probe-form schema premises goal)
-
-checked-true : RefutationEntails → ModelIsCountermodel → (schema : DatabaseSchema) (premises : List Signed) (goal : Signed) (verdict : Verdict)
-    → is_valid_schema schema ≡ true → are_sentences_of schema premises ≡ true → is_sentence_of schema goal.0 ≡ true
-    → IsChecked (form_of (grounded_probe schema premises goal)) verdict → IsTrueVerdict schema premises goal verdict
-checked-true follows refutes schema premises goal Follows valid sentences sentence h = follows schema premises goal h.0 h.1
-checked-true follows refutes schema premises goal (Open world) valid sentences sentence h =
-    subst (IsCountermodel schema premises goal) (sym h.2) (refutes schema premises goal h.0 valid sentences sentence h.1)
-checked-true follows refutes schema premises goal Spent valid sentences sentence h = tt
-
--- a verdict that was checked against a probe's form is true
-pub true-verdict : RefutationEntails → ModelIsCountermodel → (schema : DatabaseSchema) (premises : List Signed) (goal : Signed) (verdict : Verdict) (form : Form) → form ≡ form_of_log schema (with_negated premises goal)
-    → is_valid_schema schema ≡ true → are_sentences_of schema premises ≡ true → is_sentence_of schema goal.0 ≡ true
-    → IsChecked form verdict → IsTrueVerdict schema premises goal verdict
-true-verdict follows refutes schema premises goal verdict form is valid sentences sentence checked =
-    checked-true follows refutes schema premises goal verdict valid sentences sentence (subst (λ f. IsChecked f verdict) (is ∙ probe-form schema premises goal) checked)

@@ -1,16 +1,12 @@
--- The clause form of logs, and verdicts that were checked against one.
-use Rattle.std.specs.Prelude.{◌≡◌, ◌≤◌, Bool, true, not, List, [], ◌∷◌, ◌++◌, length, map}
+-- The clause form of logs.
+use Rattle.std.specs.Prelude.{◌≡◌, ◌≤◌, true, not, List, [], ◌∷◌, ◌++◌, length, map}
 use Rattle.std.specs.List.{list_all}
 use Rattle.cqe_base.specs.Schema.{DatabaseSchema}
 use Rattle.cqe_base.specs.Facts.{is_fact_of}
 use Rattle.cqe_base.specs.Entailment.{Signed}
-use Rattle.cqe_base.specs.Literal.{ClausesBelow, HaveNoRepeat, sign_at}
-use Rattle.cqe_base.specs.ClauseForm.{world_of}
-use Rattle.cqe_base.specs.Refutation.{RefutationLine, is_refutation, is_model}
+use Rattle.cqe_base.specs.Literal.{ClausesBelow, HaveNoRepeat}
 use Rattle.cqe_base.specs.Outcome.{grounded_signed}
 use Rattle.clause_form.specs.Forms.{Form, form_of}
-use Rattle.entailment.specs.declared.probes.Verdict.{Verdict}
-use Rattle.entailment.specs.declared.probes.Verdict.TheVariants.{Follows, Open, Spent}
 
 -- the form of a log's grounded sentences, with their signs
 abbrev pub form_of_log : DatabaseSchema → List Signed → Form
@@ -33,9 +29,3 @@ pub record IsSearchable (schema : DatabaseSchema) (form : Form) : Type 0 where
   pub few_clauses : length form.clauses ≤ 500001
   pub few_facts : length form.numbering.facts ≤ 100000
   pub of_schema : list_all (λ e. is_fact_of schema e.fact) form.numbering.facts ≡ true
-
--- a verdict that was checked: the form has a right refutation, or the world is that of a right model
-abbrev pub IsChecked : Form → Verdict → Type 0
-IsChecked form Follows = (lines : List RefutationLine) × (is_refutation form.clauses lines ≡ true)
-IsChecked form (Open world) = (signs : List Bool) × (is_model form.clauses signs ≡ true) × (world ≡ world_of form.numbering.facts (sign_at signs))
-IsChecked form Spent = Unit {0}

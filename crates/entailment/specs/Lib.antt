@@ -3,3 +3,5 @@ pub mod Views
 pub mod Probes
 pub mod Forms
 pub mod Budgets
+pub mod Models
+pub mod Verdicts

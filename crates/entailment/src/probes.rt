@@ -5,14 +5,17 @@ ghost use Rattle.cqe_base.specs.Formula.{formula_of, nodes, is_sentence_of};
 ghost use Rattle.cqe_base.specs.Ground.{ground_of, ground_nodes, grounded};
 ghost use Rattle.cqe_base.specs.Entailment.{are_sentences_of};
 ghost use Rattle.cqe_base.specs.Machine.{Model, Refuted, end_within_budget};
-ghost use Rattle.cqe_base.specs.Outcome.{outcome, outcome_of_end};
+ghost use Rattle.cqe_base.specs.Outcome.{outcome};
 ghost use Rattle.clause_store.specs.PlainLines.{lines_of};
 ghost use Rattle.entailment.specs.Logs.{log_nodes, sentence_nodes, told_log, IsSmallLog};
-ghost use Rattle.entailment.specs.Forms.{form_of_log, with_negated, HasAdded, IsSearchable, IsChecked};
+ghost use Rattle.entailment.specs.Forms.{form_of_log, with_negated, HasAdded, IsSearchable};
 ghost use Rattle.entailment.specs.Views.{schema_of, log_of};
 ghost use Rattle.entailment.specs.Budgets.{IsSpentByCost};
+ghost use Rattle.entailment.specs.Models.{HaveModelsInWorlds};
+ghost use Rattle.entailment.specs.Verdicts.{verdict_of_probe, checked_verdict};
 ghost use Rattle.entailment.specs.Probes.{premise_list, premise_of, goal_of, outcome_of, IsTrueVerdict};
 
+use crate::laws::law_models_are_worlds_of_schema;
 use crate::view::{Told, View};
 use clause_form::former::Former;
 use clause_form::laws::law_added_forms_grow;
@@ -20,9 +23,10 @@ use clause_solver::{Found, search};
 use clause_store::refutation::{Refutation, Signs};
 use cqe_base::laws::law_grounded_nodes;
 use cqe_base::machine_laws::{
-    law_clause_form_has_no_repeat, law_clause_form_uses_its_variables, law_model_is_countermodel,
-    law_numbered_facts_are_few, law_numbered_facts_are_of_schema, law_refutation_entails,
-    law_spent_is_cost, law_variables_are_few,
+    law_budget_is_whole_cost, law_clause_form_has_no_repeat, law_clause_form_uses_its_variables,
+    law_machine_ends_are_right, law_model_is_countermodel, law_numbered_facts_are_few,
+    law_numbered_facts_are_of_schema, law_refutation_entails, law_spent_is_cost,
+    law_variables_are_few,
 };
 use cqe_base::prop::Prop;
 use cqe_base::schema::Schema;
@@ -52,7 +56,8 @@ pub enum Verdict {
 }
 
 /// Runs a probe of the view's log with a budget. The clause form of the log, of the premise and of the negated goal is searched, and what
-/// the search found is checked before it is told.
+/// the search found is checked before it is told. Each end of the machine is right, so the check
+/// never fails: a probe is spent for its cost alone.
 pub fn test(
     alloc: Global,
     view: &mut View<'_>,
@@ -68,13 +73,22 @@ pub fn test(
     requires budget { budget ≤ 4000000 }
     ensures outcome { IfOk result (λ verdict. outcome_of verdict
         ≡ outcome (schema_of view.old) (log_of view.old ++ premise_of probe.now) (goal_of probe.now) budget) }
+    ensures end { IfOk result (λ verdict. verdict ≡ verdict_of_probe (schema_of view.old)
+        (log_of view.old ++ premise_of probe.now) (goal_of probe.now) budget) }
     ensures sound { IfOk result (IsTrueVerdict (schema_of view.old) (log_of view.old ++ premise_of probe.now) (goal_of probe.now)) }
     ensures spent { IfOk result (IsSpentByCost (schema_of view.old) (log_of view.old ++ premise_of probe.now) (goal_of probe.now) budget) }
+    ensures models { IfOk result (λ verdict. HaveModelsInWorlds (schema_of view.old)
+        (with_negated (log_of view.old ++ premise_of probe.now) (goal_of probe.now))) }
     ensures schema { schema_of view.new ≡ schema_of view.old }
     ensures log { log_of view.new ≡ log_of view.old }
 {
     law_refutation_entails();
     law_model_is_countermodel();
+    law_models_are_worlds_of_schema();
+    law_clause_form_uses_its_variables();
+    law_clause_form_has_no_repeat();
+    law_budget_is_whole_cost();
+    law_machine_ends_are_right();
     law_spent_is_cost();
     view.schema.known();
     let former = form_of_probe(alloc, view, probe)?;
@@ -180,9 +194,8 @@ fn verdict_of(
 ) -> Result<Verdict, AllocError>
     requires searchable { IsSearchable schema.now former.now }
     requires budget { budget ≤ 4000000 }
-    ensures outcome { IfOk result (λ verdict. outcome_of verdict
-        ≡ outcome_of_end former.now.clauses (end_within_budget former.now.clauses former.now.numbering.variables budget)) }
-    ensures checked { IfOk result (IsChecked former.now) }
+    ensures { IfOk result (λ verdict. verdict ≡ checked_verdict former.now
+        (end_within_budget former.now.clauses former.now.numbering.variables budget)) }
 {
     match search(alloc, former.clauses(), former.variables(), budget)? {
         Found::Refuted(refutation) => checked_refutation(alloc, former, &refutation),
@@ -197,8 +210,8 @@ fn checked_refutation(
     former: &Former,
     refutation: &Refutation,
 ) -> Result<Verdict, AllocError>
-    ensures outcome { IfOk result (λ verdict. outcome_of verdict ≡ outcome_of_end former.now.clauses (Some (Refuted (lines_of refutation.now)))) }
-    ensures checked { IfOk result (IsChecked former.now) }
+    ensures { IfOk result (λ verdict. verdict
+        ≡ checked_verdict former.now (Some (Refuted (lines_of refutation.now)))) }
 {
     if check_refutation(alloc, former.clauses(), refutation)? {
         Ok(Verdict::Follows)
@@ -215,8 +228,8 @@ fn checked_model(
     signs: &Signs,
 ) -> Result<Verdict, AllocError>
     requires { IsSearchable schema.now former.now }
-    ensures outcome { IfOk result (λ verdict. outcome_of verdict ≡ outcome_of_end former.now.clauses (Some (Model signs.now.values.items))) }
-    ensures checked { IfOk result (IsChecked former.now) }
+    ensures { IfOk result (λ verdict. verdict
+        ≡ checked_verdict former.now (Some (Model signs.now.values.items))) }
 {
     if check_model(former.clauses(), signs) {
         Ok(Verdict::Open(former.world_of(alloc, schema, signs)?))

@@ -16,7 +16,10 @@ use Rattle.cqe_base.specs.History.{UserProfile, History, log, is_user_of}
 use Rattle.cqe_base.specs.Censor.{guarded, guarded_by}
 use Rattle.cqe_base.specs.Hiding.{IsAlike, AdmittedAreAdmissible}
 use Rattle.cqe_base.specs.OtherWorlds.{secret_at, guard_by, guard_at, IsLegalSomewhere, LogsKeepSecrets, CountermodelsAreAlike, LegalEntriesReplyAlike, FalseDisjunctions}
+use Rattle.cqe_base.specs.Censor.{admission_budget}
+use Rattle.entailment.specs.Verdicts.{verdict_of_probe}
 use Rattle.two_worlds.specs.Others.{HidesSecret}
+use Rattle.two_worlds.specs.OtherWorld.{world_in, other_world_of, IsOneForLies}
 
 -- what is guarded for a secret is one of the guarded sentences
 guards : (m : Method) (secrets : List Formula) (k : ℕ) (s : Formula) → Contains secrets s → Contains (guarded_by m secrets) (guard_by m secrets s)
@@ -72,3 +75,15 @@ pub of_found : {E : Type 0} (P Q : FactSet → Type 0) → ((world : FactSet) �
 of_found P Q more (Ok (Some world)) holds = more world holds
 of_found P Q more (Ok None) holds = holds
 of_found P Q more (Err e) holds = holds
+
+-- what is guarded from a liar is the same for each of his secrets, and so is his other world
+pub one-for-lies : (schema : DatabaseSchema) (user : UserProfile) (entries : History) (secret : ℕ)
+    (found : Option FactSet) → found ≡ other_world_of schema user entries secret
+    → IsOneForLies schema user entries found
+one-for-lies schema user entries secret found is lies other =
+    let guards_one : guard_at user secret ≡ guard_at user other =
+    ap (λ m. guard_by m user.secrets (secret_at user secret)) lies
+    ∙ ap (λ m. guard_by m user.secrets (secret_at user other)) (sym lies) in
+    let found_for : Formula → Option FactSet =
+    λ goal. world_in (verdict_of_probe schema (log user entries) (goal, true) admission_budget) in
+    is ∙ ap found_for guards_one

@@ -11,7 +11,9 @@ ghost use Rattle.cqe_base.specs.Hiding.{LegalHistoriesHide};
 ghost use Rattle.cqe_base.specs.OtherWorlds.{IsLegalSomewhere, guard_at};
 ghost use Rattle.entailment.specs.Logs.{log_nodes};
 ghost use Rattle.entailment.specs.Views.{schema_of, log_of};
+ghost use Rattle.entailment.specs.Verdicts.{verdict_of_probe};
 ghost use Rattle.two_worlds.specs.Others.{HidesSecret};
+ghost use Rattle.two_worlds.specs.OtherWorld.{world_in, other_world_of, IsOneForLies};
 
 use censors::{ADMISSION_BUDGET, disjunction};
 use cqe_base::laws::{law_admissible, law_alike, law_entailment, law_limits, law_logs};
@@ -29,9 +31,11 @@ pub fn law_hides()
     cqe_base::laws::law_hides();
 }
 
-/// A world in which what the user knows is true and this secret false, that admits him and for which his entries are
-/// legal, so that he gets the same replies there. For lying it is found for all secrets at once. `None` where the search
-/// for it needs more than the admission budget of 4,000,000.
+/// A world in which what the user knows is true and this secret false, that admits him and for
+/// which his entries are legal, so that he gets the same replies there. It is that of the machine's
+/// model in which the log is true and what is guarded for the secret false; so for lying one and
+/// the same world answers for all secrets. `None` where the search for it needs more than the
+/// admission budget of 4,000,000.
 pub fn other_world(
     alloc: Global,
     schema: &Schema,
@@ -46,6 +50,10 @@ pub fn other_world(
     ensures hides { IfOk result (λ found. IfSome found (HidesSecret schema.now (profile_of user.now) (map answered_query_of entries.now) secret)) }
     ensures spent { IfOk result (λ found. IsNone found
         ↔ (outcome schema.now (log (profile_of user.now) (map answered_query_of entries.now)) (guard_at (profile_of user.now) secret, true) admission_budget ≡ Spent)) }
+    ensures world { IfOk result (λ found. found ≡ other_world_of schema.now (profile_of user.now)
+        (map answered_query_of entries.now) secret) }
+    ensures one_for_lies { IfOk result (IsOneForLies schema.now (profile_of user.now)
+        (map answered_query_of entries.now)) }
 {
     law_limits();
     law_admissible();
@@ -118,6 +126,8 @@ fn countermodel(
     ensures open { IfOk result (λ found. IfSome found (IsCountermodel (schema_of view.old) (log_of view.old) (formula_of goal.now, true))) }
     ensures spent { IfOk result (λ found. IsNone found
         ↔ (outcome (schema_of view.old) (log_of view.old) (formula_of goal.now, true) admission_budget ≡ Spent)) }
+    ensures world { IfOk result (λ found. found ≡ world_in (verdict_of_probe (schema_of view.old)
+        (log_of view.old) (formula_of goal.now, true) admission_budget)) }
 {
     law_entailment();
     let probe = Probe {

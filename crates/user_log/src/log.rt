@@ -52,7 +52,7 @@ pub struct UserLog<'w> {
 impl<'w> UserLog<'w> {
     ghost use Rattle.user_log.specs.UserLogs.{kept_schema, kept_world, kept_user, kept_history, IsOfSame};
     ghost use Rattle.user_log.specs.Asked.{IsAnswer, IsWeighed, IsAsked};
-    ghost use Rattle.user_log.specs.Undecided.{IsMarkByCost, IsUndecidedByCost};
+    ghost use Rattle.user_log.specs.Undecided.{IsMarkByCost, IsUndecidedByCost, IsReplyByCost};
     ghost use Rattle.user_log.specs.Replies.{reply_of};
     ghost use Rattle.user_log.specs.Prepared.{IsPrepared, prepared_entry};
 
@@ -241,6 +241,8 @@ impl<'w> UserLog<'w> {
         requires { length text.now ≤ 4096 }
         ensures same { IsOfSame self.old self.new }
         ensures asked { IsAsked (kept_schema self.old) (kept_world self.old) (kept_user self.old) (kept_history self.old) (kept_history self.new) text.now (reply_of result) }
+        ensures undecided { IsReplyByCost (kept_schema self.old) (kept_user self.old)
+            (kept_history self.old) text.now result }
     {
         match self.weigh(alloc, text) {
             Ok(Weighed::Code(code)) => code,

@@ -4,7 +4,7 @@ use Rattle.cqe_base.specs.History.{profile_of, disjunction_of}
 use Rattle.entailment.specs.Views.{schema_of, log_of}
 use Rattle.censors.specs.Found.{HasFindings}
 use Rattle.censors.proofs.Found.{found_lying, found_refusal, found_combined, same_harms, same_implied}
-use Rattle.censors.proofs.Costs.{spent-by-cost}
+use Rattle.censors.proofs.Costs.{spent-by-cost, decide-undecided}
 use Rattle.censors.proofs.examination.examine.Goals as goal
 
 pub returns-in-Lying-clause-findings : goal.returns-in-Lying-clause-findings
@@ -46,3 +46,21 @@ returns-in-Refusal-clause-spent c =
 pub returns-clause-spent : goal.returns-clause-spent
 returns-clause-spent c =
     spent-by-cost c.law_spent_is_cost.ensures (schema_of c.args.view.now) (profile_of c.args.user.now) (log_of c.args.view.now) (formula_of c.args.query.now) _ (returns-clause-findings c)
+
+pub returns-in-Lying-clause-undecided : goal.returns-in-Lying-clause-undecided
+returns-in-Lying-clause-undecided c =
+    decide-undecided c.law_undecided_is_cost.ensures (schema_of c.args.view.now)
+    (profile_of c.args.user.now) (log_of c.args.view.now) (formula_of c.args.query.now)
+    c.found.result (returns-in-Lying-clause-spent c)
+
+pub returns-in-Refusal-clause-undecided : goal.returns-in-Refusal-clause-undecided
+returns-in-Refusal-clause-undecided c =
+    decide-undecided c.law_undecided_is_cost.ensures (schema_of c.args.view.now)
+    (profile_of c.args.user.now) (log_of c.args.view.now) (formula_of c.args.query.now)
+    c.found-in-Refusal.result (returns-in-Refusal-clause-spent c)
+
+pub returns-clause-undecided : goal.returns-clause-undecided
+returns-clause-undecided c =
+    decide-undecided c.law_undecided_is_cost.ensures (schema_of c.args.view.now)
+    (profile_of c.args.user.now) (log_of c.args.view.now) (formula_of c.args.query.now)
+    c.found-in-Combined.result (returns-clause-spent c)

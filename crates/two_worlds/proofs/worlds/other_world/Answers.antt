@@ -1,12 +1,16 @@
 use Rattle.std.proofs.Common.{true, map, subst, ◌∙◌, arith}
 use Rattle.std.proofs.lemmas.List.{length-map}
+use Rattle.std.proofs.lemmas.Result.{IfOk-weaker}
 use Rattle.cqe_base.specs.Formula.{formula_of}
 use Rattle.cqe_base.specs.Entailment.{entails, IsCountermodel}
 use Rattle.cqe_base.specs.History.{profile_of, answered_query_of, log}
 use Rattle.cqe_base.specs.OtherWorlds.{guard_at}
+use Rattle.cqe_base.specs.Censor.{admission_budget}
 use Rattle.entailment.specs.Views.{schema_of, log_of}
+use Rattle.entailment.specs.Verdicts.{verdict_of_probe}
 use Rattle.two_worlds.specs.Others.{HidesSecret}
-use Rattle.two_worlds.proofs.HiddenSecrets.{unknown, hidden, of_found}
+use Rattle.two_worlds.specs.OtherWorld.{world_in}
+use Rattle.two_worlds.proofs.HiddenSecrets.{unknown, hidden, of_found, one-for-lies}
 use Rattle.two_worlds.proofs.worlds.other_world.Goals as goal
 
 pub countermodel-requires-clause-unknown : goal.countermodel-requires-clause-unknown
@@ -26,3 +30,17 @@ returns-clause-hides c =
     (subst (λ told. IsCountermodel (schema_of c.in_ok-view.view) told (guard_at user c.args.secret, true) other) c.in_ok-view.ensures.log
     (subst (λ goal. IsCountermodel (schema_of c.in_ok-view.view) (log_of c.in_ok-view.view) (goal, true) other) c.in_ok-goal.ensures is))))
     c.countermodel.result c.countermodel.ensures.open
+
+pub returns-clause-world : goal.returns-clause-world
+returns-clause-world c =
+    IfOk-weaker c.countermodel.result _ _
+    (λ found is. is ∙ λ k. world_in (verdict_of_probe (c.in_ok-view.ensures.schema k)
+    (c.in_ok-view.ensures.log k) (c.in_ok-goal.ensures k, true) admission_budget))
+    c.countermodel.ensures.world
+
+pub returns-clause-one_for_lies : goal.returns-clause-one_for_lies
+returns-clause-one_for_lies c =
+    IfOk-weaker c.countermodel.result _ _
+    (one-for-lies c.args.schema.now (profile_of c.args.user.now)
+    (map answered_query_of c.args.entries.now) c.args.secret)
+    (returns-clause-world c)

@@ -1,0 +1,128 @@
+-- What a checked verdict tells of a probe.
+use Rattle.std.proofs.Common.{◌≡◌, ℕ, Bool, true, false, List, refl, ap, sym, ◌∙◌, subst}
+use Rattle.std.specs.Prelude.{Option, Some, None, if◌then◌else◌}
+use Rattle.cqe_base.specs.Schema.{DatabaseSchema, is_valid_schema}
+use Rattle.cqe_base.specs.Formula.{is_sentence_of}
+use Rattle.cqe_base.specs.Entailment.{Signed, are_sentences_of}
+use Rattle.cqe_base.specs.ClauseForm.{clause_form, numbering_of, world_of}
+use Rattle.cqe_base.specs.Literal.{sign_at}
+use Rattle.cqe_base.specs.Refutation.{is_refutation, is_model}
+use Rattle.cqe_base.specs.Machine.{End, Model, Refuted, end_within_budget}
+use Rattle.cqe_base.specs.Outcome as told
+use Rattle.cqe_base.specs.Outcome.{Outcome, outcome, ground_outcome, outcome_of_end, is_right_end, grounded_signed, grounded_probe}
+use Rattle.cqe_base.specs.MachineLaws.{RefutationEntails, ModelIsCountermodel, ClauseFormUsesItsVariables, ClauseFormHasNoRepeat, BudgetIsWholeCost, MachineEndsAreRight}
+use Rattle.clause_form.specs.Forms.{Form, form_of}
+use Rattle.entailment.specs.declared.probes.Verdict.{Verdict}
+use Rattle.entailment.specs.declared.probes.Verdict.TheVariants.{Follows, Open, Spent}
+use Rattle.entailment.specs.Forms.{form_of_log, with_negated}
+use Rattle.entailment.specs.Probes.{outcome_of, IsTrueVerdict}
+use Rattle.entailment.specs.Verdicts.{end_of_probe, verdict_of_end, verdict_of_probe, checked_verdict}
+use Rattle.entailment.proofs.LogForms.{probe-form}
+
+-- ---- of one end
+
+module _ (form : Form) where
+  -- the world of signs
+  abbrev open_at : List Bool → Verdict
+  open_at signs = Open (world_of form.numbering.facts (sign_at signs))
+
+  -- the outcome that a checked verdict is
+  checked-outcome : (end : Option End)
+      → outcome_of (checked_verdict form end) ≡ outcome_of_end form.clauses end
+  checked-outcome None = refl
+  checked-outcome (Some (Refuted lines)) = by (is_refutation form.clauses lines)
+    where
+      by : (b : Bool)
+          → outcome_of (if b then Follows else Spent) ≡ (if b then told.Follows else told.Spent)
+      by true = refl
+      by false = refl
+  checked-outcome (Some (Model signs)) = by (is_model form.clauses signs)
+    where
+      by : (b : Bool)
+          → outcome_of (if b then open_at signs else Spent) ≡ (if b then told.Open else told.Spent)
+      by true = refl
+      by false = refl
+
+  -- where the end is right, checking it changes nothing
+  right-verdict : (end : Option End)
+      → ((e : End) → end ≡ Some e → is_right_end form.clauses e ≡ true)
+      → checked_verdict form end ≡ verdict_of_end form.numbering.facts end
+  right-verdict None right = refl
+  right-verdict (Some (Refuted lines)) right =
+      ap (λ b. if b then Follows else Spent) (right (Refuted lines) refl)
+  right-verdict (Some (Model signs)) right =
+      ap (λ b. if b then open_at signs else Spent) (right (Model signs) refl)
+
+-- ---- of a probe
+
+module _ (schema : DatabaseSchema) (premises : List Signed) (goal : Signed) where
+  -- the form of the probe
+  abbrev own_form : Form
+  own_form = form_of (grounded_probe schema premises goal)
+
+  -- a checked verdict of the probe's form is true
+  checked-true : RefutationEntails → ModelIsCountermodel
+      → is_valid_schema schema ≡ true → are_sentences_of schema premises ≡ true
+      → is_sentence_of schema goal.0 ≡ true
+      → (end : Option End) → IsTrueVerdict schema premises goal (checked_verdict own_form end)
+  checked-true follows refutes valid all well None = tt
+  checked-true follows refutes valid all well (Some (Refuted lines)) =
+      by (is_refutation own_form.clauses lines) refl
+    where
+      by : (b : Bool) → is_refutation own_form.clauses lines ≡ b
+          → IsTrueVerdict schema premises goal (if b then Follows else Spent)
+      by true e = follows schema premises goal lines e
+      by false e = tt
+  checked-true follows refutes valid all well (Some (Model signs)) =
+      by (is_model own_form.clauses signs) refl
+    where
+      by : (b : Bool) → is_model own_form.clauses signs ≡ b
+          → IsTrueVerdict schema premises goal (if b then open_at own_form signs else Spent)
+      by true e = refutes schema premises goal signs valid all well e
+      by false e = tt
+
+  -- the machine's end on the probe is right
+  right-end : ClauseFormUsesItsVariables → ClauseFormHasNoRepeat
+      → BudgetIsWholeCost → MachineEndsAreRight
+      → (budget : ℕ) (e : End) → end_of_probe schema premises goal budget ≡ Some e
+      → is_right_end own_form.clauses e ≡ true
+  right-end below no_repeat cost right budget e is =
+      let formulas = grounded_probe schema premises goal in
+      let variables = (numbering_of formulas).variables in
+      let found = (cost (clause_form formulas) variables budget e).0 is in
+      right (clause_form formulas) variables (record { end = e; cost = found.0 })
+      (below formulas) (no_repeat formulas) found.1
+
+  -- what a form was checked to be, where it is that of the probe
+  module _
+      (budget : ℕ) (form : Form) (is : form ≡ form_of_log schema (with_negated premises goal))
+      (verdict : Verdict)
+      (checked : verdict
+      ≡ checked_verdict form (end_within_budget form.clauses form.numbering.variables budget)) where
+    -- the verdict is the checked one of the probe's form
+    own : verdict ≡ checked_verdict own_form (end_of_probe schema premises goal budget)
+    own =
+        checked
+        ∙ ap (λ f. checked_verdict f (end_within_budget f.clauses f.numbering.variables budget))
+        (is ∙ probe-form schema premises goal)
+
+    pub outcome-is : outcome_of verdict ≡ outcome schema premises goal budget
+    unfolding outcome ground_outcome
+    outcome-is =
+        ap outcome_of own ∙ checked-outcome own_form (end_of_probe schema premises goal budget)
+
+    pub verdict-is : ClauseFormUsesItsVariables → ClauseFormHasNoRepeat
+        → BudgetIsWholeCost → MachineEndsAreRight
+        → verdict ≡ verdict_of_probe schema premises goal budget
+    verdict-is below no_repeat cost right =
+        own
+        ∙ right-verdict own_form (end_of_probe schema premises goal budget)
+        (right-end below no_repeat cost right budget)
+
+    pub true-verdict : RefutationEntails → ModelIsCountermodel
+        → is_valid_schema schema ≡ true → are_sentences_of schema premises ≡ true
+        → is_sentence_of schema goal.0 ≡ true
+        → IsTrueVerdict schema premises goal verdict
+    true-verdict follows refutes valid all well =
+        subst (IsTrueVerdict schema premises goal) (sym own)
+        (checked-true follows refutes valid all well (end_of_probe schema premises goal budget))

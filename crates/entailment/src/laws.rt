@@ -1,0 +1,18 @@
+//! Laws of models and worlds. Each function computes nothing: its clause is the law.
+ghost use Rattle.entailment.specs.Models.{ModelsAreWorldsOfSchema};
+
+use cqe_base::laws::law_grounding;
+use cqe_base::machine_laws::{
+    law_model_gives_world, law_models_are_worlds, law_numbered_facts_are_of_schema,
+};
+
+/// The clauses of a list of sentences of a valid schema have a model exactly where some world of
+/// the schema makes the list true.
+pub fn law_models_are_worlds_of_schema()
+    ensures { ModelsAreWorldsOfSchema }
+{
+    law_grounding();
+    law_models_are_worlds();
+    law_model_gives_world();
+    law_numbered_facts_are_of_schema();
+}
