@@ -52,7 +52,8 @@ abbrev pub are_string_arrays : Members → Bool
 are_string_arrays no_members = true
 are_string_arrays (member key value rest) = is_string_array value && are_string_arrays rest
 
--- the order of the keys, as bytes: the first byte that differs decides, and a beginning is less than the whole
+-- the order of the keys, as bytes: the first byte that differs decides, and a beginning is less
+-- than the whole
 abbrev pub is_less : Text → Text → Bool
 is_less key other = is_lt (slice_cmp nat_cmp key other)
 
@@ -60,12 +61,15 @@ is_less key other = is_lt (slice_cmp nat_cmp key other)
 abbrev pub in_place : Declaration → List Declaration → List Declaration
 in_place declared [] = declared ∷ []
 in_place declared (other ∷ rest) =
-    if is_less other.name declared.name then other ∷ in_place declared rest else declared ∷ other ∷ rest
+    if is_less other.name declared.name then other ∷ in_place declared rest
+    else declared ∷ other ∷ rest
 
--- the declarations that a table has: each key with the texts of its array, the keys ascending as bytes
+-- the declarations that a table has: each key with the texts of its array, the keys ascending as
+-- bytes
 abbrev pub declarations : Members → List Declaration
 declarations no_members = []
-declarations (member key value rest) = in_place (record { name = key; parts = texts_in value }) (declarations rest)
+declarations (member key value rest) =
+    in_place (record { name = key; parts = texts_in value }) (declarations rest)
 
 -- the lesser of a key and another, if there is another
 abbrev pub lesser : Text → Option Text → Text
@@ -76,7 +80,8 @@ lesser key (Some other) = if is_less other key then other else key
 abbrev pub unknown_key : List Text → Members → Option Text
 unknown_key known no_members = None
 unknown_key known (member key value rest) =
-    if contains_text known key then unknown_key known rest else Some (lesser key (unknown_key known rest))
+    if contains_text known key then unknown_key known rest
+    else Some (lesser key (unknown_key known rest))
 
 -- a number that isn't negative
 abbrev pub natural : ℤ → Option ℕ
