@@ -19,11 +19,14 @@ same_test a b = hlevel (props)
 same_list : (a b : List ℕ) → IsProp (a ≡ b)
 same_list a b = hlevel (props)
 
--- bytes are a journal with this header and these records in one way: the gate and the rest are what is left of them
-pub IsJournal-prop : (header : List ℕ) (all : List Recorded) (bytes : List ℕ) → IsProp (IsJournal header all bytes)
+-- bytes are a journal with this header and these records in one way: gate and rest are what is left
+pub IsJournal-prop : (header : List ℕ) (all : List Recorded) (bytes : List ℕ)
+    → IsProp (IsJournal header all bytes)
 IsJournal-prop header all bytes one other =
+    let front : List ℕ = header ++ written all in
     let left : one.gate ∷ one.rest ≡ other.gate ∷ other.rest =
-    append_cancel_left (header ++ written all) (one.gate ∷ one.rest) (other.gate ∷ other.rest) (sym one.is ∙ other.is) in
+    append_cancel_left front (one.gate ∷ one.rest) (other.gate ∷ other.rest)
+    (sym one.is ∙ other.is) in
     let gates : one.gate ≡ other.gate = ap (λ (l : List ℕ). get_or l 0 0) left in
     let rests : one.rest ≡ other.rest = ap (λ (l : List ℕ). drop 1 l) left in
     λ i. record {
@@ -31,6 +34,8 @@ IsJournal-prop header all bytes one other =
       each = same_test (list_all is_record all) true one.each other.each i;
       gate = gates i;
       rest = rests i;
-      closed = is_prop→PathP (λ j. gates j ≢ 1) (λ j. other_number (gates j) 1) one.closed other.closed i;
-      is = is_prop→PathP (λ j. bytes ≡ header ++ written all ++ gates j ∷ rests j) (λ j. same_list bytes (header ++ written all ++ gates j ∷ rests j)) one.is other.is i;
+      closed = is_prop→PathP (λ j. gates j ≢ 1) (λ j. other_number (gates j) 1) one.closed
+          other.closed i;
+      is = is_prop→PathP (λ j. bytes ≡ front ++ gates j ∷ rests j)
+          (λ j. same_list bytes (front ++ gates j ∷ rests j)) one.is other.is i;
     }

@@ -19,8 +19,8 @@ abbrev pub written : List Recorded → List ℕ
 written [] = []
 written (one ∷ more) = 1 ∷ record_bytes one.0 one.1 ++ written more
 
--- The bytes are a journal with this header of 72 bytes and these records: the header, the records, the closed gate, which
--- is any byte but 1, and any rest, which says nothing.
+-- The bytes are a journal with this header of 72 bytes and these records: the header, the records,
+-- the closed gate, which is any byte but 1, and any rest, which says nothing.
 pub record IsJournal (header : List ℕ) (all : List Recorded) (bytes : List ℕ) : Type 0 where
   pub size : length header ≡ 72
   pub each : list_all is_record all ≡ true
