@@ -2,14 +2,17 @@
 use Rattle.std.proofs.Common.{◌≡◌, ◌≢◌, ◌⊎◌, inl, inr, Result, Ok, Err, OnOk, ℕ, ◌+◌, ◌/◌, ◌%◌, ◌<◌, ◌≤◌, ◌^◌, List, [], ◌∷◌, ◌++◌, length, take, drop, get_or, sym, ◌∙◌, ap, subst, arith, append_assoc, length-append, length-take, take-append-drop}
 use Rattle.std.proofs.lemmas.List.{take_more, take-take}
 use Rattle.std.proofs.lemmas.Bool.{cases_eq}
-use Rattle.log_journal.specs.Records.{Recorded, records, record_bytes, IsJournal, Adds, KeepsOrAdds}
+use Rattle.log_journal.specs.Records.{Recorded, record_bytes, IsJournal, Adds, KeepsOrAdds}
+use Rattle.log_journal.specs.Walk.{records}
 use Rattle.log_journal.specs.Bytes.{IsFront, EndsAt, piece_of, with_piece, IsBetween}
-use Rattle.log_journal.proofs.Fronts.{front_one, front_append, journal_of, ends_of}
+use Rattle.log_journal.proofs.Fronts.{front_one, front_append, walked, journal_of, ends_of}
 
 -- a journal's header and records are those that its bytes show
 carried : (header : List ℕ) (before : List Recorded) (bytes : List ℕ) → IsJournal header before bytes → (P : List ℕ → List Recorded → Type 0) → P (take 72 bytes) (records bytes)
     → P header before
-carried header before bytes journal P p = subst (λ h. P h before) journal.begins (subst (λ b. P (take 72 bytes) b) journal.are p)
+carried header before bytes journal P p =
+    let found = walked header before bytes journal in
+    subst (λ h. P h before) found.begins (subst (λ b. P (take 72 bytes) b) found.are p)
 
 module _ (bytes : List ℕ) (gate : ℕ) (ends : EndsAt bytes gate) where
   abbrev pub front : List ℕ
@@ -41,8 +44,8 @@ module _ (bytes : List ℕ) (gate : ℕ) (ends : EndsAt bytes gate) where
     piece = piece_of kind text
 
     new_front : IsFront (front ++ 1 ∷ record_bytes kind text) (records bytes ++ (kind, text) ∷ [])
-    new_front = front_append front 1 (record_bytes kind text) (records bytes) ((kind, text) ∷ []) ends.front
-        (front_one kind (length text / 256) (length text % 256) text (omega arith) low_kind high_kind short)
+    new_front = front_append front (1 ∷ record_bytes kind text) (records bytes) ((kind, text) ∷ []) ends.front
+        (front_one kind (length text / 256) (length text % 256) text (omega arith) (omega arith) low_kind high_kind short)
 
     shut_gate : (byte : ℕ) (rest c : List ℕ) → byte ≢ 1 → c ≡ take gate bytes ++ byte ∷ piece ++ rest → IsJournal (take 72 bytes) (records bytes) c
     shut_gate byte rest c shut is = journal_of (take 72 bytes) front (records bytes) byte (piece ++ rest) c header_size ends.front shut

@@ -1,18 +1,21 @@
 -- Bytes that stand for whole records, and journals made of them.
-use Rattle.std.proofs.Common.{◌≡◌, ◌≢◌, ℕ, zero, suc, ◌+◌, ◌-◌, ◌<◌, ◌≤◌, ◌^◌, true, List, [], ◌∷◌, ◌++◌, length, take, drop, get_or, Some, None, refl, sym, ◌∙◌, ap, subst, arith, append_assoc, length-append, if◌then◌else◌}
+use Rattle.std.proofs.Common.{◌≡◌, ◌≢◌, ℕ, zero, suc, ◌+◌, ◌-◌, ◌<◌, ◌≤◌, ◌^◌, ◌/◌, ◌%◌, Bool, true, ◌&&◌, nat_le, nat_lt, List, [], ◌∷◌, ◌++◌, length, take, drop, get_or, Some, None, refl, sym, ◌∙◌, ap, subst, arith, append_assoc, length-append, if◌then◌else◌}
 use Rattle.std.proofs.lemmas.List.{append-nil, take_at, drop_at, get_or-append_right}
+use Rattle.std.proofs.lemmas.Bool.{and_parts}
 use Rattle.std.proofs.lemmas.Bool.Decides.{nat_tests}
-use Rattle.log_journal.specs.Records.{Recorded, length_of, opened, records, is_whole, damaged, IsJournal}
+use Rattle.std.specs.List.{list_all}
+use Rattle.log_journal.specs.Records.{Recorded, is_record, written, IsJournal}
+use Rattle.log_journal.specs.Walk.{length_of, opened, records, is_whole, damaged, IsWalked}
 use Rattle.log_journal.specs.Bytes.{IsFront, EndsAt}
 
 -- bytes that are passed over say nothing
-opened_skip : (n : ℕ) (text rest : List ℕ) → length text ≡ n → opened n (text ++ rest) ≡ opened 0 rest
+pub opened_skip : (n : ℕ) (text rest : List ℕ) → length text ≡ n → opened n (text ++ rest) ≡ opened 0 rest
 opened_skip zero [] rest is = refl
 opened_skip zero (byte ∷ text) rest is = absurd (omega arith)
 opened_skip (suc n) [] rest is = absurd (omega arith)
 opened_skip (suc n) (byte ∷ text) rest is = opened_skip n text rest (omega arith)
 
-damaged_skip : (number n : ℕ) (text rest : List ℕ) → length text ≡ n → damaged number n (text ++ rest) ≡ damaged number 0 rest
+pub damaged_skip : (number n : ℕ) (text rest : List ℕ) → length text ≡ n → damaged number n (text ++ rest) ≡ damaged number 0 rest
 damaged_skip number zero [] rest is = refl
 damaged_skip number zero (byte ∷ text) rest is = absurd (omega arith)
 damaged_skip number (suc n) [] rest is = absurd (omega arith)
@@ -30,35 +33,118 @@ damaged_closed number gate (a ∷ []) shut = grind (arith, nat_tests)
 damaged_closed number gate (a ∷ b ∷ []) shut = grind (arith, nat_tests)
 damaged_closed number gate (a ∷ b ∷ d ∷ rest) shut = grind (arith, nat_tests)
 
+-- ---- whole records
+
+written_append : (all more : List Recorded) → written (all ++ more) ≡ written all ++ written more
+written_append [] more = refl
+written_append ((kind, text) ∷ all) more =
+    ap (λ (l : List ℕ). 1 ∷ kind ∷ length text / 256 ∷ length text % 256 ∷ (text ++ l)) (written_append all more)
+    ∙ ap (λ (l : List ℕ). 1 ∷ kind ∷ length text / 256 ∷ length text % 256 ∷ l) (sym (append_assoc text (written all) (written more)))
+
+each_append : (all more : List Recorded) → list_all is_record all ≡ true → list_all is_record more ≡ true → list_all is_record (all ++ more) ≡ true
+each_append [] more first second = second
+each_append (one ∷ all) more first second =
+    let parts = and_parts (is_record one) (list_all is_record all) first in
+    ap (λ b. b && list_all is_record (all ++ more)) parts.0 ∙ each_append all more parts.1 second
+
 pub front_none : IsFront [] []
-front_none = record { are = λ rest. refl; whole = λ number gate rest. ap (λ (n : ℕ). damaged n 0 (gate ∷ rest)) (omega arith) }
+front_none = record { is = refl; each = refl }
 
 -- one whole record
-pub front_one : (kind high low : ℕ) (text : List ℕ) → length text ≡ length_of high low → 1 ≤ kind → kind ≤ 4 → length text ≤ 4096
+pub front_one : (kind high low : ℕ) (text : List ℕ) → length text ≡ length_of high low → low < 256 → 1 ≤ kind → kind ≤ 4 → length text ≤ 4096
     → IsFront (1 ∷ kind ∷ high ∷ low ∷ text) ((kind, text) ∷ [])
-front_one kind high low text size low_kind high_kind short = record {
-  are = λ rest. (λ i. (kind, take_at text rest (length_of high low) size i) ∷ opened_skip (length_of high low) text rest size i);
-  whole = λ number gate rest.
-      ap (λ b. if b then damaged (number + 1) (length_of high low) (text ++ gate ∷ rest) else Some number) (whole gate rest)
-      ∙ damaged_skip (number + 1) (length_of high low) text (gate ∷ rest) size;
-}
-  where
-    whole : (gate : ℕ) (rest : List ℕ) → is_whole kind (length_of high low) (text ++ gate ∷ rest) ≡ true
-    whole gate rest =
-        let long : length_of high low < length (text ++ gate ∷ rest) = omega (arith, size, length-append text (gate ∷ rest)) in
-        let bound : length_of high low ≤ 4096 = omega (arith, size) in
-        grind (arith, nat_tests)
+front_one kind high low text size low_byte low_kind high_kind short =
+    let first : high ≡ length text / 256 = omega (arith, size, low_byte) in
+    let second : low ≡ length text % 256 = omega (arith, size, low_byte) in
+    let proper : is_record (kind, text) ≡ true = grind (arith, nat_tests) in
+    record {
+      is = λ i. 1 ∷ kind ∷ first i ∷ second i ∷ sym (append-nil text) i;
+      each = ap (λ b. b && true) proper;
+    }
 
 -- one behind the other
-pub front_append : (first : List ℕ) (gate' : ℕ) (second : List ℕ) (all more : List Recorded) → IsFront first all → IsFront (gate' ∷ second) more
-    → IsFront (first ++ gate' ∷ second) (all ++ more)
-front_append first gate' second all more one two = record {
-  are = λ rest. ap (λ (l : List ℕ). opened 0 l) (append_assoc first (gate' ∷ second) rest) ∙ one.are (gate' ∷ second ++ rest)
-      ∙ ap (λ (l : List Recorded). all ++ l) (two.are rest) ∙ sym (append_assoc all more (opened 0 rest));
-  whole = λ number gate rest. ap (λ (l : List ℕ). damaged number 0 l) (append_assoc first (gate' ∷ second) (gate ∷ rest))
-      ∙ one.whole number gate' (second ++ gate ∷ rest) ∙ two.whole (number + length all) gate rest
-      ∙ ap (λ (n : ℕ). damaged n 0 (gate ∷ rest)) (omega (arith, length-append all more));
+pub front_append : (first second : List ℕ) (all more : List Recorded) → IsFront first all → IsFront second more → IsFront (first ++ second) (all ++ more)
+front_append first second all more one two = record {
+  is = (λ i. one.is i ++ two.is i) ∙ sym (written_append all more);
+  each = each_append all more one.each two.each;
 }
+
+-- ---- the walk through them
+
+two_bytes : (n : ℕ) → n ≡ length_of (n / 256) (n % 256)
+two_bytes n = omega arith
+
+-- a record is whole where anything follows it
+record_whole : (kind : ℕ) (text behind : List ℕ) → is_record (kind, text) ≡ true → 0 < length behind
+    → is_whole kind (length text / 256) (length text % 256) (text ++ behind) ≡ true
+record_whole kind text behind proper more =
+    let parts = and_parts (nat_le 1 kind && nat_le kind 4) (nat_le (length text) 4096) proper in
+    let short : length text ≤ 4096 = grind (arith, nat_tests) in
+    let size = two_bytes (length text) in
+    let long : length_of (length text / 256) (length text % 256) < length (text ++ behind) = omega (arith, size, more, length-append text behind) in
+    let bound : length_of (length text / 256) (length text % 256) ≤ 4096 = omega (arith, size, short) in
+    let low : length text % 256 < 256 = omega arith in
+    sides (nat_le 1 kind && nat_le kind 4) (nat_lt (length text % 256) 256) (nat_le (length_of (length text / 256) (length text % 256)) 4096)
+    (nat_lt (length_of (length text / 256) (length text % 256)) (length (text ++ behind))) parts.0 (is_less _ _ low) (is_most _ _ bound) (is_less _ _ long)
+  where
+    is_less : (a b : ℕ) → a < b → nat_lt a b ≡ true
+    is_less a b less = grind (arith, nat_tests)
+
+    is_most : (a b : ℕ) → a ≤ b → nat_le a b ≡ true
+    is_most a b most = grind (arith, nat_tests)
+
+    sides : (a b c d : Bool) → a ≡ true → b ≡ true → c ≡ true → d ≡ true → ((a && b) && (c && d)) ≡ true
+    sides a b c d p q r s = λ i. (p i && q i) && (r i && s i)
+
+written_are : (all : List Recorded) (rest : List ℕ) → opened 0 (written all ++ rest) ≡ all ++ opened 0 rest
+written_are [] rest = refl
+written_are ((kind, text) ∷ all) rest =
+    let size = two_bytes (length text) in
+    ap (λ (l : List ℕ). (kind, take (length_of (length text / 256) (length text % 256)) l) ∷ opened (length_of (length text / 256) (length text % 256)) l)
+    (append_assoc text (written all) rest)
+    ∙ (λ i. (kind, take_at text (written all ++ rest) (length_of (length text / 256) (length text % 256)) size i)
+    ∷ opened_skip (length_of (length text / 256) (length text % 256)) text (written all ++ rest) size i)
+    ∙ ap (λ (l : List Recorded). (kind, text) ∷ l) (written_are all rest)
+
+written_whole : (all : List Recorded) → list_all is_record all ≡ true → (number gate : ℕ) (rest : List ℕ)
+    → damaged number 0 (written all ++ gate ∷ rest) ≡ damaged (number + length all) 0 (gate ∷ rest)
+written_whole [] each number gate rest = ap (λ (n : ℕ). damaged n 0 (gate ∷ rest)) (omega arith)
+written_whole ((kind, text) ∷ all) each number gate rest =
+    let parts = and_parts (is_record (kind, text)) (list_all is_record all) each in
+    let size = two_bytes (length text) in
+    let high = length text / 256 in
+    let low = length text % 256 in
+    let behind : List ℕ = written all ++ gate ∷ rest in
+    let more : 0 < length behind = omega (arith, length-append (written all) (gate ∷ rest)) in
+    ap (λ (l : List ℕ). if is_whole kind high low l then damaged (number + 1) (length_of high low) l else Some number) (append_assoc text (written all) (gate ∷ rest))
+    ∙ ap (λ b. if b then damaged (number + 1) (length_of high low) (text ++ behind) else Some number) (record_whole kind text behind parts.0 more)
+    ∙ damaged_skip (number + 1) (length_of high low) text behind size
+    ∙ written_whole all parts.1 (number + 1) gate rest
+    ∙ ap (λ (n : ℕ). damaged n 0 (gate ∷ rest)) (omega arith)
+
+pub front_whole : (front : List ℕ) (all : List Recorded) → IsFront front all → (number gate : ℕ) (rest : List ℕ)
+    → damaged number 0 (front ++ gate ∷ rest) ≡ damaged (number + length all) 0 (gate ∷ rest)
+front_whole front all is number gate rest = ap (λ (l : List ℕ). damaged number 0 (l ++ gate ∷ rest)) is.is ∙ written_whole all is.each number gate rest
+
+-- the walk finds what a journal says
+module _ (header : List ℕ) (all : List Recorded) (bytes : List ℕ) (journal : IsJournal header all bytes) where
+  walk_size : length bytes ≡ 72 + length (written all) + 1 + length journal.rest
+  walk_size = ap length journal.is ∙ omega (arith, journal.size, length-append (header ++ written all) (journal.gate ∷ journal.rest), length-append header (written all))
+
+  walk_behind : drop 72 bytes ≡ written all ++ journal.gate ∷ journal.rest
+  walk_behind = ap (λ (l : List ℕ). drop 72 l) (journal.is ∙ append_assoc header (written all) (journal.gate ∷ journal.rest))
+      ∙ drop_at header (written all ++ journal.gate ∷ journal.rest) 72 journal.size
+
+  pub walked : IsWalked header all bytes
+  walked = record {
+    long = omega (arith, walk_size);
+    begins = ap (λ (l : List ℕ). take 72 l) (journal.is ∙ append_assoc header (written all) (journal.gate ∷ journal.rest))
+        ∙ take_at header (written all ++ journal.gate ∷ journal.rest) 72 journal.size;
+    whole = ap (λ (l : List ℕ). damaged 0 0 l) walk_behind ∙ written_whole all journal.each 0 journal.gate journal.rest
+        ∙ damaged_closed (0 + length all) journal.gate journal.rest journal.closed;
+    are = ap (λ (l : List ℕ). opened 0 l) walk_behind ∙ written_are all (journal.gate ∷ journal.rest)
+        ∙ ap (λ (l : List Recorded). all ++ l) (opened_closed journal.gate journal.rest journal.closed) ∙ append-nil all;
+  }
 
 -- a header, whole records, and a closed gate
 module _ (header front : List ℕ) (all : List Recorded) (gate : ℕ) (rest c : List ℕ) (size : length header ≡ 72) (is_front : IsFront front all) (shut : gate ≢ 1)
@@ -66,15 +152,14 @@ module _ (header front : List ℕ) (all : List Recorded) (gate : ℕ) (rest c : 
   long : length c ≡ 72 + length front + 1 + length rest
   long = ap length split ∙ omega (arith, size, length-append (header ++ front) (gate ∷ rest), length-append header front)
 
-  behind : drop 72 c ≡ front ++ gate ∷ rest
-  behind = ap (λ (l : List ℕ). drop 72 l) (split ∙ append_assoc header front (gate ∷ rest)) ∙ drop_at header (front ++ gate ∷ rest) 72 size
-
   pub journal_of : IsJournal header all c
   journal_of = record {
-    long = omega (arith, long);
-    begins = ap (λ (l : List ℕ). take 72 l) (split ∙ append_assoc header front (gate ∷ rest)) ∙ take_at header (front ++ gate ∷ rest) 72 size;
-    whole = ap (λ (l : List ℕ). damaged 0 0 l) behind ∙ is_front.whole 0 gate rest ∙ damaged_closed (0 + length all) gate rest shut;
-    are = ap (λ (l : List ℕ). opened 0 l) behind ∙ is_front.are (gate ∷ rest) ∙ ap (λ (l : List Recorded). all ++ l) (opened_closed gate rest shut) ∙ append-nil all;
+    size = size;
+    each = is_front.each;
+    gate = gate;
+    rest = rest;
+    closed = shut;
+    is = split ∙ ap (λ (l : List ℕ). header ++ l ++ gate ∷ rest) is_front.is;
   }
 
   pub ends_of : (place : ℕ) → place ≡ 72 + length front → length c < 2 ^ 64 → EndsAt c place
@@ -88,7 +173,7 @@ module _ (header front : List ℕ) (all : List Recorded) (gate : ℕ) (rest c : 
       record {
         behind = omega (arith, is);
         within = omega (arith, is, long);
-        front = subst (λ (l : List ℕ). IsFront l (records c)) (sym drops) (subst (λ (l : List Recorded). IsFront front l) (sym journal_of.are) is_front);
+        front = subst (λ (l : List ℕ). IsFront l (records c)) (sym drops) (subst (λ (l : List Recorded). IsFront front l) (sym (walked header all c journal_of).are) is_front);
         closed = λ one. shut (sym byte ∙ one);
         fits = fits;
       }

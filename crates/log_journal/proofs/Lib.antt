@@ -3,3 +3,5 @@ pub mod Fronts
 pub mod Appends
 pub mod Reading
 pub mod Windows
+pub mod Walks
+pub mod Refusals

@@ -6,11 +6,13 @@ use Rattle.std.proofs.lemmas.Bool.Decides.{nat_tests}
 use Rattle.outside.specs.Disk.{Fills}
 use Rattle.outside.proofs.Moments.{elapses_none, elapses_then, over_both}
 use Rattle.outside.proofs.Rises.{rose_since}
-use Rattle.log_journal.specs.Records.{Recorded, length_of, is_whole, damaged}
+use Rattle.log_journal.specs.Records.{Recorded}
+use Rattle.log_journal.specs.Walk.{length_of, is_whole, damaged}
 use Rattle.log_journal.specs.Opening.{recorded, HasRecord, IsRead, Refuses, IsRefused, IsStopped, IsOnlyRead}
 use Rattle.log_journal.specs.declared.header.Record.{Record}
 use Rattle.log_journal.specs.declared.header.OpenError.{OpenError}
 use Rattle.log_journal.specs.declared.header.OpenError.TheVariants.{NotAJournal, OtherPolicy, Damaged, DiskFault, Memory}
+use Rattle.log_journal.proofs.Fronts.{front_whole}
 use Rattle.log_journal.proofs.Reading.{SoFar, one_more, all_read, drop_72}
 
 at_gate : (number found : ℕ) (is_open whole : Bool) (later : Option ℕ) → (later ≡ Some found → number ≤ found)
@@ -32,16 +34,16 @@ damaged_grows number zero (gate ∷ []) found is = at_end number found (gate == 
 damaged_grows number zero (gate ∷ a ∷ []) found is = at_end number found (gate == 1) is
 damaged_grows number zero (gate ∷ a ∷ b ∷ []) found is = at_end number found (gate == 1) is
 damaged_grows number zero (gate ∷ kind ∷ high ∷ low ∷ rest) found is =
-    at_gate number found (gate == 1) (is_whole kind (length_of high low) rest) (damaged (number + 1) (length_of high low) rest)
+    at_gate number found (gate == 1) (is_whole kind high low rest) (damaged (number + 1) (length_of high low) rest)
     (λ e. let more : number + 1 ≤ found = damaged_grows (number + 1) (length_of high low) rest found e in omega (arith, more)) is
 
 -- a record that is short enough is whole in a long window where it is whole
-whole_alike : (kind size : ℕ) (rest tail : List ℕ) → 4097 ≤ length rest → is_whole kind size (rest ++ tail) ≡ is_whole kind size rest
-whole_alike kind size rest tail long = ap (λ b. (nat_le 1 kind && nat_le kind 4) && b) (by_size (nat_le size 4096) refl)
+whole_alike : (kind high low : ℕ) (rest tail : List ℕ) → 4097 ≤ length rest → is_whole kind high low (rest ++ tail) ≡ is_whole kind high low rest
+whole_alike kind high low rest tail long = ap (λ b. ((nat_le 1 kind && nat_le kind 4) && nat_lt low 256) && b) (by_size (length_of high low) (nat_le (length_of high low) 4096) refl)
   where
-    by_size : (short : Bool) → nat_le size 4096 ≡ short → (nat_le size 4096 && nat_lt size (length (rest ++ tail))) ≡ (nat_le size 4096 && nat_lt size (length rest))
-    by_size false is = ap (λ b. b && nat_lt size (length (rest ++ tail))) is ∙ sym (ap (λ b. b && nat_lt size (length rest)) is)
-    by_size true is =
+    by_size : (size : ℕ) (short : Bool) → nat_le size 4096 ≡ short → (nat_le size 4096 && nat_lt size (length (rest ++ tail))) ≡ (nat_le size 4096 && nat_lt size (length rest))
+    by_size size false is = ap (λ b. b && nat_lt size (length (rest ++ tail))) is ∙ sym (ap (λ b. b && nat_lt size (length rest)) is)
+    by_size size true is =
         let bound : size ≤ 4096 = grind (arith, nat_tests) in
         let here : size < length rest = omega (arith, bound, long) in
         let there : size < length (rest ++ tail) = omega (arith, here, length-append rest tail) in
@@ -64,8 +66,8 @@ still_damaged (a ∷ []) tail (inl long) more is k = absurd (omega arith)
 still_damaged (a ∷ b ∷ []) tail (inl long) more is k = absurd (omega arith)
 still_damaged (a ∷ b ∷ d ∷ []) tail (inl long) more is k = absurd (omega arith)
 still_damaged (gate ∷ kind ∷ high ∷ low ∷ rest) tail (inl long) more is k =
-    still_at k (gate == 1) (is_whole kind (length_of high low) rest) (is_whole kind (length_of high low) (rest ++ tail))
-    (whole_alike kind (length_of high low) rest tail (omega (arith, long)))
+    still_at k (gate == 1) (is_whole kind high low rest) (is_whole kind high low (rest ++ tail))
+    (whole_alike kind high low rest tail (omega (arith, long)))
     (damaged (k + 1) (length_of high low) rest) (damaged (k + 1) (length_of high low) (rest ++ tail))
     (λ e. let grown : k + 1 ≤ k = damaged_grows (k + 1) (length_of high low) rest k e in omega (arith, grown)) (is k)
 
@@ -80,6 +82,7 @@ still_recorded window tail record' has = record {
     low = has.starts.low;
     split = ap (λ (l : List ℕ). l ++ tail) has.starts.split ∙ append_assoc (record'.kind ∷ has.starts.high ∷ has.starts.low ∷ record'.text.items) has.rest tail;
     size = has.starts.size;
+    low_byte = has.starts.low_byte;
     kind_from = has.starts.kind_from;
     kind_to = has.starts.kind_to;
     short = has.starts.short;
@@ -179,7 +182,7 @@ pub stops_at : (disk : List ℕ) (all : List Recorded) (rest : List ℕ) → 73 
     → damaged 0 0 (drop 72 disk) ≡ Some (length all)
 stops_at disk all [] long so_far stops = absurd (omega (arith, so_far.more))
 stops_at disk all (gate ∷ tail) long so_far stops =
-    ap (λ (l : List ℕ). damaged 0 0 l) (drop_72 disk all (gate ∷ tail) long so_far) ∙ so_far.is_front.whole 0 gate tail ∙ stops (0 + length all)
+    ap (λ (l : List ℕ). damaged 0 0 l) (drop_72 disk all (gate ∷ tail) long so_far) ∙ front_whole so_far.front all so_far.is_front 0 gate tail ∙ stops (0 + length all)
     ∙ ap (λ (n : ℕ). Some n) (omega arith)
 
 -- the record that is found in a window, and why none is

@@ -1,11 +1,13 @@
 -- Where the closed gate of a journal stands, and what an append makes of the bytes round it.
-use Rattle.std.specs.Prelude.{◌≡◌, ◌≢◌, ◌⊎◌, ℕ, ◌+◌, ◌<◌, ◌≤◌, ◌^◌, List, [], ◌∷◌, ◌++◌, length, take, drop, get_or}
-use Rattle.log_journal.specs.Records.{Recorded, opened, records, damaged, record_bytes}
+use Rattle.std.specs.Prelude.{◌≡◌, ◌≢◌, ◌⊎◌, true, ℕ, ◌+◌, ◌<◌, ◌≤◌, ◌^◌, List, [], ◌∷◌, ◌++◌, length, take, drop, get_or}
+use Rattle.std.specs.List.{list_all}
+use Rattle.log_journal.specs.Records.{Recorded, record_bytes, is_record, written}
+use Rattle.log_journal.specs.Walk.{records}
 
--- These bytes stand for these whole records, whatever follows them.
+-- These bytes are these records, each behind its open gate.
 pub record IsFront (front : List ℕ) (all : List Recorded) : Type 0 where
-  pub are : (rest : List ℕ) → opened 0 (front ++ rest) ≡ all ++ opened 0 rest
-  pub whole : (number gate : ℕ) (rest : List ℕ) → damaged number 0 (front ++ gate ∷ rest) ≡ damaged (number + length all) 0 (gate ∷ rest)
+  pub is : front ≡ written all
+  pub each : list_all is_record all ≡ true
 
 -- The closed gate behind the header and whole records is at this place.
 pub record EndsAt (bytes : List ℕ) (gate : ℕ) : Type 0 where

@@ -2,7 +2,8 @@
 use Rattle.std.specs.Prelude.{◌≡◌, ◌≢◌, ◌⊎◌, ℕ, ◌<◌, ◌≤◌, List, [], ◌∷◌, ◌++◌, length, take, drop, Some}
 use Rattle.outside.specs.Disk.{Elapses}
 use Rattle.outside.specs.Faults.{Rose}
-use Rattle.log_journal.specs.Records.{Recorded, length_of, damaged, IsJournal}
+use Rattle.log_journal.specs.Records.{Recorded, IsJournal}
+use Rattle.log_journal.specs.Walk.{length_of, damaged}
 use Rattle.log_journal.specs.Bytes.{EndsAt}
 use Rattle.log_journal.specs.declared.header.Header.{Header}
 use Rattle.log_journal.specs.declared.header.Record.{Record}
@@ -54,6 +55,7 @@ pub record StartsWithRecord (bytes : List ℕ) (kind : ℕ) (text rest : List �
   pub low : ℕ
   pub split : bytes ≡ kind ∷ high ∷ low ∷ text ++ rest
   pub size : length text ≡ length_of high low
+  pub low_byte : low < 256
   pub kind_from : 1 ≤ kind
   pub kind_to : kind ≤ 4
   pub short : length text ≤ 4096

@@ -2,7 +2,8 @@
 ghost use Rattle.std.specs.Prelude.{◌≡◌, ◌≢◌, ◌⊎◌, ◌≤◌, ◌<◌, ◌+◌, ◌++◌, ◌∷◌, [], ◌^◌, false, List, ℕ, length, take, drop, Some, None, IfSome, IfNone, IfOk, IfErr, OnOk, IsErrOf, IsTrue, ◌↔◌, map, All, slice_index_or};
 ghost use Rattle.outside.specs.Disk.{Only, Elapses};
 ghost use Rattle.outside.specs.Faults.{HasCause, Rose};
-ghost use Rattle.log_journal.specs.Records.{Recorded, length_of, is_whole, damaged, IsJournal};
+ghost use Rattle.log_journal.specs.Records.{Recorded, IsJournal};
+ghost use Rattle.log_journal.specs.Walk.{damaged};
 ghost use Rattle.log_journal.specs.Bytes.{EndsAt};
 ghost use Rattle.log_journal.specs.Opening.{header_bytes, recorded, IsRecord, Refuses, IsRefused, IsOutside, StartsWithRecord, HasRecord, IsStopped, IsOnlyRead, IsRead};
 ghost use Rattle.log_journal.specs.Journal.{is_broken, disk_after};

@@ -5,3 +5,4 @@ pub mod PoliciesKept
 pub mod WorldsKept
 pub mod Trees
 pub mod LinesSplit
+pub mod Ordered

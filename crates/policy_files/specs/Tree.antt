@@ -1,6 +1,8 @@
 -- What is read off the values of a TOML document.
 use Rattle.std.specs.Prelude.{ℕ, ℤ, pos, negsuc, Bool, true, ◌&&◌, List, [], ◌∷◌, map, Option, Some, None, option_map, is_some, unwrap_or, if◌then◌else◌}
 use Rattle.std.specs.List.{list_all}
+use Rattle.std.specs.Ordering.{is_lt, nat_cmp}
+use Rattle.std.specs.Cmp.Lexicographic.{slice_cmp}
 use Rattle.toml.specs.Data.{Data, Items, no_items, item, Members, no_members, member, as_str, as_array, as_table}
 use Rattle.cqe_base.specs.Schema.{Text, Declaration, contains_text}
 
@@ -50,15 +52,36 @@ abbrev pub are_string_arrays : Members → Bool
 are_string_arrays no_members = true
 are_string_arrays (member key value rest) = is_string_array value && are_string_arrays rest
 
--- the declarations that a table has: each key with the texts of its array, in the order of the keys
+-- the order of the keys, as bytes: the first byte that differs decides, and a beginning is less
+-- than the whole
+abbrev pub is_less : Text → Text → Bool
+is_less key other = is_lt (slice_cmp nat_cmp key other)
+
+-- a declaration in its place among others whose names ascend
+abbrev pub in_place : Declaration → List Declaration → List Declaration
+in_place declared [] = declared ∷ []
+in_place declared (other ∷ rest) =
+    if is_less other.name declared.name then other ∷ in_place declared rest
+    else declared ∷ other ∷ rest
+
+-- the declarations that a table has: each key with the texts of its array, the keys ascending as
+-- bytes
 abbrev pub declarations : Members → List Declaration
 declarations no_members = []
-declarations (member key value rest) = record { name = key; parts = texts_in value } ∷ declarations rest
+declarations (member key value rest) =
+    in_place (record { name = key; parts = texts_in value }) (declarations rest)
 
--- the first key that isn't one of these; the keys of a table ascend
+-- the lesser of a key and another, if there is another
+abbrev pub lesser : Text → Option Text → Text
+lesser key None = key
+lesser key (Some other) = if is_less other key then other else key
+
+-- of the keys that aren't among these the least, as bytes
 abbrev pub unknown_key : List Text → Members → Option Text
 unknown_key known no_members = None
-unknown_key known (member key value rest) = if contains_text known key then unknown_key known rest else Some key
+unknown_key known (member key value rest) =
+    if contains_text known key then unknown_key known rest
+    else Some (lesser key (unknown_key known rest))
 
 -- a number that isn't negative
 abbrev pub natural : ℤ → Option ℕ

@@ -118,7 +118,7 @@ fn policy_in(alloc: Global, bytes: &[u8]) -> Result<Policy, Stop>
 /// Reads the bytes of a policy file, a TOML document in UTF-8 with the keys of `docs/FORMATS.md`, "The policy file",
 /// which has the checks in the order in which they are made. The first that fails is the refusal: its number, 1 to 9,
 /// stands at each variant of `PolicyError`, and its place is the user, the key and the text where it failed, counted
-/// from 0.
+/// from 0. Domains and relations stand in the schema in the order of their keys as bytes.
 pub fn read_policy(alloc: Global, bytes: &[u8]) -> Result<Policy, PolicyError>
     // What is read is the policy that the bytes are.
     ensures read { IfOk result (λ policy. policy_in bytes.now ≡ Ok (policy_value_of policy)) }

@@ -102,7 +102,7 @@ pub fn are_string_arrays(table: &Table) -> bool
     true
 }
 
-/// The declarations that a table has, in the order of its keys.
+/// The declarations that a table has, in the order of its keys as bytes.
 pub fn declarations(alloc: Global, table: &Table) -> Result<Vec<Declared>, AllocError>
     ensures { IfOk result (λ declared. map declaration_of declared.items ≡ declarations (table_view table.now)) }
 {

@@ -11,7 +11,7 @@ use Rattle.cqe_base.specs.History.{UserProfile, History, AnsweredQuery}
 use Rattle.cqe_base.specs.Run.{Reply, desk_broken, Event, ask, restart, want, kept, failed, UserState, entry_at, reply_at, reply_at_failure, after_event, after_events, opening}
 use Rattle.cqe_base.specs.Transcript.{NamedUser, ScriptEvent, script_ask, script_stop, script_restart, script_opening, reply_line, own_event, own_events, state_after, told_after, lines_after, transcript}
 use Rattle.cqe_base.proofs.Lists.{one_found}
-use Rattle.log_journal.specs.Records.{records}
+use Rattle.log_journal.specs.Walk.{records}
 use Rattle.user_desk.specs.Entries.{entry_of}
 use Rattle.user_desk.specs.declared.standing.DeskError.{DeskError}
 use Rattle.batch_engine.specs.BatchLines.{BatchItem, asked, restarted, batch_of}

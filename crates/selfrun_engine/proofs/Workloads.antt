@@ -11,7 +11,8 @@ use Rattle.cqe_base.specs.Schema.{Text, DatabaseSchema, has_duplicate}
 use Rattle.cqe_base.specs.Facts.{FactSet}
 use Rattle.cqe_base.specs.Transcript.{NamedUser, ScriptEvent, script_ask, script_stop, script_restart, script_opening, lines_after, transcript}
 use Rattle.cqe_base.specs.declared.user.User.{User}
-use Rattle.log_journal.specs.Records.{records}
+use Rattle.log_journal.specs.Walk.{records}
+use Rattle.log_journal.proofs.Walks.{journals_are_walked}
 use Rattle.log_journal.specs.Names.{journal_name}
 use Rattle.init_engine.specs.Disks.{user_names, Readies}
 use Rattle.batch_engine.specs.BatchLines.{BatchItem, asked, restarted, batch_of}
@@ -63,7 +64,7 @@ module _ {D : Type 0} (reads : D → List ℕ) (image : D → List ℕ → Type 
       → AllByRecursion (λ (u : NamedUser). records (bytes_on reads (new (journal_name directory u.name))) ≡ []) (map named_user users)
   all_empty users none ready = by_place (λ name. records (bytes_on reads (new (journal_name directory name))) ≡ []) users (λ i name low at.
       let one = ready.are i name low at in
-      ap (λ d. records (bytes_on reads d)) one.stands ∙ (one.made.empty (ap (bytes_on reads) (none (journal_name directory name)))).1.are)
+      ap (λ d. records (bytes_on reads d)) one.stands ∙ ((journals_are_walked header [] (reads one.disk)).0 (one.made.empty (ap (bytes_on reads) (none (journal_name directory name)))).1).are)
 
 -- ---- the asks of the script
 

@@ -4,8 +4,14 @@ use Rattle.std.specs.Prelude.{Some}
 use Rattle.std.proofs.lemmas.List.{length-map, map-append, length-take, take_at, take_all, take-append-le}
 use Rattle.cqe_base.specs.Schema.{DatabaseSchema}
 use Rattle.cqe_base.specs.History.{AnsweredQuery, History}
-use Rattle.log_journal.specs.Records.{Recorded, records, IsJournal, Adds, KeepsOrAdds}
+use Rattle.log_journal.specs.Records.{Recorded, IsJournal, Adds, KeepsOrAdds}
+use Rattle.log_journal.specs.Walk.{records}
+use Rattle.log_journal.proofs.Walks.{journals_are_walked}
 use Rattle.user_desk.specs.Entries.{entry_of, StandsFor, StandsWithin}
+
+-- the walk through a journal finds its records
+pub records_are : (header : List ℕ) (all : List Recorded) (bytes : List ℕ) → IsJournal header all bytes → records bytes ≡ all
+records_are header all bytes journal = ((journals_are_walked header all bytes).0 journal).are
 
 -- as many records as entries
 pub as_many : (schema : DatabaseSchema) (all : List Recorded) (entries : History) → map (entry_of schema) all ≡ map Some entries → length all ≡ length entries
@@ -35,16 +41,17 @@ module _ (schema : DatabaseSchema) (header : List ℕ) where
   pub stands_more : (entries : History) (next : Recorded) (entry : AnsweredQuery) (old new : List ℕ) → entry_of schema next ≡ Some entry → StandsFor schema header entries old → Adds old next new → StandsFor schema header (entries ++ entry ∷ []) new
   stands_more entries next entry old new is stands adds =
       let journal = adds header (records old) stands.journal in
+      let found = records_are header (records old ++ next ∷ []) new journal in
       record {
-        journal = subst (λ l. IsJournal header l new) (sym journal.are) journal;
-        are = ap (λ l. map (entry_of schema) l) journal.are ∙ are_more schema (records old) entries next entry stands.are is;
+        journal = subst (λ l. IsJournal header l new) (sym found) journal;
+        are = ap (λ l. map (entry_of schema) l) found ∙ are_more schema (records old) entries next entry stands.are is;
       }
 
   -- the same records
   pub stands_same : (entries : History) (old new : List ℕ) → StandsFor schema header entries old → IsJournal header (records old) new → StandsFor schema header entries new
   stands_same entries old new stands journal = record {
-    journal = subst (λ l. IsJournal header l new) (sym journal.are) journal;
-    are = ap (λ l. map (entry_of schema) l) journal.are ∙ stands.are;
+    journal = subst (λ l. IsJournal header l new) (sym (records_are header (records old) new journal)) journal;
+    are = ap (λ l. map (entry_of schema) l) (records_are header (records old) new journal) ∙ stands.are;
   }
 
   -- as it was, or with a record more
@@ -53,8 +60,8 @@ module _ (schema : DatabaseSchema) (header : List ℕ) where
   stands_either entries next entry old new is stands either = ⊎_elim
       (λ journal. inl (stands_same entries old new stands journal))
       (λ journal. inr (record {
-        journal = subst (λ l. IsJournal header l new) (sym journal.are) journal;
-        are = ap (λ l. map (entry_of schema) l) journal.are ∙ are_more schema (records old) entries next entry stands.are is;
+        journal = subst (λ l. IsJournal header l new) (sym (records_are header (records old ++ next ∷ []) new journal)) journal;
+        are = ap (λ l. map (entry_of schema) l) (records_are header (records old ++ next ∷ []) new journal) ∙ are_more schema (records old) entries next entry stands.are is;
       }))
       (either header (records old) stands.journal)
 

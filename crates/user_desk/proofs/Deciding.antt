@@ -11,7 +11,9 @@ use Rattle.cqe_base.specs.History.{UserProfile, AnsweredQuery, History, log}
 use Rattle.cqe_base.specs.Censor.{IsLegal, rule, admitted}
 use Rattle.cqe_base.specs.Limits.{KeepsSizes, KeepsSizesAt}
 use Rattle.cqe_base.specs.Run.{is_full, is_too_large}
-use Rattle.log_journal.specs.Records.{records, damaged, IsJournal}
+use Rattle.log_journal.specs.Records.{IsJournal}
+use Rattle.log_journal.specs.Walk.{records, damaged}
+use Rattle.log_journal.proofs.Walks.{journals_are_walked}
 use Rattle.user_desk.specs.Entries.{kind_of, mark_of, entry_of, StandsFor}
 use Rattle.user_desk.specs.Causes.{Opens, OpensOrNot, OpensOnce}
 use Rattle.user_desk.proofs.Bytes.{one_history}
@@ -136,8 +138,8 @@ module _ (schema : DatabaseSchema) (world : FactSet) (user : UserProfile) where
 
   journal_or_not : (header bytes : List ℕ) → OrNot (IsJournal header (records bytes) bytes)
   journal_or_not header bytes = same
-      (λ p. record { long = p.0; begins = p.1.0; whole = p.1.1; are = refl })
-      (λ is. (is.long, (is.begins, is.whole)))
+      (λ p. (journals_are_walked header (records bytes) bytes).1 (record { long = p.0; begins = p.1.0; whole = p.1.1; are = refl }))
+      (λ is. let walk = (journals_are_walked header (records bytes) bytes).0 is in (walk.long, (walk.begins, walk.whole)))
       (both (at_least 73 (length bytes)) (both (lists (take 72 bytes) header) (none (damaged 0 0 (drop 72 bytes)))))
 
   -- of one list of entries

@@ -14,7 +14,9 @@ use Rattle.cqe_base.specs.Censor.{IsLegal, rule, admitted}
 use Rattle.cqe_base.specs.Limits.{KeepsSizes, KeepsSizesAt}
 use Rattle.cqe_base.specs.Run.{is_full, is_too_large}
 use Rattle.outside.specs.Faults.{Rose}
-use Rattle.log_journal.specs.Records.{Recorded, records, IsJournal}
+use Rattle.log_journal.specs.Records.{Recorded, IsJournal}
+use Rattle.log_journal.specs.Walk.{records}
+use Rattle.log_journal.proofs.Refusals.{unrefused}
 use Rattle.log_journal.specs.Opening as journal
 use Rattle.log_journal.specs.Opening.{header_bytes, first_eight}
 use Rattle.log_journal.specs.declared.header.Header.{Header}
@@ -26,6 +28,7 @@ use Rattle.user_desk.specs.declared.standing.DeskError.{DeskError}
 use Rattle.user_desk.specs.declared.standing.DeskError.TheVariants.{Journal, Stale, Unlawful, Size, NotAdmitted}
 use Rattle.user_desk.specs.declared.standing.Standing.{Standing}
 use Rattle.user_desk.specs.declared.standing.Standing.TheVariants.{Open, Closed, Sealed}
+use Rattle.user_desk.proofs.Bytes.{records_are}
 
 -- ---- one record
 
@@ -113,16 +116,6 @@ module _ (schema : DatabaseSchema) (world : FactSet) (user : UserProfile) where
 
   -- ---- bytes
 
-  no_journal_refusal : (header : Header) (bytes : List ℕ) (why : OpenError) → IsJournal (header_bytes header) (records bytes) bytes → journal.Refuses (header_bytes header) bytes why → ⊥
-  no_journal_refusal header bytes NotAJournal is refused = ⊎_elim
-      (λ few. absurd (omega (arith, few, is.long)))
-      (λ other. other (sym (take-take 8 72 bytes (omega arith)) ∙ ap (λ l. take 8 l) is.begins ∙ take_at first_eight (header.policy ++ header.facts) 8 refl))
-      refused
-  no_journal_refusal header bytes OtherPolicy is refused = refused.2 is.begins
-  no_journal_refusal header bytes (Damaged number) is refused = let e : None ≡ Some number = sym is.whole ∙ refused.2 in cc
-  no_journal_refusal header bytes DiskFault is refused = refused
-  no_journal_refusal header bytes Memory is refused = refused
-
   no_records : (all : List Recorded) (entries : History) → map (entry_of schema) all ≡ map Some entries → entries ≡ [] → all ≡ []
   no_records [] entries are none = refl
   no_records (one ∷ all) [] are none = absurd cc
@@ -130,7 +123,7 @@ module _ (schema : DatabaseSchema) (world : FactSet) (user : UserProfile) where
 
   -- bytes that open a desk show no reason to refuse them
   pub not_refused : (header : Header) (bytes : List ℕ) (entries : History) (why : DeskError) → Opens schema world user (header_bytes header) entries bytes → Refuses schema world user (header_bytes header) bytes why → ⊥
-  not_refused header bytes entries (Journal why) opens refused = no_journal_refusal header bytes why opens.stands.journal refused
+  not_refused header bytes entries (Journal why) opens refused = unrefused header (records bytes) bytes opens.stands.journal why refused
   not_refused header bytes entries (NotAdmitted admission) opens refused = refused.3 (no_records (records bytes) entries opens.stands.are (opens.none refused.1))
   not_refused header bytes entries (Stale number) opens refused = all_lawful (records bytes) entries (Stale number) opens.stands.are opens.legal opens.sizes refused.2
   not_refused header bytes entries (Size number) opens refused = all_lawful (records bytes) entries (Size number) opens.stands.are opens.legal opens.sizes refused.2
@@ -154,12 +147,12 @@ module _ (schema : DatabaseSchema) (world : FactSet) (user : UserProfile) where
   true_no b is isnt = absurd (no_true b isnt is)
 
   journal_of : (header : List ℕ) (bytes : List ℕ) (all : List Recorded) → IsJournal header all bytes → IsJournal header (records bytes) bytes
-  journal_of header bytes all is = subst (λ l. IsJournal header l bytes) (sym is.are) is
+  journal_of header bytes all is = subst (λ l. IsJournal header l bytes) (sym (records_are header all bytes is)) is
 
   opens_of : (header : List ℕ) (bytes : List ℕ) (all : List Recorded) (entries : History) → IsJournal header all bytes → map (entry_of schema) all ≡ map Some entries → IsLegal schema world user entries → KeepsSizes schema user entries
       → (admitted schema world user ≡ false → entries ≡ []) → Opens schema world user header entries bytes
   opens_of header bytes all entries is are legal sizes none = record {
-    stands = record { journal = journal_of header bytes all is; are = ap (λ l. map (entry_of schema) l) is.are ∙ are };
+    stands = record { journal = journal_of header bytes all is; are = ap (λ l. map (entry_of schema) l) (records_are header all bytes is) ∙ are };
     legal = legal;
     sizes = sizes;
     none = none;
@@ -174,13 +167,13 @@ module _ (schema : DatabaseSchema) (world : FactSet) (user : UserProfile) where
       (replay.0, replay.1, replay.2, λ is. opens_of header bytes all entries (journal is) (ap (λ l. map (entry_of schema) l) replay.3 ∙ ap (λ l. map Some l) (sym replay.2)) legal sizes (λ isnt. replay.2))
   standing_from told header bytes all entries before now (Sealed (Journal why)) journal legal sizes replay = absurd replay.2.refused
   standing_from told header bytes all entries before now (Sealed (NotAdmitted admission)) journal legal sizes replay =
-      (replay.0, λ is. (journal_of header bytes all (journal is), replay.1, replay.2, λ none. replay.3 (sym (journal is).are ∙ none)))
+      (replay.0, λ is. (journal_of header bytes all (journal is), replay.1, replay.2, λ none. replay.3 (sym (records_are header all bytes (journal is)) ∙ none)))
   standing_from told header bytes all entries before now (Sealed (Stale number)) journal legal sizes replay =
-      (replay.0, λ is. (journal_of header bytes all (journal is), replay.1, subst (λ l. RefusesRecords schema world user l (Stale number)) (sym (journal is).are) replay.2))
+      (replay.0, λ is. (journal_of header bytes all (journal is), replay.1, subst (λ l. RefusesRecords schema world user l (Stale number)) (sym (records_are header all bytes (journal is))) replay.2))
   standing_from told header bytes all entries before now (Sealed (Size number)) journal legal sizes replay =
-      (replay.0, λ is. (journal_of header bytes all (journal is), replay.1, subst (λ l. RefusesRecords schema world user l (Size number)) (sym (journal is).are) replay.2))
+      (replay.0, λ is. (journal_of header bytes all (journal is), replay.1, subst (λ l. RefusesRecords schema world user l (Size number)) (sym (records_are header all bytes (journal is))) replay.2))
   standing_from told header bytes all entries before now (Sealed (Unlawful number stored computed)) journal legal sizes replay =
-      (replay.0, λ is. (journal_of header bytes all (journal is), replay.1, subst (λ l. RefusesRecords schema world user l (Unlawful number stored computed)) (sym (journal is).are) replay.2))
+      (replay.0, λ is. (journal_of header bytes all (journal is), replay.1, subst (λ l. RefusesRecords schema world user l (Unlawful number stored computed)) (sym (records_are header all bytes (journal is))) replay.2))
 
   -- ---- how many entries there are
 

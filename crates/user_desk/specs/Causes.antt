@@ -9,7 +9,8 @@ use Rattle.cqe_base.specs.Censor.{IsLegal, rule, admitted}
 use Rattle.cqe_base.specs.Limits.{KeepsSizes}
 use Rattle.cqe_base.specs.Run.{is_full, is_too_large}
 use Rattle.outside.specs.Faults.{Rose}
-use Rattle.log_journal.specs.Records.{Recorded, records, IsJournal}
+use Rattle.log_journal.specs.Records.{Recorded, IsJournal}
+use Rattle.log_journal.specs.Walk.{records}
 use Rattle.log_journal.specs.Opening as journal
 use Rattle.log_journal.specs.declared.header.Header.{Header}
 use Rattle.log_journal.specs.declared.header.OpenError.TheVariants.{DiskFault, Memory}

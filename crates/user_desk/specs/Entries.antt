@@ -6,7 +6,8 @@ use Rattle.cqe_base.specs.Schema.{DatabaseSchema, Text}
 use Rattle.cqe_base.specs.Formula.{Formula}
 use Rattle.cqe_base.specs.Reading.{Refusal, reading}
 use Rattle.cqe_base.specs.History.{AnsweredQuery, History}
-use Rattle.log_journal.specs.Records.{Recorded, records, IsJournal}
+use Rattle.log_journal.specs.Records.{Recorded, IsJournal}
+use Rattle.log_journal.specs.Walk.{records}
 
 -- the kind of a record with this mark
 abbrev pub kind_of : Mark → ℕ

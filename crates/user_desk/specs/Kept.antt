@@ -7,6 +7,7 @@ use Rattle.cqe_base.specs.FormulaCode.{formula_set}
 use Rattle.cqe_base.specs.History.{UserProfile, AnsweredQuery, History}
 use Rattle.cqe_base.specs.Censor.{IsLegal, admitted}
 use Rattle.cqe_base.specs.Limits.{KeepsSizes}
+use Rattle.log_journal.specs.Props.{IsJournal-prop}
 use Rattle.user_desk.specs.Entries.{StandsWithin}
 use Rattle.user_desk.specs.Standings.{is_open, is_sealed}
 use Rattle.user_desk.specs.declared.standing.Standing.{Standing}
@@ -34,8 +35,8 @@ pub record StandsSince (told : Type 0) (image : List ℕ → Type 0) (schema : D
 -- facts that hold in one way
 pub IsKept-prop : (told : Type 0) (image : List ℕ → Type 0) (schema : DatabaseSchema) (world : FactSet) (user : UserProfile) (header : List ℕ) (standing : Standing) (entries : History)
     (in_flight : Option AnsweredQuery) (has_journal is_broken : Bool) → IsProp (IsKept told image schema world user header standing entries in_flight has_journal is_broken)
-IsKept-prop told image schema world user header standing entries in_flight has_journal is_broken = hlevel (props, formula_set)
+IsKept-prop told image schema world user header standing entries in_flight has_journal is_broken = hlevel (props, formula_set, IsJournal-prop)
 
 pub StandsSince-prop : (told : Type 0) (image : List ℕ → Type 0) (schema : DatabaseSchema) (header : List ℕ) (standing : Standing) (opened : ℕ) (entries : History) (in_flight : Option AnsweredQuery)
     (has_journal : Bool) → IsProp (StandsSince told image schema header standing opened entries in_flight has_journal)
-StandsSince-prop told image schema header standing opened entries in_flight has_journal = hlevel (props, formula_set)
+StandsSince-prop told image schema header standing opened entries in_flight has_journal = hlevel (props, formula_set, IsJournal-prop)

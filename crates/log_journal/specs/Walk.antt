@@ -1,0 +1,51 @@
+-- How a reader walks through the bytes of a journal, from gate to gate.
+use Rattle.std.specs.Prelude.{◌≡◌, ◌↔◌, ℕ, zero, suc, ◌+◌, ◌*◌, ◌≤◌, Bool, ◌&&◌, List, [], ◌∷◌, length, take, drop, Option, Some, None, nat_le, nat_lt, ◌==◌, if◌then◌else◌}
+use Rattle.log_journal.specs.Records.{Recorded, IsJournal}
+
+-- a length as two bytes, the higher first
+abbrev pub length_of : ℕ → ℕ → ℕ
+length_of high low = 256 * high + low
+
+-- A gate is the byte before a record: of value 1 it opens one, of any other it ends them. These are
+-- the records from a gate on, behind some bytes that are passed over.
+abbrev pub opened : ℕ → List ℕ → List Recorded
+opened (suc n) (byte ∷ rest) = opened n rest
+opened zero (gate ∷ kind ∷ high ∷ low ∷ rest) =
+    if gate == 1 then (kind, take (length_of high low) rest) ∷ opened (length_of high low) rest
+    else []
+opened skipped rest = []
+
+-- the records that are found behind the header
+abbrev pub records : List ℕ → List Recorded
+records bytes = opened 0 (drop 72 bytes)
+
+-- a kind from 1 to 4 and a length of at most 4,096, whose lower byte is a byte, and the text lies
+-- there with the next gate
+abbrev pub is_whole : ℕ → ℕ → ℕ → List ℕ → Bool
+is_whole kind high low rest =
+    ((nat_le 1 kind && nat_le kind 4) && nat_lt low 256)
+    && (nat_le (length_of high low) 4096 && nat_lt (length_of high low) (length rest))
+
+-- the number of the first opened record that isn't whole, the next record having this number
+abbrev pub damaged : ℕ → ℕ → List ℕ → Option ℕ
+damaged number (suc n) (byte ∷ rest) = damaged number n rest
+damaged number zero (gate ∷ kind ∷ high ∷ low ∷ rest) =
+    if gate == 1 then
+    (if is_whole kind high low rest then damaged (number + 1) (length_of high low) rest
+    else Some number)
+    else None
+damaged number zero (gate ∷ rest) = if gate == 1 then Some number else None
+damaged number skipped rest = None
+
+-- the walk finds this header, no damage, and these records
+pub record IsWalked (header : List ℕ) (all : List Recorded) (bytes : List ℕ) : Type 0 where
+  pub long : 73 ≤ length bytes
+  pub begins : take 72 bytes ≡ header
+  pub whole : damaged 0 0 (drop 72 bytes) ≡ None
+  pub are : records bytes ≡ all
+
+-- bytes are a journal exactly where the walk finds its header, no damage, and its records
+abbrev pub JournalsAreWalked : Type 0
+JournalsAreWalked =
+    (header : List ℕ) (all : List Recorded) (bytes : List ℕ)
+    → IsJournal header all bytes ↔ IsWalked header all bytes
