@@ -4,6 +4,7 @@ use Rattle.std.specs.Prelude.{Option}
 use Rattle.cqe_base.specs.Schema.{DatabaseSchema}
 use Rattle.cqe_base.specs.Facts.{FactSet}
 use Rattle.cqe_base.specs.History.{AnsweredQuery, History, profile_of}
+use Rattle.cqe_base.specs.Censor.{IsLegal}
 use Rattle.cqe_base.specs.Run.{UserState}
 use Rattle.user_desk.specs.Causes.{IsStanding}
 use Rattle.user_desk.specs.Standings.{is_sealed, standing_of}
@@ -39,8 +40,8 @@ module _ {D : Type 0} {g h : _} (schema : DatabaseSchema) (world : FactSet) (hea
       → (told → (state : UserState) → Holds schema world (profile_of (seat_user seat)) header state (reads disk) → Restarts schema world (profile_of (seat_user seat)) (IsIn desk) state (faults disk) (faults (desk_disk desk)))
       → is_broken_desk desk ≡ false → opening_history desk ≡ desk_history desk → opening_disk desk ≡ desk_disk desk → seat.refusal ≡ first_refusal before (desk_standing desk)
       → (told → is_sealed (desk_standing desk) ≡ false → (c : List ℕ) → image (desk_disk desk) c → Holds (desk_schema desk) (desk_world desk) (desk_user desk) (desk_header desk) (state_of desk) c)
-      → IsOpenedFrom schema world header told reads image faults disk before seat
-  opened_seat disk before schema_is world_is user_is header_is standing restarted whole opening opened refusal images =
+      → IsLegal (desk_schema desk) (desk_world desk) (desk_user desk) (desk_history desk) → IsOpenedFrom schema world header told reads image faults disk before seat
+  opened_seat disk before schema_is world_is user_is header_is standing restarted whole opening opened refusal images legal =
       let disk_is : seat_disk seat ≡ desk_disk desk = ap (λ (f : Fixed D). f.disk) kept ∙ opened in
       record {
         served = record {
@@ -62,6 +63,10 @@ module _ {D : Type 0} {g h : _} (schema : DatabaseSchema) (world : FactSet) (hea
           none = flies ∙ none_flies (entry_in_flight desk) whole;
         };
         opening_is = ap (λ (f : Fixed D). f.opening) kept ∙ opening ∙ sym entries;
+        legal = subst (λ s. IsLegal s world (profile_of (seat_user seat)) (seat_history seat)) schema_is
+            (subst (λ w. IsLegal (desk_schema desk) w (profile_of (seat_user seat)) (seat_history seat)) world_is
+            (subst (λ p. IsLegal (desk_schema desk) (desk_world desk) p (seat_history seat)) user_is
+            (subst (λ (e : History). IsLegal (desk_schema desk) (desk_world desk) (desk_user desk) e) (sym entries) legal)));
         first_is = first ∙ sym entries;
         mine_is = none_own;
         turns_are = all_turns;

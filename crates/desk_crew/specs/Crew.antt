@@ -163,6 +163,7 @@ module _ (schema : DatabaseSchema) (world : FactSet) (header : List ℕ) where
       pub refusal : seat.refusal ≡ first_refusal before (seat_standing seat)
       pub fresh : IsFresh seat
       pub opening_is : (seat_kept seat).opening ≡ seat_history seat
+      pub legal : IsLegal schema world (profile_of (seat_user seat)) (seat_history seat)
       -- what was put under its counter is that history, and its pass has all turns and nothing of its own
       pub first_is : first_history (counter_in seat.desk) ≡ seat_history seat
       pub mine_is : mine (pass_in seat.desk) ≡ []

@@ -6,6 +6,7 @@ ghost use Rattle.cqe_base.specs.Limits.{KeepsLimits};
 ghost use Rattle.turnstile.specs.Passes.{seen, shares as shares_of, turns};
 ghost use Rattle.desk_counter.specs.Items.{history_of};
 ghost use Rattle.desk_counter.specs.Counters.{kept_by, IsPassOf};
+ghost use Rattle.session_core.specs.Members.{HasSeenLegal};
 
 use cqe_base::laws::law_views_without_entries;
 use cqe_base::schema::Schema;
@@ -123,6 +124,8 @@ pub fn counter_of<'w>(
     requires { KeepsLimits clinic.now.schema (profile_of user.now) }
     ensures pass { IfOk result (λ c. IsPassOf c.1 c.0) }
     ensures opened { IfOk result (λ c. length (kept_by c.0).opening ≤ length (history_of (seen c.1))) }
+    ensures user { IfOk result (λ c. (kept_by c.0).user ≡ profile_of user.now) }
+    ensures legal { IfOk result (λ c. HasSeenLegal (kept_by c.0) c.1) }
     ensures all { IfOk result (λ c. shares_of c.1 ≡ 65) }
     ensures turns { IfOk result (λ c. turns c.1 ≡ 65 * 2 ^ 57) }
 {
@@ -132,6 +135,8 @@ pub fn counter_of<'w>(
     let Ok(desk) = opened else {
         panic!(rt; "no memory for a desk");
     };
+    clinic.schema.known();
+    desk.known();
     match Counter::new(alloc, desk) {
         Ok(counter) => Ok(counter),
         Err(_) => panic!(rt; "no memory for a counter"),

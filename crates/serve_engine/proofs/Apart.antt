@@ -17,7 +17,7 @@ use Rattle.desk_counter.specs.declared.counter.CounterOf.{CounterOf}
 use Rattle.desk_counter.specs.declared.ticketed_desk.TicketedDesk.{TicketedDesk}
 use Rattle.desk_counter.specs.Counters.{kept_by, first_history, IsPassOf}
 use Rattle.desk_counter.specs.Items.{history_of}
-use Rattle.desk_crew.specs.Crew.{IsFresh}
+use Rattle.desk_crew.specs.Crew.{seat_kept, IsFresh}
 use Rattle.desk_crew.specs.Seats.{DeskSeat}
 use Rattle.session_core.specs.Members.{ArePasses}
 use Rattle.serve_engine.specs.declared.sharing.Keeper.{Keeper}
@@ -98,6 +98,11 @@ module _ {D : Type 0} {g h : _} where
   apart_turns (seat ∷ seats) all =
       let this = All-head (λ (s : DeskSeat D g h). turns (seat_pass s) ≡ 65 * 2 ^ 57) seat seats all in
       (omega (arith, this), apart_turns seats (All-tail (λ (s : DeskSeat D g h). turns (seat_pass s) ≡ 65 * 2 ^ 57) seat seats all))
+
+  -- the counters of seats keep their desks
+  pub kept_apart : (seats : List (DeskSeat D g h)) → map kept_by (map seat_counter seats) ≡ map seat_kept seats
+  kept_apart [] = refl
+  kept_apart (seat ∷ seats) = ap (λ (fs : List (Fixed D)). seat_kept seat ∷ fs) (kept_apart seats)
 
   pub apart_opened : (seats : List (DeskSeat D g h)) → All IsFresh seats → HaveSeenOpenings (map kept_by (map seat_counter seats)) (map seat_pass seats)
   apart_opened [] all = tt

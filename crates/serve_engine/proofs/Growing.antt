@@ -1,5 +1,5 @@
 -- A connection that was served stays so.
-use Rattle.std.proofs.Common.{◌≡◌, ℕ, Bool, true, false, List, [], ◌∷◌, ◌++◌, length, sym, subst, arith}
+use Rattle.std.proofs.Common.{◌≡◌, ℕ, Bool, true, false, ◌||◌, List, [], ◌∷◌, ◌++◌, length, sym, subst, arith}
 use Rattle.std.specs.Prelude.{Option, Some, None}
 use Rattle.std.specs.List.{AllZip}
 use Rattle.std.proofs.lemmas.List.{append-nil, length-append}
@@ -15,24 +15,24 @@ use Rattle.serve_engine.specs.Served.{Member, SessionMarks, IsLater, RepliedAt, 
 
 module _ (schema : DatabaseSchema) (world : FactSet) where
   -- replies by a history are replies by a longer one
-  replied_longer : (user : UserProfile) (standing : Standing) (history more : History) (broke broke' : Bool) {least : ℕ} {asks : List (Text × Reply)} {entries : History} → (broke ≡ true → broke' ≡ true)
-      → Replied schema world user standing history broke least false asks entries → Replied schema world user standing (history ++ more) broke' least false asks entries
-  replied_longer user standing history more broke broke' {least} {asks} {entries} on chain =
+  replied_longer : (user : UserProfile) (standing : Standing) (history more : History) (broke broke' : Bool) {least : ℕ} {asks : List (Text × Reply)} {entries : History} {fails : Bool} → (broke ≡ true → broke' ≡ true)
+      → Replied schema world user standing history broke least false asks entries fails → Replied schema world user standing (history ++ more) broke' least false asks entries (fails || false)
+  replied_longer user standing history more broke broke' {least} {asks} {entries} {fails} on chain =
       let longer = length-append history more in
       let both = replied_then schema world user standing history more broke broke' on chain (nothing (omega (arith, longer)) on) in
-      subst (λ a. Replied schema world user standing (history ++ more) broke' least false a entries) (append-nil asks)
-      (subst (λ e. Replied schema world user standing (history ++ more) broke' least false (asks ++ []) e) (append-nil entries) both)
+      subst (λ a. Replied schema world user standing (history ++ more) broke' least false a entries (fails || false)) (append-nil asks)
+      (subst (λ e. Replied schema world user standing (history ++ more) broke' least false (asks ++ []) e (fails || false)) (append-nil entries) both)
 
   -- so they are of the same user later
-  replied_later : (before after : Member) {asks : List (Text × Reply)} {entries : History} → IsLater before after
-      → Replied schema world before.profile before.standing before.history before.broke (length before.opening) false asks entries
-      → Replied schema world after.profile after.standing after.history after.broke (length after.opening) false asks entries
-  replied_later before after {asks} {entries} later chain =
+  replied_later : (before after : Member) {asks : List (Text × Reply)} {entries : History} {fails : Bool} → IsLater before after
+      → Replied schema world before.profile before.standing before.history before.broke (length before.opening) false asks entries fails
+      → Replied schema world after.profile after.standing after.history after.broke (length after.opening) false asks entries (fails || false)
+  replied_later before after {asks} {entries} {fails} later chain =
       let longer = replied_longer before.profile before.standing before.history later.further.0 before.broke after.broke later.broke chain in
-      subst (λ u. Replied schema world u after.standing after.history after.broke (length after.opening) false asks entries) (sym later.profile)
-      (subst (λ s. Replied schema world before.profile s after.history after.broke (length after.opening) false asks entries) (sym later.standing)
-      (subst (λ h. Replied schema world before.profile before.standing h after.broke (length after.opening) false asks entries) (sym later.further.1)
-      (subst (λ o. Replied schema world before.profile before.standing (before.history ++ later.further.0) after.broke (length o) false asks entries) (sym later.opening) longer)))
+      subst (λ u. Replied schema world u after.standing after.history after.broke (length after.opening) false asks entries (fails || false)) (sym later.profile)
+      (subst (λ s. Replied schema world before.profile s after.history after.broke (length after.opening) false asks entries (fails || false)) (sym later.standing)
+      (subst (λ h. Replied schema world before.profile before.standing h after.broke (length after.opening) false asks entries (fails || false)) (sym later.further.1)
+      (subst (λ o. Replied schema world before.profile before.standing (before.history ++ later.further.0) after.broke (length o) false asks entries (fails || false)) (sym later.opening) longer)))
 
   at_later : {place : ℕ} {before : List Member} {asks : List (Text × Reply)} {entries : History} (after : List Member) → AllZip IsLater before after → RepliedAt schema world place before asks entries → RepliedAt schema world place after asks entries
   at_later [] all (here chain) = absurd all

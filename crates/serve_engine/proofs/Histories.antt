@@ -12,7 +12,7 @@ use Rattle.outside.specs.Visits.{Visit, one_if_any}
 use Rattle.cqe_base.specs.Schema.{Text, DatabaseSchema, is_valid_schema}
 use Rattle.cqe_base.specs.Facts.{FactSet}
 use Rattle.cqe_base.specs.History.{UserProfile, AnsweredQuery, History, is_user_of, profile_of}
-use Rattle.cqe_base.specs.Censor.{IsLegal}
+use Rattle.cqe_base.specs.Censor.{IsLegal, admitted}
 use Rattle.cqe_base.specs.Hiding.{LegalHistoriesHide}
 use Rattle.cqe_base.specs.Limits.{KeepsLimits}
 use Rattle.cqe_base.specs.declared.user.User.{User}
@@ -20,7 +20,7 @@ use Rattle.log_journal.specs.Names.{journal_name}
 use Rattle.log_journal.specs.declared.header.OpenError.TheVariants as journal_error
 use Rattle.user_desk.specs.Causes.{IsStanding, IsSealedBy}
 use Rattle.user_desk.specs.Lives.{Holds}
-use Rattle.user_desk.specs.Standings.{is_sealed}
+use Rattle.user_desk.specs.Standings.{is_open, is_sealed}
 use Rattle.user_desk.specs.declared.standing.DeskError.{DeskError}
 use Rattle.user_desk.specs.declared.standing.DeskError.TheVariants.{Journal, Stale, Unlawful, Size, NotAdmitted}
 use Rattle.user_desk.specs.declared.standing.Standing.{Standing}
@@ -31,9 +31,10 @@ use Rattle.desk_counter.specs.Sole.{pairs_of_sole}
 use Rattle.desk_counter.proofs.Pairs.{history_all}
 use Rattle.turnstile.specs.Passes.{mine, turns}
 use Rattle.desk_counter.specs.Counters.{first_history}
-use Rattle.desk_crew.specs.Crew.{IsFresh, IsClosed, refusal_of, seat_journal, seat_kept, seat_standing, seat_history, seat_disk, seat_broke, seat_state}
+use Rattle.desk_crew.specs.Crew.{IsFresh, IsClosed, refusal_of, seat_user, seat_journal, seat_kept, seat_standing, seat_history, seat_disk, seat_broke, seat_state}
 use Rattle.desk_crew.specs.Seats.{DeskSeat}
 use Rattle.desk_crew.specs.Shelved.{Journals, journals, journals_on, AreLater, IsSeatOf, AreSeatsOf, IsBack, AreBack}
+use Rattle.session_core.specs.Members.{AreDesksOf, HasSeenLegal, HaveSeenLegal}
 use Rattle.serve_engine.specs.Served.{Member, SessionMarks}
 use Rattle.serve_engine.specs.Members.{OwnMore, own_weight}
 use Rattle.serve_engine.specs.Doors.{AreServedDoors, SomeFailed, HasOutcome}
@@ -62,6 +63,13 @@ module _ (schema : DatabaseSchema) (world : FactSet) (user : UserProfile) (heade
   standing_wide entries first before now last a b Open is = (is.0, λ u. is.1 t)
   standing_wide entries first before now last a b (Closed admission) is = (is.0, is.1, is.2, λ u. is.3 t)
   standing_wide entries first before now last a b (Sealed why) is = (is.0, sealed_wide first before now last a b why is.1)
+
+-- only a user who is admitted is served
+open_admits : (schema : DatabaseSchema) (world : FactSet) (user : UserProfile) (T : Type 0) (header bytes : List ℕ) (entries : History) (before now : ℕ) (standing : Standing) → IsStanding schema world user T header bytes entries before now standing → is_open standing ≡ true
+    → admitted schema world user ≡ true
+open_admits schema world user T header bytes entries before now Open is serves = is.0
+open_admits schema world user T header bytes entries before now (Closed admission) is serves = absurd cc
+open_admits schema world user T header bytes entries before now (Sealed why) is serves = absurd cc
 
 module _ (schema : DatabaseSchema) (world : FactSet) (header directory : List ℕ) {D : Type 0} {g h : _} (T S : Type 0) (t : T) (s : S) (reads : D → List ℕ) (image : D → List ℕ → Type 0) (faults : D → ℕ)
     (read_is_image : (d : D) → T → image d (reads d)) (disk disk' : Text → Option D) (count count' : Text → ℕ) where
@@ -293,3 +301,37 @@ module _ {D : Type 0} {g h : _} (told disk_told : Type 0) (reads : D → List �
 
   pub seats_own : (users : List User) (seats : List (DeskSeat D g h)) → AreSeatsOf told reads image faults disk_told schema world header directory disk count users seats → All (λ (seat : DeskSeat D g h). mine (seat_pass seat) ≡ []) seats
   seats_own users seats opened = All-from_recursion (λ (seat : DeskSeat D g h). mine (seat_pass seat) ≡ []) seats (each (λ (seat : DeskSeat D g h). mine (seat_pass seat) ≡ []) (λ user seat is. is.opened.mine_is) users seats opened)
+
+  -- each seat's desk is that of the user at its place
+  pub seats_desks : (users : List User) (seats : List (DeskSeat D g h)) → AreSeatsOf told reads image faults disk_told schema world header directory disk count users seats → AreDesksOf users (map seat_kept seats)
+  seats_desks [] [] opened = refl
+  seats_desks (user ∷ users) (seat ∷ seats) opened =
+      let this : (seat_kept seat).user ≡ profile_of user = opened.0.opened.served.user_is ∙ ap profile_of opened.0.user_is in
+      ap (λ (p : UserProfile). p ∷ map (λ (f : Fixed D). f.user) (map seat_kept seats)) this ∙ ap (λ (ps : List UserProfile). profile_of user ∷ ps) (seats_desks users seats opened.1)
+  seats_desks [] (seat ∷ seats) opened = absurd opened
+  seats_desks (user ∷ users) [] opened = absurd opened
+
+  module _ (valid : is_valid_schema schema ≡ true) where
+    -- what the pass of a seat that was just opened has seen is legal
+    seat_legal : (user : User) (seat : DeskSeat D g h) → KeepsLimits schema (profile_of user) → IsSeatOf told reads image faults disk_told schema world header directory disk count user seat → HasSeenLegal (seat_kept seat) (seat_pass seat)
+    seat_legal user seat limits is =
+        let kept = seat_kept seat in
+        let served = is.opened.served in
+        let user_is : kept.user ≡ profile_of user = served.user_is ∙ ap profile_of is.user_is in
+        record {
+          valid = ap is_valid_schema served.schema_is ∙ valid;
+          user_of = ap (λ s. is_user_of s kept.user) served.schema_is ∙ ap (is_user_of schema) user_is ∙ limits.sentences;
+          admits = λ serves. ap (λ s. admitted s kept.world kept.user) served.schema_is ∙ ap (λ w. admitted schema w kept.user) served.world_is ∙ ap (admitted schema world) served.user_is
+              ∙ open_admits schema world (profile_of (seat_user seat)) disk_told header (reads is.taken) (seat_history seat) (faults is.taken) (faults (seat_disk seat)) kept.standing is.opened.standing serves;
+          legal = subst (λ s. IsLegal s kept.world kept.user (seat_history seat)) (sym served.schema_is)
+              (subst (λ w. IsLegal schema w kept.user (seat_history seat)) (sym served.world_is) (subst (λ p. IsLegal schema world p (seat_history seat)) (sym served.user_is) is.opened.legal));
+        }
+
+    pub seats_legal : (users : List User) (seats : List (DeskSeat D g h)) → All (λ user. KeepsLimits schema (profile_of user)) users → AreSeatsOf told reads image faults disk_told schema world header directory disk count users seats → HaveSeenLegal (map seat_kept seats) (map seat_pass seats)
+    seats_legal [] [] limits opened = tt
+    seats_legal (user ∷ users) (seat ∷ seats) limits opened = (
+      seat_legal user seat (All-head (λ u. KeepsLimits schema (profile_of u)) user users limits) opened.0,
+      seats_legal users seats (All-tail (λ u. KeepsLimits schema (profile_of u)) user users limits) opened.1,
+    )
+    seats_legal [] (seat ∷ seats) limits opened = absurd opened
+    seats_legal (user ∷ users) [] limits opened = absurd opened

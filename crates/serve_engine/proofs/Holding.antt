@@ -11,8 +11,8 @@ use Rattle.desk_counter.specs.Items.{history_of}
 use Rattle.desk_counter.specs.Tickets.{fixed_in}
 use Rattle.desk_counter.specs.Counters.{kept_by}
 use Rattle.desk_counter.specs.Shared.{IsPassBy}
-use Rattle.session_core.specs.Members.{ArePasses}
-use Rattle.serve_engine.specs.Held.{AtEach, HasSeenOpening}
+use Rattle.session_core.specs.Members.{HasSeenLegal, HaveSeenLegal, ArePasses}
+use Rattle.serve_engine.specs.Held.{AtEach, HasSeenOpening, SeesLegally}
 use Rattle.serve_engine.specs.Members.{HaveSeenOpenings}
 
 -- the value of an option, or this one
@@ -57,3 +57,19 @@ module _ {D : Type 0} {g h : _} where
   have_opened (p ∷ passes) (c ∷ counters) are all = (all 0 p (omega arith) (kept_by c) are.0.kept, have_opened passes counters are.1 (λ k pass low. all (suc k) pass (omega (arith, low))))
   have_opened [] (c ∷ counters) are all = absurd are
   have_opened (p ∷ passes) [] are all = absurd are
+
+  -- each pass has seen what is legal where they have
+  pub each_legal : (passes : List (Pass Item (Fixed D))) (counters : List (CounterOf (TicketedDesk D g) Item (Fixed D) h)) → ArePasses passes counters → HaveSeenLegal (map kept_by counters) passes
+      → (k : ℕ) (pass : Pass Item (Fixed D)) → k < length passes → SeesLegally (slice_index_or passes k pass)
+  each_legal [] [] are legal k pass low = absurd (omega (arith, low))
+  each_legal (p ∷ passes) (c ∷ counters) are legal zero pass low = λ desk is. subst (λ (f : Fixed D). HasSeenLegal f p) (ap (some_or (kept_by c)) (sym are.0.kept ∙ is)) legal.0
+  each_legal (p ∷ passes) (c ∷ counters) are legal (suc k) pass low = each_legal passes counters are.1 legal.1 k pass (omega (arith, low))
+  each_legal [] (c ∷ counters) are legal k pass low = absurd are
+  each_legal (p ∷ passes) [] are legal k pass low = absurd are
+
+  -- and they have where each has
+  pub have_legal : (passes : List (Pass Item (Fixed D))) (counters : List (CounterOf (TicketedDesk D g) Item (Fixed D) h)) → ArePasses passes counters → All SeesLegally passes → HaveSeenLegal (map kept_by counters) passes
+  have_legal [] [] are all = tt
+  have_legal (p ∷ passes) (c ∷ counters) are all = (all 0 p (omega arith) (kept_by c) are.0.kept, have_legal passes counters are.1 (λ k pass low. all (suc k) pass (omega (arith, low))))
+  have_legal [] (c ∷ counters) are all = absurd are
+  have_legal (p ∷ passes) [] are all = absurd are

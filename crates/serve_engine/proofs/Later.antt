@@ -122,8 +122,8 @@ module _ {D : Type 0} where
     at_replied within openings (desks.here {fixed = f} {old = p} {new = q} {asks = asks} is) =
         let never : false ≡ true → has_broke (seen p) ≡ true = λ e. absurd cc in
         here
-        (subst (λ s. Replied s world f.user (standing_of f.standing) (history_of (seen q)) (has_broke (seen q)) (length f.opening) false asks is.entries) within.0.0
-        (subst (λ w. Replied f.schema w f.user (standing_of f.standing) (history_of (seen q)) (has_broke (seen q)) (length f.opening) false asks is.entries) within.0.1
+        (subst (λ s. Replied s world f.user (standing_of f.standing) (history_of (seen q)) (has_broke (seen q)) (length f.opening) false asks is.entries is.fails) within.0.0
+        (subst (λ w. Replied f.schema w f.user (standing_of f.standing) (history_of (seen q)) (has_broke (seen q)) (length f.opening) false asks is.entries is.fails) within.0.1
         (from_earlier f.schema f.world f.user (standing_of f.standing) (history_of (seen q)) (has_broke (seen q)) openings.0 never is.replied)))
     at_replied within openings (desks.further deep) = further (at_replied within.1 openings.1 deep)
 

@@ -8,7 +8,7 @@ use Rattle.desk_counter.specs.declared.item.Item.{Item}
 use Rattle.desk_counter.specs.declared.item.Fixed.{Fixed}
 use Rattle.desk_counter.specs.declared.ticketed_desk.TicketedDesk.{TicketedDesk}
 use Rattle.desk_counter.specs.declared.counter.CounterOf.{CounterOf}
-use Rattle.session_core.specs.Members.{ArePasses, AreSplit, AreMet, CanSplit}
+use Rattle.session_core.specs.Members.{AreSplit, AreMet, CanSplit}
 use Rattle.serve_engine.specs.Keeping.{same_passes}
 use Rattle.serve_engine.proofs.Later.{SeesMore, sees_more}
 
@@ -45,18 +45,16 @@ module _ {D : Type 0} where
 module _ {D : Type 0} {g h : _} where
   -- Passes that met: both have seen no more than the new ones, which have the shares of both.
   pub record HaveMet (n m : ℕ) (counters : List (CounterOf (TicketedDesk D g) Item (Fixed D) h)) (olds others news : List (Pass Item (Fixed D))) : Type 0 where
-    pub these : ArePasses news counters
     pub on : AllZip SeesMore olds news
     pub those_on : AllZip SeesMore others news
     pub have : AllHave (n + m) news
 
   pub have_met : (n m : ℕ) (counters : List (CounterOf (TicketedDesk D g) Item (Fixed D) h)) (olds others news : List (Pass Item (Fixed D))) → AllHave n olds → AllHave m others → AreMet counters olds others news → HaveMet n m counters olds others news
-  have_met n m [] [] [] [] first second met = record { these = tt; on = tt; those_on = tt; have = tt }
+  have_met n m [] [] [] [] first second met = record { on = tt; those_on = tt; have = tt }
   have_met n m (c ∷ counters) (o ∷ olds) (t ∷ others) (p ∷ news) first second met =
       let rest = have_met n m counters olds others news first.1 second.1 met.1 in
       let added : shares p ≡ shares o + shares t = ap (λ (v : View Item (Fixed D)). v.shares) met.0.view in
       record {
-        these = (met.0.pass_is, rest.these);
         on = (met.0.this, rest.on);
         those_on = (met.0.that, rest.those_on);
         have = (omega (arith, added, first.0, second.0), rest.have);
@@ -70,8 +68,6 @@ module _ {D : Type 0} {g h : _} where
 
   -- Passes that were split: the rest has one share and 2^57 turns fewer, which the parts have; both have seen as much.
   pub record HaveSplit (n t : ℕ) (counters : List (CounterOf (TicketedDesk D g) Item (Fixed D) h)) (olds news parts : List (Pass Item (Fixed D))) : Type 0 where
-    pub these : ArePasses news counters
-    pub those : ArePasses parts counters
     pub on : AllZip SeesMore olds news
     pub those_on : AllZip SeesMore olds parts
     pub have : AllHave (n - 1) news
@@ -80,15 +76,13 @@ module _ {D : Type 0} {g h : _} where
     pub parts_may : AllMay (2 ^ 57) parts
 
   pub have_split : (n t : ℕ) (counters : List (CounterOf (TicketedDesk D g) Item (Fixed D) h)) (olds news parts : List (Pass Item (Fixed D))) → AllHave n olds → AllMay t olds → AreSplit counters olds news parts → HaveSplit n t counters olds news parts
-  have_split n t [] [] [] [] have may split = record { these = tt; those = tt; on = tt; those_on = tt; have = tt; may = tt; parts_have = tt; parts_may = tt }
+  have_split n t [] [] [] [] have may split = record { on = tt; those_on = tt; have = tt; may = tt; parts_have = tt; parts_may = tt }
   have_split n t (c ∷ counters) (o ∷ olds) (p ∷ news) (q ∷ parts) have may split =
       let rest = have_split n t counters olds news parts have.1 may.1 split.1 in
       let left : shares p ≡ shares o - 1 = ap (λ (v : View Item (Fixed D)). v.shares) split.0.rest in
       let fewer : turns p ≡ turns o - 2 ^ 57 = ap (λ (v : View Item (Fixed D)). v.turns) split.0.rest in
       let given : turns q ≡ 2 ^ 57 = ap (λ (v : View Item (Fixed D)). v.turns) split.0.part_view in
       record {
-        these = (split.0.rest_is, rest.these);
-        those = (split.0.part_is, rest.those);
         on = (([], ap (λ (v : View Item (Fixed D)). v.seen) split.0.rest ∙ sym (append-nil (seen o))), rest.on);
         those_on = (([], ap (λ (v : View Item (Fixed D)). v.seen) split.0.part_view ∙ sym (append-nil (seen o))), rest.those_on);
         have = (omega (arith, left, have.0), rest.have);

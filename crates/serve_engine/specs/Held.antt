@@ -1,5 +1,7 @@
 -- What a worker keeps of his passes, whatever the value under the counters is.
-use Rattle.std.specs.Prelude.{◌≡◌, ℕ, ◌<◌, ◌≤◌, List, length, slice_index_or, Some}
+use Rattle.std.specs.Prelude.{◌≡◌, ℕ, ◌<◌, ◌≤◌, List, length, slice_index_or, Some, All}
+use Rattle.std.proofs.Props.{props}
+use Rattle.cqe_base.specs.FormulaCode.{formula_set}
 use Rattle.turnstile.specs.declared.pass.Pass.{Pass}
 use Rattle.turnstile.specs.Passes.{seen, fixed}
 use Rattle.desk_counter.specs.declared.item.Item.{Item}
@@ -7,6 +9,7 @@ use Rattle.desk_counter.specs.declared.item.Fixed.{Fixed}
 use Rattle.desk_counter.specs.declared.counter.CounterOf.{CounterOf}
 use Rattle.desk_counter.specs.Items.{history_of}
 use Rattle.desk_counter.specs.Shared.{IsPassBy}
+use Rattle.session_core.specs.Members.{HasSeenLegal}
 
 -- at each place the pass is of the counter there
 abbrev pub AtEach : {V I F : Type 0} {h : _} → (V → F) → List (Pass I F) → List (CounterOf V I F h) → Type 0
@@ -16,3 +19,12 @@ AtEach {V} {I} {F} {h} kept passes counters =
 -- the pass has seen no fewer entries than its desk had at the opening
 abbrev pub HasSeenOpening : {D : Type 0} → Pass Item (Fixed D) → Type 0
 HasSeenOpening {D} pass = (desk : Fixed D) → fixed pass ≡ Some desk → length desk.opening ≤ length (history_of (seen pass))
+
+-- what the pass has seen of its desk is legal
+abbrev pub SeesLegally : {D : Type 0} → Pass Item (Fixed D) → Type 0
+SeesLegally {D} pass = (desk : Fixed D) → fixed pass ≡ Some desk → HasSeenLegal desk pass
+
+-- which holds in one way
+pub SeesLegally-prop : {D : Type 0} (passes : List (Pass Item (Fixed D)))
+    → IsProp (All SeesLegally passes)
+SeesLegally-prop passes = hlevel (props, formula_set)

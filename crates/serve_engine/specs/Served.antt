@@ -46,8 +46,11 @@ module _ (schema : DatabaseSchema) (world : FactSet) where
   -- The asks of a connection, with their replies, were replied to by the history of the user at this place: the first by no
   -- fewer entries than there were at the opening. The last list are the entries of the marks.
   pub data RepliedAt : ℕ → List Member → List (Text × Reply) → History → Type 0 where
-    here : {member : Member} {others : List Member} {asks : List (Text × Reply)} {entries : History}
-        → Replied schema world member.profile member.standing member.history member.broke (length member.opening) false asks entries → RepliedAt zero (member ∷ others) asks entries
+    here : {member : Member} {others : List Member} {asks : List (Text × Reply)}
+        {entries : History} {fails : Bool}
+        → Replied schema world member.profile member.standing member.history member.broke
+        (length member.opening) false asks entries fails
+        → RepliedAt zero (member ∷ others) asks entries
     further : {place : ℕ} {member : Member} {others : List Member} {asks : List (Text × Reply)} {entries : History} → RepliedAt place others asks entries → RepliedAt (suc place) (member ∷ others) asks entries
 
   -- the asks of who is logged in in the end: without a login there are none

@@ -1,7 +1,7 @@
 //! The job of a worker.
 ghost use Rattle.std.specs.Prelude.{◌≡◌, All, length};
-ghost use Rattle.session_core.specs.Members.{passes_in, counters_in, users_of};
-ghost use Rattle.serve_engine.specs.Held.{AtEach, HasSeenOpening};
+ghost use Rattle.session_core.specs.Members.{passes_in, counters_in};
+ghost use Rattle.serve_engine.specs.Held.{AtEach, HasSeenOpening, SeesLegally, SeesLegally-prop};
 
 use desk_counter::{Fixed, Item, Owned, TicketedDesk};
 use outside::{Disk, Gate, Sink, Source};
@@ -18,10 +18,10 @@ pub struct SessionJobOf<'a, 'w, V: Owned<Item = Item, Fixed = Fixed<D>>, D, G> {
     gate: &'a G,
     passes: Passes<D>,
     runs: u64,
-    ghost counted: { length (users_of counters.now) ≡ length (counters_in counters.now) },
     ghost many: { length (passes_in passes) ≡ length (counters_in counters.now) },
     ghost held: { AtEach V.kept (passes_in passes) (counters_in counters.now) },
     ghost opened: { All HasSeenOpening (passes_in passes) },
+    ghost legal: { All SeesLegally (passes_in passes) } by { SeesLegally-prop _ },
 }
 
 /// A session with each client, by a worker's own passes at the users' desks.
@@ -39,7 +39,6 @@ impl<'a, 'w, D: Disk, G: Gate> SessionJobOf<'a, 'w, TicketedDesk<'w, D>, D, G> {
         gate: &'a G,
     ) -> SessionJob<'a, 'w, D, G>
         requires passes { ArePassesOf passes counters.now }
-        requires counted { length (users_of counters.now) ≡ length (fixeds_of counters.now) }
         requires opened { HaveSeenOpenings (fixeds_of counters.now) (passes_in passes) }
         ensures counters { job_counters result ≡ counters.now }
         ensures passes { job_passes result ≡ passes }
@@ -64,11 +63,13 @@ impl<'a, 'w, D: Disk, G: Gate> SessionJobOf<'a, 'w, TicketedDesk<'w, D>, D, G> {
 
 impl<'a, 'w, D: Disk, G: Gate, Src: Source, Snk: Sink> Job<Src, Snk>
     for SessionJobOf<'a, 'w, TicketedDesk<'w, D>, D, G> {
-    ghost use Rattle.std.specs.Prelude.{[]};
+    ghost use Rattle.std.specs.Prelude.{◌≤◌, ◌<◌, ◌+◌, ◌^◌, ◌++◌, ◌∷◌, []};
     ghost use Rattle.std.proofs.Common.{refl, ◌∙◌};
-    ghost use Rattle.session_core.specs.Members.{passes_in};
+    ghost use Rattle.outside.specs.Visits.{visit_of};
+    ghost use Rattle.worker_pool.specs.Jobs.{AreUntouchedEnds};
+    ghost use Rattle.session_core.specs.Members.{passes_in, users_of, fixeds_of};
     ghost use Rattle.serve_engine.specs.Members.{AreServedBy, ArePassesLater, room_in};
-    ghost use Rattle.serve_engine.specs.Jobs.{job_counters, job_passes, job_runs};
+    ghost use Rattle.serve_engine.specs.Jobs.{job_counters, job_passes, job_runs, RunsSession, ServesOn};
     ghost use Rattle.serve_engine.specs.Keeping.{nothing_served, same_passes, later_passes};
 
     ghost tells = { ⊥ };
@@ -102,7 +103,30 @@ impl<'a, 'w, D: Disk, G: Gate, Src: Source, Snk: Sink> Job<Src, Snk>
         _number: u64,
         source: &mut Src,
         sink: &mut Snk,
-    ) {
+    )
+        requires room { 1 ≤ room_in (passes_in (job_passes self.old)) }
+        requires few { job_runs self.old < 2 ^ 31 }
+        ensures room { room_in (passes_in (job_passes self.old))
+            ≤ room_in (passes_in (job_passes self.new)) + 1 }
+        ensures ran { job_runs self.new ≡ job_runs self.old + 1 }
+        ensures numbers { ⊥ → [] ≡ [] ++ _number ∷ [] }
+        ensures held { Src.held source.new ≡ Src.held source.old }
+        ensures answers { Snk.answers sink.new ≡ Snk.answers sink.old }
+        ensures keeps { (job_counters self.new ≡ job_counters self.old)
+            × ArePassesLater (job_passes self.old) (job_passes self.new) }
+        ensures visit { AreUntouchedEnds Src.tells Snk.tells (Src.held source.old)
+            (Src.left source.old) (Snk.written sink.old) (Src.faults source.old)
+            (Snk.faults sink.old)
+            → ServesOn self.old self.new (visit_of (Src.held source.new) (Snk.written sink.new)
+            (Src.faults source.new) (Snk.faults sink.new)) }
+
+        // It is one session, whatever its ends tell and have behind them.
+        ensures session { RunsSession Src.tells Snk.tells (users_of (job_counters self.old))
+            (fixeds_of (job_counters self.old)) (Src.left source.old)
+            (passes_in (job_passes self.old)) (passes_in (job_passes self.new))
+            (Snk.written sink.old) (Snk.written sink.new) (Src.faults source.old)
+            (Src.faults source.new) (Snk.faults sink.old) (Snk.faults sink.new) }
+    {
         let _ended = serve_session(
             rt,
             alloc,

@@ -1,7 +1,7 @@
 //! Connections that are served at counters, side by side.
 ghost use Rattle.std.specs.Prelude.{◌≡◌, ◌≤◌, ◌+◌, ◌*◌, ◌^◌, ℕ, List, [], All, length, map, sum_by, vec_capacity, None, IfSome, IfNone};
 ghost use Rattle.cqe_base.specs.History.{AnsweredQuery};
-ghost use Rattle.session_core.specs.Members.{ArePassesOf, users_of, fixeds_of, passes_in};
+ghost use Rattle.session_core.specs.Members.{ArePassesOf, fixeds_of, passes_in};
 ghost use Rattle.serve_engine.specs.Doors.{AreServedDoors, HasOutcome, has_failed, outcome_of};
 ghost use Rattle.serve_engine.specs.Jobs.{job_counters, job_passes};
 ghost use Rattle.serve_engine.specs.Served.{SessionMarks};
@@ -89,7 +89,6 @@ fn crew_of<'a, 'w, D: Disk, G: Gate, O: Door + Drop>(
     parts: Vec<Passes<D>>,
     doors: Vec<O>,
 ) -> Vec<ServeWorker<'a, 'w, D, G, O>>
-    requires counted { length (users_of counters.now) ≡ length (fixeds_of counters.now) }
     requires room { length doors.items ≤ vec_capacity room }
     requires empty { room.items ≡ [] }
     requires count { length parts.items ≡ length doors.items }
@@ -180,7 +179,6 @@ pub(crate) fn serve_doors<
     gate: &G,
 ) -> (Outcome, Vec<O>)
     requires these { ArePassesOf passes.old counters.now }
-    requires counted { length (users_of counters.now) ≡ length (fixeds_of counters.now) }
     requires opened { HaveSeenOpenings (fixeds_of counters.now) (passes_in passes.old) }
     requires shares { HaveShares 65 passes.old }
     requires turns { HaveTurns (65 * 2 ^ 57) passes.old }

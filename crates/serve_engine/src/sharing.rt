@@ -2,8 +2,8 @@
 ghost use Rattle.std.specs.Prelude.{◌≡◌, ◌≤◌, ◌*◌, ◌^◌, ℕ, List, [], All, length, map, vec_capacity, IfOk};
 ghost use Rattle.std.specs.List.{AllByRecursion};
 ghost use Rattle.turnstile.specs.Passes.{shares, turns};
-ghost use Rattle.desk_crew.specs.Crew.{seat_user, IsFresh};
-ghost use Rattle.session_core.specs.Members.{ArePasses};
+ghost use Rattle.desk_crew.specs.Crew.{seat_user, seat_kept, IsFresh};
+ghost use Rattle.session_core.specs.Members.{AreDesksOf, HaveSeenLegal, ArePasses};
 ghost use Rattle.serve_engine.specs.Doors.{AreServedDoors, HasOutcome};
 ghost use Rattle.serve_engine.specs.Served.{SessionMarks};
 ghost use Rattle.serve_engine.specs.Members.{OwnMore};
@@ -114,7 +114,8 @@ pub(crate) fn serve_seats<
     limit: u64,
     gate: &G,
 ) -> (Outcome, Vec<DeskSeat<'w, D>>, Vec<O>)
-    requires counted { length users.now ≡ length seats.items }
+    requires desks { AreDesksOf users.now (map seat_kept seats.items) }
+    requires legal { HaveSeenLegal (map seat_kept seats.items) (map seat_pass seats.items) }
     requires fresh { All IsFresh seats.items }
     requires turns { All (λ seat. turns (seat_pass seat) ≡ 65 * 2 ^ 57) seats.items }
     requires some { 1 ≤ length doors.items }

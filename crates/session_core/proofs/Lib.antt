@@ -5,3 +5,4 @@ pub mod Talking
 pub mod Hearing
 pub mod Serving
 pub mod Meeting
+pub mod Legality

@@ -18,6 +18,7 @@ use Rattle.line_protocol.specs.declared.reply.Reply.TheVariants.{Code}
 use Rattle.session_core.specs.Heard.{HeardLine, heard, overlong, is_quit}
 use Rattle.session_core.specs.Talks.{Talks, silent, unknown, written_lines}
 use Rattle.session_core.specs.Desks.{AsksOf}
+use Rattle.session_core.specs.Members.{AreDesksOf}
 use Rattle.session_core.specs.Asked.{Replies}
 use Rattle.session_core.specs.Sessions.{Session, Hears, Writes}
 use Rattle.session_core.specs.declared.session.Ended.{Ended}
@@ -37,6 +38,7 @@ cut_behind before middle after texts text is part = (
 module _ {D : Type 0} (S K : Type 0) (users : List User) (fixeds : List (Fixed D)) (bytes : List ℕ) (old : List (Pass Item (Fixed D))) (before : List ℕ) where
   -- So many lines were answered, and the session goes on.
   pub record SoFar (left : List ℕ) (now : List (Pass Item (Fixed D))) (after : List ℕ) (who : Option ℕ) (count : ℕ) : Type 0 where
+    pub own : AreDesksOf users fixeds
     pub lines : List HeardLine
     pub asks : List (Text × Reply)
     pub texts : List Text
@@ -46,8 +48,9 @@ module _ {D : Type 0} (S K : Type 0) (users : List User) (fixeds : List (Fixed D
     pub writes : K → after ≡ before ++ written_lines texts
     pub many : length lines ≡ count
 
-  pub nothing_yet : (left : List ℕ) → left ≡ bytes → SoFar left old before None 0
-  nothing_yet left is = record {
+  pub nothing_yet : AreDesksOf users fixeds → (left : List ℕ) → left ≡ bytes → SoFar left old before None 0
+  nothing_yet own left is = record {
+    own = own;
     lines = [];
     asks = [];
     texts = [];
@@ -65,7 +68,7 @@ module _ {D : Type 0} (S K : Type 0) (users : List User) (fixeds : List (Fixed D
 
     ended_here : (ended : Ended) → count ≤ 100000 → (S → Hears ended bytes so_far.lines) → (K → Writes ended before after so_far.texts) → Session S K users fixeds ended bytes old now before after
     ended_here ended few hears writes =
-        record { lines = so_far.lines; who = who; asks = so_far.asks; texts = so_far.texts; talks = so_far.talks; desks = so_far.desks; few = omega (arith, few, so_far.many); hears = hears; writes = writes }
+        record { own = so_far.own; lines = so_far.lines; who = who; asks = so_far.asks; texts = so_far.texts; talks = so_far.talks; desks = so_far.desks; few = omega (arith, few, so_far.many); hears = hears; writes = writes }
 
     -- the input is over
     pub ends_input : count < 100000 → (S → left ≡ []) → Session S K users fixeds InputEnd bytes old now before after
@@ -88,6 +91,7 @@ module _ {D : Type 0} (S K : Type 0) (users : List User) (fixeds : List (Fixed D
       long_here ended hears writes =
           let one_more = length-append so_far.lines (overlong ∷ []) in
           record {
+            own = so_far.own;
             lines = so_far.lines ++ overlong ∷ [];
             who = who;
             asks = so_far.asks;
@@ -125,6 +129,7 @@ module _ {D : Type 0} (S K : Type 0) (users : List User) (fixeds : List (Fixed D
       more_here ended hears writes =
           let one_more = length-append so_far.lines (heard line ∷ []) in
           record {
+            own = so_far.own;
             lines = so_far.lines ++ heard line ∷ [];
             who = next;
             asks = so_far.asks ++ replies.asked;
@@ -139,6 +144,7 @@ module _ {D : Type 0} (S K : Type 0) (users : List User) (fixeds : List (Fixed D
       -- and the session goes on
       pub goes_on_more : (K → afterwards ≡ after ++ (text ++ codes "\n")) → is_quit (request_of line) ≡ false → SoFar rest then_now afterwards next (count + 1)
       goes_on_more wrote on = record {
+        own = so_far.own;
         lines = so_far.lines ++ heard line ∷ [];
         asks = so_far.asks ++ replies.asked;
         texts = so_far.texts ++ text ∷ [];

@@ -1,8 +1,7 @@
 -- What a session does with the passes.
-use Rattle.std.specs.Prelude.{◌≡◌, ℕ, zero, suc, ◌≤◌, ◌+◌, ◌*◌, List, [], ◌∷◌, ◌++◌, length, Option, Some, None}
+use Rattle.std.specs.Prelude.{◌≡◌, ℕ, zero, suc, ◌≤◌, ◌+◌, ◌*◌, Bool, ◌||◌, List, [], ◌∷◌, ◌++◌, length, Option, Some, None}
 use Rattle.cqe_base.specs.Schema.{Text}
 use Rattle.cqe_base.specs.History.{History}
-use Rattle.cqe_base.specs.Censor.{IsLegal}
 use Rattle.cqe_base.specs.Run.{Reply}
 use Rattle.turnstile.specs.declared.pass.Pass.{Pass}
 use Rattle.turnstile.specs.History.{IsPrefix}
@@ -15,18 +14,23 @@ use Rattle.session_core.specs.Replied.{Replied}
 
 module _ {D : Type 0} where
   -- the replies to these asks are by what the pass has seen after them, in the order of the asks
-  abbrev pub AreReplied : Fixed D → Pass Item (Fixed D) → Pass Item (Fixed D) → List (Text × Reply) → History → Type 0
-  AreReplied fixed old new asks entries =
-      Replied fixed.schema fixed.world fixed.user (standing_of fixed.standing) (history_of (seen new)) (has_broke (seen new)) (length (history_of (seen old))) (has_broke (seen old)) asks entries
+  abbrev pub AreReplied : Fixed D → Pass Item (Fixed D) → Pass Item (Fixed D)
+      → List (Text × Reply) → History → Bool → Type 0
+  AreReplied fixed old new asks entries fails =
+      Replied fixed.schema fixed.world fixed.user (standing_of fixed.standing)
+      (history_of (seen new)) (has_broke (seen new)) (length (history_of (seen old)))
+      (has_broke (seen old)) asks entries fails
 
-  -- What asks do with a pass: they were replied to by what it has seen since; it has the entries of their marks more of its
-  -- own, in order, each once; and a legal history stays legal.
+  -- What asks do with a pass: they were replied to by what it has seen since; it has the entries
+  -- of their marks more of its own, in order, each once; and an entry whose append failed it has of
+  -- its own only where an append of theirs did.
   pub record Asks (fixed : Fixed D) (old new : Pass Item (Fixed D)) (asks : List (Text × Reply)) : Type 0 where
     pub entries : History
-    pub replied : AreReplied fixed old new asks entries
+    pub fails : Bool
+    pub replied : AreReplied fixed old new asks entries fails
     pub own : history_of (mine new) ≡ history_of (mine old) ++ entries
+    pub own_failed : has_broke (mine new) ≡ (has_broke (mine old) || fails)
     pub later : IsPrefix (seen old) (seen new)
-    pub legal : IsLegal fixed.schema fixed.world fixed.user (history_of (seen old)) → IsLegal fixed.schema fixed.world fixed.user (history_of (seen new))
     pub same_shares : shares new ≡ shares old
     pub used : turns old ≤ turns new + 2 * length asks
 

@@ -1,21 +1,51 @@
 -- The counters of all users, and the passes at them.
-use Rattle.std.specs.Prelude.{◌≡◌, ◌≤◌, ◌^◌, List, [], ◌∷◌, map}
+use Rattle.std.specs.Prelude.{◌≡◌, ◌≤◌, ◌^◌, true, List, [], ◌∷◌, map}
+use Rattle.std.specs.List.{AllZip}
+use Rattle.cqe_base.specs.Schema.{is_valid_schema}
+use Rattle.cqe_base.specs.History.{profile_of, is_user_of}
+use Rattle.cqe_base.specs.Censor.{IsLegal, admitted}
+use Rattle.cqe_base.specs.Hiding.{Hides}
 use Rattle.cqe_base.specs.declared.user.User.{User}
 use Rattle.turnstile.specs.declared.pass.Pass.{Pass}
 use Rattle.turnstile.specs.History.{IsPrefix, Interleaves}
 use Rattle.turnstile.specs.Views.{remaining_view, split_off_view, view_of_both}
 use Rattle.turnstile.specs.Passes.{view_of, seen, mine, shares, turns}
+use Rattle.user_desk.specs.Standings.{is_open}
 use Rattle.desk_counter.specs.declared.item.Item.{Item}
 use Rattle.desk_counter.specs.declared.item.Fixed.{Fixed}
 use Rattle.desk_counter.specs.declared.ticketed_desk.TicketedDesk.{TicketedDesk}
 use Rattle.desk_counter.specs.declared.counter.CounterOf.{CounterOf}
 use Rattle.desk_counter.specs.Counters.{kept_by, IsPassOf}
+use Rattle.desk_counter.specs.Items.{history_of}
 use Rattle.session_core.specs.declared.counters.CountersOf.{CountersOf}
 use Rattle.session_core.specs.declared.counters.Passes.{Passes}
 
 -- the passes
 abbrev pub passes_in : {D : Type 0} → Passes D → List (Pass Item (Fixed D))
 passes_in passes = passes.passes.items
+
+module _ {D : Type 0} where
+  -- each desk is that of the user at its place
+  abbrev pub AreDesksOf : List User → List (Fixed D) → Type 0
+  AreDesksOf users fixeds = map (λ fixed. fixed.user) fixeds ≡ map profile_of users
+
+  -- What the pass at a desk has seen is a legal history of its user. He is a user of the schema,
+  -- and served only where he is admitted.
+  pub record HasSeenLegal (fixed : Fixed D) (pass : Pass Item (Fixed D)) : Type 0 where
+    pub valid : is_valid_schema fixed.schema ≡ true
+    pub user_of : is_user_of fixed.schema fixed.user ≡ true
+    pub admits : is_open fixed.standing ≡ true → admitted fixed.schema fixed.world fixed.user ≡ true
+    pub legal : IsLegal fixed.schema fixed.world fixed.user (history_of (seen pass))
+
+  -- what each pass has seen is legal
+  abbrev pub HaveSeenLegal : List (Fixed D) → List (Pass Item (Fixed D)) → Type 0
+  HaveSeenLegal fixeds passes = AllZip HasSeenLegal fixeds passes
+
+  -- what each pass has seen hides, where its user is served
+  abbrev pub EachHides : List (Fixed D) → List (Pass Item (Fixed D)) → Type 0
+  EachHides fixeds passes =
+      AllZip (λ fixed pass. is_open fixed.standing ≡ true
+      → Hides fixed.schema fixed.world fixed.user (history_of (seen pass))) fixeds passes
 
 module _ {V I F : Type 0} {h : _} where
   -- the counters, of any value
@@ -37,9 +67,11 @@ module _ {D : Type 0} {g h : _} where
   abbrev pub fixeds_of : CountersOf (TicketedDesk D g) Item (Fixed D) h → List (Fixed D)
   fixeds_of counters = map kept_by counters.counters.items
 
-  -- the passes are at these counters
-  abbrev pub ArePassesOf : Passes D → CountersOf (TicketedDesk D g) Item (Fixed D) h → Type 0
-  ArePassesOf passes counters = ArePasses (passes_in passes) counters.counters.items
+  -- the passes are at these counters, and what each has seen is legal
+  pub record ArePassesOf (passes : Passes D)
+      (counters : CountersOf (TicketedDesk D g) Item (Fixed D) h) : Type 0 where
+    pub are : ArePasses (passes_in passes) counters.counters.items
+    pub legal : HaveSeenLegal (fixeds_of counters) (passes_in passes)
 
   -- A pass was split: one has the rest, and the other one share.
   pub record IsSplit (counter : CounterOf (TicketedDesk D g) Item (Fixed D) h) (old new part : Pass Item (Fixed D)) : Type 0 where

@@ -24,25 +24,31 @@ module _ (schema : DatabaseSchema) (world : FactSet) (user : UserProfile) (stand
   -- never fewer than at the ask before; a mark has its own entry just behind them, and the next ask has it among its own.
   -- That its append failed is told of an ask whose reply would be a mark, at a desk where none had
   -- failed. Behind it all asks find it failed, and so it is in the end. The last list are the
-  -- entries of the marks.
-  pub data Replied : (least : ℕ) (failed : Bool) → List (Text × Reply) → History → Type 0 where
-    nothing : {least : ℕ} {failed : Bool} → least ≤ length history → (failed ≡ true → broke ≡ true) → Replied least failed [] []
-    answered : {least : ℕ} {text : Text} {asks : List (Text × Reply)} {entries : History} (before after : History) (entry : AnsweredQuery)
+  -- entries of the marks, and it is said whether an append of one of these asks failed.
+  pub data Replied : (least : ℕ) (failed : Bool) → List (Text × Reply) → History → (fails : Bool)
+      → Type 0 where
+    nothing : {least : ℕ} {failed : Bool} → least ≤ length history
+        → (failed ≡ true → broke ≡ true) → Replied least failed [] [] false
+    answered : {least : ℕ} {text : Text} {asks : List (Text × Reply)} {entries : History}
+        {fails : Bool} (before after : History) (entry : AnsweredQuery)
         → least ≤ length before → history ≡ before ++ entry ∷ after
         → reading schema text ≡ Ok entry.query → entry.length ≡ length text → reply schema world user before standing false text ≡ marked entry.mark
-        → Replied (suc (length before)) false asks entries
-        → Replied least false ((text, marked entry.mark) ∷ asks) (entry ∷ entries)
-    coded : {least : ℕ} {failed : Bool} {text : Text} {code : Reply} {asks : List (Text × Reply)} {entries : History} (before after : History) (failed_now : Bool)
+        → Replied (suc (length before)) false asks entries fails
+        → Replied least false ((text, marked entry.mark) ∷ asks) (entry ∷ entries) fails
+    coded : {least : ℕ} {failed : Bool} {text : Text} {code : Reply} {asks : List (Text × Reply)}
+        {entries : History} {fails : Bool} (before after : History) (failed_now : Bool)
         → least ≤ length before → history ≡ before ++ after → (failed ≡ true → failed_now ≡ true)
         → IsUnmarked code → reply schema world user before standing failed_now text ≡ code
-        → Replied (length before) failed_now asks entries
-        → Replied least failed ((text, code) ∷ asks) entries
+        → Replied (length before) failed_now asks entries fails
+        → Replied least failed ((text, code) ∷ asks) entries fails
     append_failed : {least : ℕ} {text : Text} {asks : List (Text × Reply)} {entries : History}
+        {fails : Bool}
         (before after : History) (mark : Mark)
         → least ≤ length before → history ≡ before ++ after
         → reply schema world user before standing false text ≡ marked mark → broke ≡ true
-        → Replied (length before) true asks entries
-        → Replied least false ((text, desk_broken) ∷ asks) entries
-    wanted : {least : ℕ} {failed : Bool} {text : Text} {asks : List (Text × Reply)} {entries : History}
-        → Replied least failed asks entries
-        → Replied least failed ((text, no_memory) ∷ asks) entries
+        → Replied (length before) true asks entries fails
+        → Replied least false ((text, desk_broken) ∷ asks) entries true
+    wanted : {least : ℕ} {failed : Bool} {text : Text} {asks : List (Text × Reply)}
+        {entries : History} {fails : Bool}
+        → Replied least failed asks entries fails
+        → Replied least failed ((text, no_memory) ∷ asks) entries fails

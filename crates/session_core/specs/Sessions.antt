@@ -12,6 +12,7 @@ use Rattle.desk_counter.specs.declared.item.Fixed.{Fixed}
 use Rattle.session_core.specs.Heard.{HeardLine, heard, overlong, goes_on, session_lines}
 use Rattle.session_core.specs.Talks.{Talks, written_lines, IsCut}
 use Rattle.session_core.specs.Desks.{AsksOf}
+use Rattle.session_core.specs.Members.{AreDesksOf}
 use Rattle.session_core.specs.declared.session.Ended.{Ended}
 use Rattle.session_core.specs.declared.session.Ended.TheVariants.{Quit, InputEnd, TooLong, TooMany, ReadFault, WriteFault}
 
@@ -37,9 +38,11 @@ Writes TooLong old new texts = new ≡ old ++ written_lines texts
 Writes TooMany old new texts = new ≡ old ++ written_lines texts
 Writes ReadFault old new texts = new ≡ old ++ written_lines texts
 
--- A session of these users, where the source tells its bytes and the sink what was written. At most 100,000 lines are answered.
+-- A session of these users, each at the desk that is his, where the source tells its bytes and the
+-- sink what was written. At most 100,000 lines are answered.
 pub record Session {D : Type 0} (source_tells sink_tells : Type 0) (users : List User) (fixeds : List (Fixed D)) (ended : Ended) (bytes : List ℕ)
     (old new : List (Pass Item (Fixed D))) (before after : List ℕ) : Type 0 where
+  pub own : AreDesksOf users fixeds
   pub lines : List HeardLine
   pub who : Option ℕ
   pub asks : List (Text × Reply)

@@ -1,5 +1,9 @@
 //! The counters of all users, and a thread's passes at them.
-ghost use Rattle.std.specs.Prelude.{◌≡◌};
+ghost use Rattle.std.specs.Prelude.{◌≡◌, map};
+ghost use Rattle.std.specs.Coded.{Coded-set, coded_list};
+ghost use Rattle.cqe_base.specs.History.{profile_of};
+ghost use Rattle.desk_counter.specs.Codes.{profile_code};
+ghost use Rattle.session_core.specs.Owners.{owners_by};
 
 use cqe_base::user::User;
 use desk_counter::{Counter, CounterOf, DeskPass, Owned, TicketedDesk};
@@ -12,6 +16,8 @@ use std::alloc::{AllocError, Global};
 pub struct CountersOf<'w, V: Owned> {
     pub(crate) users: &'w [User],
     pub(crate) counters: Vec<CounterOf<'w, V>>,
+    ghost owned: { owners_by V.owner counters.items
+        ≡ map profile_of users.now } by { Coded-set (coded_list profile_code) _ _ },
 }
 
 /// The users' desks that threads share.
@@ -26,15 +32,19 @@ pub struct Passes<D> {
 impl<'w, D: Disk> CountersOf<'w, TicketedDesk<'w, D>> {
     ghost use Rattle.std.specs.Prelude.{IfOk, OnErr};
     ghost use Rattle.std.specs.List.{AllByRecursion};
-    ghost use Rattle.session_core.specs.Members.{ArePasses, ArePassesOf, AreSplit, AreMet, CanSplit, users_of, passes_in};
+    ghost use Rattle.desk_counter.specs.Counters.{kept_by};
+    ghost use Rattle.session_core.specs.Members.{AreDesksOf, HaveSeenLegal, ArePasses, ArePassesOf, AreSplit, AreMet, CanSplit, users_of, passes_in};
 
-    /// Puts counters together, each of one of these users, in their order, with a pass at each.
+    /// Puts counters together, that of each user's desk at his place, with a pass at each.
     pub fn new(
         users: &'w [User],
         counters: Vec<Counter<'w, D>>,
         passes: Vec<DeskPass<D>>,
     ) -> (Counters<'w, D>, Passes<D>)
         requires passes { ArePasses passes.items counters.items }
+        requires desks { AreDesksOf users.now (map kept_by counters.items) }
+        requires legal { HaveSeenLegal (map kept_by counters.items) passes.items }
+        ensures at { ArePassesOf result.1 result.0 }
         ensures users { users_of result.0 ≡ users.now }
         ensures counters { result.0.counters.items ≡ counters.entry.items }
         ensures passes { passes_in result.1 ≡ passes.items }
@@ -59,6 +69,8 @@ impl<'w, D: Disk> CountersOf<'w, TicketedDesk<'w, D>> {
         ensures split { IfOk result (λ parts. AreSplit self.now.counters.items (passes_in passes.old)
             (passes_in passes.new) (passes_in parts)) }
         ensures same { OnErr result (passes.new ≡ passes.old) }
+        ensures passes { ArePassesOf passes.new self.now }
+        ensures parts { IfOk result (λ parts. ArePassesOf parts self.now) }
     {
         let mut parts = Vec::new(alloc);
         parts.reserve(self.counters.len())?;
@@ -76,6 +88,7 @@ impl<'w, D: Disk> CountersOf<'w, TicketedDesk<'w, D>> {
         requires these { ArePassesOf passes.old self.now }
         requires those { ArePassesOf others self.now }
         ensures met { AreMet self.now.counters.items (passes_in passes.old) (passes_in others) (passes_in passes.new) }
+        ensures passes { ArePassesOf passes.new self.now }
     {
         let mut others = others.passes;
         while let Some(other) = others.pop() {

@@ -10,12 +10,13 @@ ghost use Rattle.line_protocol.specs.Requests.{meaning_of};
 ghost use Rattle.session_core.specs.Heard.{is_quit};
 ghost use Rattle.session_core.specs.Talks.{LogsIn, NobodyLogsIn, Says};
 ghost use Rattle.session_core.specs.Desks.{AsksAt, AsksOf};
-ghost use Rattle.session_core.specs.Members.{ArePassesOf, users_of, fixeds_of, passes_in};
+ghost use Rattle.session_core.specs.Members.{ArePassesOf, EachHides, users_of, fixeds_of, passes_in};
 ghost use Rattle.session_core.specs.Asked.{Replies, IsShort};
 ghost use Rattle.session_core.specs.Sessions.{Session};
 
 use crate::counters::{Counters, Passes};
 use case_engine::line_reply;
+use cqe_base::laws::law_hides;
 use cqe_base::user::User;
 use line_protocol::{
     LineBuffer, LineOutcome, Reply, Request, login_ok, read_line, read_request, write_reply,
@@ -104,7 +105,6 @@ fn reply_to<R: Wait, D: Disk, G: Gate>(
     gate: &G,
 ) -> (Option<usize>, Reply)
     requires passes { ArePassesOf passes.old counters.now }
-    requires counted { length (users_of counters.now) ≡ length (fixeds_of counters.now) }
     requires place { IfSome who (λ place. place < length (fixeds_of counters.now)) }
     requires turns { AllByRecursion (λ pass. 2 ≤ turns pass) (passes_in passes.old) }
     requires short { IsShort (meaning_of request) }
@@ -139,8 +139,10 @@ fn is_quit(request: &Request<'_>) -> bool
 }
 
 /// Serves a session: reads lines from the source up to `quit`, the end of the input, a line that is too long or the
-/// 100,000th, and writes a reply to each. An ask is replied to by the history of the user who logged in, and only his
-/// pass changes. It waits for other sessions of that user, and makes at most 2^26 turns.
+/// 100,000th, and writes a reply to each. An ask is replied to by the history of the user who
+/// logged in, at his own desk, and only his pass changes. What each pass has seen is legal, and
+/// hides where its user is served. It waits for other sessions of that user, and makes at most 2^26
+/// turns.
 pub fn serve_session<R: Wait, D: Disk, S: Source, K: Sink, G: Gate>(
     rt: &R,
     alloc: Global,
@@ -151,11 +153,11 @@ pub fn serve_session<R: Wait, D: Disk, S: Source, K: Sink, G: Gate>(
     gate: &G,
 ) -> Ended
     requires passes { ArePassesOf passes.old counters.now }
-    requires counted { length (users_of counters.now) ≡ length (fixeds_of counters.now) }
     requires turns { AllByRecursion (λ pass. 2 ^ 26 ≤ turns pass) (passes_in passes.old) }
     ensures passes { ArePassesOf passes.new counters.now }
     ensures session { Session S.tells K.tells (users_of counters.now) (fixeds_of counters.now) result (S.left source.old)
         (passes_in passes.old) (passes_in passes.new) (K.written sink.old) (K.written sink.new) }
+    ensures hides { EachHides (fixeds_of counters.now) (passes_in passes.new) }
     ensures held { S.held source.new ≡ S.held source.old }
     ensures answers { K.answers sink.new ≡ K.answers sink.old }
     ensures source_later { S.faults source.old ≤ S.faults source.new }
@@ -163,6 +165,7 @@ pub fn serve_session<R: Wait, D: Disk, S: Source, K: Sink, G: Gate>(
     ensures read_cause { result ≡ Ended.ReadFault → Rose (S.faults source.old) (S.faults source.new) }
     ensures write_cause { result ≡ Ended.WriteFault → Rose (K.faults sink.old) (K.faults sink.new) }
 {
+    law_hides();
     let mut buffer = LineBuffer::new();
     let mut who = None;
     for _ in 0..LINES {

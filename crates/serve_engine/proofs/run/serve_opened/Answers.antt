@@ -8,7 +8,7 @@ use Rattle.serve_engine.specs.Serving.{HaveServed, EndsAt, IsDone, IsBroken}
 use Rattle.serve_engine.specs.Served.{Served}
 use Rattle.serve_engine.specs.Sharing.{seat_member, IsServedAt}
 use Rattle.serve_engine.proofs.Apart.{served_still, apart_own}
-use Rattle.serve_engine.proofs.Histories.{broken_end, have_served, all_in_world, broke_at, journals_on_same, later_on_seats, doors_many, doors_gave, ended_at, failed_at, ends_at, seats_fresh, seats_turns, seats_own, own_from, all_told}
+use Rattle.serve_engine.proofs.Histories.{broken_end, have_served, all_in_world, broke_at, journals_on_same, later_on_seats, doors_many, doors_gave, ended_at, failed_at, ends_at, seats_desks, seats_legal, seats_fresh, seats_turns, seats_own, own_from, all_told}
 use Rattle.serve_engine.proofs.run.serve_opened.Goals as goal
 
 pub refusals_of-refusals-requires-clause-room : goal.refusals_of-refusals-requires-clause-room
@@ -18,8 +18,11 @@ refusals_of-refusals-requires-clause-room g c =
     let read = ap length c.as_slice.ensures.value in
     omega (arith, room, count, read)
 
-pub serve_seats-outcome-requires-clause-counted : goal.serve_seats-outcome-requires-clause-counted
-serve_seats-outcome-requires-clause-counted g c κs within = sym (same_length c.args.registry.now.directory.now c.args.registry.now.schema.now c.args.registry.now.world.now (header_bytes c.args.registry.now.header.now) g.F.Shelf.tells g.F.D.Disk.tells g.F.D.Disk.reads g.F.D.Disk.image g.F.D.Disk.faults (g.F.Shelf.disk c.args.shelf.now) (g.F.Shelf.disk_faults c.args.shelf.now) c.args.registry.now.users.now c.in-Ok-open_all.seats.items c.in-Ok-open_all.ensures.opened)
+pub serve_seats-outcome-requires-clause-desks : goal.serve_seats-outcome-requires-clause-desks
+serve_seats-outcome-requires-clause-desks g c κs within = seats_desks g.F.Shelf.tells g.F.D.Disk.tells g.F.D.Disk.reads g.F.D.Disk.image g.F.D.Disk.faults c.args.registry.now.schema.now c.args.registry.now.world.now (header_bytes c.args.registry.now.header.now) c.args.registry.now.directory.now (g.F.Shelf.disk c.args.shelf.now) (g.F.Shelf.disk_faults c.args.shelf.now) c.args.registry.now.users.now c.in-Ok-open_all.seats.items c.in-Ok-open_all.ensures.opened
+
+pub serve_seats-outcome-requires-clause-legal : goal.serve_seats-outcome-requires-clause-legal
+serve_seats-outcome-requires-clause-legal g c κs within = seats_legal g.F.Shelf.tells g.F.D.Disk.tells g.F.D.Disk.reads g.F.D.Disk.image g.F.D.Disk.faults c.args.registry.now.schema.now c.args.registry.now.world.now (header_bytes c.args.registry.now.header.now) c.args.registry.now.directory.now (g.F.Shelf.disk c.args.shelf.now) (g.F.Shelf.disk_faults c.args.shelf.now) c.known.ensures c.args.registry.now.users.now c.in-Ok-open_all.seats.items c.requires.limits c.in-Ok-open_all.ensures.opened
 
 pub serve_seats-outcome-requires-clause-fresh : goal.serve_seats-outcome-requires-clause-fresh
 serve_seats-outcome-requires-clause-fresh g c κs within = seats_fresh g.F.Shelf.tells g.F.D.Disk.tells g.F.D.Disk.reads g.F.D.Disk.image g.F.D.Disk.faults c.args.registry.now.schema.now c.args.registry.now.world.now (header_bytes c.args.registry.now.header.now) c.args.registry.now.directory.now (g.F.Shelf.disk c.args.shelf.now) (g.F.Shelf.disk_faults c.args.shelf.now) c.args.registry.now.users.now c.in-Ok-open_all.seats.items c.in-Ok-open_all.ensures.opened

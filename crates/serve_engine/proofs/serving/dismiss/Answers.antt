@@ -48,7 +48,7 @@ loop-worker-preserved g c =
     record {
       rest = read_on c.args.crew.items c.loop-worker.yielded _ _ _ so_far.rest step;
       doors = grown (λ worker. worker.door) _ _ c.loop-worker.yielded c.in-Some.worker c.push_reserved.ensures.items so_far.doors;
-      these = met.these;
+      these = c.meet.ensures.passes;
       on = on_then first old new so_far.on met.on;
       all_on = All-push (λ worker. AreOn (job_passes worker.job) c.meet.new.passes) c.loop-worker.yielded c.in-Some.worker
           (All-weaker (λ worker. AreOn (job_passes worker.job) c.loop-worker.passes) (λ worker. AreOn (job_passes worker.job) c.meet.new.passes) (λ worker on. on_then (passes_in (job_passes worker.job)) old new on met.on) c.loop-worker.yielded so_far.all_on)

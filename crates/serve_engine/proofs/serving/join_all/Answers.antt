@@ -34,7 +34,7 @@ loop-part-preserved g c =
     let total = so_far.shares.2 in
     record {
       rest = read_on c.args.parts.items c.loop-part.yielded _ _ _ so_far.rest step;
-      these = met.these;
+      these = c.meet.ensures.passes;
       on = on_then (passes_in c.args.passes.now) old new so_far.on met.on;
       own = λ weight place.
           let both = own_met weight place c.args.counters.now.counters.items old (passes_in c.in-Some.part) new c.meet.ensures.met in

@@ -82,11 +82,11 @@ loop-preserved g c =
     let parts = have_split so_far.shares.0 so_far.turns.0 c.args.counters.now.counters.items old new part so_far.shares.1 so_far.turns.1 c.in-Ok.ensures.split in
     let one_more = ap length added ∙ length-append c.loop.parts.items (c.in-Ok.part ∷ []) in
     record {
-      these = parts.these;
+      these = c.split.ensures.passes;
       on = on_then first old new so_far.on parts.on;
       own = λ weight place. (own_split weight place c.args.counters.now.counters.items old new part c.in-Ok.ensures.split).0 ∙ so_far.own weight place;
       count = omega (arith, one_more, count);
-      those = All-same (λ part. ArePassesOf part c.args.counters.now) _ _ added (All-push (λ part. ArePassesOf part c.args.counters.now) c.loop.parts.items c.in-Ok.part so_far.those parts.those);
+      those = All-same (λ part. ArePassesOf part c.args.counters.now) _ _ added (All-push (λ part. ArePassesOf part c.args.counters.now) c.loop.parts.items c.in-Ok.part so_far.those c.in-Ok.ensures.parts);
       parts = All-same (AreParts c.args.passes.now) _ _ added (All-push (AreParts c.args.passes.now) c.loop.parts.items c.in-Ok.part so_far.parts
           (record { shares_are = parts.parts_have; turns_are = parts.parts_may; on = on_then first old part so_far.on parts.those_on; none_own = λ weight place. (own_split weight place c.args.counters.now.counters.items old new part c.in-Ok.ensures.split).1 }));
       shares = (so_far.shares.0 - 1, parts.have, omega (arith, few, more, shares_left));

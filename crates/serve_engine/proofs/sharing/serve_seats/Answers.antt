@@ -4,30 +4,27 @@ use Rattle.std.specs.List.{AllByRecursion, AllZip}
 use Rattle.turnstile.specs.History.{IsPrefix}
 use Rattle.turnstile.specs.Passes.{seen, shares, turns}
 use Rattle.desk_counter.specs.Counters.{kept_by}
-use Rattle.session_core.specs.Members.{ArePasses}
+use Rattle.desk_crew.specs.Crew.{seat_kept}
+use Rattle.session_core.specs.Members.{AreDesksOf, HaveSeenLegal, ArePasses}
 use Rattle.serve_engine.specs.Members.{members_of, HaveSeenOpenings, OwnMore}
 use Rattle.serve_engine.specs.Served.{Served}
 use Rattle.serve_engine.specs.Sharing.{keeper_of, seat_counter, seat_pass, IsServedAt}
-use Rattle.serve_engine.proofs.Apart.{served_still, none_served, apart_turns, apart_opened, seats_on, seats_same, served_at}
+use Rattle.serve_engine.proofs.Apart.{kept_apart, served_still, none_served, apart_turns, apart_opened, seats_on, seats_same, served_at}
 use Rattle.serve_engine.proofs.sharing.serve_seats.Goals as goal
 
 pub new-counters-requires : goal.new-counters-requires
-new-counters-requires g c = record { passes = c.take_apart-keepers.ensures.places }
+new-counters-requires g c =
+    let apart = c.take_apart-keepers.ensures in
+    let counters = c.take_apart-keepers.result.1.items in
+    let kept : map kept_by counters ≡ map seat_kept c.args.seats.items = ap (map kept_by) apart.counters ∙ kept_apart c.args.seats.items in
+    record {
+      passes = apart.places;
+      desks = subst (AreDesksOf c.args.users.now) (sym kept) c.requires.desks;
+      legal = subst (HaveSeenLegal (map kept_by counters)) (sym apart.passes) (subst (λ fs. HaveSeenLegal fs (map seat_pass c.args.seats.items)) (sym kept) c.requires.legal);
+    }
 
 pub serve_doors-outcome-requires-clause-these : goal.serve_doors-outcome-requires-clause-these
-serve_doors-outcome-requires-clause-these g c κs within =
-    let made = c.new-counters.ensures in
-    subst (λ ps. ArePasses ps c.new-counters.result.0.counters.items) (sym made.passes) (subst (ArePasses c.take_apart-keepers.result.2.items) (sym made.counters) c.take_apart-keepers.ensures.places)
-
-pub serve_doors-outcome-requires-clause-counted : goal.serve_doors-outcome-requires-clause-counted
-serve_doors-outcome-requires-clause-counted g c κs within =
-    let made = c.new-counters.ensures in
-    let users = ap length made.users in
-    let kept = length-map c.new-counters.result.0.counters.items kept_by in
-    let counters = ap length (made.counters ∙ c.take_apart-keepers.ensures.counters) in
-    let seats = length-map c.args.seats.items seat_counter in
-    let counted = c.requires.counted in
-    omega (arith, users, kept, counters, seats, counted)
+serve_doors-outcome-requires-clause-these g c κs within = c.new-counters.ensures.at
 
 pub serve_doors-outcome-requires-clause-opened : goal.serve_doors-outcome-requires-clause-opened
 serve_doors-outcome-requires-clause-opened g c κs within =
@@ -63,7 +60,7 @@ put_together-seats-requires-clause-count g c =
 pub put_together-seats-requires-clause-passes : goal.put_together-seats-requires-clause-passes
 put_together-seats-requires-clause-passes g c =
     let parts = c.into_parts-counters.ensures in
-    subst (λ ps. ArePasses ps c.into_parts-counters.result.0.items) (sym parts.passes) (subst (λ cs. ArePasses c.serve_doors-outcome.new.passes.passes.items cs) (sym parts.counters) c.serve_doors-outcome.ensures.these)
+    subst (λ ps. ArePasses ps c.into_parts-counters.result.0.items) (sym parts.passes) (subst (λ cs. ArePasses c.serve_doors-outcome.new.passes.passes.items cs) (sym parts.counters) c.serve_doors-outcome.ensures.these.are)
 
 pub put_together-seats-requires-clause-all : goal.put_together-seats-requires-clause-all
 put_together-seats-requires-clause-all g c = subst (AllByRecursion (λ pass. shares pass ≡ 65)) (sym c.into_parts-counters.ensures.passes) c.serve_doors-outcome.ensures.shares

@@ -7,6 +7,7 @@ use Rattle.session_core.specs.Heard.{is_quit}
 use Rattle.session_core.specs.Members.{users_of, fixeds_of, passes_in}
 use Rattle.session_core.specs.Asked.{Replies, IsShort}
 use Rattle.session_core.proofs.Talking.{short_request}
+use Rattle.session_core.proofs.Legality.{desks_counted, owners_are, all_hide}
 use Rattle.session_core.proofs.Passing.{passes_kept}
 use Rattle.session_core.proofs.Serving.{nothing_yet, turns_left, ends_input, ends_read, ends_many, ends_long, goes_on_more, ends_quit, ends_cut}
 use Rattle.session_core.proofs.session.serve_session.Goals as goal
@@ -16,7 +17,7 @@ loop-init g c =
     let counters = c.args.counters.now in
     let left = g.S.Source.left c.args.source.now in
     record {
-      so_far = nothing_yet g.S.Source.tells g.K.Sink.tells (users_of counters) (fixeds_of counters) left (passes_in c.args.passes.now) (g.K.Sink.written c.args.sink.now) (unread c.new-buffer.result left) (ap (λ a. a ++ left) c.new-buffer.ensures.ahead);
+      so_far = nothing_yet g.S.Source.tells g.K.Sink.tells (users_of counters) (fixeds_of counters) left (passes_in c.args.passes.now) (g.K.Sink.written c.args.sink.now) (sym (owners_are counters.counters.items) ∙ counters.owned) (unread c.new-buffer.result left) (ap (λ a. a ++ left) c.new-buffer.ensures.ahead);
       passes = c.requires.passes;
       place = tt;
       held = refl;
@@ -31,7 +32,7 @@ returns-in-End-clause-session g c = ends_input _ _ _ _ _ _ _ _ _ _ _ _ c.loop.in
 pub returns-in-TooLong-clause-session : goal.returns-in-TooLong-clause-session
 returns-in-TooLong-clause-session g c =
     let long = c.end_too_long.ensures in
-    ends_long _ _ _ _ _ _ _ _ _ _ _ _ c.loop.invariant.so_far (g.K.Sink.written c.end_too_long.new.sink) c.loop.invariant.place (passes_kept (passes_in c.args.passes.now) c.args.counters.now.counters.items c.requires.passes) (omega (arith, c.loop-test.true))
+    ends_long _ _ _ _ _ _ _ _ _ _ _ _ c.loop.invariant.so_far (g.K.Sink.written c.end_too_long.new.sink) c.loop.invariant.place (passes_kept (passes_in c.args.passes.now) c.args.counters.now.counters.items c.requires.passes.are) (omega (arith, c.loop-test.true))
     (λ s. (c.in-TooLong.ensures.reads s).0) c.end_too_long.result long.ends long.whole long.part
 
 pub returns-in-TooLong-clause-write_cause : goal.returns-in-TooLong-clause-write_cause
@@ -54,7 +55,7 @@ returns-in-Err-clause-session g c =
     let counters = c.args.counters.now in
     let same = c.read_request-request.ensures ∙ ap (λ l. request_of l) c.line.ensures.line in
     ends_cut _ _ _ _ _ _ _ _ _ _ _ _ c.loop.invariant.so_far (unread c.read_line.new.buffer (g.S.Source.left c.read_line.new.source)) c.read_line.new.buffer.line c.reply_to-next.result.0 (text_of c.reply_to-next.result.1) (passes_in c.reply_to-next.new.passes)
-    (g.K.Sink.written c.write_reply.new.sink) c.requires.counted (passes_kept (passes_in c.args.passes.now) counters.counters.items c.requires.passes) (omega (arith, c.loop-test.true)) (λ s. c.in-Line.ensures.reads s)
+    (g.K.Sink.written c.write_reply.new.sink) (desks_counted (users_of counters) (fixeds_of counters) c.loop.invariant.so_far.own) (passes_kept (passes_in c.args.passes.now) counters.counters.items c.requires.passes.are) (omega (arith, c.loop-test.true)) (λ s. c.in-Line.ensures.reads s)
     (subst (λ r. Replies (users_of counters) (fixeds_of counters) c.loop.who r c.reply_to-next.result.0 (text_of c.reply_to-next.result.1) (passes_in c.loop.passes) (passes_in c.reply_to-next.new.passes)) same c.reply_to-next.ensures.replies) c.in-Err.ensures.part
 
 pub returns-in-Err-clause-write_cause : goal.returns-in-Err-clause-write_cause
@@ -65,7 +66,7 @@ returns-then-is_quit-clause-session g c =
     let counters = c.args.counters.now in
     let same = c.read_request-request.ensures ∙ ap (λ l. request_of l) c.line.ensures.line in
     ends_quit _ _ _ _ _ _ _ _ _ _ _ _ c.loop.invariant.so_far (unread c.read_line.new.buffer (g.S.Source.left c.read_line.new.source)) c.read_line.new.buffer.line c.reply_to-next.result.0 (text_of c.reply_to-next.result.1) (passes_in c.reply_to-next.new.passes)
-    (g.K.Sink.written c.write_reply.new.sink) c.requires.counted (passes_kept (passes_in c.args.passes.now) counters.counters.items c.requires.passes) (omega (arith, c.loop-test.true)) (λ s. c.in-Line.ensures.reads s)
+    (g.K.Sink.written c.write_reply.new.sink) (desks_counted (users_of counters) (fixeds_of counters) c.loop.invariant.so_far.own) (passes_kept (passes_in c.args.passes.now) counters.counters.items c.requires.passes.are) (omega (arith, c.loop-test.true)) (λ s. c.in-Line.ensures.reads s)
     (subst (λ r. Replies (users_of counters) (fixeds_of counters) c.loop.who r c.reply_to-next.result.0 (text_of c.reply_to-next.result.1) (passes_in c.loop.passes) (passes_in c.reply_to-next.new.passes)) same c.reply_to-next.ensures.replies) c.in-Ok.ensures.all
     (sym (ap is_quit same) ∙ sym c.is_quit.ensures ∙ c.if-is_quit.true)
 
@@ -76,7 +77,7 @@ loop-preserved g c =
     let before = c.loop.invariant in
     record {
       so_far = goes_on_more _ _ _ _ _ _ _ _ _ _ _ _ before.so_far (unread c.read_line.new.buffer (g.S.Source.left c.read_line.new.source)) c.read_line.new.buffer.line c.reply_to-next.result.0 (text_of c.reply_to-next.result.1) (passes_in c.reply_to-next.new.passes)
-          (g.K.Sink.written c.write_reply.new.sink) c.requires.counted (passes_kept (passes_in c.args.passes.now) counters.counters.items c.requires.passes) (omega (arith, c.loop-test.true)) (λ s. c.in-Line.ensures.reads s)
+          (g.K.Sink.written c.write_reply.new.sink) (desks_counted (users_of counters) (fixeds_of counters) c.loop.invariant.so_far.own) (passes_kept (passes_in c.args.passes.now) counters.counters.items c.requires.passes.are) (omega (arith, c.loop-test.true)) (λ s. c.in-Line.ensures.reads s)
           (subst (λ r. Replies (users_of counters) (fixeds_of counters) c.loop.who r c.reply_to-next.result.0 (text_of c.reply_to-next.result.1) (passes_in c.loop.passes) (passes_in c.reply_to-next.new.passes)) same c.reply_to-next.ensures.replies) c.in-Ok.ensures.all
           (sym (ap is_quit same) ∙ sym c.is_quit.ensures ∙ c.if-is_quit.false);
       passes = c.reply_to-next.ensures.passes;
@@ -89,3 +90,21 @@ loop-preserved g c =
 
 pub returns-clause-session : goal.returns-clause-session
 returns-clause-session g c = ends_many _ _ _ _ _ _ _ _ _ _ _ _ c.loop.invariant.so_far (omega (arith, c.loop-test.false)) (omega (arith, c.loop.auto.counter-end))
+
+pub returns-in-End-clause-hides : goal.returns-in-End-clause-hides
+returns-in-End-clause-hides g c = all_hide c.law_hides.ensures (fixeds_of c.args.counters.now) (passes_in c.loop.passes) c.loop.invariant.passes.legal
+
+pub returns-in-TooLong-clause-hides : goal.returns-in-TooLong-clause-hides
+returns-in-TooLong-clause-hides g c = all_hide c.law_hides.ensures (fixeds_of c.args.counters.now) (passes_in c.loop.passes) c.loop.invariant.passes.legal
+
+pub returns-in-ReadFault-clause-hides : goal.returns-in-ReadFault-clause-hides
+returns-in-ReadFault-clause-hides g c = all_hide c.law_hides.ensures (fixeds_of c.args.counters.now) (passes_in c.loop.passes) c.loop.invariant.passes.legal
+
+pub returns-in-Err-clause-hides : goal.returns-in-Err-clause-hides
+returns-in-Err-clause-hides g c = all_hide c.law_hides.ensures (fixeds_of c.args.counters.now) (passes_in c.reply_to-next.new.passes) c.reply_to-next.ensures.passes.legal
+
+pub returns-then-is_quit-clause-hides : goal.returns-then-is_quit-clause-hides
+returns-then-is_quit-clause-hides g c = all_hide c.law_hides.ensures (fixeds_of c.args.counters.now) (passes_in c.reply_to-next.new.passes) c.reply_to-next.ensures.passes.legal
+
+pub returns-clause-hides : goal.returns-clause-hides
+returns-clause-hides g c = all_hide c.law_hides.ensures (fixeds_of c.args.counters.now) (passes_in c.loop.passes) c.loop.invariant.passes.legal

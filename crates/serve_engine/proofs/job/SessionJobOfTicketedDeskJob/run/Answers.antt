@@ -3,14 +3,19 @@ use Rattle.session_core.specs.Members.{passes_in, counters_in, users_of, fixeds_
 use Rattle.session_core.proofs.Passing.{passes_many}
 use Rattle.session_core.proofs.Talking.{talks_few}
 use Rattle.serve_engine.proofs.Owning.{marks_of, of_own}
-use Rattle.serve_engine.proofs.Holding.{are_passes, at_each, each_opened, have_opened}
+use Rattle.serve_engine.proofs.Holding.{are_passes, at_each, each_opened, have_opened, each_legal, have_legal}
 use Rattle.serve_engine.proofs.Later.{turns_enough, of_room, of_passes, sees_more, openings_later, members_later}
 use Rattle.serve_engine.proofs.Standing.{served_more}
 use Rattle.serve_engine.proofs.Visiting.{session_served}
 use Rattle.serve_engine.proofs.job.SessionJobOfTicketedDeskJob.run.Goals as goal
 
 pub serve_session-ended-requires-clause-passes : goal.serve_session-ended-requires-clause-passes
-serve_session-ended-requires-clause-passes g c = let job = c.args.self.now in are_passes (passes_in job.passes) (counters_in job.counters.now) job.many job.held
+serve_session-ended-requires-clause-passes g c =
+    let job = c.args.self.now in
+    let passes = passes_in job.passes in
+    let counters = counters_in job.counters.now in
+    let are = are_passes passes counters job.many job.held in
+    record { are = are; legal = have_legal passes counters are job.legal }
 
 pub serve_session-ended-requires-clause-turns : goal.serve_session-ended-requires-clause-turns
 serve_session-ended-requires-clause-turns g c = turns_enough (passes_in c.args.self.now.passes) c.requires.room
@@ -23,13 +28,14 @@ invariant_of-self g c =
     let counters = counters_in job.counters.now in
     let fixeds = fixeds_of job.counters.now in
     let session = c.serve_session-ended.ensures.session in
-    let are = c.serve_session-ended.ensures.passes in
+    let after = c.serve_session-ended.ensures.passes in
+    let are = after.are in
     let openings = have_opened old counters (are_passes old counters job.many job.held) job.opened in
     record {
-      counted = job.counted;
       many = passes_many new counters are;
       held = at_each new counters are;
       opened = each_opened new counters are (openings_later fixeds old new (sees_more old new (of_passes session.who fixeds old new session.asks session.desks)) openings);
+      legal = each_legal new counters are after.legal;
     }
 
 pub returns-clause-room : goal.returns-clause-room
@@ -63,3 +69,8 @@ returns-clause-visit g c =
     (g.Src.Source.faults c.args.source.now) (g.Snk.Sink.faults c.args.sink.now) (g.Src.Source.faults now.source) (g.Snk.Sink.faults now.sink)
     session untouched says.held says.read_cause says.write_cause schema world within openings)
     (λ weight place. of_own weight place session.who fixeds old new session.asks session.desks)
+
+pub returns-clause-session : goal.returns-clause-session
+returns-clause-session g c =
+    let says = c.serve_session-ended.ensures in
+    record { ended = c.serve_session-ended.result; session = says.session; read_cause = says.read_cause; write_cause = says.write_cause }
