@@ -19,21 +19,26 @@ use Rattle.audit_engine.specs.Ends.{Says, IsEnd}
 use Rattle.audit_engine.specs.declared.end.AuditEnd.{AuditEnd}
 use Rattle.audit_engine.specs.declared.end.AuditEnd.TheVariants as ends
 
-module _ (schema : DatabaseSchema) (world : FactSet) (header : Header) (name : Text) (user : UserProfile) (bytes : List ℕ) (before now : ℕ) (decided : OpensOrNot) (unrefused : OpensUnrefused) where
+module _ (schema : DatabaseSchema) (world : FactSet) (header : Header) (name : Text) (user : UserProfile) (bytes : List ℕ) (before now : ℕ)
+    (decided : OpensOrNot) (unrefused : OpensUnrefused) where
   -- a journal that is refused though its bytes open a desk had a fault of its disk
-  rose : (entries : History) (why : DeskError) → IsSealedBy schema world user (Unit {0}) (header_bytes header) bytes before now why → Opens schema world user (header_bytes header) entries bytes → Rose before now
+  rose : (entries : History) (why : DeskError) → IsSealedBy schema world user (Unit {0}) (header_bytes header) bytes before now why
+      → Opens schema world user (header_bytes header) entries bytes → Rose before now
   rose entries (Journal NotAJournal) refused opens = absurd (unrefused schema world user header bytes entries (Journal NotAJournal) opens (refused tt))
   rose entries (Journal OtherPolicy) refused opens = absurd (unrefused schema world user header bytes entries (Journal OtherPolicy) opens (refused tt))
-  rose entries (Journal (Damaged number)) refused opens = absurd (unrefused schema world user header bytes entries (Journal (Damaged number)) opens (refused tt))
+  rose entries (Journal (Damaged number)) refused opens =
+      absurd (unrefused schema world user header bytes entries (Journal (Damaged number)) opens (refused tt))
   rose entries (Journal DiskFault) refused opens = refused
   rose entries (Journal Memory) refused opens = absurd refused
   rose entries (Stale number) refused opens = absurd (unrefused schema world user header bytes entries (Stale number) opens (refused tt))
-  rose entries (Unlawful number stored computed) refused opens = absurd (unrefused schema world user header bytes entries (Unlawful number stored computed) opens (refused tt))
+  rose entries (Unlawful number stored computed) refused opens =
+      absurd (unrefused schema world user header bytes entries (Unlawful number stored computed) opens (refused tt))
   rose entries (Size number) refused opens = absurd (unrefused schema world user header bytes entries (Size number) opens (refused tt))
   rose entries (NotAdmitted admission) refused opens = absurd (unrefused schema world user header bytes entries (NotAdmitted admission) opens (refused tt))
 
   -- where clauses are told of the bytes
-  sealed_by : (told : Type 0) → told → (why : DeskError) → IsSealedBy schema world user told (header_bytes header) bytes before now why → IsSealedBy schema world user (Unit {0}) (header_bytes header) bytes before now why
+  sealed_by : (told : Type 0) → told → (why : DeskError) → IsSealedBy schema world user told (header_bytes header) bytes before now why
+      → IsSealedBy schema world user (Unit {0}) (header_bytes header) bytes before now why
   sealed_by told is (Journal NotAJournal) refused = λ _. refused is
   sealed_by told is (Journal OtherPolicy) refused = λ _. refused is
   sealed_by told is (Journal (Damaged number)) refused = λ _. refused is
@@ -45,14 +50,17 @@ module _ (schema : DatabaseSchema) (world : FactSet) (header : Header) (name : T
   sealed_by told is (NotAdmitted admission) refused = λ _. refused is
 
   -- the audit of a journal that is refused doesn't tell its entries
-  any_entries : (entries entries' : History) (why : DeskError) (said : AuditSaid) → Audits schema name user (Sealed why) entries said → Audits schema name user (Sealed why) entries' said
+  any_entries : (entries entries' : History) (why : DeskError) (said : AuditSaid) → Audits schema name user (Sealed why) entries said
+      → Audits schema name user (Sealed why) entries' said
   any_entries entries entries' why said audits =
       record { worlds = audits.worlds; listings = audits.listings; listed = λ served. absurd (cc); others = λ served. absurd (cc); whole = audits.whole }
 
   -- the audit of a desk says what the bytes say
-  pub says : (told : Type 0) → told → (entries : History) (standing : Standing) (said : AuditSaid) → IsStanding schema world user told (header_bytes header) bytes entries before now standing
+  pub says : (told : Type 0) → told → (entries : History) (standing : Standing) (said : AuditSaid)
+      → IsStanding schema world user told (header_bytes header) bytes entries before now standing
       → Audits schema name user standing entries said → Says schema world (header_bytes header) name user bytes before now standing said
-  says told is entries Open said stands audits = record { entries = entries; opening_is = inl (stands.1 is); standing_is = (stands.0, stands.1 is); audits = audits }
+  says told is entries Open said stands audits =
+      record { entries = entries; opening_is = inl (stands.1 is); standing_is = (stands.0, stands.1 is); audits = audits }
   says told is entries (Closed admission) said stands audits =
       record { entries = entries; opening_is = inl (stands.3 is); standing_is = (stands.0, stands.1, stands.3 is); audits = audits }
   says told is entries (Sealed why) said stands audits = by (decided schema world user (header_bytes header) bytes)
@@ -60,30 +68,45 @@ module _ (schema : DatabaseSchema) (world : FactSet) (header : Header) (name : T
       why_is : IsSealedBy schema world user (Unit {0}) (header_bytes header) bytes before now why
       why_is = sealed_by told is why stands.1
 
-      by : ((opened : History) × Opens schema world user (header_bytes header) opened bytes) ⊎ ((opened : History) → Opens schema world user (header_bytes header) opened bytes → ⊥)
+      by : ((opened : History) × Opens schema world user (header_bytes header) opened bytes)
+          ⊎ ((opened : History) → Opens schema world user (header_bytes header) opened bytes → ⊥)
           → Says schema world (header_bytes header) name user bytes before now (Sealed why) said
       by (inl (opened, opens)) =
-          record { entries = opened; opening_is = inl opens; standing_is = (why_is, rose opened why why_is); audits = any_entries entries opened why said audits }
+          record {
+            entries =
+                opened;
+            opening_is = inl opens;
+            standing_is = (why_is, rose opened why why_is);
+            audits = any_entries entries opened why said audits;
+          }
       by (inr none) =
           record { entries = []; opening_is = inr (none, refl); standing_is = (why_is, rose [] why why_is); audits = any_entries entries [] why said audits }
 
   module _ (told : Type 0) (is : told) (entries : History) (json : Bool) (old new : List ℕ) where
-    done : (standing : Standing) → IsStanding schema world user told (header_bytes header) bytes entries before now standing → IsPrinted schema name user standing entries json ends.Done old new
+    done : (standing : Standing) → IsStanding schema world user told (header_bytes header) bytes entries before now standing
+        → IsPrinted schema name user standing entries json ends.Done old new
         → IsEnd schema world (header_bytes header) name user bytes before now json ends.Done old new
     done Open stands (same, (said, audits, whole)) = (Open, refl, (said, says told is entries Open said stands audits, whole))
-    done (Closed admission) stands (same, (said, audits, whole)) = (Closed admission, refl, (said, says told is entries (Closed admission) said stands audits, whole))
+    done (Closed admission) stands (same, (said, audits, whole)) =
+        (Closed admission, refl, (said, says told is entries (Closed admission) said stands audits, whole))
     done (Sealed why) stands (same, (said, audits, whole)) = absurd (cc)
 
-    refused : (why : DeskError) (standing : Standing) → IsStanding schema world user told (header_bytes header) bytes entries before now standing → IsPrinted schema name user standing entries json (ends.Refused why) old new
+    refused : (why : DeskError) (standing : Standing) → IsStanding schema world user told (header_bytes header) bytes entries before now standing
+        → IsPrinted schema name user standing entries json (ends.Refused why) old new
         → IsEnd schema world (header_bytes header) name user bytes before now json (ends.Refused why) old new
     refused why Open stands (same, (said, audits, whole)) = absurd (cc)
     refused why (Closed admission) stands (same, (said, audits, whole)) = absurd (cc)
     refused why (Sealed why') stands (same, (said, audits, whole)) =
-        let one : why' ≡ why = cc in
-        (said, subst (λ w. Says schema world (header_bytes header) name user bytes before now (Sealed w) said) one (says told is entries (Sealed why') said stands audits), whole)
+        let one : why' ≡ why = cc in (
+          said,
+          subst (λ w. Says schema world (header_bytes header) name user bytes before now (Sealed w) said) one
+              (says told is entries (Sealed why') said stands audits),
+          whole,
+        )
 
     -- so is the end of the audit of a desk
-    pub ends_so : (end : AuditEnd) (standing : Standing) → IsStanding schema world user told (header_bytes header) bytes entries before now standing → IsPrinted schema name user standing entries json end old new
+    pub ends_so : (end : AuditEnd) (standing : Standing) → IsStanding schema world user told (header_bytes header) bytes entries before now standing
+        → IsPrinted schema name user standing entries json end old new
         → IsEnd schema world (header_bytes header) name user bytes before now json end old new
     ends_so ends.Done standing stands printed = done standing stands printed
     ends_so (ends.Refused why) standing stands printed = refused why standing stands printed

@@ -16,17 +16,26 @@ use Rattle.audit_text.specs.Said.{AuditSaid}
 use Rattle.audit_text.specs.Json.{audit_text}
 use Rattle.audit_print.specs.Audits.{Audits}
 use Rattle.audit_engine.specs.declared.end.AuditEnd.{AuditEnd}
-use Rattle.audit_engine.specs.declared.end.AuditEnd.TheVariants.{Done, Refused, WriteFault, ShelfFault, Memory}
+use Rattle.audit_engine.specs.declared.end.AuditEnd.TheVariants.{Done, Refused, WriteFault}
+use Rattle.audit_engine.specs.declared.end.AuditEnd.TheVariants.{ShelfFault, Memory}
 
-module _ (schema : DatabaseSchema) (world : FactSet) (header : List ℕ) (name : Text) (user : UserProfile) (bytes : List ℕ) (before now : ℕ) where
-  -- Why a user whose journal stands for these entries has this standing. He is served where he is admitted and the bytes of his journal open a desk; he is closed
-  -- where they do and he isn't; and his journal is refused for a reason that the bytes show, or where the count of its disk's faults rose.
+module _ (schema : DatabaseSchema) (world : FactSet) (header : List ℕ) (name : Text)
+    (user : UserProfile) (bytes : List ℕ) (before now : ℕ) where
+  -- Why a user whose journal stands for these entries has this standing. He is served where he is
+  -- admitted and the bytes of his journal open a desk; he is closed where they do and he isn't; and
+  -- his journal is refused for a reason that the bytes show, or where the count of its disk's
+  -- faults rose.
   abbrev pub HasStanding : History → Standing → Type 0
-  HasStanding entries Open = (admitted schema world user ≡ true) × Opens schema world user header entries bytes
-  HasStanding entries (Closed admission) = (admitted schema world user ≡ false) × (admission ≡ admission_of schema world user) × Opens schema world user header entries bytes
-  HasStanding entries (Sealed why) = IsSealedBy schema world user (Unit {0}) header bytes before now why × (Opens schema world user header entries bytes → Rose before now)
+  HasStanding entries Open =
+      (admitted schema world user ≡ true) × Opens schema world user header entries bytes
+  HasStanding entries (Closed admission) = (admitted schema world user ≡ false)
+      × (admission ≡ admission_of schema world user) × Opens schema world user header entries bytes
+  HasStanding entries (Sealed why) =
+      IsSealedBy schema world user (Unit {0}) header bytes before now why
+      × (Opens schema world user header entries bytes → Rose before now)
 
-  -- this is said of the user: the audit of his standing and of the legal history that the bytes of his journal stand for, the empty one where they open no desk
+  -- this is said of the user: the audit of his standing and of the legal history that the bytes of
+  -- his journal stand for, the empty one where they open no desk
   pub record Says (standing : Standing) (said : AuditSaid) : Type 0 where
     pub entries : History
     pub opening_is : IsOpening schema world user header bytes entries
@@ -35,12 +44,15 @@ module _ (schema : DatabaseSchema) (world : FactSet) (header : List ℕ) (name :
 
   -- all of it was appended
   abbrev pub AppendsAll : Bool → Standing → List ℕ → List ℕ → Type 0
-  AppendsAll json standing old new = (said : AuditSaid) × Says standing said × (new ≡ old ++ audit_text json said)
+  AppendsAll json standing old new =
+      (said : AuditSaid) × Says standing said × (new ≡ old ++ audit_text json said)
 
   -- what each end says of the output before and after
   abbrev pub IsEnd : Bool → AuditEnd → List ℕ → List ℕ → Type 0
-  IsEnd json Done old new = (standing : Standing) × (is_sealed standing ≡ false) × AppendsAll json standing old new
+  IsEnd json Done old new =
+      (standing : Standing) × (is_sealed standing ≡ false) × AppendsAll json standing old new
   IsEnd json (Refused why) old new = AppendsAll json (Sealed why) old new
-  IsEnd json WriteFault old new = (standing : Standing) × (said : AuditSaid) × Says standing said × AppendsPart old new (audit_text json said)
+  IsEnd json WriteFault old new = (standing : Standing) × (said : AuditSaid) × Says standing said
+      × AppendsPart old new (audit_text json said)
   IsEnd json ShelfFault old new = new ≡ old
   IsEnd json Memory old new = new ≡ old

@@ -9,7 +9,8 @@ use Rattle.audit_text.specs.Said.{AuditSaid}
 use Rattle.audit_text.specs.Json.{audit_text}
 use Rattle.audit_print.specs.Audits.{Audits}
 use Rattle.audit_engine.specs.declared.end.AuditEnd.{AuditEnd}
-use Rattle.audit_engine.specs.declared.end.AuditEnd.TheVariants.{Done, Refused, WriteFault, ShelfFault, Memory}
+use Rattle.audit_engine.specs.declared.end.AuditEnd.TheVariants.{Done, Refused, WriteFault}
+use Rattle.audit_engine.specs.declared.end.AuditEnd.TheVariants.{ShelfFault, Memory}
 
 -- the end of an audit that was written of a user with this standing
 abbrev pub end_of : Standing → AuditEnd
@@ -17,14 +18,17 @@ end_of Open = Done
 end_of (Closed admission) = Done
 end_of (Sealed why) = Refused why
 
-module _ (schema : DatabaseSchema) (name : Text) (user : UserProfile) (standing : Standing) (entries : History) where
+module _ (schema : DatabaseSchema) (name : Text) (user : UserProfile) (standing : Standing)
+    (entries : History) where
   -- the audit was appended
   abbrev pub AppendsAudit : Bool → List ℕ → List ℕ → Type 0
-  AppendsAudit json old new = (said : AuditSaid) × Audits schema name user standing entries said × (new ≡ old ++ audit_text json said)
+  AppendsAudit json old new = (said : AuditSaid) × Audits schema name user standing entries said
+      × (new ≡ old ++ audit_text json said)
 
   -- a beginning of it was
   abbrev pub AppendsPartOfAudit : Bool → List ℕ → List ℕ → Type 0
-  AppendsPartOfAudit json old new = (said : AuditSaid) × Audits schema name user standing entries said × AppendsPart old new (audit_text json said)
+  AppendsPartOfAudit json old new = (said : AuditSaid)
+      × Audits schema name user standing entries said × AppendsPart old new (audit_text json said)
 
   -- the audit of a desk with this standing and these entries ended so
   abbrev pub IsPrinted : Bool → AuditEnd → List ℕ → List ℕ → Type 0

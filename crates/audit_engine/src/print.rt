@@ -31,7 +31,8 @@ pub(crate) fn audit_disk<'w, D: Disk, K: Sink>(
     requires { KeepsLimits registry.now.schema.now (profile_of user.now) }
     ensures ends { D.tells → K.tells → IsEnd registry.now.schema.now registry.now.world.now
         (header_bytes registry.now.header.now) (string_bytes user.now.name) (profile_of user.now)
-        (D.reads disk) (D.faults disk) (D.faults result.0) json result.1 (K.written sink.old) (K.written sink.new) }
+        (D.reads disk) (D.faults disk) (D.faults result.0) json result.1 (K.written sink.old)
+        (K.written sink.new) }
     ensures reads { D.reads result.0 ≡ D.reads disk }
     ensures images { (c : List ℕ) → D.image result.0 c → D.image disk c }
     ensures count { D.faults disk ≤ D.faults result.0 }
@@ -67,8 +68,10 @@ fn print_desk<D: Disk, K: Sink>(
 ) -> AuditEnd
     requires schema { schema.now ≡ desk_schema desk.now }
     requires user { profile_of user.now ≡ desk_user desk.now }
-    ensures printed { K.tells → IsPrinted schema.now (string_bytes user.now.name) (profile_of user.now)
-        (desk_standing desk.now) (desk_history desk.now) json result (K.written sink.old) (K.written sink.new) }
+    ensures printed { K.tells
+        → IsPrinted schema.now (string_bytes user.now.name) (profile_of user.now)
+        (desk_standing desk.now) (desk_history desk.now) json result (K.written sink.old)
+        (K.written sink.new) }
     ensures later { K.faults sink.old ≤ K.faults sink.new }
     ensures cause { result ≡ AuditEnd.WriteFault → Rose (K.faults sink.old) (K.faults sink.new) }
     ensures shelf { result ≡ AuditEnd.ShelfFault → ⊥ }

@@ -18,8 +18,9 @@ use log_journal::journal_name;
 use outside::{Shelf, ShelfError, Sink};
 use std::alloc::Global;
 
-/// Prints the audit of a user of the registry, as text or in JSON: his standing and the history of his journal, the
-/// disk `DIRECTORY/NAME.log`. That disk is opened and given back on every path, with the bytes that it had.
+/// Prints the audit of a user of the registry, as text or in JSON: his standing and the history of
+/// his journal, the disk `DIRECTORY/NAME.log`. That disk is opened and given back on every path,
+/// with the bytes that it had.
 pub fn run_audit<'w, F: Shelf, K: Sink>(
     alloc: Global,
     registry: &Registry<'w>,
@@ -32,11 +33,16 @@ pub fn run_audit<'w, F: Shelf, K: Sink>(
     requires inside { NoneOut (F.is_out shelf.old) }
     ensures ends { F.tells → K.tells → IsEnd registry.now.schema.now registry.now.world.now
         (header_bytes registry.now.header.now) (string_bytes user.now.name) (profile_of user.now)
-        (bytes_on F.D.reads (F.disk shelf.old (journal_name registry.now.directory.now (string_bytes user.now.name))))
-        (F.disk_faults shelf.old (journal_name registry.now.directory.now (string_bytes user.now.name)))
-        (F.disk_faults shelf.new (journal_name registry.now.directory.now (string_bytes user.now.name)))
+        (bytes_on F.D.reads
+        (F.disk shelf.old
+        (journal_name registry.now.directory.now (string_bytes user.now.name))))
+        (F.disk_faults shelf.old
+        (journal_name registry.now.directory.now (string_bytes user.now.name)))
+        (F.disk_faults shelf.new
+        (journal_name registry.now.directory.now (string_bytes user.now.name)))
         json result (K.written sink.old) (K.written sink.new) }
-    ensures disks { SameOthers (journal_name registry.now.directory.now (string_bytes user.now.name)) (F.disk shelf.old)
+    ensures disks { SameOthers
+        (journal_name registry.now.directory.now (string_bytes user.now.name)) (F.disk shelf.old)
         (F.disk shelf.new) }
     ensures bytes { F.tells → SameBytes F.D.reads (F.disk shelf.old) (F.disk shelf.new) }
     ensures images { F.tells → NoNewImages F.D.image (F.disk shelf.old) (F.disk shelf.new) }
@@ -46,8 +52,10 @@ pub fn run_audit<'w, F: Shelf, K: Sink>(
     ensures counts { NoneFell (F.disk_faults shelf.old) (F.disk_faults shelf.new) }
     ensures shelf_later { F.faults shelf.old ≤ F.faults shelf.new }
     ensures sink_later { K.faults sink.old ≤ K.faults sink.new }
-    ensures write_cause { result ≡ AuditEnd.WriteFault → Rose (K.faults sink.old) (K.faults sink.new) }
-    ensures shelf_cause { result ≡ AuditEnd.ShelfFault → Rose (F.faults shelf.old) (F.faults shelf.new) }
+    ensures write_cause { result ≡ AuditEnd.WriteFault
+        → Rose (K.faults sink.old) (K.faults sink.new) }
+    ensures shelf_cause { result ≡ AuditEnd.ShelfFault
+        → Rose (F.faults shelf.old) (F.faults shelf.new) }
 {
     let Ok(journal) = journal_name(alloc, registry.directory, user.name.as_str()) else {
         return AuditEnd::Memory;
@@ -83,8 +91,10 @@ fn audit_journal<'w, F: Shelf, K: Sink>(
     ensures counts { NoneFell (F.disk_faults shelf.old) (F.disk_faults shelf.new) }
     ensures shelf_later { F.faults shelf.old ≤ F.faults shelf.new }
     ensures sink_later { K.faults sink.old ≤ K.faults sink.new }
-    ensures write_cause { result ≡ AuditEnd.WriteFault → Rose (K.faults sink.old) (K.faults sink.new) }
-    ensures shelf_cause { result ≡ AuditEnd.ShelfFault → Rose (F.faults shelf.old) (F.faults shelf.new) }
+    ensures write_cause { result ≡ AuditEnd.WriteFault
+        → Rose (K.faults sink.old) (K.faults sink.new) }
+    ensures shelf_cause { result ≡ AuditEnd.ShelfFault
+        → Rose (F.faults shelf.old) (F.faults shelf.new) }
 {
     match shelf.take_disk(alloc, journal) {
         Ok(disk) => {

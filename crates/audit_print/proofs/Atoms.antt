@@ -22,7 +22,8 @@ few_constants [] columns = omega arith
 few_constants (d ∷ domains) [] = omega arith
 few_constants (d ∷ domains) (c ∷ columns) = let rest = few_constants domains columns in omega (arith, rest)
 
-constants_fit : (schema : DatabaseSchema) (domains columns : List ℕ) → fits_columns schema domains columns ≡ true → have_domains schema [] (constants_in domains columns) domains ≡ true
+constants_fit : (schema : DatabaseSchema) (domains columns : List ℕ) → fits_columns schema domains columns ≡ true
+    → have_domains schema [] (constants_in domains columns) domains ≡ true
 constants_fit schema [] columns fits = refl
 constants_fit schema (d ∷ domains) [] fits = absurd (cc)
 constants_fit schema (d ∷ domains) (c ∷ columns) fits =
@@ -32,7 +33,8 @@ constants_fit schema (d ∷ domains) (c ∷ columns) fits =
 
 pub atom_is_sentence : (schema : DatabaseSchema) (fact : Fact) → is_fact_of schema fact ≡ true → is_sentence_of schema (atom_of schema fact) ≡ true
 atom_is_sentence schema fact is =
-    elim (columns_of schema fact.relation) as (λ o. has_columns schema fact.columns o ≡ true → fit_relation schema [] (constants_in (unwrap_or o []) fact.columns) o ≡ true) [
+    elim (columns_of schema fact.relation) as (λ o. has_columns schema fact.columns o ≡ true
+    → fit_relation schema [] (constants_in (unwrap_or o []) fact.columns) o ≡ true) [
       | None ↦ λ none. absurd (cc)
       | Some domains ↦ λ fits. constants_fit schema domains fact.columns (and_parts _ (fits_columns schema domains fact.columns) fits).1
     ] is
@@ -42,23 +44,28 @@ six_columns schema fact is =
     elim (columns_of schema fact.relation) as (λ o. has_columns schema fact.columns o ≡ true → length fact.columns ≤ 6) [
       | None ↦ λ none. absurd (cc)
       | Some domains ↦ λ fits.
-          leb-true (length fact.columns) 6 (and_parts (nat_le (length fact.columns) 6) (nat_le 6 (length fact.columns)) (and_parts _ (fits_columns schema domains fact.columns) fits).0).0
+          leb-true (length fact.columns) 6
+          (and_parts (nat_le (length fact.columns) 6) (nat_le 6 (length fact.columns)) (and_parts _ (fits_columns schema domains fact.columns) fits).0).0
     ] is
 
 -- each listed fact of a world is a fact of the schema
-first_listed : (schema : DatabaseSchema) (world : FactSet) (facts : List Fact) → IsWorldOf schema world → set.from_list facts ≡ world → (before : List Fact) (fact : Fact) (after : List Fact) → facts ≡ before ++ fact ∷ after → is_fact_of schema fact ≡ true
+first_listed : (schema : DatabaseSchema) (world : FactSet) (facts : List Fact) → IsWorldOf schema world → set.from_list facts ≡ world
+    → (before : List Fact) (fact : Fact) (after : List Fact) → facts ≡ before ++ fact ∷ after → is_fact_of schema fact ≡ true
 first_listed schema world facts of_schema is before fact after at =
-    of_schema fact (ap (λ w. set.contains w fact) (sym is) ∙ set.contains-from_list fact_cmp_total facts fact ∙ ap (list_any (eq_by_cmp fact_cmp fact)) at ∙ any_at before)
+    of_schema fact (ap (λ w. set.contains w fact) (sym is) ∙ set.contains-from_list fact_cmp_total facts fact ∙ ap (list_any (eq_by_cmp fact_cmp fact)) at
+    ∙ any_at before)
   where
     any_at : (before : List Fact) → list_any (eq_by_cmp fact_cmp fact) (before ++ fact ∷ after) ≡ true
     any_at [] = ap (λ b. b || list_any (eq_by_cmp fact_cmp fact) after) (ap is_eq (tied_itself fact_cmp_total fact))
     any_at (other ∷ before) = ap (λ b. eq_by_cmp fact_cmp fact other || b) (any_at before) ∙ or-true (eq_by_cmp fact_cmp fact other)
 
-listed_good : (schema : DatabaseSchema) (world : FactSet) (facts : List Fact) → IsWorldOf schema world → set.from_list facts ≡ world → (before after : List Fact) → facts ≡ before ++ after → list_all (is_fact_of schema) after ≡ true
+listed_good : (schema : DatabaseSchema) (world : FactSet) (facts : List Fact) → IsWorldOf schema world → set.from_list facts ≡ world
+    → (before after : List Fact) → facts ≡ before ++ after → list_all (is_fact_of schema) after ≡ true
 listed_good schema world facts of_schema is before [] at = refl
 listed_good schema world facts of_schema is before (fact ∷ after) at =
     let first = first_listed schema world facts of_schema is before fact after at in
     rw first (listed_good schema world facts of_schema is (before ++ fact ∷ []) after (at ∙ sym (append_assoc before (fact ∷ []) after)))
 
-pub all_listed : (schema : DatabaseSchema) (world : FactSet) (facts : List Fact) → IsWorldOf schema world → set.from_list facts ≡ world → list_all (is_fact_of schema) facts ≡ true
+pub all_listed : (schema : DatabaseSchema) (world : FactSet) (facts : List Fact) → IsWorldOf schema world → set.from_list facts ≡ world
+    → list_all (is_fact_of schema) facts ≡ true
 all_listed schema world facts of_schema is = listed_good schema world facts of_schema is [] facts refl

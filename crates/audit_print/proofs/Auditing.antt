@@ -21,29 +21,40 @@ use Rattle.audit_print.specs.Listed.{ListsAll}
 use Rattle.audit_print.specs.Said.{entry_said, method_word, refused_said, secret_said}
 use Rattle.audit_print.specs.Audits.{Audits, Serves}
 
-pub somewhere : (schema schema' : DatabaseSchema) (world : FactSet) (user user' : UserProfile) (entries entries' : History) → schema ≡ schema' → user ≡ user' → entries ≡ entries'
+pub somewhere : (schema schema' : DatabaseSchema) (world : FactSet) (user user' : UserProfile) (entries entries' : History) → schema ≡ schema' → user ≡ user'
+    → entries ≡ entries'
     → admitted schema' world user' ≡ true → IsLegal schema' world user' entries' → IsLegalSomewhere schema user entries
 somewhere schema schema' world user user' entries entries' a b e admits legal =
-    subst (λ s. IsLegalSomewhere s user entries) (sym a) (subst (λ u. IsLegalSomewhere schema' u entries) (sym b) (subst (λ h. IsLegalSomewhere schema' user' h) (sym e) (record { world = world; admits = admits; legal = legal })))
+    subst (λ s. IsLegalSomewhere s user entries) (sym a)
+    (subst (λ u. IsLegalSomewhere schema' u entries) (sym b)
+    (subst (λ h. IsLegalSomewhere schema' user' h) (sym e) (record { world = world; admits = admits; legal = legal })))
 
-pub of_closed : (schema : DatabaseSchema) (name : Text) (user : UserProfile) (standing : Standing) (entries : History) (said : AuditSaid) (why : Admission) → standing ≡ Closed why → said ≡ refused_said name user (codes "closed")
+pub of_closed : (schema : DatabaseSchema) (name : Text) (user : UserProfile) (standing : Standing) (entries : History) (said : AuditSaid) (why : Admission)
+    → standing ≡ Closed why → said ≡ refused_said name user (codes "closed")
     → Audits schema name user standing entries said
 of_closed schema name user standing entries said why is whole =
-    subst (λ s. Audits schema name user s entries said) (sym is) (record { worlds = λ _. None; listings = λ _. None; listed = λ served. absurd (cc); others = λ served. absurd (cc); whole = whole })
+    subst (λ s. Audits schema name user s entries said) (sym is)
+    (record { worlds = λ _. None; listings = λ _. None; listed = λ served. absurd (cc); others = λ served. absurd (cc); whole = whole })
 
-pub of_sealed : (schema : DatabaseSchema) (name : Text) (user : UserProfile) (standing : Standing) (entries : History) (said : AuditSaid) (why : DeskError) → standing ≡ Sealed why → said ≡ refused_said name user (codes "sealed")
+pub of_sealed : (schema : DatabaseSchema) (name : Text) (user : UserProfile) (standing : Standing) (entries : History) (said : AuditSaid) (why : DeskError)
+    → standing ≡ Sealed why → said ≡ refused_said name user (codes "sealed")
     → Audits schema name user standing entries said
 of_sealed schema name user standing entries said why is whole =
-    subst (λ s. Audits schema name user s entries said) (sym is) (record { worlds = λ _. None; listings = λ _. None; listed = λ served. absurd (cc); others = λ served. absurd (cc); whole = whole })
+    subst (λ s. Audits schema name user s entries said) (sym is)
+    (record { worlds = λ _. None; listings = λ _. None; listed = λ served. absurd (cc); others = λ served. absurd (cc); whole = whole })
 
-pub of_served : (schema : DatabaseSchema) (name : Text) (user : UserProfile) (standing : Standing) (entries : History) (said : AuditSaid) → standing ≡ Open → Serves schema name user entries said → Audits schema name user standing entries said
+pub of_served : (schema : DatabaseSchema) (name : Text) (user : UserProfile) (standing : Standing) (entries : History) (said : AuditSaid) → standing ≡ Open
+    → Serves schema name user entries said → Audits schema name user standing entries said
 of_served schema name user standing entries said is serves =
-    subst (λ s. Audits schema name user s entries said) (sym is) (record { worlds = serves.worlds; listings = serves.listings; listed = λ _. serves.listed; others = λ _. serves.others; whole = serves.whole })
+    subst (λ s. Audits schema name user s entries said) (sym is)
+    (record { worlds = serves.worlds; listings = serves.listings; listed = λ _. serves.listed; others = λ _. serves.others; whole = serves.whole })
 
 -- a user who is served
-pub serves : (schema : DatabaseSchema) (name : Text) (user : UserProfile) (entries entries' : History) (worlds : ℕ → Option FactSet) (n : ℕ) (said : AuditSaid) → entries' ≡ entries → n ≡ length user.secrets
+pub serves : (schema : DatabaseSchema) (name : Text) (user : UserProfile) (entries entries' : History) (worlds : ℕ → Option FactSet) (n : ℕ) (said : AuditSaid)
+    → entries' ≡ entries → n ≡ length user.secrets
     → AreOthers schema user entries' worlds → ListsAll schema user worlds n said.secrets
-    → said.name ≡ name → said.method ≡ method_word user.method → said.standing ≡ codes "open" → said.entries ≡ map (entry_said schema) entries' → Serves schema name user entries said
+    → said.name ≡ name → said.method ≡ method_word user.method → said.standing ≡ codes "open" → said.entries ≡ map (entry_said schema) entries'
+    → Serves schema name user entries said
 serves schema name user entries entries' worlds n said same size others all named by stands told = record {
   worlds = worlds;
   listings = all.listings;
@@ -63,6 +74,7 @@ enough Lying n k low = omega (arith, low)
 enough Refusal n k low = low
 enough Combined n k low = low
 
-pub of_schema : (schema : DatabaseSchema) (user : UserProfile) (entries : History) (k : ℕ) (other : Option FactSet) → IfSome other (HidesSecret schema user entries k) → IfSome other (IsWorldOf schema)
+pub of_schema : (schema : DatabaseSchema) (user : UserProfile) (entries : History) (k : ℕ) (other : Option FactSet)
+    → IfSome other (HidesSecret schema user entries k) → IfSome other (IsWorldOf schema)
 of_schema schema user entries k None hides = tt
 of_schema schema user entries k (Some world) hides = hides.of_schema

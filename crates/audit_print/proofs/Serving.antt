@@ -32,7 +32,8 @@ push_each P xs x d n size each last k below = elim (k == n) as (λ t. (k == n) �
 ] refl
 
 -- for a liar a world that hides one secret hides each
-hides_each : (schema : DatabaseSchema) (user : UserProfile) (entries : History) (other : FactSet) (secret : ℕ) → user.method ≡ Lying → secret < length user.secrets
+hides_each : (schema : DatabaseSchema) (user : UserProfile) (entries : History) (other : FactSet) (secret : ℕ) → user.method ≡ Lying
+    → secret < length user.secrets
     → HidesSecret schema user entries 0 other → HidesSecret schema user entries secret other
 hides_each schema user entries other secret lies low first = record {
   of_schema = first.of_schema;
@@ -45,22 +46,28 @@ hides_each schema user entries other secret lies low first = record {
 }
 
 same_guard : (user : UserProfile) (j k : ℕ) → user.method ≡ Lying → guard_at user j ≡ guard_at user k
-same_guard user j k lies = ap (λ (m : Method). guard_by m user.secrets (secret_at user j)) lies ∙ ap (λ (m : Method). guard_by m user.secrets (secret_at user k)) (sym lies)
+same_guard user j k lies =
+    ap (λ (m : Method). guard_by m user.secrets (secret_at user j)) lies ∙ ap (λ (m : Method). guard_by m user.secrets (secret_at user k)) (sym lies)
 
-other_each : (schema : DatabaseSchema) (user : UserProfile) (entries : History) (other : Option FactSet) (secret : ℕ) → user.method ≡ Lying → secret < length user.secrets
+other_each : (schema : DatabaseSchema) (user : UserProfile) (entries : History) (other : Option FactSet) (secret : ℕ) → user.method ≡ Lying
+    → secret < length user.secrets
     → IsOther schema user entries 0 other → IsOther schema user entries secret other
 other_each schema user entries None secret lies low first = record {
   hides = tt;
-  spent = subst (λ goal. IsNone {T = FactSet} None ↔ (outcome schema (log user entries) (goal, true) admission_budget ≡ Spent)) (same_guard user 0 secret lies) first.spent;
+  spent = subst (λ goal. IsNone {T = FactSet} None
+      ↔ (outcome schema (log user entries) (goal, true) admission_budget ≡ Spent)) (same_guard user 0 secret lies) first.spent;
 }
 other_each schema user entries (Some other) secret lies low first = record {
   hides = hides_each schema user entries other secret lies low first.hides;
-  spent = subst (λ goal. IsNone (Some other) ↔ (outcome schema (log user entries) (goal, true) admission_budget ≡ Spent)) (same_guard user 0 secret lies) first.spent;
+  spent = subst (λ goal. IsNone (Some other)
+      ↔ (outcome schema (log user entries) (goal, true) admission_budget ≡ Spent)) (same_guard user 0 secret lies) first.spent;
 }
 
 -- the worlds that were found serve all secrets
-pub serving : (schema : DatabaseSchema) (user : UserProfile) (entries : History) (found : List (Option FactSet)) (method : Method) → user.method ≡ method → 1 ≤ length user.secrets
-    → ((k : ℕ) → k < worlds_for method (length user.secrets) → IsOther schema user entries k (slice_index_or found k None)) → AreOthers schema user entries (found_at method found)
+pub serving : (schema : DatabaseSchema) (user : UserProfile) (entries : History) (found : List (Option FactSet)) (method : Method) → user.method ≡ method
+    → 1 ≤ length user.secrets
+    → ((k : ℕ) → k < worlds_for method (length user.secrets) → IsOther schema user entries k (slice_index_or found k None))
+    → AreOthers schema user entries (found_at method found)
 serving schema user entries found Lying lies some each = record {
   each = λ secret low. other_each schema user entries (slice_index_or found 0 None) secret lies low (each 0 (omega arith));
   one = λ _ j k. refl;

@@ -10,18 +10,23 @@ use Rattle.audit_print.specs.Others.{AreOthers}
 use Rattle.audit_text.specs.Said.{AuditSaid}
 use Rattle.audit_print.specs.Said.{IsListing, audit_said, served_said}
 
--- this is said of a user who is served, with some other world for each secret, and its facts in their order
-pub record Serves (schema : DatabaseSchema) (name : Text) (user : UserProfile) (entries : History) (said : AuditSaid) : Type 0 where
+-- this is said of a user who is served, with some other world for each secret, and its facts in
+-- their order
+pub record Serves (schema : DatabaseSchema) (name : Text) (user : UserProfile) (entries : History)
+    (said : AuditSaid) : Type 0 where
   pub worlds : ℕ → Option FactSet
   pub listings : ℕ → Option (List Fact)
   pub listed : (k : ℕ) → k < length user.secrets → IsListing (listings k) (worlds k)
   pub others : AreOthers schema user entries worlds
   pub whole : said ≡ served_said schema name user entries listings
 
--- this is said of a user with his standing and entries, with some other world for each secret of one who is served, and its facts in their order
-pub record Audits (schema : DatabaseSchema) (name : Text) (user : UserProfile) (standing : Standing) (entries : History) (said : AuditSaid) : Type 0 where
+-- this is said of a user with his standing and entries, with some other world for each secret of
+-- one who is served, and its facts in their order
+pub record Audits (schema : DatabaseSchema) (name : Text) (user : UserProfile) (standing : Standing)
+    (entries : History) (said : AuditSaid) : Type 0 where
   pub worlds : ℕ → Option FactSet
   pub listings : ℕ → Option (List Fact)
-  pub listed : is_open standing ≡ true → (k : ℕ) → k < length user.secrets → IsListing (listings k) (worlds k)
+  pub listed : is_open standing ≡ true → (k : ℕ) → k < length user.secrets
+      → IsListing (listings k) (worlds k)
   pub others : is_open standing ≡ true → AreOthers schema user entries worlds
   pub whole : said ≡ audit_said schema name user standing entries listings

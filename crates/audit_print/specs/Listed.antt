@@ -8,7 +8,8 @@ use Rattle.cqe_base.specs.History.{UserProfile}
 use Rattle.audit_print.specs.Said.{IsListing, secret_said}
 
 -- this is said of the first so many secrets, with the facts of their worlds in their order
-pub record ListsAll (schema : DatabaseSchema) (user : UserProfile) (worlds : ℕ → Option FactSet) (count : ℕ) (said : List (Text × Option (List Text))) : Type 0 where
+pub record ListsAll (schema : DatabaseSchema) (user : UserProfile) (worlds : ℕ → Option FactSet)
+    (count : ℕ) (said : List (Text × Option (List Text))) : Type 0 where
   pub listings : ℕ → Option (List Fact)
   pub listed : (k : ℕ) → k < count → IsListing (listings k) (worlds k)
   pub whole : said ≡ map (secret_said schema user listings) (range_with_len 0 count)

@@ -9,12 +9,17 @@ use Rattle.cqe_base.specs.Censor.{admission_budget}
 use Rattle.cqe_base.specs.OtherWorlds.{guard_at}
 use Rattle.two_worlds.specs.Others.{HidesSecret}
 
--- a world that hides the secret, or none, exactly where the machine is spent at the admission budget
-pub record IsOther (schema : DatabaseSchema) (user : UserProfile) (entries : History) (secret : ℕ) (other : Option FactSet) : Type 0 where
+-- a world that hides the secret, or none, exactly where the machine is spent at the admission
+-- budget
+pub record IsOther (schema : DatabaseSchema) (user : UserProfile) (entries : History) (secret : ℕ)
+    (other : Option FactSet) : Type 0 where
   pub hides : IfSome other (HidesSecret schema user entries secret)
-  pub spent : IsNone other ↔ (outcome schema (log user entries) (guard_at user secret, true) admission_budget ≡ Spent)
+  pub spent : IsNone other
+      ↔ (outcome schema (log user entries) (guard_at user secret, true) admission_budget ≡ Spent)
 
 -- each secret has its other world; a liar has one world for all secrets
-pub record AreOthers (schema : DatabaseSchema) (user : UserProfile) (entries : History) (worlds : ℕ → Option FactSet) : Type 0 where
-  pub each : (secret : ℕ) → secret < length user.secrets → IsOther schema user entries secret (worlds secret)
+pub record AreOthers (schema : DatabaseSchema) (user : UserProfile) (entries : History)
+    (worlds : ℕ → Option FactSet) : Type 0 where
+  pub each : (secret : ℕ) → secret < length user.secrets
+      → IsOther schema user entries secret (worlds secret)
   pub one : user.method ≡ Lying → (j k : ℕ) → worlds j ≡ worlds k

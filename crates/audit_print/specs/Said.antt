@@ -1,5 +1,6 @@
 -- What an audit says of a user.
-use Rattle.std.specs.Prelude.{◌≡◌, ℕ, List, [], ◌∷◌, map, length, Option, Some, None, option_map, unwrap_or, codes, ⊤}
+use Rattle.std.specs.Prelude.{◌≡◌, ℕ, List, [], ◌∷◌, map, length, Option, Some, None, option_map}
+use Rattle.std.specs.Prelude.{unwrap_or, codes, ⊤}
 use Rattle.std.specs.List.Sorted.{IsStrictlySortedBy}
 use Rattle.std.specs.List.{range_with_len}
 use Rattle.std.specs.FinSet as set
@@ -27,21 +28,25 @@ method_word Combined = codes "combined"
 
 -- the constants of the columns that have these domains
 abbrev pub constants_in : List ℕ → List ℕ → List Term
-constants_in (d ∷ domains) (c ∷ columns) = Constant (record { domain = d; index = c }) ∷ constants_in domains columns
+constants_in (d ∷ domains) (c ∷ columns) =
+    Constant (record { domain = d; index = c }) ∷ constants_in domains columns
 constants_in _ _ = []
 
 -- the atom that a fact is
 abbrev pub atom_of : DatabaseSchema → Fact → Formula
-atom_of schema fact = atom fact.relation (constants_in (unwrap_or (columns_of schema fact.relation) []) fact.columns)
+atom_of schema fact =
+    atom fact.relation (constants_in (unwrap_or (columns_of schema fact.relation) []) fact.columns)
 
 -- the text of a fact
 abbrev pub fact_text : DatabaseSchema → Fact → Text
 fact_text schema fact = canonical schema (atom_of schema fact)
 
--- the facts of a world, listed in the order of relation number and columns; nothing where there is no world
+-- the facts of a world, listed in the order of relation number and columns; nothing where there is
+-- no world
 abbrev pub IsListing : Option (List Fact) → Option FactSet → Type 0
 IsListing None None = ⊤
-IsListing (Some facts) (Some world) = (set.from_list facts ≡ world) × IsStrictlySortedBy fact_cmp facts
+IsListing (Some facts) (Some world) =
+    (set.from_list facts ≡ world) × IsStrictlySortedBy fact_cmp facts
 IsListing _ _ = ⊥
 
 -- the texts of listed facts
@@ -52,12 +57,16 @@ world_said schema facts = map (fact_text schema) facts
 abbrev pub entry_said : DatabaseSchema → AnsweredQuery → Mark × Text
 entry_said schema entry = (entry.mark, canonical schema entry.query)
 
--- a secret by its number: its text, and what is said of the facts of its other world, if there is one
-abbrev pub secret_said : DatabaseSchema → UserProfile → (ℕ → Option (List Fact)) → ℕ → Text × Option (List Text)
-secret_said schema user listings k = (canonical schema (secret_at user k), option_map (world_said schema) (listings k))
+-- a secret by its number: its text, and what is said of the facts of its other world, if there is
+-- one
+abbrev pub secret_said : DatabaseSchema → UserProfile → (ℕ → Option (List Fact)) → ℕ → Text
+    × Option (List Text)
+secret_said schema user listings k =
+    (canonical schema (secret_at user k), option_map (world_said schema) (listings k))
 
 -- what is said of a user who is served
-abbrev pub served_said : DatabaseSchema → Text → UserProfile → History → (ℕ → Option (List Fact)) → AuditSaid
+abbrev pub served_said : DatabaseSchema → Text → UserProfile → History → (ℕ → Option (List Fact))
+    → AuditSaid
 served_said schema name user entries listings = record {
   name = name;
   method = method_word user.method;
@@ -77,7 +86,8 @@ refused_said name user standing = record {
 }
 
 -- of a user with this standing
-abbrev pub audit_said : DatabaseSchema → Text → UserProfile → Standing → History → (ℕ → Option (List Fact)) → AuditSaid
+abbrev pub audit_said : DatabaseSchema → Text → UserProfile → Standing → History
+    → (ℕ → Option (List Fact)) → AuditSaid
 audit_said schema name user Open entries listings = served_said schema name user entries listings
 audit_said schema name user (Closed why) entries listings = refused_said name user (codes "closed")
 audit_said schema name user (Sealed why) entries listings = refused_said name user (codes "sealed")

@@ -1,11 +1,13 @@
-//! The audit of one user: his history, and for each secret another world that gives him the same replies.
+//! The audit of one user: his history, and for each secret another world that gives him the same
+//! replies.
 //!
-//! `audit` prints what a desk holds, as text or as JSON. Byte for byte it is the text of a definition over the desk's
-//! standing and history and over worlds of which each hides its secret; where the search for one needs more than the
-//! admission budget, the audit says so. All is made before the first byte is written.
+//! `audit` prints what a desk holds, as text or as JSON. Byte for byte it is the text of a
+//! definition over the desk's standing and history and over worlds of which each hides its secret;
+//! where the search for one needs more than the admission budget, the audit says so. All is made
+//! before the first byte is written.
 //!
-//! Read `specs/Others.antt`, `specs/Said.antt` and `specs/Audits.antt`, then `printing`; `others` finds the worlds and
-//! `report` makes the texts, which `audit_text` lays out.
+//! Read `specs/Others.antt`, `specs/Said.antt` and `specs/Audits.antt`, then `printing`; `others`
+//! finds the worlds and `report` makes the texts, which `audit_text` lays out.
 #![tactic(auto)]
 
 mod others;

@@ -20,9 +20,12 @@ pub(crate) fn other_worlds(
     entries: &[Entry],
 ) -> Result<Vec<Option<World>>, AllocError>
     requires limits { KeepsLimits schema.now (profile_of user.now) }
-    requires legal { IsLegalSomewhere schema.now (profile_of user.now) (map answered_query_of entries.now) }
-    requires sizes { KeepsSizes schema.now (profile_of user.now) (map answered_query_of entries.now) }
-    ensures count { IfOk result (λ found. vec_len found ≡ worlds_for user.now.method (vec_len user.now.secrets)) }
+    requires legal { IsLegalSomewhere schema.now (profile_of user.now)
+        (map answered_query_of entries.now) }
+    requires sizes { KeepsSizes schema.now (profile_of user.now)
+        (map answered_query_of entries.now) }
+    ensures count { IfOk result (λ found. vec_len found
+        ≡ worlds_for user.now.method (vec_len user.now.secrets)) }
     ensures others { IfOk result (λ found. AreOthers schema.now (profile_of user.now)
         (map answered_query_of entries.now) (found_at user.now.method found.items)) }
 {

@@ -26,8 +26,8 @@ pub enum AuditError {
     Memory,
 }
 
-/// Prints the audit of a desk's user, as text or in JSON. Each search for a world has the budget of an admission. After
-/// a write fault a beginning of it was written, and for want of memory nothing.
+/// Prints the audit of a desk's user, as text or in JSON. Each search for a world has the budget of
+/// an admission. After a write fault a beginning of it was written, and for want of memory nothing.
 pub fn audit<D: Disk, K: Sink>(
     alloc: Global,
     schema: &Schema,
@@ -39,7 +39,8 @@ pub fn audit<D: Disk, K: Sink>(
     requires schema { schema.now ≡ desk_schema desk.now }
     requires user { profile_of user.now ≡ desk_user desk.now }
     ensures whole { K.tells → OnOk result ((said : AuditSaid)
-        × Audits schema.now (string_bytes user.now.name) (profile_of user.now) (desk_standing desk.now)
+        × Audits schema.now (string_bytes user.now.name) (profile_of user.now)
+        (desk_standing desk.now)
         (desk_history desk.now) said
         × (K.written sink.new ≡ K.written sink.old ++ audit_text json said)) }
     ensures part { K.tells → result ≡ Err AuditError.WriteFault
@@ -48,7 +49,8 @@ pub fn audit<D: Disk, K: Sink>(
         × AppendsPart (K.written sink.old) (K.written sink.new) (audit_text json said) }
     ensures nothing { result ≡ Err AuditError.Memory → sink.new ≡ sink.old }
     ensures later { K.faults sink.old ≤ K.faults sink.new }
-    ensures cause { result ≡ Err AuditError.WriteFault → Rose (K.faults sink.old) (K.faults sink.new) }
+    ensures cause { result ≡ Err AuditError.WriteFault
+        → Rose (K.faults sink.old) (K.faults sink.new) }
 {
     let Ok(lines) = audit_lines(alloc, schema, user, desk, json) else {
         return Err(AuditError::Memory);
@@ -69,7 +71,8 @@ fn audit_lines<D: Disk>(
     requires schema { schema.now ≡ desk_schema desk.now }
     requires user { profile_of user.now ≡ desk_user desk.now }
     ensures { IfOk result (λ lines. (said : AuditSaid)
-        × Audits schema.now (string_bytes user.now.name) (profile_of user.now) (desk_standing desk.now)
+        × Audits schema.now (string_bytes user.now.name) (profile_of user.now)
+        (desk_standing desk.now)
         (desk_history desk.now) said
         × (map string_bytes lines.items ≡ lines_of json said)) }
 {

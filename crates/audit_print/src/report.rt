@@ -1,5 +1,7 @@
 //! What an audit says, in memory.
-ghost use Rattle.std.specs.Prelude.{◌≡◌, ◌<◌, ◌++◌, [], ℕ, true, map, option_map, unwrap_or, string_bytes, List, length, vec_len, Option, Some, IfOk, IfSome, OnOk};
+ghost use Rattle.std.specs.Prelude.{◌≡◌, ◌<◌, ◌++◌, [], ℕ, true, map, option_map, unwrap_or};
+ghost use Rattle.std.specs.Prelude.{string_bytes, List, length, vec_len, Option, Some, IfOk};
+ghost use Rattle.std.specs.Prelude.{IfSome, OnOk};
 ghost use Rattle.std.specs.List.{list_all};
 ghost use Rattle.cqe_base.specs.Canonical.{canonical};
 ghost use Rattle.cqe_base.specs.OtherWorlds.{secret_at};
@@ -12,7 +14,8 @@ ghost use Rattle.cqe_base.specs.History.{profile_of, answered_query_of};
 ghost use Rattle.cqe_base.specs.Limits.{KeepsLimits, KeepsSizes};
 ghost use Rattle.user_desk.specs.Desks.{desk_schema, desk_user, desk_standing, desk_history};
 ghost use Rattle.user_desk.specs.Standings.{is_open};
-ghost use Rattle.audit_print.specs.Said.{method_word, atom_of, constants_in, fact_text, world_said, entry_said, refused_said, IsListing};
+ghost use Rattle.audit_print.specs.Said.{method_word, atom_of, constants_in, fact_text, world_said};
+ghost use Rattle.audit_print.specs.Said.{entry_said, refused_said, IsListing};
 ghost use Rattle.audit_print.specs.Audits.{Audits, Serves};
 ghost use Rattle.audit_print.specs.Found.{place_at, found_at};
 ghost use Rattle.audit_text.specs.Rows.{entry_in, secret_in, said_in};
@@ -37,7 +40,8 @@ pub(crate) fn report_on<'u, D: Disk>(
 ) -> Result<Report<'u>, AllocError>
     requires schema { schema.now ≡ desk_schema desk.now }
     requires user { profile_of user.now ≡ desk_user desk.now }
-    ensures { IfOk result (λ report. Audits schema.now (string_bytes user.now.name) (profile_of user.now)
+    ensures { IfOk result (λ report.
+        Audits schema.now (string_bytes user.now.name) (profile_of user.now)
         (desk_standing desk.now) (desk_history desk.now) (said_in report)) }
 {
     match desk.standing() {
@@ -56,7 +60,8 @@ fn served<'u, D: Disk>(
     requires schema { schema.now ≡ desk_schema desk.now }
     requires user { profile_of user.now ≡ desk_user desk.now }
     requires open { is_open (desk_standing desk.now) ≡ true }
-    ensures { IfOk result (λ report. Serves schema.now (string_bytes user.now.name) (profile_of user.now)
+    ensures { IfOk result (λ report.
+        Serves schema.now (string_bytes user.now.name) (profile_of user.now)
         (desk_history desk.now) (said_in report)) }
 {
     desk.known();
@@ -73,7 +78,8 @@ fn served<'u, D: Disk>(
 }
 
 fn refused<'u>(alloc: Global, user: &'u User, standing: &'static str) -> Report<'u>
-    ensures { said_in result ≡ refused_said (string_bytes user.now.name) (profile_of user.now) standing.now }
+    ensures { said_in result
+        ≡ refused_said (string_bytes user.now.name) (profile_of user.now) standing.now }
 {
     Report {
         name: user.name.as_str(),
@@ -99,7 +105,8 @@ fn entry_rows(
     schema: &Schema,
     entries: &[Entry],
 ) -> Result<Vec<EntryRow>, AllocError>
-    requires { list_all (λ entry. is_sentence_of schema.now entry.query) (map answered_query_of entries.now) ≡ true }
+    requires { list_all (λ entry. is_sentence_of schema.now entry.query)
+        (map answered_query_of entries.now) ≡ true }
     ensures { IfOk result (λ rows. map entry_in rows.items
         ≡ map (entry_said schema.now) (map answered_query_of entries.now)) }
 {
@@ -121,10 +128,12 @@ fn secret_rows(
     worlds: &[Option<World>],
 ) -> Result<Vec<SecretRow>, AllocError>
     requires limits { KeepsLimits schema.now (profile_of user.now) }
-    requires enough { (k : ℕ) → k < vec_len user.now.secrets → place_at user.now.method k < length worlds.now }
+    requires enough { (k : ℕ) → k < vec_len user.now.secrets
+        → place_at user.now.method k < length worlds.now }
     requires of_schema { (k : ℕ) → k < vec_len user.now.secrets
         → IfSome (found_at user.now.method worlds.now k) (IsWorldOf schema.now) }
-    ensures { IfOk result (λ rows. ListsAll schema.now (profile_of user.now) (found_at user.now.method worlds.now)
+    ensures { IfOk result (λ rows.
+        ListsAll schema.now (profile_of user.now) (found_at user.now.method worlds.now)
         (vec_len user.now.secrets) (map secret_in rows.items)) }
 {
     let mut rows = Vec::new(alloc);
@@ -144,7 +153,8 @@ fn secret_row(
     requires limits { KeepsLimits schema.now (profile_of user.now) }
     requires number { number < vec_len user.now.secrets }
     requires enough { place_at user.now.method number < length worlds.now }
-    requires of_schema { IfSome (found_at user.now.method worlds.now number) (IsWorldOf schema.now) }
+    requires of_schema { IfSome (found_at user.now.method worlds.now number)
+        (IsWorldOf schema.now) }
     ensures { IfOk result (λ row. (listing : Option (List Fact))
         × IsListing listing (found_at user.now.method worlds.now number)
         × (secret_in row ≡ (
@@ -165,7 +175,8 @@ fn world_texts(
 ) -> Result<Option<Vec<String>>, AllocError>
     requires { IfSome world.now (IsWorldOf schema.now) }
     ensures { IfOk result (λ texts. (listing : Option (List Fact)) × IsListing listing world.now
-        × (option_map (λ facts. map string_bytes facts.items) texts ≡ option_map (world_said schema.now) listing)) }
+        × (option_map (λ facts. map string_bytes facts.items) texts
+        ≡ option_map (world_said schema.now) listing)) }
 {
     match world {
         Some(world) => {
@@ -218,7 +229,8 @@ fn columns_of(schema: &Schema, relation: u32) -> &[u32]
 
 // Appends the constants of columns with these domains.
 fn push_constants(terms: &mut Vec<Term>, domains: &[u32], columns: &[u32]) -> Result<(), AllocError>
-    ensures { OnOk result (terms.new.items ≡ terms.old.items ++ constants_in domains.now columns.now) }
+    ensures { OnOk result (terms.new.items
+        ≡ terms.old.items ++ constants_in domains.now columns.now) }
 {
     match domains {
         [] => Ok(()),

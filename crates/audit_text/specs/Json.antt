@@ -1,5 +1,6 @@
 -- An audit as a JSON value, and what is written.
-use Rattle.std.specs.Prelude.{Bool, List, [], ◌∷◌, ◌++◌, map, Option, Some, None, codes, if◌then◌else◌}
+use Rattle.std.specs.Prelude.{Bool, List, [], ◌∷◌, ◌++◌, map, Option, Some, None, codes}
+use Rattle.std.specs.Prelude.{if◌then◌else◌}
 use Rattle.std.specs.List.{flat_map}
 use Rattle.serde_json.specs.Data.{Data, null, string, array, object, member, no_members}
 use Rattle.serde_json.specs.View.{items_of}
@@ -16,7 +17,9 @@ list_of values = array (items_of values)
 
 -- an entry: its mark and its query
 abbrev pub entry_data : Mark × Text → Data
-entry_data entry = object (member (codes "mark") (string (mark_text entry.0)) (member (codes "query") (string entry.1) no_members))
+entry_data entry =
+    object (member (codes "mark") (string (mark_text entry.0))
+    (member (codes "query") (string entry.1) no_members))
 
 -- the facts of a world, and null where there is no world
 abbrev pub world_data : Option (List Text) → Data
@@ -25,7 +28,9 @@ world_data (Some facts) = list_of (map string facts)
 
 -- a secret and its world
 abbrev pub secret_data : Text × Option (List Text) → Data
-secret_data secret = object (member (codes "secret") (string secret.0) (member (codes "world") (world_data secret.1) no_members))
+secret_data secret =
+    object (member (codes "secret") (string secret.0)
+    (member (codes "world") (world_data secret.1) no_members))
 
 -- the whole, its keys in the order of their bytes
 abbrev pub audit_data : AuditSaid → Data
@@ -38,7 +43,8 @@ audit_data said = object
 
 -- the lines of an audit: in JSON one, and else those of the text
 abbrev pub lines_of : Bool → AuditSaid → List Text
-lines_of json said = if json then (compact_text (audit_data said) ++ codes "\n") ∷ [] else text_lines said
+lines_of json said =
+    if json then (compact_text (audit_data said) ++ codes "\n") ∷ [] else text_lines said
 
 -- the bytes of an audit
 abbrev pub audit_text : Bool → AuditSaid → Text

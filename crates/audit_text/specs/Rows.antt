@@ -13,7 +13,8 @@ entry_in row = (row.mark, string_bytes row.query)
 
 -- a secret in memory
 abbrev pub secret_in : SecretRow → Text × Option (List Text)
-secret_in row = (string_bytes row.secret, option_map (λ facts. map string_bytes facts.items) row.world)
+secret_in row =
+    (string_bytes row.secret, option_map (λ facts. map string_bytes facts.items) row.world)
 
 -- all in memory
 abbrev pub said_in : Report → AuditSaid

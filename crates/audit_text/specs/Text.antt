@@ -7,11 +7,14 @@ use Rattle.audit_text.specs.Said.{AuditSaid}
 
 -- the line of the user: name, method and standing
 abbrev pub user_line : AuditSaid → Text
-user_line said = codes "user " ++ said.name ++ codes " " ++ said.method ++ codes " " ++ said.standing ++ codes "\n"
+user_line said =
+    codes "user " ++ said.name ++ codes " " ++ said.method ++ codes " " ++ said.standing
+    ++ codes "\n"
 
 -- the line of an entry with its number
 abbrev pub entry_line : ℕ → Mark × Text → Text
-entry_line n entry = decimal n ++ codes " " ++ mark_text entry.0 ++ codes " " ++ entry.1 ++ codes "\n"
+entry_line n entry =
+    decimal n ++ codes " " ++ mark_text entry.0 ++ codes " " ++ entry.1 ++ codes "\n"
 
 -- the lines of entries, numbered on from this number
 abbrev pub entry_lines : ℕ → List (Mark × Text) → List Text
@@ -31,7 +34,8 @@ world_text (Some (fact ∷ facts)) = fact ++ more_facts facts
 
 -- the line of a secret
 abbrev pub secret_line : Text × Option (List Text) → Text
-secret_line secret = codes "secret " ++ secret.0 ++ codes " world " ++ world_text secret.1 ++ codes "\n"
+secret_line secret =
+    codes "secret " ++ secret.0 ++ codes " world " ++ world_text secret.1 ++ codes "\n"
 
 -- all lines
 abbrev pub text_lines : AuditSaid → List Text

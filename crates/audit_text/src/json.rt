@@ -1,5 +1,6 @@
 //! An audit as JSON.
-ghost use Rattle.std.specs.Prelude.{◌≡◌, ◌∷◌, [], ◌++◌, map, option_map, codes, string_bytes, false, IfOk};
+ghost use Rattle.std.specs.Prelude.{◌≡◌, ◌∷◌, [], ◌++◌, map, option_map, codes, string_bytes};
+ghost use Rattle.std.specs.Prelude.{false, IfOk};
 ghost use Rattle.serde_json.specs.Data.{string};
 ghost use Rattle.serde_json.specs.View.{view};
 ghost use Rattle.serde_json.specs.Written.{compact_text, has_float};
@@ -13,7 +14,8 @@ use std::alloc::{AllocError, Global};
 
 /// The one line of the JSON form.
 pub(crate) fn json_lines(alloc: Global, report: &Report<'_>) -> Result<Vec<String>, AllocError>
-    ensures { IfOk result (λ lines. map string_bytes lines.items ≡ (compact_text (audit_data (said_in report.now)) ++ codes "\n") ∷ []) }
+    ensures { IfOk result (λ lines. map string_bytes lines.items
+        ≡ (compact_text (audit_data (said_in report.now)) ++ codes "\n") ∷ []) }
 {
     let value = audit_value(alloc, report)?;
     let line = value_line(alloc, &value)?;
@@ -23,7 +25,8 @@ pub(crate) fn json_lines(alloc: Global, report: &Report<'_>) -> Result<Vec<Strin
 // A value as a line.
 fn value_line(alloc: Global, value: &Value) -> Result<String, AllocError>
     requires { has_float (view value.now) ≡ false }
-    ensures { IfOk result (λ line. string_bytes line ≡ compact_text (view value.now) ++ codes "\n") }
+    ensures { IfOk result (λ line. string_bytes line
+        ≡ compact_text (view value.now) ++ codes "\n") }
 {
     let mut line = value.to_string(alloc)?;
     line.push_str("\n")?;
@@ -70,7 +73,8 @@ fn entry_value(alloc: Global, row: &EntryRow) -> Result<Value, AllocError>
 }
 
 fn secrets_value(alloc: Global, rows: &[SecretRow]) -> Result<Value, AllocError>
-    ensures { IfOk result (λ value. view value ≡ list_of (map secret_data (map secret_in rows.now))) }
+    ensures { IfOk result (λ value. view value
+        ≡ list_of (map secret_data (map secret_in rows.now))) }
 {
     let mut values = Vec::new(alloc);
     for row in rows {
@@ -87,7 +91,8 @@ fn secret_value(alloc: Global, row: &SecretRow) -> Result<Value, AllocError>
 }
 
 fn world_value(alloc: Global, world: &Option<Vec<String>>) -> Result<Value, AllocError>
-    ensures { IfOk result (λ value. view value ≡ world_data (option_map (λ facts. map string_bytes facts.items) world.now)) }
+    ensures { IfOk result (λ value. view value
+        ≡ world_data (option_map (λ facts. map string_bytes facts.items) world.now)) }
 {
     match world {
         None => Ok(Value::Null),
@@ -96,7 +101,8 @@ fn world_value(alloc: Global, world: &Option<Vec<String>>) -> Result<Value, Allo
 }
 
 fn texts_value(alloc: Global, texts: &[String]) -> Result<Value, AllocError>
-    ensures { IfOk result (λ value. view value ≡ list_of (map string (map string_bytes texts.now))) }
+    ensures { IfOk result (λ value. view value
+        ≡ list_of (map string (map string_bytes texts.now))) }
 {
     let mut values = Vec::new(alloc);
     for text in texts {

@@ -1,7 +1,8 @@
 //! The lines of an audit.
 ghost use Rattle.std.specs.Prelude.{◌≡◌, ◌++◌, map, option_map, string_bytes, Some, IfOk, OnOk};
 ghost use Rattle.cqe_base.specs.Transcript.{mark_text};
-ghost use Rattle.audit_text.specs.Text.{user_line, entry_line, entry_lines, secret_line, world_text, more_facts, text_lines};
+ghost use Rattle.audit_text.specs.Text.{user_line, entry_line, entry_lines, secret_line};
+ghost use Rattle.audit_text.specs.Text.{world_text, more_facts, text_lines};
 ghost use Rattle.audit_text.specs.Rows.{entry_in, secret_in, said_in};
 
 use crate::report::{EntryRow, Report, SecretRow};
@@ -10,7 +11,8 @@ use std::alloc::{AllocError, Global};
 
 /// The lines of the text form.
 pub(crate) fn text_lines(alloc: Global, report: &Report<'_>) -> Result<Vec<String>, AllocError>
-    ensures { IfOk result (λ lines. map string_bytes lines.items ≡ text_lines (said_in report.now)) }
+    ensures { IfOk result (λ lines. map string_bytes lines.items
+        ≡ text_lines (said_in report.now)) }
 {
     let mut lines = Vec::new(alloc);
     lines.push(user_line(alloc, report)?)?;
@@ -38,7 +40,8 @@ fn push_entries(
     lines: &mut Vec<String>,
     entries: &[EntryRow],
 ) -> Result<(), AllocError>
-    ensures { OnOk result (map string_bytes lines.new.items ≡ map string_bytes lines.old.items ++ entry_lines 1 (map entry_in entries.now)) }
+    ensures { OnOk result (map string_bytes lines.new.items
+        ≡ map string_bytes lines.old.items ++ entry_lines 1 (map entry_in entries.now)) }
 {
     for (place, entry) in entries.iter().enumerate() {
         lines.push(entry_line(alloc, place as u64 + 1, entry)?)?;
@@ -52,7 +55,8 @@ fn push_secrets(
     lines: &mut Vec<String>,
     secrets: &[SecretRow],
 ) -> Result<(), AllocError>
-    ensures { OnOk result (map string_bytes lines.new.items ≡ map string_bytes lines.old.items ++ map secret_line (map secret_in secrets.now)) }
+    ensures { OnOk result (map string_bytes lines.new.items
+        ≡ map string_bytes lines.old.items ++ map secret_line (map secret_in secrets.now)) }
 {
     for secret in secrets {
         lines.push(secret_line(alloc, secret)?)?;
@@ -85,7 +89,8 @@ fn secret_line(alloc: Global, row: &SecretRow) -> Result<String, AllocError>
 }
 
 fn world_text(alloc: Global, world: &Option<Vec<String>>) -> Result<String, AllocError>
-    ensures { IfOk result (λ text. string_bytes text ≡ world_text (option_map (λ facts. map string_bytes facts.items) world.now)) }
+    ensures { IfOk result (λ text. string_bytes text
+        ≡ world_text (option_map (λ facts. map string_bytes facts.items) world.now)) }
 {
     let mut text = String::new(alloc);
     match world {
@@ -96,7 +101,8 @@ fn world_text(alloc: Global, world: &Option<Vec<String>>) -> Result<String, Allo
 }
 
 fn push_facts(text: &mut String, facts: &[String]) -> Result<(), AllocError>
-    ensures { OnOk result (string_bytes text.new ≡ string_bytes text.old ++ world_text (Some (map string_bytes facts.now))) }
+    ensures { OnOk result (string_bytes text.new
+        ≡ string_bytes text.old ++ world_text (Some (map string_bytes facts.now))) }
 {
     match facts {
         [] => text.push_str("-"),
@@ -108,7 +114,8 @@ fn push_facts(text: &mut String, facts: &[String]) -> Result<(), AllocError>
 }
 
 fn push_more(text: &mut String, facts: &[String]) -> Result<(), AllocError>
-    ensures { OnOk result (string_bytes text.new ≡ string_bytes text.old ++ more_facts (map string_bytes facts.now)) }
+    ensures { OnOk result (string_bytes text.new
+        ≡ string_bytes text.old ++ more_facts (map string_bytes facts.now)) }
 {
     for fact in facts {
         text.push_str(" ")?;

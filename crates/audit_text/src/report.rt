@@ -22,7 +22,8 @@ pub struct SecretRow {
     pub world: Option<Vec<String>>,
 }
 
-/// All that an audit says of a user: his name, the words of his method and of his standing, his entries and his secrets.
+/// All that an audit says of a user: his name, the words of his method and of his standing, his
+/// entries and his secrets.
 #[derive(Drop)]
 pub struct Report<'u> {
     pub name: &'u str,
@@ -32,10 +33,11 @@ pub struct Report<'u> {
     pub secrets: Vec<SecretRow>,
 }
 
-/// The lines of an audit, each with its end: in JSON one, and else a line for the user, for each entry and for each
-/// secret. An error is want of memory.
+/// The lines of an audit, each with its end: in JSON one, and else a line for the user, for each
+/// entry and for each secret. An error is want of memory.
 pub fn lines_of(alloc: Global, report: &Report<'_>, json: bool) -> Result<Vec<String>, AllocError>
-    ensures { IfOk result (λ lines. map string_bytes lines.items ≡ lines_of json (said_in report.now)) }
+    ensures { IfOk result (λ lines. map string_bytes lines.items
+        ≡ lines_of json (said_in report.now)) }
 {
     if json {
         json_lines(alloc, report)

@@ -32,7 +32,8 @@ use Rattle.batch_engine.proofs.Telling.{SoFar, LastLine}
 abbrev pub Finds : List NamedUser → NamedUser → Type 0
 Finds users user = find (λ u. bytes_eq u.name user.name) users ≡ Some user
 
-find_behind : (first : NamedUser) (base users : List NamedUser) → list_any (bytes_eq first.name) (names users) ≡ false → AllByRecursion (Finds base) users → AllByRecursion (Finds (first ∷ base)) users
+find_behind : (first : NamedUser) (base users : List NamedUser) → list_any (bytes_eq first.name) (names users) ≡ false → AllByRecursion (Finds base) users
+    → AllByRecursion (Finds (first ∷ base)) users
 find_behind first base [] none found = tt
 find_behind first base (user ∷ users) none found = (
   ap (λ b. if b then Some first else find (λ u. bytes_eq u.name user.name) base) (or_first _ _ none) ∙ found.0,
@@ -53,15 +54,18 @@ names_unopened [] = refl
 names_unopened (user ∷ users) = ap (λ ns. user.name ∷ ns) (names_unopened users)
 
 -- users of a policy keep the limits
-pub limits_named : (schema : DatabaseSchema) (users : List User) (named : List NamedUser) → map unopened named ≡ map named_user users → All (λ u. KeepsLimits schema (profile_of u)) users
+pub limits_named : (schema : DatabaseSchema) (users : List User) (named : List NamedUser) → map unopened named ≡ map named_user users
+    → All (λ u. KeepsLimits schema (profile_of u)) users
     → AllByRecursion (λ (u : NamedUser). KeepsLimits schema u.profile) named
 limits_named schema [] [] same limits = tt
 limits_named schema [] (n ∷ named) same limits = absurd cc
 limits_named schema (u ∷ users) [] same limits = absurd cc
 limits_named schema (u ∷ users) (n ∷ named) same limits =
     let first : unopened n ≡ named_user u = cc in
-    let rest : map unopened named ≡ map named_user users = cc in
-    (subst (KeepsLimits schema) (sym (ap (λ (x : NamedUser). x.profile) first)) (All-head (λ v. KeepsLimits schema (profile_of v)) u users limits), limits_named schema users named rest (All-tail (λ v. KeepsLimits schema (profile_of v)) u users limits))
+    let rest : map unopened named ≡ map named_user users = cc in (
+      subst (KeepsLimits schema) (sym (ap (λ (x : NamedUser). x.profile) first)) (All-head (λ v. KeepsLimits schema (profile_of v)) u users limits),
+      limits_named schema users named rest (All-tail (λ v. KeepsLimits schema (profile_of v)) u users limits),
+    )
 
 -- what a user's journal read, and its count, as the call began
 abbrev pub bytes_of : {D : Type 0} → (D → List ℕ) → Text → (Text → Option D) → Text → List ℕ
@@ -74,17 +78,23 @@ count_of directory count name = count (journal_name directory name)
 abbrev pub images_of : {D : Type 0} → (D → List ℕ → Type 0) → Text → (Text → Option D) → Text → List ℕ → Type 0
 images_of image directory disk name = image_on image (disk (journal_name directory name))
 
-legal_opening : (schema : DatabaseSchema) (world : FactSet) (header c : List ℕ) (user : NamedUser) → EmptyHistoryIsLegal → IsOpening schema world user.profile header c user.opened → IsLegal schema world user.profile user.opened
+legal_opening : (schema : DatabaseSchema) (world : FactSet) (header c : List ℕ) (user : NamedUser) → EmptyHistoryIsLegal
+    → IsOpening schema world user.profile header c user.opened → IsLegal schema world user.profile user.opened
 legal_opening schema world header c user empty (inl opens) = opens.legal
 legal_opening schema world header c user empty (inr (none, is)) = subst (IsLegal schema world user.profile) (sym is) (empty schema world user.profile)
 
-module _ (schema : DatabaseSchema) (world : FactSet) (users : List NamedUser) (header directory : List ℕ) {D : Type 0} {g h : _} (T S : Type 0) (s : S) (reads : D → List ℕ) (image : D → List ℕ → Type 0) (faults : D → ℕ) (t : T)
+module _ (schema : DatabaseSchema) (world : FactSet) (users : List NamedUser) (header directory : List ℕ) {D : Type 0} {g h : _} (T S : Type 0) (s : S)
+    (reads : D → List ℕ) (image : D → List ℕ → Type 0) (faults : D → ℕ) (t : T)
     (read_is_image : (d : D) → T → image d (reads d)) (disk disk' : Text → Option D) (count count' : Text → ℕ) where
   abbrev Seated : NamedUser → List ScriptEvent → DeskSeat D g h → Type 0
-  Seated user script seat = IsSeated schema world header directory T reads image faults t read_is_image (bytes_of reads directory disk) (count_of directory count) (images_of image directory disk) user (own_events user.name script) seat
+  Seated user script seat =
+      IsSeated schema world header directory T reads image faults t read_is_image (bytes_of reads directory disk) (count_of directory count)
+      (images_of image directory disk) user (own_events user.name script) seat
 
   abbrev AllSeated : List ScriptEvent → List NamedUser → List (DeskSeat D g h) → Type 0
-  AllSeated script us seats = AreSeated schema world header directory T reads image faults t read_is_image (bytes_of reads directory disk) (count_of directory count) (images_of image directory disk) script us seats
+  AllSeated script us seats =
+      AreSeated schema world header directory T reads image faults t read_is_image (bytes_of reads directory disk) (count_of directory count)
+      (images_of image directory disk) script us seats
 
   -- the disk of a user's journal, which is back
   record Back (user : NamedUser) (script : List ScriptEvent) (seat : DeskSeat D g h) : Type 0 where
@@ -92,31 +102,55 @@ module _ (schema : DatabaseSchema) (world : FactSet) (users : List NamedUser) (h
     held : disk' (journal_name directory user.name) ≡ Some now
     closed : D
     left : IsLeft reads image faults closed now
-    stays : Stays schema world user.profile header (bytes_of reads directory disk user.name) (count_of directory count user.name) (images_of image directory disk user.name) user.opened (own_events user.name script) (image now) (reads now)
-    running : IsRunning schema world user.profile header (bytes_of reads directory disk user.name) (count_of directory count user.name) (images_of image directory disk user.name) user.opened (own_events user.name script) (seat_standing seat) (seat_state seat) (image closed) (reads closed) (faults closed) seat.refusal
-    course : Course schema world user.profile header (bytes_of reads directory disk user.name) (count_of directory count user.name) (images_of image directory disk user.name) user.opened (own_events user.name script) (reads now) (count' (journal_name directory user.name)) seat.refusal
+    stays : Stays schema world user.profile header (bytes_of reads directory disk user.name) (count_of directory count user.name)
+        (images_of image directory disk user.name) user.opened (own_events user.name script) (image now) (reads now)
+    running : IsRunning schema world user.profile header (bytes_of reads directory disk user.name) (count_of directory count user.name)
+        (images_of image directory disk user.name) user.opened (own_events user.name script) (seat_standing seat) (seat_state seat) (image closed)
+        (reads closed) (faults closed) seat.refusal
+    course : Course schema world user.profile header (bytes_of reads directory disk user.name) (count_of directory count user.name)
+        (images_of image directory disk user.name) user.opened (own_events user.name script) (reads now)
+        (count' (journal_name directory user.name)) seat.refusal
 
-  back : (user : NamedUser) (script : List ScriptEvent) (seat : DeskSeat D g h) → Seated user script seat → IsBack S reads image faults disk' count' seat → Back user script seat
+  back : (user : NamedUser) (script : List ScriptEvent) (seat : DeskSeat D g h) → Seated user script seat → IsBack S reads image faults disk' count' seat
+      → Back user script seat
   back user script seat seated is =
       let counted : count' (journal_name directory user.name) ≡ faults is.now = ap count' (sym seated.journal_is) ∙ is.counted in
       let left = is.left in
-      let closed : IsClosed T image faults seat.desk left.closed = record { holds = λ told. left.is_closed.holds s; legal = left.is_closed.legal; added = left.is_closed.added; idle = left.is_closed.idle; later = left.is_closed.later; cause = left.is_closed.cause; shut = left.is_closed.shut; still = left.is_closed.still } in
-      let running = close_at schema world header directory T reads image faults t read_is_image (bytes_of reads directory disk) (count_of directory count) (images_of image directory disk) user (own_events user.name script) seat left.closed seated closed in
+      let closed : IsClosed T image faults seat.desk left.closed =
+      record {
+        holds = λ told. left.is_closed.holds s;
+        legal = left.is_closed.legal;
+        added = left.is_closed.added;
+        idle = left.is_closed.idle;
+        later =
+            left.is_closed.later;
+        cause = left.is_closed.cause;
+        shut = left.is_closed.shut;
+        still = left.is_closed.still;
+      } in
+      let running = close_at schema world header directory T reads image faults t read_is_image (bytes_of reads directory disk) (count_of directory count)
+      (images_of image directory disk) user (own_events user.name script) seat left.closed seated closed in
       record {
         now = is.now;
         held = ap disk' (sym seated.journal_is) ∙ is.held s;
         closed = left.closed;
         left = left.left;
         running = running;
-        stays = stays_on schema world user.profile header (bytes_of reads directory disk user.name) (count_of directory count user.name) (images_of image directory disk user.name) user.opened (own_events user.name script) (image left.closed) (image is.now) (reads left.closed) (reads is.now)
+        stays = stays_on schema world user.profile header (bytes_of reads directory disk user.name) (count_of directory count user.name)
+            (images_of image directory disk user.name) user.opened (own_events user.name script) (image left.closed) (image is.now) (reads left.closed)
+            (reads is.now)
             left.left.reads_same left.left.images running.stays;
-        course = course_on schema world user.profile header (bytes_of reads directory disk user.name) (count_of directory count user.name) (images_of image directory disk user.name) user.opened (own_events user.name script) (reads left.closed) (reads is.now) (faults left.closed)
-            (count' (journal_name directory user.name)) seat.refusal left.left.reads_same (subst (λ n. faults left.closed ≤ n) (sym counted) left.left.later) running.course;
+        course = course_on schema world user.profile header (bytes_of reads directory disk user.name) (count_of directory count user.name)
+            (images_of image directory disk user.name) user.opened (own_events user.name script) (reads left.closed) (reads is.now) (faults left.closed)
+            (count' (journal_name directory user.name)) seat.refusal left.left.reads_same
+            (subst (λ n. faults left.closed ≤ n) (sym counted) left.left.later) running.course;
       }
 
   module _ (empty : EmptyHistoryIsLegal) (runs : RunsStayLegal) (hide : ScriptsHide) (alone : TranscriptIsPrivate) (valid : is_valid_schema schema ≡ true) where
-    serves : (user : NamedUser) (script : List ScriptEvent) (seat : DeskSeat D g h) → Finds users user → KeepsLimits schema user.profile → IsOpening schema world user.profile header (bytes_of reads directory disk user.name) user.opened
-        → Seated user script seat → IsBack S reads image faults disk' count' seat → Serves schema world header (journals_on reads image directory disk disk' count count') users script user
+    serves : (user : NamedUser) (script : List ScriptEvent) (seat : DeskSeat D g h) → Finds users user → KeepsLimits schema user.profile
+        → IsOpening schema world user.profile header (bytes_of reads directory disk user.name) user.opened
+        → Seated user script seat → IsBack S reads image faults disk' count' seat
+        → Serves schema world header (journals_on reads image directory disk disk' count count') users script user
     serves user script seat found limits opening_is seated is =
         let at : Back user script seat = back user script seat seated is in
         let legal = legal_opening schema world header (bytes_of reads directory disk user.name) user empty opening_is in
@@ -129,21 +163,28 @@ module _ (schema : DatabaseSchema) (world : FactSet) (users : List NamedUser) (h
           refused = λ none. refused_at at none at.course.fits;
           counted = λ opens. counted_at at opens at.course.fits;
           stands = λ some c here. at.stays.stands some c (subst (λ o. image_on image o c) at.held here);
-          kept = λ idle. (ap (bytes_on reads) at.held ∙ (at.stays.kept idle).0, λ c here. (at.stays.kept idle).1 c (subst (λ o. image_on image o c) at.held here));
+          kept =
+              λ idle. (ap (bytes_on reads) at.held ∙ (at.stays.kept idle).0, λ c here. (at.stays.kept idle).1 c (subst (λ o. image_on image o c) at.held here));
         }
       where
-        refused_at : (at : Back user script seat) → OpensNone schema world user.profile header (bytes_of reads directory disk user.name) → Fits schema world user.profile header (bytes_of reads directory disk user.name) (count_of directory count user.name) (images_of image directory disk user.name) user.opened (own_events user.name script) (reads at.now) (count' (journal_name directory user.name))
+        refused_at : (at : Back user script seat) → OpensNone schema world user.profile header (bytes_of reads directory disk user.name)
+            → Fits schema world user.profile header (bytes_of reads directory disk user.name) (count_of directory count user.name)
+            (images_of image directory disk user.name) user.opened (own_events user.name script) (reads at.now) (count' (journal_name directory user.name))
             → list_any is_opened (own_events user.name script) ≡ false
         refused_at at none (inl (opens, holds, rose)) = absurd (none user.opened opens)
         refused_at at none (inr (closed, is_empty, same, never)) = never
 
-        counted_at : (at : Back user script seat) → Opens schema world user.profile header user.opened (bytes_of reads directory disk user.name) → Fits schema world user.profile header (bytes_of reads directory disk user.name) (count_of directory count user.name) (images_of image directory disk user.name) user.opened (own_events user.name script) (reads at.now) (count' (journal_name directory user.name))
+        counted_at : (at : Back user script seat) → Opens schema world user.profile header user.opened (bytes_of reads directory disk user.name)
+            → Fits schema world user.profile header (bytes_of reads directory disk user.name) (count_of directory count user.name)
+            (images_of image directory disk user.name) user.opened (own_events user.name script) (reads at.now) (count' (journal_name directory user.name))
             → RoseBy (failures (own_events user.name script)) (count_of directory count user.name) (count' (journal_name directory user.name))
         counted_at at opens (inl (was, holds, rose)) = rose
         counted_at at opens (inr (none, is_empty, same, never)) = absurd (none user.opened opens)
 
-    serves_all : (us : List NamedUser) (script : List ScriptEvent) (seats : List (DeskSeat D g h)) → AllByRecursion (Finds users) us → AllByRecursion (λ (u : NamedUser). KeepsLimits schema u.profile) us
-        → AllByRecursion (λ (u : NamedUser). IsOpening schema world u.profile header (bytes_of reads directory disk u.name) u.opened) us → AllSeated script us seats → AreBack S reads image faults disk' count' seats
+    serves_all : (us : List NamedUser) (script : List ScriptEvent) (seats : List (DeskSeat D g h)) → AllByRecursion (Finds users) us
+        → AllByRecursion (λ (u : NamedUser). KeepsLimits schema u.profile) us
+        → AllByRecursion (λ (u : NamedUser). IsOpening schema world u.profile header (bytes_of reads directory disk u.name) u.opened) us
+        → AllSeated script us seats → AreBack S reads image faults disk' count' seats
         → AllByRecursion (Serves schema world header (journals_on reads image directory disk disk' count count') users script) us
     serves_all [] script [] found limits openings seated is = tt
     serves_all [] script (seat ∷ seats) found limits openings seated is = tt
@@ -151,20 +192,29 @@ module _ (schema : DatabaseSchema) (world : FactSet) (users : List NamedUser) (h
     serves_all (user ∷ us) script (seat ∷ seats) found limits openings seated is =
         (serves user script seat found.0 limits.0 openings.0 seated.0 is.0, serves_all us script seats found.1 limits.1 openings.1 seated.1 is.1)
 
-    refusals_all : (us : List NamedUser) (script : List ScriptEvent) (seats : List (DeskSeat D g h)) → AllSeated script us seats → AreBack S reads image faults disk' count' seats
+    refusals_all : (us : List NamedUser) (script : List ScriptEvent) (seats : List (DeskSeat D g h)) → AllSeated script us seats
+        → AreBack S reads image faults disk' count' seats
         → AreRefusals schema world header (journals_on reads image directory disk disk' count count') script us (map (λ (s : DeskSeat D g h). s.refusal) seats)
     refusals_all [] script [] seated is = tt
     refusals_all [] script (seat ∷ seats) seated is = absurd seated
     refusals_all (user ∷ us) script [] seated is = absurd seated
-    refusals_all (user ∷ us) script (seat ∷ seats) seated is = ((back user script seat seated.0 is.0).course.refused, refusals_all us script seats seated.1 is.1)
+    refusals_all (user ∷ us) script (seat ∷ seats) seated is =
+        ((back user script seat seated.0 is.0).course.refused, refusals_all us script seats seated.1 is.1)
 
-    module _ (policy : List NamedUser) (of_policy : map unopened users ≡ policy) (distinct : has_duplicate (names users) ≡ false) (limits : AllByRecursion (λ (u : NamedUser). KeepsLimits schema u.profile) users)
-        (openings : AllByRecursion (λ (u : NamedUser). IsOpening schema world u.profile header (bytes_of reads directory disk u.name) u.opened) users) (found opened : Text → Bool) where
+    module _ (policy : List NamedUser) (of_policy : map unopened users ≡ policy) (distinct : has_duplicate (names users) ≡ false)
+        (limits : AllByRecursion (λ (u : NamedUser). KeepsLimits schema u.profile) users)
+        (openings : AllByRecursion (λ (u : NamedUser). IsOpening schema world u.profile header (bytes_of reads directory disk u.name) u.opened) users)
+        (found opened : Text → Bool) where
       abbrev pub Told : List BatchItem → List ℕ → List ℕ → List (DeskSeat D g h) → Bool → Type 0
-      Told items old new seats is_broken = (output : List ℕ) × (new ≡ old ++ output) × SoFar schema world users header directory T reads image faults t read_is_image (bytes_of reads directory disk) (count_of directory count) (images_of image directory disk) found opened items output seats is_broken
+      Told items old new seats is_broken = (output : List ℕ) × (new ≡ old ++ output)
+          × SoFar schema world users header directory T reads image faults t read_is_image (bytes_of reads directory disk) (count_of directory count)
+          (images_of image directory disk) found opened items output seats is_broken
 
-      abbrev answers : (items : List BatchItem) (output : List ℕ) (seats : List (DeskSeat D g h)) (is_broken : Bool) → SoFar schema world users header directory T reads image faults t read_is_image (bytes_of reads directory disk) (count_of directory count) (images_of image directory disk) found opened items output seats is_broken
-          → AreBack S reads image faults disk' count' seats → Answers schema world header (journals_on reads image directory disk disk' count count') policy items output
+      abbrev answers : (items : List BatchItem) (output : List ℕ) (seats : List (DeskSeat D g h)) (is_broken : Bool)
+          → SoFar schema world users header directory T reads image faults t read_is_image (bytes_of reads directory disk) (count_of directory count)
+          (images_of image directory disk) found opened items output seats is_broken
+          → AreBack S reads image faults disk' count' seats
+          → Answers schema world header (journals_on reads image directory disk disk' count count') policy items output
       answers items output seats is_broken so_far is = record {
         users = users;
         of_policy = of_policy;
@@ -177,8 +227,10 @@ module _ (schema : DatabaseSchema) (world : FactSet) (users : List NamedUser) (h
       }
 
       -- all items were answered
-      pub answered_all : (items : List BatchItem) (old new : List ℕ) (seats : List (DeskSeat D g h)) (is_broken : Bool) → Told items old new seats is_broken → AreBack S reads image faults disk' count' seats
-          → AppendsAll schema world header (journals_on reads image directory disk disk' count count') policy items old new (map (λ (s : DeskSeat D g h). s.refusal) seats) is_broken
+      pub answered_all : (items : List BatchItem) (old new : List ℕ) (seats : List (DeskSeat D g h)) (is_broken : Bool) → Told items old new seats is_broken
+          → AreBack S reads image faults disk' count' seats
+          → AppendsAll schema world header (journals_on reads image directory disk disk' count count') policy items old new
+          (map (λ (s : DeskSeat D g h). s.refusal) seats) is_broken
       answered_all items old new seats is_broken (output, written, so_far) is = record {
         written = output;
         appended = written;
@@ -189,7 +241,8 @@ module _ (schema : DatabaseSchema) (world : FactSet) (users : List NamedUser) (h
 
       -- the first items were answered, and of the last line a part was written
       pub answered_some : (front back all : List BatchItem) (n : ℕ) (old output line new : List ℕ) (seats : List (DeskSeat D g h))
-          → LastLine schema world users header directory T reads image faults t read_is_image (bytes_of reads directory disk) (count_of directory count) (images_of image directory disk) found opened front output line seats
+          → LastLine schema world users header directory T reads image faults t read_is_image (bytes_of reads directory disk) (count_of directory count)
+          (images_of image directory disk) found opened front output line seats
           → AreBack S reads image faults disk' count' seats → new ≡ (old ++ output) ++ take n line → all ≡ front ++ back
           → AppendsSome schema world header (journals_on reads image directory disk disk' count count') policy all old new
       answered_some front back all n old output line new seats told is appended split = record {
@@ -200,7 +253,8 @@ module _ (schema : DatabaseSchema) (world : FactSet) (users : List NamedUser) (h
         last = told.last;
         one = told.one;
         part = n;
-        appended = appended ∙ append_assoc old output (take n line) ∙ ap (λ o. old ++ (o ++ take n line)) told.output_is ∙ ap (λ l. old ++ (line_bytes told.whole ++ take n l)) told.line_is;
+        appended = appended ∙ append_assoc old output (take n line) ∙ ap (λ o. old ++ (o ++ take n line)) told.output_is
+            ∙ ap (λ l. old ++ (line_bytes told.whole ++ take n l)) told.line_is;
         answers = answers front (line_bytes (told.whole ++ told.last)) seats told.is_broken told.so_far is;
         lines = told.lines;
       }

@@ -13,7 +13,8 @@ use Rattle.cqe_base.specs.Reading.{Refusal, reading}
 use Rattle.cqe_base.specs.History.{UserProfile, AnsweredQuery, History}
 use Rattle.cqe_base.specs.Censor.{admitted}
 use Rattle.cqe_base.specs.Run
-use Rattle.cqe_base.specs.Run.{Reply, Ending, want, kept, failed, Event, ask, restart, UserState, opening, after_event, after_events, reply_to_ask, entry_at, standing_sealed}
+use Rattle.cqe_base.specs.Run.{Reply, Ending, want, kept, failed, Event, ask, restart, UserState, opening, after_event, after_events, reply_to_ask, entry_at}
+use Rattle.cqe_base.specs.Run.{standing_sealed}
 use Rattle.cqe_base.proofs.Runs.{after_events-push}
 use Rattle.cqe_base.proofs.Lists.{or_assoc}
 use Rattle.log_journal.specs.declared.header.OpenError.TheVariants as journal_error
@@ -51,7 +52,8 @@ any-push test [] x = or-false (test x)
 any-push test (y ∷ xs) x = ap (λ b. test y || b) (any-push test xs x) ∙ sym (or_assoc (test y) (list_any test xs) (test x))
 
 module _ (schema : DatabaseSchema) (world : FactSet) (user : UserProfile) where
-  caused-push : (state : UserState) (events : List Event) (event : Event) → AreCaused schema world user state events → IsCaused schema world user (after_events schema world user state events) event
+  caused-push : (state : UserState) (events : List Event) (event : Event) → AreCaused schema world user state events
+      → IsCaused schema world user (after_events schema world user state events) event
       → AreCaused schema world user state (events ++ event ∷ [])
   caused-push state [] event all last = (last, tt)
   caused-push state (e ∷ events) event all last = (all.0, caused-push (after_event schema world user state e) events event all.1 last)
@@ -65,11 +67,13 @@ module _ (schema : DatabaseSchema) (world : FactSet) (user : UserProfile) where
     after : is_now (after_event schema world user state (ask text ending))
     reply : told ≡ reply_to_ask schema world user state text ending
 
-  once : (is_now : UserState → Type 0) (state : UserState) (text : Text) (told : Reply) → IsAskOf schema world user is_now state text told → Once is_now state text told
+  once : (is_now : UserState → Type 0) (state : UserState) (text : Text) (told : Reply) → IsAskOf schema world user is_now state text told
+      → Once is_now state text told
   once is_now state text told asked = by asked.ending asked.after asked.reply
     where
       unadded : (entry : Option AnsweredQuery) → entry ≡ None → record state { entries = state.entries ++ option_to_list entry } ≡ state
-      unadded entry none = ap (λ e. record state { entries = state.entries ++ option_to_list e }) none ∙ ap (λ es. record state { entries = es }) (append-nil state.entries)
+      unadded entry none =
+          ap (λ e. record state { entries = state.entries ++ option_to_list e }) none ∙ ap (λ es. record state { entries = es }) (append-nil state.entries)
 
       by_entry : (entry : Option AnsweredQuery) → entry_at schema world user state text ≡ entry → is_now (after_event schema world user state (ask text failed))
           → told ≡ reply_to_ask schema world user state text failed → Once is_now state text told
@@ -81,7 +85,8 @@ module _ (schema : DatabaseSchema) (world : FactSet) (user : UserProfile) where
         reply = reply ∙ ap (λ e. Run.reply_at_failure schema world user (Run.reply_at schema world user state text) e) is;
       }
 
-      by : (ending : Ending) → is_now (after_event schema world user state (ask text ending)) → told ≡ reply_to_ask schema world user state text ending → Once is_now state text told
+      by : (ending : Ending) → is_now (after_event schema world user state (ask text ending)) → told ≡ reply_to_ask schema world user state text ending
+          → Once is_now state text told
       by want after reply = record { ending = want; caused = tt; after = after; reply = reply }
       by kept after reply = record { ending = kept; caused = tt; after = after; reply = reply }
       by failed after reply = by_entry (entry_at schema world user state text) refl after reply
@@ -89,9 +94,11 @@ module _ (schema : DatabaseSchema) (world : FactSet) (user : UserProfile) where
   -- a state in which an append failed adds nothing
   broken_adds : (state : UserState) (text : Text) → state.broken ≡ true → entry_at schema world user state text ≡ None
   broken_adds state text broken =
-      ap (λ b. Run.entry_added text (reading schema text) (Run.reply schema world user state.entries state.standing b text)) broken ∙ by state.standing (reading schema text)
+      ap (λ b. Run.entry_added text (reading schema text) (Run.reply schema world user state.entries state.standing b text)) broken ∙
+      by state.standing (reading schema text)
     where
-      by : (standing : Run.Standing) (read : Result Formula Refusal) → Run.entry_added text read (Run.reply_by schema world user state.entries standing true text read) ≡ None
+      by : (standing : Run.Standing) (read : Result Formula Refusal)
+          → Run.entry_added text read (Run.reply_by schema world user state.entries standing true text read) ≡ None
       by Run.standing_open (Ok query) = refl
       by Run.standing_open (Err why) = refl
       by Run.standing_closed (Ok query) = refl
@@ -101,13 +108,17 @@ module _ (schema : DatabaseSchema) (world : FactSet) (user : UserProfile) where
 
   -- bytes that open a desk show no reason to refuse them
   abbrev pub IsExclusive : List ℕ → Type 0
-  IsExclusive header = (entries : History) (c : List ℕ) (why : DeskError) → Opens schema world user header entries c → Refuses schema world user header c why → ⊥
+  IsExclusive header =
+      (entries : History) (c : List ℕ) (why : DeskError) → Opens schema world user header entries c → Refuses schema world user header c why → ⊥
 
   module _ (header bytes : List ℕ) (before : ℕ) (first_image : List ℕ → Type 0) where
-    -- the bytes opened a desk with this history, and the journal holds the state that the events made of it, at a count that rose for each failure; or they open none, are still there, and no opening held
+    -- the bytes opened a desk with this history, and the journal holds the state that the events made of it, at a count that rose for each failure; or they
+    -- open none, are still there, and no opening held
     abbrev pub Fits : History → List Event → List ℕ → ℕ → Type 0
     Fits opened events reads now =
-        (Opens schema world user header opened bytes × Holds schema world user header (after_events schema world user (opening schema world user opened) events) reads × RoseBy (failures events) before now)
+        (Opens schema world user header opened bytes
+        × Holds schema world user header (after_events schema world user (opening schema world user opened) events) reads
+        × RoseBy (failures events) before now)
         ⊎ (OpensNone schema world user header bytes × (opened ≡ []) × (reads ≡ bytes) × (list_any is_opened events ≡ false))
 
     -- the course of a user's run, by what his journal reads, its count of faults and his first refusal
@@ -123,18 +134,21 @@ module _ (schema : DatabaseSchema) (world : FactSet) (user : UserProfile) where
 
     -- where an opening held, each image holds the state that the events made; and unless one held and he asked, his disk is as it was
     pub record Stays (opened : History) (events : List Event) (image : List ℕ → Type 0) (reads : List ℕ) : Type 0 where
-      pub stands : list_any is_opened events ≡ true → (c : List ℕ) → image c → Holds schema world user header (after_events schema world user (opening schema world user opened) events) c
+      pub stands : list_any is_opened events ≡ true → (c : List ℕ) → image c
+          → Holds schema world user header (after_events schema world user (opening schema world user opened) events) c
       pub kept : (list_any is_opened events && list_any is_ask events) ≡ false → IsStill image reads
 
     -- the same at a disk that an opening left
-    pub stays_on : (opened : History) (events : List Event) (image image' : List ℕ → Type 0) (reads reads' : List ℕ) → reads' ≡ reads → ((c : List ℕ) → image' c → image c) → Stays opened events image reads → Stays opened events image' reads'
+    pub stays_on : (opened : History) (events : List Event) (image image' : List ℕ → Type 0) (reads reads' : List ℕ) → reads' ≡ reads
+        → ((c : List ℕ) → image' c → image c) → Stays opened events image reads → Stays opened events image' reads'
     stays_on opened events image image' reads reads' same fewer stays = record {
       stands = λ held c at. stays.stands held c (fewer c at);
       kept = λ idle. (same ∙ (stays.kept idle).0, λ c at. (stays.kept idle).1 c (fewer c at));
     }
 
     -- his run at a desk
-    pub record IsRunning (opened : History) (events : List Event) (standing : Standing) (state : UserState) (image : List ℕ → Type 0) (reads : List ℕ) (now : ℕ) (refusal : Option DeskError) : Type 0 where
+    pub record IsRunning (opened : History) (events : List Event) (standing : Standing) (state : UserState) (image : List ℕ → Type 0) (reads : List ℕ) (now : ℕ)
+        (refusal : Option DeskError) : Type 0 where
       pub is_in : IsState standing state (after_events schema world user (opening schema world user opened) events)
       pub course : Course opened events reads now refusal
       pub shut : OpensNone schema world user header bytes → is_sealed standing ≡ true
@@ -143,7 +157,8 @@ module _ (schema : DatabaseSchema) (world : FactSet) (user : UserProfile) where
 
     -- ---- what goes on
 
-    sealed_on : (now later : ℕ) → now ≤ later → (why : DeskError) → IsSealedBy schema world user (Unit {0}) header bytes before now why → IsSealedBy schema world user (Unit {0}) header bytes before later why
+    sealed_on : (now later : ℕ) → now ≤ later → (why : DeskError) → IsSealedBy schema world user (Unit {0}) header bytes before now why
+        → IsSealedBy schema world user (Unit {0}) header bytes before later why
     sealed_on now later on (Journal journal_error.Memory) is = is
     sealed_on now later on (Journal journal_error.DiskFault) is = rose_wide before before now later (omega arith) on is
     sealed_on now later on (Journal journal_error.NotAJournal) is = is
@@ -154,19 +169,23 @@ module _ (schema : DatabaseSchema) (world : FactSet) (user : UserProfile) where
     sealed_on now later on (Size number) is = is
     sealed_on now later on (NotAdmitted admission) is = is
 
-    refused_later : (now later : ℕ) → now ≤ later → (events : List Event) (refusal : Option DeskError) → IsRefusal schema world user header bytes before now events refusal
+    refused_later : (now later : ℕ) → now ≤ later → (events : List Event) (refusal : Option DeskError)
+        → IsRefusal schema world user header bytes before now events refusal
         → IsRefusal schema world user header bytes before later events refusal
     refused_later now later on events None none = none
     refused_later now later on events (Some why) is = (is.0, sealed_on now later on why is.1)
 
     -- a refusal is still the first behind an event that is none
     refusal_on : (now later : ℕ) → now ≤ later → (events : List Event) (event : Event) → is_refused event ≡ false → (refusal : Option DeskError)
-        → IsRefusal schema world user header bytes before now events refusal → IsRefusal schema world user header bytes before later (events ++ event ∷ []) refusal
+        → IsRefusal schema world user header bytes before now events refusal
+        → IsRefusal schema world user header bytes before later (events ++ event ∷ []) refusal
     refusal_on now later on events event isnt None none = any-push is_refused events event ∙ ap (λ b. b || is_refused event) none ∙ isnt
-    refusal_on now later on events event isnt (Some why) is = (any-push is_refused events event ∙ or_left (list_any is_refused events) (is_refused event) is.0, sealed_on now later on why is.1)
+    refusal_on now later on events event isnt (Some why) is =
+        (any-push is_refused events event ∙ or_left (list_any is_refused events) (is_refused event) is.0, sealed_on now later on why is.1)
 
     -- the course at a later count
-    pub course_on : (opened : History) (events : List Event) (reads reads' : List ℕ) (now later : ℕ) (refusal : Option DeskError) → reads' ≡ reads → now ≤ later → Course opened events reads now refusal
+    pub course_on : (opened : History) (events : List Event) (reads reads' : List ℕ) (now later : ℕ) (refusal : Option DeskError) → reads' ≡ reads → now ≤ later
+        → Course opened events reads now refusal
         → Course opened events reads' later refusal
     course_on opened events reads reads' now later refusal same on course = record {
       later = omega (arith, course.later, on);
@@ -176,7 +195,12 @@ module _ (schema : DatabaseSchema) (world : FactSet) (user : UserProfile) where
     }
       where
         fits_on : Fits opened events reads now → Fits opened events reads' later
-        fits_on (inl (opens, holds, rose)) = inl (opens, subst (Holds schema world user header (after_events schema world user (opening schema world user opened) events)) (sym same) holds, rose_more (failures events) before now later rose on)
+        fits_on (inl (opens, holds, rose)) =
+            inl (
+              opens,
+              subst (Holds schema world user header (after_events schema world user (opening schema world user opened) events)) (sym same) holds,
+              rose_more (failures events) before now later rose on,
+            )
         fits_on (inr (none, empty, is, never)) = inr (none, empty, same ∙ is, never)
 
     -- ---- an ask
@@ -190,10 +214,12 @@ module _ (schema : DatabaseSchema) (world : FactSet) (user : UserProfile) where
         by (Ok query) = refl
         by (Err why) = refl
 
-    sealed_still : (state : UserState) (text : Text) (ending : Ending) → state.standing ≡ standing_sealed → after_event schema world user state (ask text ending) ≡ state
+    sealed_still : (state : UserState) (text : Text) (ending : Ending) → state.standing ≡ standing_sealed
+        → after_event schema world user state (ask text ending) ≡ state
     sealed_still state text want sealed = refl
     sealed_still state text kept sealed =
-        ap (λ e. record state { entries = state.entries ++ option_to_list e }) (adds_none state text sealed) ∙ ap (λ es. record state { entries = es }) (append-nil state.entries)
+        ap (λ e. record state { entries = state.entries ++ option_to_list e }) (adds_none state text sealed)
+        ∙ ap (λ es. record state { entries = es }) (append-nil state.entries)
     sealed_still state text failed sealed = ap (λ e. Run.after_failure schema world user state e) (adds_none state text sealed)
 
     -- the state of a desk that isn't sealed is the one that it shows
@@ -202,7 +228,8 @@ module _ (schema : DatabaseSchema) (world : FactSet) (user : UserProfile) where
     shown_is (Closed admission) desk_state state served is = is
     shown_is (Sealed why) desk_state state served is = absurd cc
 
-    sealed_is : (standing : Standing) (desk_state state : UserState) → is_sealed standing ≡ true → IsState standing desk_state state → state.standing ≡ standing_sealed
+    sealed_is : (standing : Standing) (desk_state state : UserState) → is_sealed standing ≡ true → IsState standing desk_state state
+        → state.standing ≡ standing_sealed
     sealed_is Open desk_state state sealed is = absurd cc
     sealed_is (Closed admission) desk_state state sealed is = absurd cc
     sealed_is (Sealed why) desk_state state sealed is = is
@@ -213,17 +240,21 @@ module _ (schema : DatabaseSchema) (world : FactSet) (user : UserProfile) where
     -- The count of his disk at its desk's opening rose for each failure; or for all but the last, an append that failed since.
     pub data RoseBut (events : List Event) (standing : Standing) (state : UserState) (now : ℕ) : Type 0 where
       all_rose : RoseBy (failures events) before now → RoseBut events standing state now
-      last_flies : (earlier : ℕ) → failures events ≡ earlier + 1 → RoseBy earlier before now → is_sealed standing ≡ false → state.broken ≡ true → RoseBut events standing state now
+      last_flies : (earlier : ℕ) → failures events ≡ earlier + 1 → RoseBy earlier before now → is_sealed standing ≡ false → state.broken ≡ true
+          → RoseBut events standing state now
 
     -- What is known of his disk as his desk was opened: the bytes opened a desk, where the desk is sealed it holds the state
     -- that the events made, and its count rose; or they open none, and are still there.
     abbrev pub FitsLiving : History → List Event → Standing → UserState → List ℕ → ℕ → Type 0
     FitsLiving opened events standing state reads now =
-        (Opens schema world user header opened bytes × (is_sealed standing ≡ true → Holds schema world user header (after_events schema world user (opening schema world user opened) events) reads) × RoseBut events standing state now)
+        (Opens schema world user header opened bytes
+        × (is_sealed standing ≡ true → Holds schema world user header (after_events schema world user (opening schema world user opened) events) reads)
+        × RoseBut events standing state now)
         ⊎ (OpensNone schema world user header bytes × (opened ≡ []) × (reads ≡ bytes) × (list_any is_opened events ≡ false))
 
     -- his run at a desk that stands under a counter, whose disk is known as it was at the desk's opening
-    pub record IsLiving (opened : History) (events : List Event) (standing : Standing) (state : UserState) (image : List ℕ → Type 0) (reads : List ℕ) (now : ℕ) (refusal : Option DeskError) : Type 0 where
+    pub record IsLiving (opened : History) (events : List Event) (standing : Standing) (state : UserState) (image : List ℕ → Type 0) (reads : List ℕ) (now : ℕ)
+        (refusal : Option DeskError) : Type 0 where
       pub is_in : IsState standing state (after_events schema world user (opening schema world user opened) events)
       pub later : before ≤ now
       pub caused : AreCaused schema world user (opening schema world user opened) events
@@ -231,11 +262,13 @@ module _ (schema : DatabaseSchema) (world : FactSet) (user : UserProfile) where
       pub shut : OpensNone schema world user header bytes → is_sealed standing ≡ true
       pub fits : FitsLiving opened events standing state reads now
       pub held : is_sealed standing ≡ false → list_any is_opened events ≡ true
-      pub stands : is_sealed standing ≡ true → list_any is_opened events ≡ true → (c : List ℕ) → image c → Holds schema world user header (after_events schema world user (opening schema world user opened) events) c
+      pub stands : is_sealed standing ≡ true → list_any is_opened events ≡ true → (c : List ℕ) → image c
+          → Holds schema world user header (after_events schema world user (opening schema world user opened) events) c
       pub kept : (list_any is_opened events && list_any is_ask events) ≡ false → IsStill image reads
 
     -- the desk was just opened
-    pub live : (opened : History) (events : List Event) (standing : Standing) (state : UserState) (image : List ℕ → Type 0) (reads : List ℕ) (now : ℕ) (refusal : Option DeskError)
+    pub live : (opened : History) (events : List Event) (standing : Standing) (state : UserState) (image : List ℕ → Type 0) (reads : List ℕ) (now : ℕ)
+        (refusal : Option DeskError)
         → IsRunning opened events standing state image reads now refusal → IsLiving opened events standing state image reads now refusal
     live opened events standing state image reads now refusal running = record {
       is_in = running.is_in;
@@ -254,8 +287,10 @@ module _ (schema : DatabaseSchema) (world : FactSet) (user : UserProfile) where
         by (inr none) = inr none
 
     -- the desk is closed, and leaves a disk with these images
-    pub closing : (opened : History) (events : List Event) (standing : Standing) (state : UserState) (image image' : List ℕ → Type 0) (reads reads' : List ℕ) (now later : ℕ) (refusal : Option DeskError)
-        → IsLiving opened events standing state image reads now refusal → now ≤ later → (state.broken ≡ true → Rose now later) → ((is_sealed standing ≡ true) ⊎ (list_any is_ask events ≡ false) → (reads' ≡ reads) × ((c : List ℕ) → image' c → image c))
+    pub closing : (opened : History) (events : List Event) (standing : Standing) (state : UserState) (image image' : List ℕ → Type 0) (reads reads' : List ℕ)
+        (now later : ℕ) (refusal : Option DeskError)
+        → IsLiving opened events standing state image reads now refusal → now ≤ later → (state.broken ≡ true → Rose now later)
+        → ((is_sealed standing ≡ true) ⊎ (list_any is_ask events ≡ false) → (reads' ≡ reads) × ((c : List ℕ) → image' c → image c))
         → (is_sealed standing ≡ false → (c : List ℕ) → image' c → Holds schema world user header state c) → image' reads'
         → IsRunning opened events standing state image' reads' later refusal
     closing opened events standing state image image' reads reads' now later refusal living on cause same holds here = record {
@@ -271,9 +306,11 @@ module _ (schema : DatabaseSchema) (world : FactSet) (user : UserProfile) where
       stays = record { stands = stands_by (is_sealed standing) refl; kept = λ idle. kept_by idle (is_sealed standing) refl };
     }
       where
-        stands_by : (b : Bool) → is_sealed standing ≡ b → list_any is_opened events ≡ true → (c : List ℕ) → image' c → Holds schema world user header (after_events schema world user (opening schema world user opened) events) c
+        stands_by : (b : Bool) → is_sealed standing ≡ b → list_any is_opened events ≡ true → (c : List ℕ) → image' c
+            → Holds schema world user header (after_events schema world user (opening schema world user opened) events) c
         stands_by true sealed some c at = living.stands sealed some c ((same (inl sealed)).1 c at)
-        stands_by false served some c at = subst (λ s. Holds schema world user header s c) (sym (shown_is standing state _ served living.is_in)) (holds served c at)
+        stands_by false served some c at =
+            subst (λ s. Holds schema world user header s c) (sym (shown_is standing state _ served living.is_in)) (holds served c at)
 
         left_as : (is_sealed standing ≡ true) ⊎ (list_any is_ask events ≡ false) → IsStill image reads → IsStill image' reads'
         left_as why still = ((same why).0 ∙ still.0, λ c at. still.1 c ((same why).1 c at))
@@ -284,25 +321,33 @@ module _ (schema : DatabaseSchema) (world : FactSet) (user : UserProfile) where
 
         rises : RoseBut events standing state now → RoseBy (failures events) before later
         rises (all_rose rose) = rose_more (failures events) before now later rose on
-        rises (last_flies earlier count rose served broken) = subst (λ n. RoseBy n before later) (sym count) (rose_again earlier before now later rose on (cause broken))
+        rises (last_flies earlier count rose served broken) =
+            subst (λ n. RoseBy n before later) (sym count) (rose_again earlier before now later rose on (cause broken))
 
-        held : (is_sealed standing ≡ true → Holds schema world user header (after_events schema world user (opening schema world user opened) events) reads) → (b : Bool) → is_sealed standing ≡ b
+        held : (is_sealed standing ≡ true → Holds schema world user header (after_events schema world user (opening schema world user opened) events) reads)
+            → (b : Bool) → is_sealed standing ≡ b
             → Holds schema world user header (after_events schema world user (opening schema world user opened) events) reads'
-        held was true sealed = subst (Holds schema world user header (after_events schema world user (opening schema world user opened) events)) (sym (same (inl sealed)).0) (was sealed)
-        held was false served = subst (λ s. Holds schema world user header s reads') (sym (shown_is standing state _ served living.is_in)) (holds served reads' here)
+        held was true sealed =
+            subst (Holds schema world user header (after_events schema world user (opening schema world user opened) events)) (sym (same (inl sealed)).0)
+            (was sealed)
+        held was false served =
+            subst (λ s. Holds schema world user header s reads') (sym (shown_is standing state _ served living.is_in)) (holds served reads' here)
 
         by : FitsLiving opened events standing state reads now → Fits opened events reads' later
         by (inl (opens, was, rose)) = inl (opens, held was (is_sealed standing) refl, rises rose)
         by (inr (none, empty, is, never)) = inr (none, empty, (same (inl (living.shut none))).0 ∙ is, never)
 
     -- an ask of the user at his desk, with some ending
-    pub record Asked (opened : History) (events : List Event) (standing : Standing) (state : UserState) (image : List ℕ → Type 0) (reads : List ℕ) (now : ℕ) (refusal : Option DeskError) (text : Text) (told : Reply) : Type 0 where
+    pub record Asked (opened : History) (events : List Event) (standing : Standing) (state : UserState) (image : List ℕ → Type 0) (reads : List ℕ) (now : ℕ)
+        (refusal : Option DeskError) (text : Text) (told : Reply) : Type 0 where
       pub ending : Ending
       pub reply : told ≡ reply_to_ask schema world user (after_events schema world user (opening schema world user opened) events) text ending
       pub living : IsLiving opened (events ++ ask text ending ∷ []) standing state image reads now refusal
 
-    pub ask_step : (opened : History) (events : List Event) (standing : Standing) (old new : UserState) (image : List ℕ → Type 0) (reads : List ℕ) (now : ℕ) (refusal : Option DeskError) (text : Text) (told : Reply)
-        → IsLiving opened events standing old image reads now refusal → ((state : UserState) → IsState standing old state → IsAskOf schema world user (IsState standing new) state text told)
+    pub ask_step : (opened : History) (events : List Event) (standing : Standing) (old new : UserState) (image : List ℕ → Type 0) (reads : List ℕ) (now : ℕ)
+        (refusal : Option DeskError) (text : Text) (told : Reply)
+        → IsLiving opened events standing old image reads now refusal
+        → ((state : UserState) → IsState standing old state → IsAskOf schema world user (IsState standing new) state text told)
         → Asked opened events standing new image reads now refusal text told
     ask_step opened events standing old new image reads now refusal text told living settles =
         let one = once (IsState standing new) state text told (settles state living.is_in) in
@@ -317,7 +362,9 @@ module _ (schema : DatabaseSchema) (world : FactSet) (user : UserProfile) where
             shut = living.shut;
             fits = fits_on one.ending one.caused one.after living.fits;
             held = λ served. any-push is_opened events (ask text one.ending) ∙ or_left (list_any is_opened events) false (living.held served);
-            stands = λ sealed some c at. subst (λ s. Holds schema world user header s c) (sym (pushed one.ending ∙ sealed_still state text one.ending (sealed_is standing old state sealed living.is_in)))
+            stands = λ sealed some c at.
+                subst (λ s. Holds schema world user header s c)
+                (sym (pushed one.ending ∙ sealed_still state text one.ending (sealed_is standing old state sealed living.is_in)))
                 (living.stands sealed (sym (unopened one.ending) ∙ some) c at);
             kept = λ idle. living.kept (never_opened one.ending idle);
           };
@@ -326,38 +373,49 @@ module _ (schema : DatabaseSchema) (world : FactSet) (user : UserProfile) where
         state : UserState
         state = after_events schema world user (opening schema world user opened) events
 
-        pushed : (ending : Ending) → after_events schema world user (opening schema world user opened) (events ++ ask text ending ∷ []) ≡ after_event schema world user state (ask text ending)
+        pushed : (ending : Ending)
+            → after_events schema world user (opening schema world user opened) (events ++ ask text ending ∷ [])
+            ≡ after_event schema world user state (ask text ending)
         pushed ending = after_events-push schema world user (opening schema world user opened) events (ask text ending)
 
         unopened : (ending : Ending) → list_any is_opened (events ++ ask text ending ∷ []) ≡ list_any is_opened events
         unopened ending = any-push is_opened events (ask text ending) ∙ or-false (list_any is_opened events)
 
         -- behind an ask the disk is promised to be as it was only where no opening held
-        never_opened : (ending : Ending) → (list_any is_opened (events ++ ask text ending ∷ []) && list_any is_ask (events ++ ask text ending ∷ [])) ≡ false → (list_any is_opened events && list_any is_ask events) ≡ false
+        never_opened : (ending : Ending) → (list_any is_opened (events ++ ask text ending ∷ []) && list_any is_ask (events ++ ask text ending ∷ [])) ≡ false
+            → (list_any is_opened events && list_any is_ask events) ≡ false
         never_opened ending idle =
             and_left (list_any is_opened events) (list_any is_ask events)
-            (sym (and-true (list_any is_opened events)) ∙ (λ i. sym (unopened ending) i && sym (any-push is_ask events (ask text ending) ∙ or-true (list_any is_ask events)) i) ∙ idle)
+            (sym (and-true (list_any is_opened events))
+            ∙ (λ i. sym (unopened ending) i && sym (any-push is_ask events (ask text ending) ∙ or-true (list_any is_ask events)) i) ∙ idle)
 
         -- a desk whose append failed is still so
-        broken_still : (ending : Ending) → IsState standing new (after_event schema world user state (ask text ending)) → is_sealed standing ≡ false → old.broken ≡ true → (after_event schema world user state (ask text ending)).broken ≡ state.broken → new.broken ≡ true
+        broken_still : (ending : Ending) → IsState standing new (after_event schema world user state (ask text ending)) → is_sealed standing ≡ false
+            → old.broken ≡ true → (after_event schema world user state (ask text ending)).broken ≡ state.broken → new.broken ≡ true
         broken_still ending after served broken same =
-            ap (λ (s : UserState). s.broken) (sym (shown_is standing new _ served after)) ∙ same ∙ ap (λ (s : UserState). s.broken) (shown_is standing old state served living.is_in) ∙ broken
+            ap (λ (s : UserState). s.broken) (sym (shown_is standing new _ served after)) ∙ same
+            ∙ ap (λ (s : UserState). s.broken) (shown_is standing old state served living.is_in) ∙ broken
 
         more : (ending : Ending) (n : ℕ) → failures_in (ask text ending) ≡ n → failures (events ++ ask text ending ∷ []) ≡ failures events + n
         more ending n is = failures-push events (ask text ending) ∙ ap (λ k. failures events + k) is
 
-        unfailed : (ending : Ending) → failures_in (ask text ending) ≡ 0 → (after_event schema world user state (ask text ending)).broken ≡ state.broken → IsState standing new (after_event schema world user state (ask text ending))
+        unfailed : (ending : Ending) → failures_in (ask text ending) ≡ 0 → (after_event schema world user state (ask text ending)).broken ≡ state.broken
+            → IsState standing new (after_event schema world user state (ask text ending))
             → RoseBut events standing old now → RoseBut (events ++ ask text ending ∷ []) standing new now
         unfailed ending none same after (all_rose rose) = all_rose (subst (λ n. RoseBy n before now) (omega arith ∙ sym (more ending 0 none)) rose)
         unfailed ending none same after (last_flies earlier count rose served broken) =
             last_flies earlier (let e = more ending 0 none in omega (arith, e, count)) rose served (broken_still ending after served broken same)
 
         -- the entry in flight shows that no append had failed before, and that the desk isn't sealed
-        flew : is_some (entry_at schema world user state text) ≡ true → IsState standing new (after_event schema world user state (ask text failed)) → RoseBut events standing old now → (b : Bool) → is_sealed standing ≡ b
+        flew : is_some (entry_at schema world user state text) ≡ true → IsState standing new (after_event schema world user state (ask text failed))
+            → RoseBut events standing old now → (b : Bool) → is_sealed standing ≡ b
             → RoseBut (events ++ ask text failed ∷ []) standing new now
         flew some after rose true sealed =
-            let e : false ≡ true = sym (ap (λ (o : Option AnsweredQuery). is_some o) (adds_none state text (sealed_is standing old state sealed living.is_in))) ∙ some in absurd cc
-        flew some after (all_rose rose) false served = last_flies (failures events) (more failed 1 refl) rose served (by_entry (entry_at schema world user state text) some (shown_is standing new _ served after))
+            let e : false ≡ true =
+            sym (ap (λ (o : Option AnsweredQuery). is_some o) (adds_none state text (sealed_is standing old state sealed living.is_in))) ∙ some in absurd cc
+        flew some after (all_rose rose) false served =
+            last_flies (failures events) (more failed 1 refl) rose served
+            (by_entry (entry_at schema world user state text) some (shown_is standing new _ served after))
           where
             by_entry : (entry : Option AnsweredQuery) → is_some entry ≡ true → Run.after_failure schema world user state entry ≡ new → new.broken ≡ true
             by_entry (Some entry) some is = ap (λ (s : UserState). s.broken) (sym is)
@@ -366,43 +424,54 @@ module _ (schema : DatabaseSchema) (world : FactSet) (user : UserProfile) where
             let broke : state.broken ≡ true = ap (λ (s : UserState). s.broken) (shown_is standing old state served living.is_in) ∙ broken in
             let e : false ≡ true = sym (ap (λ (o : Option AnsweredQuery). is_some o) (broken_adds state text broke)) ∙ some in absurd cc
 
-        rises : (ending : Ending) → IsCaused schema world user state (ask text ending) → IsState standing new (after_event schema world user state (ask text ending)) → RoseBut events standing old now
+        rises : (ending : Ending) → IsCaused schema world user state (ask text ending)
+            → IsState standing new (after_event schema world user state (ask text ending)) → RoseBut events standing old now
             → RoseBut (events ++ ask text ending ∷ []) standing new now
         rises want caused after rose = unfailed want refl refl after rose
         rises kept caused after rose = unfailed kept refl refl after rose
         rises failed caused after rose = flew caused after rose (is_sealed standing) refl
 
-        fits_on : (ending : Ending) → IsCaused schema world user state (ask text ending) → IsState standing new (after_event schema world user state (ask text ending))
+        fits_on : (ending : Ending) → IsCaused schema world user state (ask text ending)
+            → IsState standing new (after_event schema world user state (ask text ending))
             → FitsLiving opened events standing old reads now → FitsLiving opened (events ++ ask text ending ∷ []) standing new reads now
         fits_on ending caused after (inl (opens, was, rose)) = inl (
           opens,
-          λ sealed. subst (λ s. Holds schema world user header s reads) (sym (pushed ending ∙ sealed_still state text ending (sealed_is standing old state sealed living.is_in))) (was sealed),
+          λ sealed. subst (λ s. Holds schema world user header s reads)
+              (sym (pushed ending ∙ sealed_still state text ending (sealed_is standing old state sealed living.is_in))) (was sealed),
           rises ending caused after rose,
         )
-        fits_on ending caused after (inr (none, empty, is, never)) = inr (none, empty, is, any-push is_opened events (ask text ending) ∙ ap (λ b. b || false) never)
+        fits_on ending caused after (inr (none, empty, is, never)) =
+            inr (none, empty, is, any-push is_opened events (ask text ending) ∙ ap (λ b. b || false) never)
 
     -- ---- an opening
 
-    opened_false : (event : Event) → is_opened event ≡ false → (events : List Event) → list_any is_opened events ≡ false → list_any is_opened (events ++ event ∷ []) ≡ false
+    opened_false : (event : Event) → is_opened event ≡ false → (events : List Event) → list_any is_opened events ≡ false
+        → list_any is_opened (events ++ event ∷ []) ≡ false
     opened_false event isnt events never = any-push is_opened events event ∙ ap (λ b. b || is_opened event) never ∙ isnt
 
     -- the choices of an opening
-    pub record Restarted (opened : History) (events : List Event) (standing : Standing) (state : UserState) (image : List ℕ → Type 0) (reads : List ℕ) (now : ℕ) (refusal : Option DeskError) : Type 0 where
+    pub record Restarted (opened : History) (events : List Event) (standing : Standing) (state : UserState) (image : List ℕ → Type 0) (reads : List ℕ) (now : ℕ)
+        (refusal : Option DeskError) : Type 0 where
       pub found : Bool
       pub opens : Bool
       pub running : IsRunning opened (events ++ restart found opens ∷ []) standing state image reads now refusal
 
     -- of bytes that open a desk only a fault of the disk is a reason
-    faulty : IsExclusive header → (entries : History) (c : List ℕ) → Opens schema world user header entries c → (T : Type 0) → T → (start now later : ℕ) → before ≤ start → start ≤ now → now ≤ later → (why : DeskError)
+    faulty : IsExclusive header → (entries : History) (c : List ℕ) → Opens schema world user header entries c → (T : Type 0) → T → (start now later : ℕ)
+        → before ≤ start → start ≤ now → now ≤ later → (why : DeskError)
         → IsSealedBy schema world user T header c now later why → IsSealedBy schema world user (Unit {0}) header bytes before later why
     faulty exclusive entries c opens T t start now later a b on (Journal journal_error.Memory) is = is
     faulty exclusive entries c opens T t start now later a b on (Journal journal_error.DiskFault) (inl some) = inl (omega (arith, some, a, b))
     faulty exclusive entries c opens T t start now later a b on (Journal journal_error.DiskFault) (inr full) = inr full
-    faulty exclusive entries c opens T t start now later a b on (Journal journal_error.NotAJournal) is = absurd (exclusive entries c (Journal journal_error.NotAJournal) opens (is t))
-    faulty exclusive entries c opens T t start now later a b on (Journal journal_error.OtherPolicy) is = absurd (exclusive entries c (Journal journal_error.OtherPolicy) opens (is t))
-    faulty exclusive entries c opens T t start now later a b on (Journal (journal_error.Damaged number)) is = absurd (exclusive entries c (Journal (journal_error.Damaged number)) opens (is t))
+    faulty exclusive entries c opens T t start now later a b on (Journal journal_error.NotAJournal) is =
+        absurd (exclusive entries c (Journal journal_error.NotAJournal) opens (is t))
+    faulty exclusive entries c opens T t start now later a b on (Journal journal_error.OtherPolicy) is =
+        absurd (exclusive entries c (Journal journal_error.OtherPolicy) opens (is t))
+    faulty exclusive entries c opens T t start now later a b on (Journal (journal_error.Damaged number)) is =
+        absurd (exclusive entries c (Journal (journal_error.Damaged number)) opens (is t))
     faulty exclusive entries c opens T t start now later a b on (Stale number) is = absurd (exclusive entries c (Stale number) opens (is t))
-    faulty exclusive entries c opens T t start now later a b on (Unlawful number stored computed) is = absurd (exclusive entries c (Unlawful number stored computed) opens (is t))
+    faulty exclusive entries c opens T t start now later a b on (Unlawful number stored computed) is =
+        absurd (exclusive entries c (Unlawful number stored computed) opens (is t))
     faulty exclusive entries c opens T t start now later a b on (Size number) is = absurd (exclusive entries c (Size number) opens (is t))
     faulty exclusive entries c opens T t start now later a b on (NotAdmitted admission) is = absurd (exclusive entries c (NotAdmitted admission) opens (is t))
 
@@ -412,106 +481,148 @@ module _ (schema : DatabaseSchema) (world : FactSet) (user : UserProfile) where
     shown_by T t c same now later a on (Journal journal_error.Memory) is = is
     shown_by T t c same now later a on (Journal journal_error.DiskFault) (inl some) = inl (omega (arith, some, a))
     shown_by T t c same now later a on (Journal journal_error.DiskFault) (inr full) = inr full
-    shown_by T t c same now later a on (Journal journal_error.NotAJournal) is = λ u. subst (λ b. Refuses schema world user header b (Journal journal_error.NotAJournal)) same (is t)
-    shown_by T t c same now later a on (Journal journal_error.OtherPolicy) is = λ u. subst (λ b. Refuses schema world user header b (Journal journal_error.OtherPolicy)) same (is t)
-    shown_by T t c same now later a on (Journal (journal_error.Damaged number)) is = λ u. subst (λ b. Refuses schema world user header b (Journal (journal_error.Damaged number))) same (is t)
+    shown_by T t c same now later a on (Journal journal_error.NotAJournal) is =
+        λ u. subst (λ b. Refuses schema world user header b (Journal journal_error.NotAJournal)) same (is t)
+    shown_by T t c same now later a on (Journal journal_error.OtherPolicy) is =
+        λ u. subst (λ b. Refuses schema world user header b (Journal journal_error.OtherPolicy)) same (is t)
+    shown_by T t c same now later a on (Journal (journal_error.Damaged number)) is =
+        λ u. subst (λ b. Refuses schema world user header b (Journal (journal_error.Damaged number))) same (is t)
     shown_by T t c same now later a on (Stale number) is = λ u. subst (λ b. Refuses schema world user header b (Stale number)) same (is t)
-    shown_by T t c same now later a on (Unlawful number stored computed) is = λ u. subst (λ b. Refuses schema world user header b (Unlawful number stored computed)) same (is t)
+    shown_by T t c same now later a on (Unlawful number stored computed) is =
+        λ u. subst (λ b. Refuses schema world user header b (Unlawful number stored computed)) same (is t)
     shown_by T t c same now later a on (Size number) is = λ u. subst (λ b. Refuses schema world user header b (Size number)) same (is t)
     shown_by T t c same now later a on (NotAdmitted admission) is = λ u. subst (λ b. Refuses schema world user header b (NotAdmitted admission)) same (is t)
 
     -- the first refusal behind an opening with this standing
-    refusal_next : (now later : ℕ) → now ≤ later → (events : List Event) (found opens : Bool) (standing : Standing) → (is_sealed standing ≡ true → opens ≡ false) → (is_sealed standing ≡ false → opens ≡ true)
+    refusal_next : (now later : ℕ) → now ≤ later → (events : List Event) (found opens : Bool) (standing : Standing)
+        → (is_sealed standing ≡ true → opens ≡ false) → (is_sealed standing ≡ false → opens ≡ true)
         → ((why : DeskError) → standing ≡ Sealed why → IsSealedBy schema world user (Unit {0}) header bytes before later why)
         → (refusal : Option DeskError) → IsRefusal schema world user header bytes before now events refusal
         → IsRefusal schema world user header bytes before later (events ++ restart found opens ∷ []) (first_refusal refusal standing)
-    refusal_next now later on events found opens standing shut held cause (Some why) is =
-        (any-push is_refused events (restart found opens) ∙ or_left (list_any is_refused events) (is_refused (restart found opens)) is.0, sealed_on now later on why is.1)
+    refusal_next now later on events found opens standing shut held cause (Some why) is = (
+      any-push is_refused events (restart found opens) ∙ or_left (list_any is_refused events) (is_refused (restart found opens)) is.0,
+      sealed_on now later on why is.1,
+    )
     refusal_next now later on events found opens Open shut held cause None none =
-        any-push is_refused events (restart found opens) ∙ ap (λ b. b || is_refused (restart found opens)) none ∙ ap (λ b. is_refused (restart found b)) (held refl)
+        any-push is_refused events (restart found opens) ∙ ap (λ b. b || is_refused (restart found opens)) none
+        ∙ ap (λ b. is_refused (restart found b)) (held refl)
     refusal_next now later on events found opens (Closed admission) shut held cause None none =
-        any-push is_refused events (restart found opens) ∙ ap (λ b. b || is_refused (restart found opens)) none ∙ ap (λ b. is_refused (restart found b)) (held refl)
+        any-push is_refused events (restart found opens) ∙ ap (λ b. b || is_refused (restart found opens)) none
+        ∙ ap (λ b. is_refused (restart found b)) (held refl)
     refusal_next now later on events found opens (Sealed why) shut held cause None none = (
-      any-push is_refused events (restart found opens) ∙ ap (λ b. b || is_refused (restart found opens)) none ∙ ap (λ b. is_refused (restart found b)) (shut refl),
+      any-push is_refused events (restart found opens) ∙ ap (λ b. b || is_refused (restart found opens)) none
+          ∙ ap (λ b. is_refused (restart found b)) (shut refl),
       cause why refl,
     )
 
     -- an opening that holds isn't of a sealed desk, and one that is refused is
-    opens_shut : (standing : Standing) (desk_state state : UserState) (found opens : Bool) → IsState standing desk_state (after_event schema world user state (restart found opens)) → is_sealed standing ≡ true → opens ≡ false
+    opens_shut : (standing : Standing) (desk_state state : UserState) (found opens : Bool)
+        → IsState standing desk_state (after_event schema world user state (restart found opens)) → is_sealed standing ≡ true → opens ≡ false
     opens_shut standing desk_state state found false is sealed = refl
-    opens_shut standing desk_state state found true is sealed = absurd (never (admitted schema world user) (sealed_is standing desk_state (after_event schema world user state (restart found true)) sealed is))
+    opens_shut standing desk_state state found true is sealed =
+        absurd (never (admitted schema world user) (sealed_is standing desk_state (after_event schema world user state (restart found true)) sealed is))
       where
         never : (b : Bool) → (if b then Run.standing_open else Run.standing_closed) ≡ standing_sealed → ⊥
         never true e = cc
         never false e = cc
 
-    opens_held : (standing : Standing) (shown_standing : Run.Standing) (entries : History) (pending : Option AnsweredQuery) (state : UserState) (found opens : Bool) → shown_standing ≡ standing_of standing
-        → IsState standing (record { entries = entries; standing = shown_standing; broken = is_some pending; pending = pending }) (after_event schema world user state (restart found opens)) → is_sealed standing ≡ false → opens ≡ true
+    opens_held : (standing : Standing) (shown_standing : Run.Standing) (entries : History) (pending : Option AnsweredQuery) (state : UserState)
+        (found opens : Bool) → shown_standing ≡ standing_of standing
+        → IsState standing (record { entries = entries; standing = shown_standing; broken = is_some pending; pending = pending })
+        (after_event schema world user state (restart found opens)) → is_sealed standing ≡ false → opens ≡ true
     opens_held standing shown_standing entries pending state found true same is served = refl
-    opens_held Open shown_standing entries pending state found false same is served = let e : standing_sealed ≡ Run.standing_open = ap (λ s. s.standing) is ∙ same in absurd cc
-    opens_held (Closed admission) shown_standing entries pending state found false same is served = let e : standing_sealed ≡ Run.standing_closed = ap (λ s. s.standing) is ∙ same in absurd cc
+    opens_held Open shown_standing entries pending state found false same is served =
+        let e : standing_sealed ≡ Run.standing_open = ap (λ s. s.standing) is ∙ same in absurd cc
+    opens_held (Closed admission) shown_standing entries pending state found false same is served =
+        let e : standing_sealed ≡ Run.standing_closed = ap (λ s. s.standing) is ∙ same in absurd cc
     opens_held (Sealed why) shown_standing entries pending state found false same is served = absurd cc
 
-    risen_by : (standing : Standing) (events : List Event) (found opens : Bool) (now later : ℕ) → now ≤ later → (opens ≡ false → Rose now later) → RoseBy (failures events) before now → RoseBy (failures (events ++ restart found opens ∷ [])) before later
-    risen_by standing events found true now later on cause rose = subst (λ n. RoseBy n before later) (omega arith ∙ sym (failures-push events (restart found true))) (rose_more (failures events) before now later rose on)
-    risen_by standing events found false now later on cause rose = subst (λ n. RoseBy n before later) (sym (failures-push events (restart found false))) (rose_again (failures events) before now later rose on (cause refl))
+    risen_by : (standing : Standing) (events : List Event) (found opens : Bool) (now later : ℕ) → now ≤ later → (opens ≡ false → Rose now later)
+        → RoseBy (failures events) before now → RoseBy (failures (events ++ restart found opens ∷ [])) before later
+    risen_by standing events found true now later on cause rose =
+        subst (λ n. RoseBy n before later) (omega arith ∙ sym (failures-push events (restart found true)))
+        (rose_more (failures events) before now later rose on)
+    risen_by standing events found false now later on cause rose =
+        subst (λ n. RoseBy n before later) (sym (failures-push events (restart found false)))
+        (rose_again (failures events) before now later rose on (cause refl))
 
     -- the state behind an opening that was refused is held where the state before it was
-    refused_holds : (state : UserState) (found : Bool) (c : List ℕ) → Holds schema world user header state c → Holds schema world user header (after_event schema world user state (restart found false)) c
+    refused_holds : (state : UserState) (found : Bool) (c : List ℕ) → Holds schema world user header state c
+        → Holds schema world user header (after_event schema world user state (restart found false)) c
     refused_holds state found c holds = record { found = holds.found; sought = holds.sought; opens = by holds.found holds.opens }
       where
-        by : (b : Bool) → Opens schema world user header (Run.entries_found schema world user state b) c → Opens schema world user header (Run.entries_found schema world user (record state { standing = standing_sealed }) b) c
+        by : (b : Bool) → Opens schema world user header (Run.entries_found schema world user state b) c
+            → Opens schema world user header (Run.entries_found schema world user (record state { standing = standing_sealed }) b) c
         by true opens = opens
         by false opens = opens
 
     -- what is known of an opening with this standing and these entries
-    pub record Known (T : Type 0) (entries : History) (pending : Option AnsweredQuery) (standing : Standing) (image : List ℕ → Type 0) (reads : List ℕ) (now later : ℕ) : Type 0 where
+    pub record Known (T : Type 0) (entries : History) (pending : Option AnsweredQuery) (standing : Standing) (image : List ℕ → Type 0) (reads : List ℕ)
+        (now later : ℕ) : Type 0 where
       pub standing_is : IsStanding schema world user T header reads entries now later standing
-      pub restarted : (state : UserState) → Holds schema world user header state reads → Restarts schema world user (IsState standing (shown entries (standing_of standing) pending)) state now later
+      pub restarted : (state : UserState) → Holds schema world user header state reads
+          → Restarts schema world user (IsState standing (shown entries (standing_of standing) pending)) state now later
       pub on : now ≤ later
       pub holds : is_sealed standing ≡ false → (c : List ℕ) → image c → Holds schema world user header (shown entries (standing_of standing) pending) c
       pub here : image reads
 
     -- an opening of bytes that open no desk is refused
-    shut_by : (T : Type 0) → T → (entries : History) (standing : Standing) (reads : List ℕ) (now later : ℕ) → OpensNone schema world user header bytes → reads ≡ bytes
+    shut_by : (T : Type 0) → T → (entries : History) (standing : Standing) (reads : List ℕ) (now later : ℕ) → OpensNone schema world user header bytes
+        → reads ≡ bytes
         → IsStanding schema world user T header reads entries now later standing → is_sealed standing ≡ true
     shut_by T t entries Open reads now later none same is = absurd (none entries (subst (Opens schema world user header entries) same (is.1 t)))
     shut_by T t entries (Closed admission) reads now later none same is = absurd (none entries (subst (Opens schema world user header entries) same (is.3 t)))
     shut_by T t entries (Sealed why) reads now later none same is = refl
 
-    why_sealed : (T : Type 0) (entries : History) (standing : Standing) (reads : List ℕ) (now later : ℕ) (why : DeskError) → standing ≡ Sealed why → IsStanding schema world user T header reads entries now later standing
+    why_sealed : (T : Type 0) (entries : History) (standing : Standing) (reads : List ℕ) (now later : ℕ) (why : DeskError) → standing ≡ Sealed why
+        → IsStanding schema world user T header reads entries now later standing
         → IsSealedBy schema world user T header reads now later why
     why_sealed T entries standing reads now later why same is = (subst (IsStanding schema world user T header reads entries now later) same is).1
 
     -- what a disk holds behind an opening that left it so
-    stays_next : (opened : History) (events : List Event) (found opens : Bool) (standing : Standing) (desk_state : UserState) (image : List ℕ → Type 0) (reads : List ℕ) → Stays opened events image reads
-        → (is_sealed standing ≡ true → opens ≡ false) → (is_sealed standing ≡ false → opens ≡ true) → IsState standing desk_state (after_event schema world user (after_events schema world user (opening schema world user opened) events) (restart found opens))
-        → (is_sealed standing ≡ false → (c : List ℕ) → image c → Holds schema world user header desk_state c) → Stays opened (events ++ restart found opens ∷ []) image reads
+    stays_next : (opened : History) (events : List Event) (found opens : Bool) (standing : Standing) (desk_state : UserState) (image : List ℕ → Type 0)
+        (reads : List ℕ) → Stays opened events image reads
+        → (is_sealed standing ≡ true → opens ≡ false) → (is_sealed standing ≡ false → opens ≡ true)
+        → IsState standing desk_state
+        (after_event schema world user (after_events schema world user (opening schema world user opened) events) (restart found opens))
+        → (is_sealed standing ≡ false → (c : List ℕ) → image c → Holds schema world user header desk_state c)
+        → Stays opened (events ++ restart found opens ∷ []) image reads
     stays_next opened events found opens standing desk_state image reads stays shut held is holds = record {
       stands = λ some c at. subst (λ s. Holds schema world user header s c) (sym pushed) (stands_by (is_sealed standing) refl some c at);
-      kept = λ idle. stays.kept (idle_before (list_any is_opened events) (list_any is_ask events) opens ((λ i. sym (any-push is_opened events (restart found opens)) i && sym (any-push is_ask events (restart found opens) ∙ or-false (list_any is_ask events)) i) ∙ idle));
+      kept = λ idle. stays.kept
+          (idle_before (list_any is_opened events) (list_any is_ask events) opens
+          ((λ i. sym (any-push is_opened events (restart found opens)) i
+          && sym (any-push is_ask events (restart found opens) ∙ or-false (list_any is_ask events)) i) ∙ idle));
     }
       where
         state : UserState
         state = after_events schema world user (opening schema world user opened) events
 
-        pushed : after_events schema world user (opening schema world user opened) (events ++ restart found opens ∷ []) ≡ after_event schema world user state (restart found opens)
+        pushed : after_events schema world user (opening schema world user opened) (events ++ restart found opens ∷ [])
+            ≡ after_event schema world user state (restart found opens)
         pushed = after_events-push schema world user (opening schema world user opened) events (restart found opens)
 
         idle_before : (some asked more : Bool) → ((some || more) && asked) ≡ false → (some && asked) ≡ false
         idle_before true asked more idle = idle
         idle_before false asked more idle = refl
 
-        stands_by : (b : Bool) → is_sealed standing ≡ b → list_any is_opened (events ++ restart found opens ∷ []) ≡ true → (c : List ℕ) → image c → Holds schema world user header (after_event schema world user state (restart found opens)) c
+        stands_by : (b : Bool) → is_sealed standing ≡ b → list_any is_opened (events ++ restart found opens ∷ []) ≡ true → (c : List ℕ) → image c
+            → Holds schema world user header (after_event schema world user state (restart found opens)) c
         stands_by true sealed some c at =
             subst (λ o. Holds schema world user header (after_event schema world user state (restart found o)) c) (sym (shut sealed))
-            (refused_holds state found c (stays.stands (sym (or-false (list_any is_opened events)) ∙ ap (λ b. list_any is_opened events || b) (sym (shut sealed)) ∙ sym (any-push is_opened events (restart found opens)) ∙ some) c at))
+            (refused_holds state found c
+            (stays.stands (sym (or-false (list_any is_opened events)) ∙ ap (λ b. list_any is_opened events || b) (sym (shut sealed))
+            ∙ sym (any-push is_opened events (restart found opens)) ∙ some) c at))
         stands_by false served some c at = subst (λ s. Holds schema world user header s c) (sym (shown_is standing desk_state _ served is)) (holds served c at)
 
-    held_next : (events : List Event) (found opens : Bool) (standing : Standing) → (is_sealed standing ≡ false → opens ≡ true) → is_sealed standing ≡ false → list_any is_opened (events ++ restart found opens ∷ []) ≡ true
-    held_next events found opens standing held served = any-push is_opened events (restart found opens) ∙ or_right (list_any is_opened events) opens (held served)
+    held_next : (events : List Event) (found opens : Bool) (standing : Standing) → (is_sealed standing ≡ false → opens ≡ true) → is_sealed standing ≡ false
+        → list_any is_opened (events ++ restart found opens ∷ []) ≡ true
+    held_next events found opens standing held served =
+        any-push is_opened events (restart found opens) ∙ or_right (list_any is_opened events) opens (held served)
 
-    pub open_step : IsExclusive header → (T : Type 0) → T → (opened : History) (events : List Event) (reads : List ℕ) (now later : ℕ) (refusal : Option DeskError) (entries : History) (pending : Option AnsweredQuery) (standing : Standing)
+    pub open_step : IsExclusive header → (T : Type 0) → T
+        → (opened : History) (events : List Event) (reads : List ℕ) (now later : ℕ) (refusal : Option DeskError) (entries : History)
+        (pending : Option AnsweredQuery) (standing : Standing)
         (image : List ℕ → Type 0)
         → Course opened events reads now refusal → Stays opened events image reads → Known T entries pending standing image reads now later
         → Restarted opened events standing (shown entries (standing_of standing) pending) image reads later (first_refusal refusal standing)
@@ -523,18 +634,22 @@ module _ (schema : DatabaseSchema) (world : FactSet) (user : UserProfile) where
         desk_state : UserState
         desk_state = shown entries (standing_of standing) pending
 
-        by_seal : (found opens : Bool) → IsState standing desk_state (after_event schema world user state (restart found opens)) → Holds schema world user header state reads → (b : Bool) → is_sealed standing ≡ b
+        by_seal : (found opens : Bool) → IsState standing desk_state (after_event schema world user state (restart found opens))
+            → Holds schema world user header state reads → (b : Bool) → is_sealed standing ≡ b
             → Holds schema world user header (after_event schema world user state (restart found opens)) reads
         by_seal found opens is was true sealed =
-            subst (λ o. Holds schema world user header (after_event schema world user state (restart found o)) reads) (sym (opens_shut standing desk_state state found opens is sealed)) (refused_holds state found reads was)
-        by_seal found opens is was false served = subst (λ s. Holds schema world user header s reads) (sym (shown_is standing desk_state _ served is)) (known.holds served reads known.here)
+            subst (λ o. Holds schema world user header (after_event schema world user state (restart found o)) reads)
+            (sym (opens_shut standing desk_state state found opens is sealed)) (refused_holds state found reads was)
+        by_seal found opens is was false served =
+            subst (λ s. Holds schema world user header s reads) (sym (shown_is standing desk_state _ served is)) (known.holds served reads known.here)
 
         by : Fits opened events reads now → Restarted opened events standing desk_state image reads later (first_refusal refusal standing)
         by (inl (opens, was, rose)) =
             let again : Restarts schema world user (IsState standing desk_state) state now later = known.restarted state was in
             let event : Event = restart again.found again.opened in
             let next = after_event schema world user state event in
-            let pushed : after_events schema world user (opening schema world user opened) (events ++ event ∷ []) ≡ next = after_events-push schema world user (opening schema world user opened) events event in
+            let pushed : after_events schema world user (opening schema world user opened) (events ++ event ∷ []) ≡ next =
+            after_events-push schema world user (opening schema world user opened) events event in
             record {
               found = again.found;
               opens = again.opened;
@@ -545,23 +660,29 @@ module _ (schema : DatabaseSchema) (world : FactSet) (user : UserProfile) where
                   caused = caused-push (opening schema world user opened) events event course.caused again.sought;
                   fits = inl (
                     opens,
-                    subst (λ s. Holds schema world user header s reads) (sym pushed) (by_seal again.found again.opened again.after was (is_sealed standing) refl),
+                    subst (λ s. Holds schema world user header s reads) (sym pushed)
+                        (by_seal again.found again.opened again.after was (is_sealed standing) refl),
                     risen_by standing events again.found again.opened now later known.on again.cause rose,
                   );
-                  refused = refusal_next now later known.on events again.found again.opened standing (opens_shut standing desk_state state again.found again.opened again.after)
+                  refused = refusal_next now later known.on events again.found again.opened standing
+                      (opens_shut standing desk_state state again.found again.opened again.after)
                       (opens_held standing (standing_of standing) entries pending state again.found again.opened refl again.after)
-                      (λ why same. faulty exclusive _ reads was.opens T t now now later course.later (omega arith) known.on why (why_sealed T entries standing reads now later why same known.standing_is)) refusal course.refused;
+                      (λ why same. faulty exclusive _ reads was.opens T t now now later course.later (omega arith) known.on why
+                      (why_sealed T entries standing reads now later why same known.standing_is)) refusal course.refused;
                 };
                 shut = λ none. absurd (none opened opens);
-                held = held_next events again.found again.opened standing (opens_held standing (standing_of standing) entries pending state again.found again.opened refl again.after);
-                stays = stays_next opened events again.found again.opened standing desk_state image reads stays (opens_shut standing desk_state state again.found again.opened again.after)
+                held = held_next events again.found again.opened standing
+                    (opens_held standing (standing_of standing) entries pending state again.found again.opened refl again.after);
+                stays = stays_next opened events again.found again.opened standing desk_state image reads stays
+                    (opens_shut standing desk_state state again.found again.opened again.after)
                     (opens_held standing (standing_of standing) entries pending state again.found again.opened refl again.after) again.after known.holds;
               };
             }
         by (inr (none, empty, same, never)) =
             let sealed : is_sealed standing ≡ true = shut_by T t entries standing reads now later none same known.standing_is in
             let event : Event = restart false false in
-            let pushed : after_events schema world user (opening schema world user opened) (events ++ event ∷ []) ≡ after_event schema world user state event = after_events-push schema world user (opening schema world user opened) events event in
+            let pushed : after_events schema world user (opening schema world user opened) (events ++ event ∷ []) ≡ after_event schema world user state event =
+            after_events-push schema world user (opening schema world user opened) events event in
             record {
               found = false;
               opens = false;
@@ -571,12 +692,15 @@ module _ (schema : DatabaseSchema) (world : FactSet) (user : UserProfile) where
                   later = omega (arith, course.later, known.on);
                   caused = caused-push (opening schema world user opened) events event course.caused (λ e. absurd cc);
                   fits = inr (none, empty, same, opened_false event refl events never);
-                  refused = refusal_next now later known.on events false false standing (λ s. refl) (λ served. let e : true ≡ false = sym sealed ∙ served in absurd cc)
-                      (λ why is. shown_by T t reads same now later course.later known.on why (why_sealed T entries standing reads now later why is known.standing_is)) refusal course.refused;
+                  refused = refusal_next now later known.on events false false standing (λ s. refl) (λ served. let e : true ≡ false = sym sealed ∙ served in
+                      absurd cc)
+                      (λ why is. shown_by T t reads same now later course.later known.on why
+                      (why_sealed T entries standing reads now later why is known.standing_is)) refusal course.refused;
                 };
                 shut = λ n. sealed;
                 held = λ served. let e : true ≡ false = sym sealed ∙ served in absurd cc;
-                stays = stays_next opened events false false standing desk_state image reads stays (λ s. refl) (λ served. let e : true ≡ false = sym sealed ∙ served in absurd cc) (in_seal standing sealed) known.holds;
+                stays = stays_next opened events false false standing desk_state image reads stays (λ s. refl) (λ served.
+                    let e : true ≡ false = sym sealed ∙ served in absurd cc) (in_seal standing sealed) known.holds;
               };
             }
           where

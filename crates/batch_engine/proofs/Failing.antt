@@ -10,14 +10,17 @@ use Rattle.cqe_base.specs.Reading.{Refusal, reading}
 use Rattle.cqe_base.specs.History.{UserProfile, AnsweredQuery, History, profile_of, log}
 use Rattle.cqe_base.specs.Censor.{rule}
 use Rattle.cqe_base.specs.Run
-use Rattle.cqe_base.specs.Run.{Reply, marked, history_full, too_large, desk_sealed, no_memory, standing_open, standing_closed, standing_sealed, Ending, want, kept, failed, ask, UserState, reply_by, is_full, is_too_large, reply_at, entry_at, entry_added, reply_to_ask, reply_at_failure, after_event, after_failure}
+use Rattle.cqe_base.specs.Run.{Reply, marked, history_full, too_large, desk_sealed, no_memory, standing_open, standing_closed, standing_sealed, Ending, want}
+use Rattle.cqe_base.specs.Run.{kept, failed, ask, UserState, reply_by, is_full, is_too_large, reply_at, entry_at, entry_added, reply_to_ask, reply_at_failure}
+use Rattle.cqe_base.specs.Run.{after_event, after_failure}
 use Rattle.user_desk.specs.Lives.{IsState}
 use Rattle.user_desk.specs.Standings.{is_sealed}
 use Rattle.user_desk.specs.declared.standing.Standing.{Standing}
 use Rattle.user_desk.specs.declared.standing.Standing.TheVariants.{Open, Closed, Sealed}
 use Rattle.desk_counter.specs.declared.item.Fixed.{Fixed}
 use Rattle.desk_counter.specs.Lives.{IsAskOf}
-use Rattle.desk_crew.specs.Crew.{seat_user, seat_journal, seat_disk, seat_kept, seat_standing, seat_state, seat_broke, IsToldAt, IsReopened, AreReopened, Tells, nobody, here, further}
+use Rattle.desk_crew.specs.Crew.{seat_user, seat_journal, seat_disk, seat_kept, seat_standing, seat_state, seat_broke, IsToldAt, IsReopened, AreReopened, Tells}
+use Rattle.desk_crew.specs.Crew.{nobody, here, further}
 use Rattle.desk_crew.specs.Shelved.{AreLater}
 use Rattle.desk_crew.specs.Seats.{DeskSeat}
 use Rattle.desk_crew.proofs.Rising.{AtSome, HasFailed, some_weaker}
@@ -27,29 +30,37 @@ use Rattle.batch_engine.proofs.Running.{stay_run}
 
 module _ (schema : DatabaseSchema) (world : FactSet) (user : UserProfile) where
   -- no rule gives the reply but where an append failed
-  broken_by : (entries : History) (standing : Run.Standing) (broken : Bool) (text : Text) (read : Result Formula Refusal) → is_broken_reply (Some (reply_by schema world user entries standing broken text read)) ≡ true → broken ≡ true
+  broken_by : (entries : History) (standing : Run.Standing) (broken : Bool) (text : Text) (read : Result Formula Refusal)
+      → is_broken_reply (Some (reply_by schema world user entries standing broken text read)) ≡ true → broken ≡ true
   broken_by entries standing_sealed broken text read is = let clash : false ≡ true = is in absurd cc
   broken_by entries standing_closed broken text read is = let clash : false ≡ true = is in absurd cc
   broken_by entries standing_open true text read is = refl
   broken_by entries standing_open false text (Err refusal) is = is
   broken_by entries standing_open false text (Ok query) is = by (is_full entries (length text)) (is_too_large schema user entries query) is
     where
-      by : (full large : Bool) → is_broken_reply (Some (if full then history_full else if large then too_large else marked (rule schema world user (log user entries) query))) ≡ true → false ≡ true
+      by : (full large : Bool)
+          → is_broken_reply (Some (if full then history_full else if large then too_large else marked (rule schema world user (log user entries) query))) ≡ true
+          → false ≡ true
       by true large is = is
       by false true is = is
       by false false is = is
 
   -- a desk whose journal was refused doesn't say so
-  sealed_by : (text : Text) (read : Result Formula Refusal) → is_broken_reply (Some (reply_at_failure schema world user desk_sealed (entry_added text read desk_sealed))) ≡ false
+  sealed_by : (text : Text) (read : Result Formula Refusal)
+      → is_broken_reply (Some (reply_at_failure schema world user desk_sealed (entry_added text read desk_sealed))) ≡ false
   sealed_by text (Ok query) = refl
   sealed_by text (Err refusal) = refl
 
-  sealed_says : (state : UserState) (text : Text) (ending : Ending) → is_broken_reply (Some (reply_to_ask schema world user (record state { standing = standing_sealed }) text ending)) ≡ false
+  sealed_says : (state : UserState) (text : Text) (ending : Ending) → is_broken_reply (Some (reply_to_ask schema world user (record state {
+    standing =
+        standing_sealed;
+  }) text ending)) ≡ false
   sealed_says state text want = refl
   sealed_says state text kept = refl
   sealed_says state text failed = sealed_by text (reading schema text)
 
-  module _ (standing : Standing) (old new : UserState) (text : Text) (told : Reply) (settles : (state : UserState) → IsState standing old state → IsAskOf schema world user (IsState standing new) state text told) where
+  module _ (standing : Standing) (old new : UserState) (text : Text) (told : Reply) (settles : (state : UserState) → IsState standing old state
+      → IsAskOf schema world user (IsState standing new) state text told) where
     sealed_asked : is_sealed standing ≡ true → is_broken_reply (Some told) ≡ false
     sealed_asked sealed =
         let one = settles (record old { standing = standing_sealed }) (in_sealed standing sealed) in
@@ -87,35 +98,47 @@ module _ (schema : DatabaseSchema) (world : FactSet) (user : UserProfile) where
         wanted reply (inl broken) = broken
         wanted reply (inr said) = let clash : false ≡ true = ap (λ r. is_broken_reply (Some r)) (sym reply) ∙ said in absurd cc
 
-        by_entry : (entry : Option AnsweredQuery) → after_failure schema world user old entry ≡ new → told ≡ reply_at_failure schema world user (reply_at schema world user old text) entry → new.broken ≡ true
+        by_entry : (entry : Option AnsweredQuery) → after_failure schema world user old entry ≡ new
+            → told ≡ reply_at_failure schema world user (reply_at schema world user old text) entry → new.broken ≡ true
         by_entry (Some entry) after reply = ap (λ (s : UserState). s.broken) (sym after)
         by_entry None after reply = ap (λ (s : UserState). s.broken) (sym after) ∙ was reply
 
-        by : (ending : Ending) → after_event schema world user old (ask text ending) ≡ new → told ≡ reply_to_ask schema world user old text ending → new.broken ≡ true
+        by : (ending : Ending) → after_event schema world user old (ask text ending) ≡ new → told ≡ reply_to_ask schema world user old text ending
+            → new.broken ≡ true
         by want after reply = ap (λ (s : UserState). s.broken) (sym after) ∙ wanted reply why
         by kept after reply = ap (λ (s : UserState). s.broken) (sym after) ∙ was reply
         by failed after reply = by_entry (entry_at schema world user old text) after reply
 
-module _ (schema : DatabaseSchema) (world : FactSet) (header : List ℕ) {D : Type 0} {g h : _} (told : Type 0) (reads : D → List ℕ) (image : D → List ℕ → Type 0) (faults : D → ℕ) (count : Text → ℕ) where
+module _ (schema : DatabaseSchema) (world : FactSet) (header : List ℕ) {D : Type 0} {g h : _} (told : Type 0) (reads : D → List ℕ) (image : D → List ℕ → Type 0)
+    (faults : D → ℕ) (count : Text → ℕ) where
   -- an append failed at a desk whose journal wasn't refused, or the count of its disk had risen as it was opened
   abbrev pub HasBroken : DeskSeat D g h → Type 0
   HasBroken seat = ((is_sealed (seat_standing seat) ≡ false) × (seat_broke seat ≡ true)) ⊎ Rose (count (seat_journal seat)) (faults (seat_disk seat))
 
   -- an ask leaves it so, and one that says so makes it so
-  seat_told : (old new : DeskSeat D g h) (text : Text) (reply : Reply) → IsToldAt schema world text reply old new → HasBroken old ⊎ (is_broken_reply (Some reply) ≡ true) → HasBroken new
+  seat_told : (old new : DeskSeat D g h) (text : Text) (reply : Reply) → IsToldAt schema world text reply old new → HasBroken old
+      ⊎ (is_broken_reply (Some reply) ≡ true) → HasBroken new
   seat_told old new text reply answer = by (is_sealed (seat_standing old)) refl
     where
-      settles : (state : UserState) → IsState (seat_standing old) (seat_state old) state → IsAskOf schema world (profile_of (seat_user old)) (IsState (seat_standing old) (seat_state new)) state text reply
-      settles state is = subst (λ (f : Fixed D). IsAskOf schema world (profile_of (seat_user old)) (IsState f.standing (seat_state new)) state text reply) answer.kept_is (answer.settled state is)
+      settles : (state : UserState) → IsState (seat_standing old) (seat_state old) state
+          → IsAskOf schema world (profile_of (seat_user old)) (IsState (seat_standing old) (seat_state new)) state text reply
+      settles state is =
+          subst (λ (f : Fixed D). IsAskOf schema world (profile_of (seat_user old)) (IsState f.standing (seat_state new)) state text reply) answer.kept_is
+          (answer.settled state is)
 
       served_still : is_sealed (seat_standing old) ≡ false → is_sealed (seat_standing new) ≡ false
       served_still served = ap (λ (f : Fixed D). is_sealed f.standing) answer.kept_is ∙ served
 
       broke : is_sealed (seat_standing old) ≡ false → (seat_broke old ≡ true) ⊎ (is_broken_reply (Some reply) ≡ true) → HasBroken new
-      broke served why = inl (served_still served, broken_asked schema world (profile_of (seat_user old)) (seat_standing old) (seat_state old) (seat_state new) text reply settles served why)
+      broke served why =
+          inl (
+            served_still served,
+            broken_asked schema world (profile_of (seat_user old)) (seat_standing old) (seat_state old) (seat_state new) text reply settles served why,
+          )
 
       rose : Rose (count (seat_journal old)) (faults (seat_disk old)) → HasBroken new
-      rose is = inr (subst (λ n. Rose (count n) (faults (seat_disk new))) (sym answer.journal_is) (subst (λ (f : Fixed D). Rose (count (seat_journal old)) (faults f.disk)) (sym answer.kept_is) is))
+      rose is = inr (subst (λ n. Rose (count n) (faults (seat_disk new))) (sym answer.journal_is)
+          (subst (λ (f : Fixed D). Rose (count (seat_journal old)) (faults f.disk)) (sym answer.kept_is) is))
 
       by : (b : Bool) → is_sealed (seat_standing old) ≡ b → HasBroken old ⊎ (is_broken_reply (Some reply) ≡ true) → HasBroken new
       by false served (inl (inl has)) = broke served (inl has.1)
@@ -124,37 +147,50 @@ module _ (schema : DatabaseSchema) (world : FactSet) (header : List ℕ) {D : Ty
       by true sealed (inl (inl has)) = let clash : true ≡ false = sym sealed ∙ has.0 in absurd cc
       by true sealed (inl (inr is)) = rose is
       by true sealed (inr said) =
-          let clash : false ≡ true = sym (sealed_asked schema world (profile_of (seat_user old)) (seat_standing old) (seat_state old) (seat_state new) text reply settles sealed) ∙ said in absurd cc
+          let clash : false ≡ true =
+          sym (sealed_asked schema world (profile_of (seat_user old)) (seat_standing old) (seat_state old) (seat_state new) text reply settles sealed)
+          ∙ said in absurd cc
 
-  all_told : (name text : Text) (old new : List (DeskSeat D g h)) (reply : Option Reply) → Tells schema world name text old new reply → AtSome HasBroken old ⊎ (is_broken_reply reply ≡ true) → AtSome HasBroken new
+  all_told : (name text : Text) (old new : List (DeskSeat D g h)) (reply : Option Reply) → Tells schema world name text old new reply → AtSome HasBroken old
+      ⊎ (is_broken_reply reply ≡ true) → AtSome HasBroken new
   all_told name text old new reply nobody (inl none) = absurd none
   all_told name text old new reply nobody (inr said) = let clash : false ≡ true = said in absurd cc
-  all_told name text old new reply (here {old = first} {new = next} {told_reply} is answer) (inl (inl has)) = inl (seat_told first next text told_reply answer (inl has))
+  all_told name text old new reply (here {old =
+      first} {new = next} {told_reply} is answer) (inl (inl has)) = inl (seat_told first next text told_reply answer (inl has))
   all_told name text old new reply (here is answer) (inl (inr others)) = inr others
-  all_told name text old new reply (here {old = first} {new = next} {told_reply} is answer) (inr said) = inl (seat_told first next text told_reply answer (inr said))
+  all_told name text old new reply (here {old =
+      first} {new = next} {told_reply} is answer) (inr said) = inl (seat_told first next text told_reply answer (inr said))
   all_told name text old new reply (further other rest) (inl (inl has)) = inl has
-  all_told name text old new reply (further {others} {after} {told_reply} other rest) (inl (inr deep)) = inr (all_told name text others after told_reply rest (inl deep))
-  all_told name text old new reply (further {others} {after} {told_reply} other rest) (inr said) = inr (all_told name text others after told_reply rest (inr said))
+  all_told name text old new reply (further {others} {after} {told_reply} other rest) (inl (inr deep)) =
+      inr (all_told name text others after told_reply rest (inl deep))
+  all_told name text old new reply (further {others} {after} {told_reply} other rest) (inr said) =
+      inr (all_told name text others after told_reply rest (inr said))
 
   -- a restart leaves it so
-  seat_reopened : (old new : DeskSeat D g h) → IsReopened schema world header told reads image faults old new → count (seat_journal old) ≤ faults (seat_disk old) → HasBroken old → HasBroken new
+  seat_reopened : (old new : DeskSeat D g h) → IsReopened schema world header told reads image faults old new
+      → count (seat_journal old) ≤ faults (seat_disk old) → HasBroken old → HasBroken new
   seat_reopened old new is first has = inr (subst (λ n. Rose (count n) (faults (seat_disk new))) (sym is.journal_is) (by has))
     where
       by : HasBroken old → Rose (count (seat_journal old)) (faults (seat_disk new))
-      by (inl broke) = rose_wide (count (seat_journal old)) (faults (seat_disk old)) (faults is.closed) (faults (seat_disk new)) first is.left.later (is.is_closed.cause broke.1)
+      by (inl broke) =
+          rose_wide (count (seat_journal old)) (faults (seat_disk old)) (faults is.closed) (faults (seat_disk new)) first is.left.later
+          (is.is_closed.cause broke.1)
       by (inr rose) =
           let closed = is.is_closed.later in
           let opened = is.left.later in
-          rose_wide (count (seat_journal old)) (count (seat_journal old)) (faults (seat_disk old)) (faults (seat_disk new)) (omega arith) (omega (arith, closed, opened)) rose
+          rose_wide (count (seat_journal old)) (count (seat_journal old)) (faults (seat_disk old)) (faults (seat_disk new)) (omega arith)
+          (omega (arith, closed, opened)) rose
 
-  all_reopened : (old new : List (DeskSeat D g h)) → AreReopened schema world header told reads image faults old new → AreLater faults count old → AtSome HasBroken old → AtSome HasBroken new
+  all_reopened : (old new : List (DeskSeat D g h)) → AreReopened schema world header told reads image faults old new → AreLater faults count old
+      → AtSome HasBroken old → AtSome HasBroken new
   all_reopened [] [] are first none = absurd none
   all_reopened [] (n ∷ new) are first none = absurd are
   all_reopened (o ∷ old) [] are first has = absurd are
   all_reopened (o ∷ old) (n ∷ new) are first (inl has) = inl (seat_reopened o n are.0 first.0 has)
   all_reopened (o ∷ old) (n ∷ new) are first (inr others) = inr (all_reopened old new are.1 first.1 others)
 
-  all_carried : (item : BatchItem) (old new : List (DeskSeat D g h)) (line : List ℕ) (says_broken : Bool) → Carries schema world header told reads image faults item old new line says_broken → AreLater faults count old
+  all_carried : (item : BatchItem) (old new : List (DeskSeat D g h)) (line : List ℕ) (says_broken : Bool)
+      → Carries schema world header told reads image faults item old new line says_broken → AreLater faults count old
       → AtSome HasBroken old ⊎ (says_broken ≡ true) → AtSome HasBroken new
   all_carried (asked it) old new line says_broken carried first (inl has) = all_told it.name it.text old new carried.0 carried.1 (inl has)
   all_carried (asked it) old new line says_broken carried first (inr said) = all_told it.name it.text old new carried.0 carried.1 (inr (sym carried.3 ∙ said))
@@ -162,10 +198,12 @@ module _ (schema : DatabaseSchema) (world : FactSet) (header : List ℕ) {D : Ty
   all_carried restarted old new line says_broken carried first (inr said) = let clash : false ≡ true = sym carried.2 ∙ said in absurd cc
 
   -- behind items of which a line says so, it is so
-  pub run_broken : (items : List BatchItem) (old new : List (DeskSeat D g h)) (output : List ℕ) (is_broken : Bool) → Runs schema world header told reads image faults items old output new is_broken → AreLater faults count old
+  pub run_broken : (items : List BatchItem) (old new : List (DeskSeat D g h)) (output : List ℕ) (is_broken : Bool)
+      → Runs schema world header told reads image faults items old output new is_broken → AreLater faults count old
       → is_broken ≡ true → AtSome HasBroken new
   run_broken items old new output is_broken (nothing seats) first said = absurd cc
-  run_broken items old new output is_broken (more earlier old' mid new' before line was says_broken item runs carried) first said = by was refl (run_broken earlier old' mid before was runs first)
+  run_broken items old new output is_broken (more earlier old' mid new' before line was says_broken item runs carried) first said =
+      by was refl (run_broken earlier old' mid before was runs first)
     where
       later : AreLater faults count mid
       later = (stay_run schema world header told reads image faults earlier old' mid before was runs).later count first
@@ -175,7 +213,8 @@ module _ (schema : DatabaseSchema) (world : FactSet) (header : List ℕ) {D : Ty
       by false whole so_far = all_carried item mid new' line says_broken carried later (inr (ap (λ b. b || says_broken) (sym whole) ∙ said))
 
   -- and the count of its name rises as it is given back
-  pub all_weaker : (told' : Type 0) (count' : Text → ℕ) (disk' : Text → Option D) (seats : List (DeskSeat D g h)) → AtSome HasBroken seats → AtSome (HasFailed told' reads image faults count count' disk') seats
+  pub all_weaker : (told' : Type 0) (count' : Text → ℕ) (disk' : Text → Option D) (seats : List (DeskSeat D g h)) → AtSome HasBroken seats
+      → AtSome (HasFailed told' reads image faults count count' disk') seats
   all_weaker told' count' disk' seats some = some_weaker HasBroken (HasFailed told' reads image faults count count' disk') seats one some
     where
       one : (seat : DeskSeat D g h) → HasBroken seat → HasFailed told' reads image faults count count' disk' seat

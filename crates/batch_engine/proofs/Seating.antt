@@ -27,9 +27,11 @@ use Rattle.desk_crew.specs.Openings.{OpensNone, IsOpening}
 use Rattle.batch_engine.specs.Batch.{unopened}
 use Rattle.batch_engine.specs.Lives.{is_ask}
 use Rattle.desk_crew.specs.Shelved.{IsSeatOf, AreSeatsOf}
-use Rattle.desk_crew.specs.Crew.{named_user, first_refusal, seat_user, seat_name, seat_journal, seat_kept, seat_standing, seat_history, seat_state, seat_disk, IsSeatIn, IsFresh, is_named, IsClosed, IsServed, IsToldAt, IsReopened, AreReopened, Tells, nobody, here, further}
+use Rattle.desk_crew.specs.Crew.{named_user, first_refusal, seat_user, seat_name, seat_journal, seat_kept, seat_standing, seat_history, seat_state, seat_disk}
+use Rattle.desk_crew.specs.Crew.{IsSeatIn, IsFresh, is_named, IsClosed, IsServed, IsToldAt, IsReopened, AreReopened, Tells, nobody, here, further}
 use Rattle.desk_crew.specs.Seats.{DeskSeat}
-use Rattle.batch_engine.proofs.Courses.{any-push, Course, course_on, stays_on, IsRunning, IsLiving, live, closing, Asked, ask_step, Restarted, IsExclusive, open_step}
+use Rattle.batch_engine.proofs.Courses.{any-push, Course, course_on, stays_on, IsRunning, IsLiving, live, closing, Asked, ask_step, Restarted, IsExclusive}
+use Rattle.batch_engine.proofs.Courses.{open_step}
 
 -- ---- lists and texts
 
@@ -37,7 +39,8 @@ pub flat_map-append : {X A : Type 0} (f : X → List A) (xs ys : List X) → fla
 flat_map-append f [] ys = refl
 flat_map-append f (x ∷ xs) ys = ap (λ zs. f x ++ zs) (flat_map-append f xs ys) ∙ sym (append_assoc (f x) (flat_map f xs) (flat_map f ys))
 
-pub own-push : (name : Text) (script : List ScriptEvent) (event : ScriptEvent) → own_events name (script ++ event ∷ []) ≡ own_events name script ++ own_event name event
+pub own-push : (name : Text) (script : List ScriptEvent) (event : ScriptEvent)
+    → own_events name (script ++ event ∷ []) ≡ own_events name script ++ own_event name event
 own-push name script event = flat_map-append (own_event name) script (event ∷ []) ∙ ap (λ es. own_events name script ++ es) (append-nil (own_event name event))
 
 abbrev pub names : List NamedUser → List Text
@@ -47,25 +50,34 @@ names users = map (λ u. u.name) users
 abbrev with_name : Text → Bool → (Text → Bool) → Text → Bool
 with_name name chosen others asked = if bytes_eq name asked then chosen else others asked
 
-module _ (event : (Text → Bool) → (Text → Bool) → ScriptEvent) (own : (name : Text) (found opens : Text → Bool) → own_event name (event found opens) ≡ restart (found name) (opens name) ∷ []) where
-  own-opening : (name : Text) (script : List ScriptEvent) (found opens : Text → Bool) (f o : Bool) → found name ≡ f → opens name ≡ o → own_events name (script ++ event found opens ∷ []) ≡ own_events name script ++ restart f o ∷ []
+module _ (event : (Text → Bool) → (Text → Bool) → ScriptEvent) (own : (name : Text) (found opens : Text → Bool)
+    → own_event name (event found opens) ≡ restart (found name) (opens name) ∷ []) where
+  own-opening : (name : Text) (script : List ScriptEvent) (found opens : Text → Bool) (f o : Bool) → found name ≡ f → opens name ≡ o
+      → own_events name (script ++ event found opens ∷ []) ≡ own_events name script ++ restart f o ∷ []
   own-opening name script found opens f o is_found is_open =
       own-push name script (event found opens) ∙ ap (λ es. own_events name script ++ es) (own name found opens)
       ∙ ap (λ b. own_events name script ++ restart b (opens name) ∷ []) is_found ∙ ap (λ b. own_events name script ++ restart f b ∷ []) is_open
 
 -- the course of a user whose journal wasn't opened yet
 module _ (schema : DatabaseSchema) (world : FactSet) (header : List ℕ) (bytes : Text → List ℕ) (before : Text → ℕ) (images : Text → List ℕ → Type 0) where
-  first_course : (user : UserProfile) (name : Text) (opened : History) (now : ℕ) (c : List ℕ) → now ≡ before name → c ≡ bytes name → IsOpening schema world user header (bytes name) opened
+  first_course : (user : UserProfile) (name : Text) (opened : History) (now : ℕ) (c : List ℕ) → now ≡ before name → c ≡ bytes name
+      → IsOpening schema world user header (bytes name) opened
       → Course schema world user header (bytes name) (before name) (images name) opened [] c now None
   first_course user name opened now c counted same (inl opens) = record {
     later = omega (arith, counted);
     caused = tt;
-    fits = inl (opens, record { found = false; sought = λ e. absurd cc; opens = subst (Opens schema world user header opened) (sym same) opens }, inl (omega (arith, counted)));
+    fits = inl (
+      opens,
+      record { found = false; sought = λ e. absurd cc; opens = subst (Opens schema world user header opened) (sym same) opens },
+      inl (omega (arith, counted)),
+    );
     refused = refl;
   }
-  first_course user name opened now c counted same (inr (none, empty)) = record { later = omega (arith, counted); caused = tt; fits = inr (none, empty, same, refl); refused = refl }
+  first_course user name opened now c counted same (inr (none, empty)) =
+      record { later = omega (arith, counted); caused = tt; fits = inr (none, empty, same, refl); refused = refl }
 
-module _ (schema : DatabaseSchema) (world : FactSet) (header directory : List ℕ) {D : Type 0} {g h : _} (T : Type 0) (reads : D → List ℕ) (image : D → List ℕ → Type 0) (faults : D → ℕ) (t : T) (read_is_image : (d : D) → T → image d (reads d))
+module _ (schema : DatabaseSchema) (world : FactSet) (header directory : List ℕ) {D : Type 0} {g h : _} (T : Type 0) (reads : D → List ℕ)
+    (image : D → List ℕ → Type 0) (faults : D → ℕ) (t : T) (read_is_image : (d : D) → T → image d (reads d))
     (bytes : Text → List ℕ) (before : Text → ℕ) (images : Text → List ℕ → Type 0) where
   -- a user sits at his desk behind these events of his
   pub record IsSeated (user : NamedUser) (events : List Event) (seat : DeskSeat D g h) : Type 0 where
@@ -73,7 +85,8 @@ module _ (schema : DatabaseSchema) (world : FactSet) (header directory : List �
     pub profile_is : profile_of (seat_user seat) ≡ user.profile
     pub journal_is : seat_journal seat ≡ journal_name directory user.name
     pub served : IsServed schema world header seat
-    pub living : IsLiving schema world user.profile header (bytes user.name) (before user.name) (images user.name) user.opened events (seat_standing seat) (seat_state seat) (image (seat_disk seat)) (reads (seat_disk seat)) (faults (seat_disk seat)) seat.refusal
+    pub living : IsLiving schema world user.profile header (bytes user.name) (before user.name) (images user.name) user.opened events (seat_standing seat)
+        (seat_state seat) (image (seat_disk seat)) (reads (seat_disk seat)) (faults (seat_disk seat)) seat.refusal
     pub fresh : list_any is_ask events ≡ false → IsFresh seat
 
   -- all do, behind the events of a script
@@ -86,15 +99,19 @@ module _ (schema : DatabaseSchema) (world : FactSet) (header directory : List �
 
   record AskedAt (user : NamedUser) (events : List Event) (seat : DeskSeat D g h) (text : Text) (told : Reply) : Type 0 where
     ending : Ending
-    reply : told ≡ reply_to_ask schema world user.profile (after_events schema world user.profile (opening schema world user.profile user.opened) events) text ending
+    reply : told ≡ reply_to_ask schema world user.profile
+        (after_events schema world user.profile (opening schema world user.profile user.opened) events) text ending
     seated : IsSeated user (events ++ ask text ending ∷ []) seat
 
-  ask_at : (user : NamedUser) (events : List Event) (old new : DeskSeat D g h) (text : Text) (told : Reply) → IsSeated user events old → IsToldAt schema world text told old new → AskedAt user events new text told
+  ask_at : (user : NamedUser) (events : List Event) (old new : DeskSeat D g h) (text : Text) (told : Reply) → IsSeated user events old
+      → IsToldAt schema world text told old new → AskedAt user events new text told
   ask_at user events old new text told seated answer =
       let kept = answer.kept_is in
       let profile : profile_of (seat_user old) ≡ user.profile = seated.profile_is in
-      let asked : Asked schema world user.profile header (bytes user.name) (before user.name) (images user.name) user.opened events (seat_standing old) (seat_state new) (image (seat_disk old)) (reads (seat_disk old)) (faults (seat_disk old)) old.refusal text told =
-      ask_step schema world user.profile header (bytes user.name) (before user.name) (images user.name) user.opened events (seat_standing old) (seat_state old) (seat_state new) (image (seat_disk old)) (reads (seat_disk old)) (faults (seat_disk old)) old.refusal text told seated.living
+      let asked : Asked schema world user.profile header (bytes user.name) (before user.name) (images user.name) user.opened events (seat_standing old)
+      (seat_state new) (image (seat_disk old)) (reads (seat_disk old)) (faults (seat_disk old)) old.refusal text told =
+      ask_step schema world user.profile header (bytes user.name) (before user.name) (images user.name) user.opened events (seat_standing old) (seat_state old)
+      (seat_state new) (image (seat_disk old)) (reads (seat_disk old)) (faults (seat_disk old)) old.refusal text told seated.living
       (λ state is. subst (λ (f : Fixed D). IsAskOf schema world user.profile (IsState f.standing (seat_state new)) state text told) kept
       (subst (λ p. IsAskOf schema world p (IsSeatIn new) state text told) profile (answer.settled state is))) in
       record {
@@ -110,35 +127,49 @@ module _ (schema : DatabaseSchema) (world : FactSet) (header directory : List �
             header_is = ap (λ (f : Fixed D). f.header) kept ∙ seated.served.header_is;
             user_is = ap (λ (f : Fixed D). f.user) kept ∙ seated.served.user_is ∙ ap profile_of (sym answer.user_is);
           };
-          living = subst (λ r. IsLiving schema world user.profile header (bytes user.name) (before user.name) (images user.name) user.opened (events ++ ask text asked.ending ∷ []) (seat_standing new) (seat_state new) (image (seat_disk new)) (reads (seat_disk new)) (faults (seat_disk new)) r) (sym answer.refusal_is)
-              (subst (λ (f : Fixed D). IsLiving schema world user.profile header (bytes user.name) (before user.name) (images user.name) user.opened (events ++ ask text asked.ending ∷ []) f.standing (seat_state new) (image f.disk) (reads f.disk) (faults f.disk) old.refusal) (sym kept) asked.living);
+          living = subst (λ r.
+              IsLiving schema world user.profile header (bytes user.name) (before user.name) (images user.name) user.opened
+              (events ++ ask text asked.ending ∷ []) (seat_standing new) (seat_state new) (image (seat_disk new)) (reads (seat_disk new))
+              (faults (seat_disk new)) r) (sym answer.refusal_is)
+              (subst (λ (f : Fixed D).
+              IsLiving schema world user.profile header (bytes user.name) (before user.name) (images user.name) user.opened
+              (events ++ ask text asked.ending ∷ []) f.standing (seat_state new) (image f.disk) (reads f.disk) (faults f.disk) old.refusal)
+              (sym kept) asked.living);
           fresh = λ none. let e : true ≡ false = sym (any-push is_ask events (ask text asked.ending) ∙ or-true (list_any is_ask events)) ∙ none in absurd cc;
         };
       }
 
   -- an ask of another name changes nothing
-  unnamed : (script : List ScriptEvent) (name : Text) (session : ℕ) (text : Text) (ending : Ending) (user : NamedUser) (seat : DeskSeat D g h) → bytes_eq name user.name ≡ false → IsSeated user (own_events user.name script) seat
+  unnamed : (script : List ScriptEvent) (name : Text) (session : ℕ) (text : Text) (ending : Ending) (user : NamedUser) (seat : DeskSeat D g h)
+      → bytes_eq name user.name ≡ false → IsSeated user (own_events user.name script) seat
       → IsSeated user (own_events user.name (script ++ script_ask name session text ending ∷ [])) seat
   unnamed script name session text ending user seat other seated =
       subst (λ es. IsSeated user es seat)
-      (sym (own-push user.name script (script_ask name session text ending) ∙ ap (λ b. own_events user.name script ++ (if b then ask text ending ∷ [] else [])) other ∙ append-nil (own_events user.name script))) seated
+      (sym (own-push user.name script (script_ask name session text ending)
+      ∙ ap (λ b. own_events user.name script ++ (if b then ask text ending ∷ [] else [])) other ∙ append-nil (own_events user.name script))) seated
 
-  all_unnamed : (script : List ScriptEvent) (name : Text) (session : ℕ) (text : Text) (ending : Ending) (users : List NamedUser) (seats : List (DeskSeat D g h)) → list_any (bytes_eq name) (names users) ≡ false
+  all_unnamed : (script : List ScriptEvent) (name : Text) (session : ℕ) (text : Text) (ending : Ending) (users : List NamedUser) (seats : List (DeskSeat D g h))
+      → list_any (bytes_eq name) (names users) ≡ false
       → AreSeated script users seats → AreSeated (script ++ script_ask name session text ending ∷ []) users seats
   all_unnamed script name session text ending [] [] none seated = tt
   all_unnamed script name session text ending [] (seat ∷ seats) none seated = absurd seated
   all_unnamed script name session text ending (user ∷ users) [] none seated = absurd seated
-  all_unnamed script name session text ending (user ∷ users) (seat ∷ seats) none seated =
-      (unnamed script name session text ending user seat (or_first _ _ none) seated.0, all_unnamed script name session text ending users seats (or_second _ _ none) seated.1)
+  all_unnamed script name session text ending (user ∷ users) (seat ∷ seats) none seated = (
+    unnamed script name session text ending user seat (or_first _ _ none) seated.0,
+    all_unnamed script name session text ending users seats (or_second _ _ none) seated.1,
+  )
 
   -- an ask with some ending: what is told, and the seats behind it
-  pub record Next (script : List ScriptEvent) (name : Text) (session : ℕ) (text : Text) (users : List NamedUser) (new : List (DeskSeat D g h)) (told : Option Reply) : Type 0 where
+  pub record Next (script : List ScriptEvent) (name : Text) (session : ℕ) (text : Text) (users : List NamedUser) (new : List (DeskSeat D g h))
+      (told : Option Reply) : Type 0 where
     pub ending : Ending
     pub replied : told_after schema world script text ending (find (λ u. bytes_eq u.name name) users) ≡ told
     pub seated : AreSeated (script ++ script_ask name session text ending ∷ []) users new
 
-  told_here : (script : List ScriptEvent) (name : Text) (session : ℕ) (text : Text) (user : NamedUser) (users : List NamedUser) (old new : DeskSeat D g h) (others : List (DeskSeat D g h)) (told : Reply)
-      → is_named name old ≡ true → IsToldAt schema world text told old new → list_any (bytes_eq user.name) (names users) ≡ false → IsSeated user (own_events user.name script) old → AreSeated script users others
+  told_here : (script : List ScriptEvent) (name : Text) (session : ℕ) (text : Text) (user : NamedUser) (users : List NamedUser) (old new : DeskSeat D g h)
+      (others : List (DeskSeat D g h)) (told : Reply)
+      → is_named name old ≡ true → IsToldAt schema world text told old new → list_any (bytes_eq user.name) (names users) ≡ false
+      → IsSeated user (own_events user.name script) old → AreSeated script users others
       → Next script name session text (user ∷ users) (new ∷ others) (Some told)
   told_here script name session text user users old new others told is answer distinct seated rest =
       let one : AskedAt user (own_events user.name script) new text told = ask_at user (own_events user.name script) old new text told seated answer in
@@ -147,15 +178,20 @@ module _ (schema : DatabaseSchema) (world : FactSet) (header directory : List �
       let asked_by : bytes_eq name user.name ≡ true = ap (λ n. bytes_eq n user.name) (sym same) ∙ text_is user.name in
       record {
         ending = one.ending;
-        replied = ap (λ b. told_after schema world script text one.ending (if b then Some user else find (λ u. bytes_eq u.name name) users)) named ∙ ap Some (sym one.reply);
+        replied = ap (λ b. told_after schema world script text one.ending (if b then Some user else find (λ u. bytes_eq u.name name) users)) named
+            ∙ ap Some (sym one.reply);
         seated = (
-          subst (λ es. IsSeated user es new) (sym (own-push user.name script (script_ask name session text one.ending) ∙ ap (λ b. own_events user.name script ++ (if b then ask text one.ending ∷ [] else [])) asked_by)) one.seated,
+          subst (λ es. IsSeated user es new)
+              (sym (own-push user.name script (script_ask name session text one.ending)
+              ∙ ap (λ b. own_events user.name script ++ (if b then ask text one.ending ∷ [] else [])) asked_by)) one.seated,
           all_unnamed script name session text one.ending users others (ap (λ n. list_any (bytes_eq n) (names users)) (sym same) ∙ distinct) rest,
         );
       }
 
-  pub told_next : (script : List ScriptEvent) (name : Text) (session : ℕ) (text : Text) (users : List NamedUser) (old new : List (DeskSeat D g h)) (told : Option Reply)
-      → has_duplicate (names users) ≡ false → AreSeated script users old → Tells schema world name text old new told → Next script name session text users new told
+  pub told_next : (script : List ScriptEvent) (name : Text) (session : ℕ) (text : Text) (users : List NamedUser) (old new : List (DeskSeat D g h))
+      (told : Option Reply)
+      → has_duplicate (names users) ≡ false → AreSeated script users old → Tells schema world name text old new told
+      → Next script name session text users new told
   told_next script name session text [] old new told distinct seated nobody = record { ending = Run.kept; replied = refl; seated = tt }
   told_next script name session text (user ∷ users) old new told distinct seated nobody = absurd seated
   told_next script name session text [] old new told distinct seated (here is answer) = absurd seated
@@ -163,27 +199,33 @@ module _ (schema : DatabaseSchema) (world : FactSet) (header directory : List �
       told_here script name session text user users first next others reply is answer (or_first _ _ distinct) seated.0 seated.1
   told_next script name session text [] old new told distinct seated (further other more) = absurd seated
   told_next script name session text (user ∷ users) old new told distinct seated (further {seat} {others} {after} {told_reply = reply} other more) =
-      let rest : Next script name session text users after reply = told_next script name session text users others after reply (or_second _ _ distinct) seated.1 more in
+      let rest : Next script name session text users after reply =
+      told_next script name session text users others after reply (or_second _ _ distinct) seated.1 more in
       let differs : bytes_eq user.name name ≡ false = ap (λ n. bytes_eq n name) (sym seated.0.name_is) ∙ other in
       record {
         ending = rest.ending;
-        replied = ap (λ b. told_after schema world script text rest.ending (if b then Some user else find (λ u. bytes_eq u.name name) users)) differs ∙ rest.replied;
+        replied =
+            ap (λ b. told_after schema world script text rest.ending (if b then Some user else find (λ u. bytes_eq u.name name) users)) differs ∙ rest.replied;
         seated = (unnamed script name session text rest.ending user seat (other_text user.name name differs) seated.0, rest.seated);
       }
 
   -- ---- a close
 
   -- a desk was closed, and left this disk
-  pub close_at : (user : NamedUser) (events : List Event) (seat : DeskSeat D g h) (disk : D) → IsSeated user events seat → IsClosed T image faults seat.desk disk
-      → IsRunning schema world user.profile header (bytes user.name) (before user.name) (images user.name) user.opened events (seat_standing seat) (seat_state seat) (image disk) (reads disk) (faults disk) seat.refusal
+  pub close_at : (user : NamedUser) (events : List Event) (seat : DeskSeat D g h) (disk : D) → IsSeated user events seat
+      → IsClosed T image faults seat.desk disk
+      → IsRunning schema world user.profile header (bytes user.name) (before user.name) (images user.name) user.opened events (seat_standing seat)
+      (seat_state seat) (image disk) (reads disk) (faults disk) seat.refusal
   close_at user events seat disk seated closed =
-      closing schema world user.profile header (bytes user.name) (before user.name) (images user.name) user.opened events (seat_standing seat) (seat_state seat) (image (seat_disk seat)) (image disk) (reads (seat_disk seat)) (reads disk) (faults (seat_disk seat)) (faults disk) seat.refusal
+      closing schema world user.profile header (bytes user.name) (before user.name) (images user.name) user.opened events (seat_standing seat) (seat_state seat)
+      (image (seat_disk seat)) (image disk) (reads (seat_disk seat)) (reads disk) (faults (seat_disk seat)) (faults disk) seat.refusal
       seated.living closed.later closed.cause (λ why. left_as (by why))
       (λ served c at.
       subst (λ s. Holds s world user.profile header (seat_state seat) c) seated.served.schema_is
       (subst (λ w. Holds (seat_kept seat).schema w user.profile header (seat_state seat) c) seated.served.world_is
       (subst (λ p. Holds (seat_kept seat).schema (seat_kept seat).world p header (seat_state seat) c) (seated.served.user_is ∙ seated.profile_is)
-      (subst (λ h. Holds (seat_kept seat).schema (seat_kept seat).world (seat_kept seat).user h (seat_state seat) c) seated.served.header_is (closed.holds t served c at)))))
+      (subst (λ h. Holds (seat_kept seat).schema (seat_kept seat).world (seat_kept seat).user h (seat_state seat) c) seated.served.header_is
+      (closed.holds t served c at)))))
       (read_is_image disk t)
     where
       by : (is_sealed (seat_standing seat) ≡ true) ⊎ (list_any is_ask events ≡ false) → disk ≡ seat_disk seat
@@ -204,15 +246,18 @@ module _ (schema : DatabaseSchema) (world : FactSet) (header directory : List �
   Choices script (user ∷ users) (seat ∷ seats) = Choice user (own_events user.name script) seat × Choices script users seats
   Choices script users seats = ⊥
 
-  module _ (event : (Text → Bool) → (Text → Bool) → ScriptEvent) (own : (name : Text) (found opens : Text → Bool) → own_event name (event found opens) ≡ restart (found name) (opens name) ∷ []) where
+  module _ (event : (Text → Bool) → (Text → Bool) → ScriptEvent) (own : (name : Text) (found opens : Text → Bool)
+      → own_event name (event found opens) ≡ restart (found name) (opens name) ∷ []) where
     -- one event for all of them
     pub record Chosen (script : List ScriptEvent) (users : List NamedUser) (seats : List (DeskSeat D g h)) : Type 0 where
       pub found : Text → Bool
       pub opens : Text → Bool
       pub seated : AreSeated (script ++ event found opens ∷ []) users seats
 
-    others_seated : (script : List ScriptEvent) (name : Text) (f o : Bool) (found opens : Text → Bool) (users : List NamedUser) (seats : List (DeskSeat D g h)) → list_any (bytes_eq name) (names users) ≡ false
-        → AreSeated (script ++ event found opens ∷ []) users seats → AreSeated (script ++ event (with_name name f found) (with_name name o opens) ∷ []) users seats
+    others_seated : (script : List ScriptEvent) (name : Text) (f o : Bool) (found opens : Text → Bool) (users : List NamedUser) (seats : List (DeskSeat D g h))
+        → list_any (bytes_eq name) (names users) ≡ false
+        → AreSeated (script ++ event found opens ∷ []) users seats
+        → AreSeated (script ++ event (with_name name f found) (with_name name o opens) ∷ []) users seats
     others_seated script name f o found opens [] [] none seated = tt
     others_seated script name f o found opens [] (seat ∷ seats) none seated = absurd seated
     others_seated script name f o found opens (user ∷ users) [] none seated = absurd seated
@@ -220,16 +265,19 @@ module _ (schema : DatabaseSchema) (world : FactSet) (header directory : List �
       subst (λ es. IsSeated user es seat)
           (own-opening event own user.name script found opens (found user.name) (opens user.name) refl refl
           ∙ sym (own-opening event own user.name script (with_name name f found) (with_name name o opens) (found user.name) (opens user.name)
-          (ap (λ b. if b then f else found user.name) (or_first (bytes_eq name user.name) (list_any (bytes_eq name) (names users)) none)) (ap (λ b. if b then o else opens user.name) (or_first (bytes_eq name user.name) (list_any (bytes_eq name) (names users)) none)))) seated.0,
+          (ap (λ b. if b then f else found user.name) (or_first (bytes_eq name user.name) (list_any (bytes_eq name) (names users)) none))
+          (ap (λ b. if b then o else opens user.name) (or_first (bytes_eq name user.name) (list_any (bytes_eq name) (names users)) none)))) seated.0,
       others_seated script name f o found opens users seats (or_second (bytes_eq name user.name) (list_any (bytes_eq name) (names users)) none) seated.1,
     )
 
-    pub choose : (script : List ScriptEvent) (users : List NamedUser) (seats : List (DeskSeat D g h)) → has_duplicate (names users) ≡ false → Choices script users seats → Chosen script users seats
+    pub choose : (script : List ScriptEvent) (users : List NamedUser) (seats : List (DeskSeat D g h)) → has_duplicate (names users) ≡ false
+        → Choices script users seats → Chosen script users seats
     choose script [] [] distinct choices = record { found = λ n. false; opens = λ n. false; seated = tt }
     choose script [] (seat ∷ seats) distinct choices = absurd choices
     choose script (user ∷ users) [] distinct choices = absurd choices
     choose script (user ∷ users) (seat ∷ seats) distinct ((f, o, seated), choices) =
-        let rest : Chosen script users seats = choose script users seats (or_second (list_any (bytes_eq user.name) (names users)) (has_duplicate (names users)) distinct) choices in
+        let rest : Chosen script users seats =
+        choose script users seats (or_second (list_any (bytes_eq user.name) (names users)) (has_duplicate (names users)) distinct) choices in
         let found = with_name user.name f rest.found in
         let opens = with_name user.name o rest.opens in
         record {
@@ -237,30 +285,42 @@ module _ (schema : DatabaseSchema) (world : FactSet) (header directory : List �
           opens = opens;
           seated = (
             subst (λ es. IsSeated user es seat)
-                (sym (own-opening event own user.name script found opens f o (ap (λ b. if b then f else rest.found user.name) (text_is user.name)) (ap (λ b. if b then o else rest.opens user.name) (text_is user.name)))) seated,
-            others_seated script user.name f o rest.found rest.opens users seats (or_first (list_any (bytes_eq user.name) (names users)) (has_duplicate (names users)) distinct) rest.seated,
+                (sym (own-opening event own user.name script found opens f o (ap (λ b. if b then f else rest.found user.name) (text_is user.name))
+                (ap (λ b. if b then o else rest.opens user.name) (text_is user.name)))) seated,
+            others_seated script user.name f o rest.found rest.opens users seats
+                (or_first (list_any (bytes_eq user.name) (names users)) (has_duplicate (names users)) distinct) rest.seated,
           );
         }
 
   -- ---- closing and opening again
 
   module _ (exclusive : (user : UserProfile) → IsExclusive schema world user header) where
-    restart_at : (user : NamedUser) (events : List Event) (old new : DeskSeat D g h) → IsSeated user events old → IsReopened schema world header T reads image faults old new → Choice user events new
+    restart_at : (user : NamedUser) (events : List Event) (old new : DeskSeat D g h) → IsSeated user events old
+        → IsReopened schema world header T reads image faults old new → Choice user events new
     restart_at user events old new seated again =
         let profile : profile_of (seat_user new) ≡ user.profile = ap profile_of again.user_is ∙ seated.profile_is in
         let opened = again.opened in
         let closed = again.closed in
         let running = close_at user events old closed seated again.is_closed in
-        let step : Restarted schema world user.profile header (bytes user.name) (before user.name) (images user.name) user.opened events (seat_standing new) (seat_state new) (image (seat_disk new)) (reads (seat_disk new)) (faults (seat_disk new)) (first_refusal old.refusal (seat_standing new)) =
-        open_step schema world user.profile header (bytes user.name) (before user.name) (images user.name) (exclusive user.profile) T t user.opened events (reads (seat_disk new)) (faults closed) (faults (seat_disk new)) old.refusal
+        let step : Restarted schema world user.profile header (bytes user.name) (before user.name) (images user.name) user.opened events (seat_standing new)
+        (seat_state new) (image (seat_disk new)) (reads (seat_disk new)) (faults (seat_disk new)) (first_refusal old.refusal (seat_standing new)) =
+        open_step schema world user.profile header (bytes user.name) (before user.name) (images user.name) (exclusive user.profile) T t user.opened events
+        (reads (seat_disk new)) (faults closed) (faults (seat_disk new)) old.refusal
         (seat_history new) (flying (pairs_of_sole new.desk)) (seat_standing new) (image (seat_disk new))
-        (course_on schema world user.profile header (bytes user.name) (before user.name) (images user.name) user.opened events (reads closed) (reads (seat_disk new)) (faults closed) (faults closed) old.refusal again.left.reads_same (omega arith) running.course)
-        (stays_on schema world user.profile header (bytes user.name) (before user.name) (images user.name) user.opened events (image closed) (image (seat_disk new)) (reads closed) (reads (seat_disk new)) again.left.reads_same again.left.images running.stays)
+        (course_on schema world user.profile header (bytes user.name) (before user.name) (images user.name) user.opened events (reads closed)
+        (reads (seat_disk new)) (faults closed) (faults closed) old.refusal again.left.reads_same (omega arith) running.course)
+        (stays_on schema world user.profile header (bytes user.name) (before user.name) (images user.name) user.opened events (image closed)
+        (image (seat_disk new)) (reads closed) (reads (seat_disk new)) again.left.reads_same again.left.images running.stays)
         (record {
-          standing_is = subst (λ r. IsStanding schema world user.profile T header r (seat_history new) (faults closed) (faults (seat_disk new)) (seat_standing new)) (sym again.left.reads_same)
-              (subst (λ p. IsStanding schema world p T header (reads closed) (seat_history new) (faults closed) (faults (seat_disk new)) (seat_standing new)) profile opened.standing);
+          standing_is = subst (λ r.
+              IsStanding schema world user.profile T header r (seat_history new) (faults closed) (faults (seat_disk new)) (seat_standing new))
+              (sym again.left.reads_same)
+              (subst (λ p. IsStanding schema world p T header (reads closed) (seat_history new) (faults closed) (faults (seat_disk new)) (seat_standing new))
+              profile opened.standing);
           restarted = λ state holds. subst (λ p. Restarts schema world p (IsSeatIn new) state (faults closed) (faults (seat_disk new))) profile
-              (opened.restarted t state (subst (Holds schema world (profile_of (seat_user new)) header state) again.left.reads_same (subst (λ p. Holds schema world p header state (reads (seat_disk new))) (sym profile) holds)));
+              (opened.restarted t state
+              (subst (Holds schema world (profile_of (seat_user new)) header state) again.left.reads_same
+              (subst (λ p. Holds schema world p header state (reads (seat_disk new))) (sym profile) holds)));
           on = again.left.later;
           holds = λ served c at. subst (λ p. Holds schema world p header (seat_state new) c) profile (opened.holds t served c at);
           here = read_is_image (seat_disk new) t;
@@ -272,14 +332,19 @@ module _ (schema : DatabaseSchema) (world : FactSet) (header directory : List �
             profile_is = profile;
             journal_is = again.journal_is ∙ seated.journal_is;
             served = opened.served;
-            living = subst (IsLiving schema world user.profile header (bytes user.name) (before user.name) (images user.name) user.opened (events ++ restart step.found step.opens ∷ []) (seat_standing new) (seat_state new) (image (seat_disk new)) (reads (seat_disk new)) (faults (seat_disk new))) (sym opened.refusal)
-                (live schema world user.profile header (bytes user.name) (before user.name) (images user.name) user.opened (events ++ restart step.found step.opens ∷ []) (seat_standing new) (seat_state new) (image (seat_disk new)) (reads (seat_disk new)) (faults (seat_disk new)) (first_refusal old.refusal (seat_standing new)) step.running);
+            living = subst (IsLiving schema world user.profile header (bytes user.name) (before user.name) (images user.name) user.opened
+                (events ++ restart step.found step.opens ∷ []) (seat_standing new) (seat_state new) (image (seat_disk new)) (reads (seat_disk new))
+                (faults (seat_disk new))) (sym opened.refusal)
+                (live schema world user.profile header (bytes user.name) (before user.name) (images user.name) user.opened
+                (events ++ restart step.found step.opens ∷ []) (seat_standing new) (seat_state new) (image (seat_disk new)) (reads (seat_disk new))
+                (faults (seat_disk new)) (first_refusal old.refusal (seat_standing new)) step.running);
             fresh = λ none. opened.fresh;
           },
         )
 
     -- every desk was closed and opened again
-    pub restart_all : (script : List ScriptEvent) (users : List NamedUser) (olds news : List (DeskSeat D g h)) → AreSeated script users olds → AreReopened schema world header T reads image faults olds news → Choices script users news
+    pub restart_all : (script : List ScriptEvent) (users : List NamedUser) (olds news : List (DeskSeat D g h)) → AreSeated script users olds
+        → AreReopened schema world header T reads image faults olds news → Choices script users news
     restart_all script [] [] [] seated again = tt
     restart_all script [] [] (new ∷ news) seated again = absurd again
     restart_all script [] (old ∷ olds) news seated again = absurd seated
@@ -290,35 +355,53 @@ module _ (schema : DatabaseSchema) (world : FactSet) (header directory : List �
 
     -- ---- the first opening
 
-    module _ (S : Type 0) (s : S) (disk : Text → Option D) (count : Text → ℕ) (bytes_are : (name : Text) → bytes name ≡ bytes_on reads (disk (journal_name directory name))) (counts_are : (name : Text) → before name ≡ count (journal_name directory name)) (images_are : (name : Text) (c : List ℕ) → image_on image (disk (journal_name directory name)) c → images name c) where
+    module _ (S : Type 0) (s : S) (disk : Text → Option D) (count : Text → ℕ) (bytes_are : (name : Text)
+        → bytes name ≡ bytes_on reads (disk (journal_name directory name))) (counts_are : (name : Text)
+        → before name ≡ count (journal_name directory name)) (images_are : (name : Text) (c : List ℕ) → image_on image (disk (journal_name directory name)) c
+        → images name c) where
       -- a user with the history with which his journal is opened
       pub record Begun (user : User) (seat : DeskSeat D g h) : Type 0 where
         pub opened : History
         pub opening : IsOpening schema world (profile_of user) header (bytes (string_bytes user.name)) opened
         pub choice : Choice (record { name = string_bytes user.name; profile = profile_of user; opened = opened }) [] seat
 
-      begin_with : (user : User) (seat : DeskSeat D g h) (opened : History) → IsOpening schema world (profile_of user) header (bytes (string_bytes user.name)) opened
+      begin_with : (user : User) (seat : DeskSeat D g h) (opened : History)
+          → IsOpening schema world (profile_of user) header (bytes (string_bytes user.name)) opened
           → IsSeatOf S reads image faults T schema world header directory disk count user seat → Begun user seat
       begin_with user seat opened opening is =
           let name = string_bytes user.name in
           let profile : profile_of (seat_user seat) ≡ profile_of user = ap profile_of is.user_is in
           let from = is.opened in
           let same : reads (seat_disk seat) ≡ reads is.taken = is.left.reads_same in
-          let read : reads (seat_disk seat) ≡ bytes name = same ∙ taken_reads reads image (disk (seat_journal seat)) is.taken (is.from s) ∙ ap (λ j. bytes_on reads (disk j)) is.journal_is ∙ sym (bytes_are name) in
+          let read : reads (seat_disk seat) ≡ bytes name =
+          same ∙ taken_reads reads image (disk (seat_journal seat)) is.taken (is.from s) ∙ ap (λ j. bytes_on reads (disk j)) is.journal_is
+          ∙ sym (bytes_are name) in
           let counted : faults is.taken ≡ before name = is.counted ∙ ap count is.journal_is ∙ sym (counts_are name) in
-          let step : Restarted schema world (profile_of user) header (bytes name) (before name) (images name) opened [] (seat_standing seat) (seat_state seat) (image (seat_disk seat)) (reads (seat_disk seat)) (faults (seat_disk seat)) (first_refusal None (seat_standing seat)) =
-          open_step schema world (profile_of user) header (bytes name) (before name) (images name) (exclusive (profile_of user)) T t opened [] (reads (seat_disk seat)) (faults is.taken) (faults (seat_disk seat)) None
+          let step : Restarted schema world (profile_of user) header (bytes name) (before name) (images name) opened [] (seat_standing seat) (seat_state seat)
+          (image (seat_disk seat)) (reads (seat_disk seat)) (faults (seat_disk seat)) (first_refusal None (seat_standing seat)) =
+          open_step schema world (profile_of user) header (bytes name) (before name) (images name) (exclusive (profile_of user)) T t opened []
+          (reads (seat_disk seat)) (faults is.taken) (faults (seat_disk seat)) None
           (seat_history seat) (flying (pairs_of_sole seat.desk)) (seat_standing seat) (image (seat_disk seat))
           (first_course schema world header bytes before images (profile_of user) name opened (faults is.taken) (reads (seat_disk seat)) counted read opening)
           (record {
             stands = λ held. let e : false ≡ true = held in absurd cc;
-            kept = λ idle. (read, λ c at. images_are name c (subst (λ j. image_on image (disk j) c) is.journal_is (taken_images reads image (disk (seat_journal seat)) is.taken c (is.from s) (is.left.images c at))));
+            kept = λ idle. (
+              read,
+              λ c at. images_are name c
+                  (subst (λ j. image_on image (disk j) c) is.journal_is
+                  (taken_images reads image (disk (seat_journal seat)) is.taken c (is.from s) (is.left.images c at))),
+            );
           })
           (record {
-            standing_is = subst (λ r. IsStanding schema world (profile_of user) T header r (seat_history seat) (faults is.taken) (faults (seat_disk seat)) (seat_standing seat)) (sym same)
-                (subst (λ p. IsStanding schema world p T header (reads is.taken) (seat_history seat) (faults is.taken) (faults (seat_disk seat)) (seat_standing seat)) profile from.standing);
+            standing_is = subst (λ r.
+                IsStanding schema world (profile_of user) T header r (seat_history seat) (faults is.taken) (faults (seat_disk seat)) (seat_standing seat))
+                (sym same)
+                (subst (λ p. IsStanding schema world p T header (reads is.taken) (seat_history seat) (faults is.taken) (faults (seat_disk seat))
+                (seat_standing seat)) profile from.standing);
             restarted = λ state holds. subst (λ p. Restarts schema world p (IsSeatIn seat) state (faults is.taken) (faults (seat_disk seat))) profile
-                (from.restarted t state (subst (Holds schema world (profile_of (seat_user seat)) header state) same (subst (λ p. Holds schema world p header state (reads (seat_disk seat))) (sym profile) holds)));
+                (from.restarted t state
+                (subst (Holds schema world (profile_of (seat_user seat)) header state) same
+                (subst (λ p. Holds schema world p header state (reads (seat_disk seat))) (sym profile) holds)));
             on = is.left.later;
             holds = λ served c at. subst (λ p. Holds schema world p header (seat_state seat) c) profile (from.holds t served c at);
             here = read_is_image (seat_disk seat) t;
@@ -334,18 +417,24 @@ module _ (schema : DatabaseSchema) (world : FactSet) (header directory : List �
                 profile_is = profile;
                 journal_is = is.journal_is;
                 served = from.served;
-                living = subst (IsLiving schema world (profile_of user) header (bytes name) (before name) (images name) opened ([] ++ restart step.found step.opens ∷ []) (seat_standing seat) (seat_state seat) (image (seat_disk seat)) (reads (seat_disk seat)) (faults (seat_disk seat))) (sym from.refusal)
-                    (live schema world (profile_of user) header (bytes name) (before name) (images name) opened ([] ++ restart step.found step.opens ∷ []) (seat_standing seat) (seat_state seat) (image (seat_disk seat)) (reads (seat_disk seat)) (faults (seat_disk seat)) (first_refusal None (seat_standing seat)) step.running);
+                living = subst (IsLiving schema world (profile_of user) header (bytes name) (before name) (images name) opened
+                    ([] ++ restart step.found step.opens ∷ []) (seat_standing seat) (seat_state seat) (image (seat_disk seat)) (reads (seat_disk seat))
+                    (faults (seat_disk seat))) (sym from.refusal)
+                    (live schema world (profile_of user) header (bytes name) (before name) (images name) opened ([] ++ restart step.found step.opens ∷ [])
+                    (seat_standing seat) (seat_state seat) (image (seat_disk seat)) (reads (seat_disk seat)) (faults (seat_disk seat))
+                    (first_refusal None (seat_standing seat)) step.running);
                 fresh = λ none. from.fresh;
               },
             );
           }
 
-      module _ (decided : (user : UserProfile) (c : List ℕ) → ((entries : History) × Opens schema world user header entries c) ⊎ OpensNone schema world user header c) where
+      module _ (decided : (user : UserProfile) (c : List ℕ) → ((entries : History) × Opens schema world user header entries c)
+          ⊎ OpensNone schema world user header c) where
         begin_at : (user : User) (seat : DeskSeat D g h) → IsSeatOf S reads image faults T schema world header directory disk count user seat → Begun user seat
         begin_at user seat is = by (decided (profile_of user) (bytes (string_bytes user.name)))
           where
-            by : ((entries : History) × Opens schema world (profile_of user) header entries (bytes (string_bytes user.name))) ⊎ OpensNone schema world (profile_of user) header (bytes (string_bytes user.name)) → Begun user seat
+            by : ((entries : History) × Opens schema world (profile_of user) header entries (bytes (string_bytes user.name)))
+                ⊎ OpensNone schema world (profile_of user) header (bytes (string_bytes user.name)) → Begun user seat
             by (inl (entries, opens)) = begin_with user seat entries (inl opens) is
             by (inr none) = begin_with user seat [] (inr (none, refl)) is
 
@@ -356,7 +445,8 @@ module _ (schema : DatabaseSchema) (world : FactSet) (header directory : List �
           pub openings : AllByRecursion (λ user. IsOpening schema world user.profile header (bytes user.name) user.opened) begun
           pub choices : Choices [] begun seats
 
-        pub begin_all : (users : List User) (seats : List (DeskSeat D g h)) → AreSeatsOf S reads image faults T schema world header directory disk count users seats → AreBegun users seats
+        pub begin_all : (users : List User) (seats : List (DeskSeat D g h))
+            → AreSeatsOf S reads image faults T schema world header directory disk count users seats → AreBegun users seats
         begin_all [] [] are = record { begun = []; of_policy = refl; openings = tt; choices = tt }
         begin_all [] (seat ∷ seats) are = absurd are
         begin_all (user ∷ users) [] are = absurd are

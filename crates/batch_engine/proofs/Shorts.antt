@@ -24,7 +24,8 @@ pub session_digits : (n : ℕ) → n ≤ 64 → length (decimal n) ≤ 2
 session_digits n small = length-decimal-le 2 n (omega arith) (omega arith) (omega arith)
 
 -- each of the asks of a batch is short
-pub short_at : (asks : List BatchAsk) (i : ℕ) (d : BatchAsk) → i < length asks → list_all is_short_ask (map ask_in asks) ≡ true → is_short_ask (ask_in (get_or asks i d)) ≡ true
+pub short_at : (asks : List BatchAsk) (i : ℕ) (d : BatchAsk) → i < length asks → list_all is_short_ask (map ask_in asks) ≡ true
+    → is_short_ask (ask_in (get_or asks i d)) ≡ true
 short_at [] i d low short = absurd (omega (arith, low))
 short_at (ask ∷ asks) zero d low short = (and_parts _ _ short).0
 short_at (ask ∷ asks) (suc i) d low short = short_at asks i d (omega (arith, low)) (and_parts _ _ short).1

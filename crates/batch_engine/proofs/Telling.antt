@@ -7,7 +7,8 @@ use Rattle.cqe_base.specs.Facts.{FactSet}
 use Rattle.cqe_base.specs.History.{UserProfile}
 use Rattle.cqe_base.specs.Run
 use Rattle.cqe_base.specs.Run.{Reply}
-use Rattle.cqe_base.specs.Transcript.{NamedUser, ScriptEvent, script_ask, script_restart, Line, reply_line, restart_line, written_after, lines_after, transcript, line_text}
+use Rattle.cqe_base.specs.Transcript.{NamedUser, ScriptEvent, script_ask, script_restart, Line, reply_line, restart_line, written_after, lines_after}
+use Rattle.cqe_base.specs.Transcript.{transcript, line_text}
 use Rattle.batch_engine.specs.BatchLines.{BatchItem, asked, restarted}
 use Rattle.batch_engine.specs.Batch.{IsEventOf, AreEventsOf, line_bytes, is_broken_line, with_opening}
 use Rattle.batch_engine.specs.Steps.{Carries, is_broken_reply}
@@ -15,7 +16,8 @@ use Rattle.desk_crew.specs.Seats.{DeskSeat}
 use Rattle.batch_engine.proofs.Courses.{IsExclusive, any-push}
 use Rattle.batch_engine.proofs.Seating.{flat_map-append, names, AreSeated, Next, told_next, Choices, restart_all, Chosen, choose}
 
-events-push : (items : List BatchItem) (events : List ScriptEvent) (item : BatchItem) (event : ScriptEvent) → AreEventsOf items events → IsEventOf item event → AreEventsOf (items ++ item ∷ []) (events ++ event ∷ [])
+events-push : (items : List BatchItem) (events : List ScriptEvent) (item : BatchItem) (event : ScriptEvent) → AreEventsOf items events → IsEventOf item event
+    → AreEventsOf (items ++ item ∷ []) (events ++ event ∷ [])
 events-push [] [] item event are is = (is, tt)
 events-push [] (e ∷ events) item event are is = absurd are
 events-push (i ∷ items) [] item event are is = absurd are
@@ -34,19 +36,26 @@ broken_told name session (Some Run.desk_broken) = refl
 broken_told name session (Some Run.no_memory) = refl
 
 module _ (schema : DatabaseSchema) (world : FactSet) (users : List NamedUser) where
-  lines-push : (events earlier : List ScriptEvent) (event : ScriptEvent) → lines_after schema world users earlier (events ++ event ∷ []) ≡ lines_after schema world users earlier events ++ written_after schema world users (earlier ++ events) event
-  lines-push [] earlier event = append-nil (written_after schema world users earlier event) ∙ ap (λ es. written_after schema world users es event) (sym (append-nil earlier))
+  lines-push : (events earlier : List ScriptEvent) (event : ScriptEvent)
+      → lines_after schema world users earlier (events ++ event ∷ [])
+      ≡ lines_after schema world users earlier events ++ written_after schema world users (earlier ++ events) event
+  lines-push [] earlier event =
+      append-nil (written_after schema world users earlier event) ∙ ap (λ es. written_after schema world users es event) (sym (append-nil earlier))
   lines-push (e ∷ events) earlier event =
       ap (λ ls. written_after schema world users earlier e ++ ls) (lines-push events (earlier ++ e ∷ []) event)
-      ∙ sym (append_assoc (written_after schema world users earlier e) (lines_after schema world users (earlier ++ e ∷ []) events) (written_after schema world users ((earlier ++ e ∷ []) ++ events) event))
-      ∙ ap (λ es. (written_after schema world users earlier e ++ lines_after schema world users (earlier ++ e ∷ []) events) ++ written_after schema world users es event) (append_assoc earlier (e ∷ []) events)
+      ∙ sym (append_assoc (written_after schema world users earlier e) (lines_after schema world users (earlier ++ e ∷ []) events)
+      (written_after schema world users ((earlier ++ e ∷ []) ++ events) event))
+      ∙ ap (λ es. (written_after schema world users earlier e ++ lines_after schema world users (earlier ++ e ∷ []) events)
+      ++ written_after schema world users es event) (append_assoc earlier (e ∷ []) events)
 
-  transcript-push : (events : List ScriptEvent) (event : ScriptEvent) → transcript schema world users (events ++ event ∷ []) ≡ transcript schema world users events ++ written_after schema world users events event
+  transcript-push : (events : List ScriptEvent) (event : ScriptEvent)
+      → transcript schema world users (events ++ event ∷ []) ≡ transcript schema world users events ++ written_after schema world users events event
   unfolding transcript
   transcript-push events event = lines-push events [] event
 
   -- the output behind an event that writes this line
-  written-push : (events : List ScriptEvent) (event : ScriptEvent) (line : Line) (output : List ℕ) → written_after schema world users events event ≡ line ∷ [] → output ≡ line_bytes (transcript schema world users events)
+  written-push : (events : List ScriptEvent) (event : ScriptEvent) (line : Line) (output : List ℕ) → written_after schema world users events event ≡ line ∷ []
+      → output ≡ line_bytes (transcript schema world users events)
       → output ++ (line_text line ++ 10 ∷ []) ≡ line_bytes (transcript schema world users (events ++ event ∷ []))
   written-push events event line output one is =
       ap (λ o. o ++ (line_text line ++ 10 ∷ [])) is
@@ -55,26 +64,31 @@ module _ (schema : DatabaseSchema) (world : FactSet) (users : List NamedUser) wh
       ∙ ap (λ ls. line_bytes (transcript schema world users events ++ ls)) (sym one)
       ∙ ap line_bytes (sym (transcript-push events event))
 
-  broken-push : (events : List ScriptEvent) (event : ScriptEvent) (line : Line) (is_broken : Bool) → written_after schema world users events event ≡ line ∷ [] → is_broken ≡ list_any is_broken_line (transcript schema world users events)
+  broken-push : (events : List ScriptEvent) (event : ScriptEvent) (line : Line) (is_broken : Bool) → written_after schema world users events event ≡ line ∷ []
+      → is_broken ≡ list_any is_broken_line (transcript schema world users events)
       → (is_broken || is_broken_line line) ≡ list_any is_broken_line (transcript schema world users (events ++ event ∷ []))
   broken-push events event line is_broken one is =
       ap (λ b. b || is_broken_line line) is ∙ sym (any-push is_broken_line (transcript schema world users events) line)
       ∙ ap (λ ls. list_any is_broken_line (transcript schema world users events ++ ls)) (sym one)
       ∙ ap (λ ls. list_any is_broken_line ls) (sym (transcript-push events event))
 
-  module _ (header directory : List ℕ) {D : Type 0} {g h : _} (T : Type 0) (reads : D → List ℕ) (image : D → List ℕ → Type 0) (faults : D → ℕ) (t : T) (read_is_image : (d : D) → T → image d (reads d))
+  module _ (header directory : List ℕ) {D : Type 0} {g h : _} (T : Type 0) (reads : D → List ℕ) (image : D → List ℕ → Type 0) (faults : D → ℕ) (t : T)
+      (read_is_image : (d : D) → T → image d (reads d))
       (bytes : Text → List ℕ) (before : Text → ℕ) (images : Text → List ℕ → Type 0) (found opened : Text → Bool) where
     -- these items were answered with these lines, the users then sit at these desks, and it is known whether some line says that an append failed
     pub record SoFar (items : List BatchItem) (output : List ℕ) (seats : List (DeskSeat D g h)) (is_broken : Bool) : Type 0 where
       pub events : List ScriptEvent
       pub of_items : AreEventsOf items events
       pub lines : output ≡ line_bytes (transcript schema world users (with_opening found opened events))
-      pub seated : AreSeated schema world header directory T reads image faults t read_is_image bytes before images (with_opening found opened events) users seats
+      pub seated : AreSeated schema world header directory T reads image faults t read_is_image bytes before images
+          (with_opening found opened events) users seats
       pub broken : is_broken ≡ list_any is_broken_line (transcript schema world users (with_opening found opened events))
 
-    as_lines : (items : List BatchItem) (output : List ℕ) (seats : List (DeskSeat D g h)) (is_broken : Bool) (so_far : SoFar items output seats is_broken) (lines : List Line)
+    as_lines : (items : List BatchItem) (output : List ℕ) (seats : List (DeskSeat D g h)) (is_broken : Bool) (so_far : SoFar items output seats is_broken)
+        (lines : List Line)
         → transcript schema world users (with_opening found opened so_far.events) ≡ lines → SoFar items (line_bytes lines) seats is_broken
-    as_lines items output seats is_broken so_far lines is = record { events = so_far.events; of_items = so_far.of_items; lines = ap line_bytes (sym is); seated = so_far.seated; broken = so_far.broken }
+    as_lines items output seats is_broken so_far lines is =
+        record { events = so_far.events; of_items = so_far.of_items; lines = ap line_bytes (sym is); seated = so_far.seated; broken = so_far.broken }
 
     -- the output are the lines of these items but the last, or all of them, and this is the last line, or nothing
     pub record LastLine (items : List BatchItem) (output line : List ℕ) (seats : List (DeskSeat D g h)) : Type 0 where
@@ -88,7 +102,8 @@ module _ (schema : DatabaseSchema) (world : FactSet) (users : List NamedUser) wh
       pub lines : transcript schema world users (with_opening found opened so_far.events) ≡ whole ++ last
 
     -- all lines are whole
-    pub no_last : (items : List BatchItem) (output line : List ℕ) (seats : List (DeskSeat D g h)) (is_broken : Bool) → line ≡ [] → SoFar items (output ++ line) seats is_broken → LastLine items output line seats
+    pub no_last : (items : List BatchItem) (output line : List ℕ) (seats : List (DeskSeat D g h)) (is_broken : Bool) → line ≡ []
+        → SoFar items (output ++ line) seats is_broken → LastLine items output line seats
     unfolding as_lines
     no_last items output line seats is_broken none so_far =
         let all = transcript schema world users (with_opening found opened so_far.events) in
@@ -103,7 +118,9 @@ module _ (schema : DatabaseSchema) (world : FactSet) (users : List NamedUser) wh
           lines = sym (append-nil all);
         }
 
-    pub so_far_first : (seats : List (DeskSeat D g h)) → AreSeated schema world header directory T reads image faults t read_is_image bytes before images (with_opening found opened []) users seats → SoFar [] [] seats false
+    pub so_far_first : (seats : List (DeskSeat D g h))
+        → AreSeated schema world header directory T reads image faults t read_is_image bytes before images (with_opening found opened []) users seats
+        → SoFar [] [] seats false
     unfolding transcript
     so_far_first seats seated = record { events = []; of_items = tt; lines = refl; seated = seated; broken = refl }
 
@@ -115,16 +132,20 @@ module _ (schema : DatabaseSchema) (world : FactSet) (users : List NamedUser) wh
       one : written_after schema world users (with_opening found opened earlier) event ≡ said ∷ []
       line_is : line ≡ line_text said ++ 10 ∷ []
       says_is : says_broken ≡ is_broken_line said
-      seated : AreSeated schema world header directory T reads image faults t read_is_image bytes before images (with_opening found opened (earlier ++ event ∷ [])) users seats
+      seated : AreSeated schema world header directory T reads image faults t read_is_image bytes before images
+          (with_opening found opened (earlier ++ event ∷ [])) users seats
 
     module _ (exclusive : (user : UserProfile) → IsExclusive schema world user header) (distinct : has_duplicate (names users) ≡ false) where
       one_more : (events : List ScriptEvent) (old new : List (DeskSeat D g h)) (says_broken : Bool) (item : BatchItem) (line : List ℕ)
-          → AreSeated schema world header directory T reads image faults t read_is_image bytes before images (with_opening found opened events) users old → Carries schema world header T reads image faults item old new line says_broken
+          → AreSeated schema world header directory T reads image faults t read_is_image bytes before images (with_opening found opened events) users old
+          → Carries schema world header T reads image faults item old new line says_broken
           → OneMore events item line new says_broken
       one_more events old new says_broken (asked ask) line seated (told, tells, is, says) =
           let script = with_opening found opened events in
-          let next : Next schema world header directory T reads image faults t read_is_image bytes before images script ask.name ask.session ask.text users new told =
-          told_next schema world header directory T reads image faults t read_is_image bytes before images script ask.name ask.session ask.text users old new told distinct seated tells in
+          let next : Next schema world header directory T reads image faults t read_is_image bytes before images script ask.name ask.session ask.text users new
+          told =
+          told_next schema world header directory T reads image faults t read_is_image bytes before images script ask.name ask.session ask.text users old new
+          told distinct seated tells in
           record {
             event = script_ask ask.name ask.session ask.text next.ending;
             is_event = (refl, refl, refl);
@@ -138,8 +159,10 @@ module _ (schema : DatabaseSchema) (world : FactSet) (users : List NamedUser) wh
           let script = with_opening found opened events in
           let choices : Choices schema world header directory T reads image faults t read_is_image bytes before images script users new =
           restart_all schema world header directory T reads image faults t read_is_image bytes before images exclusive script users old new seated again in
-          let chosen : Chosen schema world header directory T reads image faults t read_is_image bytes before images script_restart (λ name f o. refl) script users new =
-          choose schema world header directory T reads image faults t read_is_image bytes before images script_restart (λ name f o. refl) script users new distinct choices in
+          let chosen : Chosen schema world header directory T reads image faults t read_is_image bytes before images script_restart
+          (λ name f o. refl) script users new =
+          choose schema world header directory T reads image faults t read_is_image bytes before images script_restart
+          (λ name f o. refl) script users new distinct choices in
           record {
             event = script_restart chosen.found chosen.opens;
             is_event = tt;
@@ -161,7 +184,8 @@ module _ (schema : DatabaseSchema) (world : FactSet) (users : List NamedUser) wh
           of_items = events-push items so_far.events item step.event so_far.of_items step.is_event;
           lines = ap (λ l. output ++ l) step.line_is ∙ written-push (with_opening found opened so_far.events) step.event step.said output step.one so_far.lines;
           seated = step.seated;
-          broken = ap (λ b. is_broken || b) step.says_is ∙ broken-push (with_opening found opened so_far.events) step.event step.said is_broken step.one so_far.broken;
+          broken = ap (λ b. is_broken || b) step.says_is
+              ∙ broken-push (with_opening found opened so_far.events) step.event step.said is_broken step.one so_far.broken;
         }
 
         -- the line of the item is the last one
@@ -177,6 +201,7 @@ module _ (schema : DatabaseSchema) (world : FactSet) (users : List NamedUser) wh
               output_is = so_far.lines;
               line_is = step.line_is ∙ sym (append-nil (line_text step.said ++ 10 ∷ []));
               is_broken = is_broken || says_broken;
-              so_far = as_lines (items ++ item ∷ []) (output ++ line) new (is_broken || says_broken) so_far_more (transcript schema world users script ++ step.said ∷ []) lines;
+              so_far = as_lines (items ++ item ∷ []) (output ++ line) new (is_broken || says_broken) so_far_more
+                  (transcript schema world users script ++ step.said ∷ []) lines;
               lines = lines;
             }

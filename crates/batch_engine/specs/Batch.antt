@@ -1,12 +1,15 @@
 -- What a batch writes, and what its lines mean for each of its users.
-use Rattle.std.specs.Prelude.{◌≡◌, ◌⊎◌, ◌&&◌, ◌≤◌, ℕ, Bool, true, false, List, [], ◌∷◌, ◌++◌, length, take, map, Option, Some, Ok, Err}
+use Rattle.std.specs.Prelude.{◌≡◌, ◌⊎◌, ◌&&◌, ◌≤◌, ℕ, Bool, true, false, List, [], ◌∷◌, ◌++◌}
+use Rattle.std.specs.Prelude.{length, take, map, Option, Some, Ok, Err}
 use Rattle.std.specs.List.{flat_map, list_any, AllByRecursion}
 use Rattle.cqe_base.specs.Schema.{Text, DatabaseSchema}
 use Rattle.cqe_base.specs.Facts.{FactSet}
 use Rattle.cqe_base.specs.Censor.{IsLegal, admitted}
 use Rattle.cqe_base.specs.Headline.{HidesInScript}
 use Rattle.cqe_base.specs.Run.{desk_broken, opening, replies, final_history}
-use Rattle.cqe_base.specs.Transcript.{NamedUser, ScriptEvent, script_ask, script_restart, script_opening, Line, reply_line, own_events, own_replies, state_after, transcript, line_text}
+use Rattle.cqe_base.specs.Transcript.{NamedUser, ScriptEvent, script_ask, script_restart}
+use Rattle.cqe_base.specs.Transcript.{script_opening, Line, reply_line, own_events, own_replies}
+use Rattle.cqe_base.specs.Transcript.{state_after, transcript, line_text}
 use Rattle.user_desk.specs.Causes.{Opens}
 use Rattle.user_desk.specs.Lives.{Holds}
 use Rattle.user_desk.specs.declared.standing.DeskError.{DeskError}
@@ -16,11 +19,13 @@ use Rattle.batch_engine.specs.BatchLines.{BatchItem, asked, restarted, batch_of}
 use Rattle.desk_crew.specs.Openings.{OpensNone, IsOpening}
 use Rattle.batch_engine.specs.Lives.{RoseBy, is_ask, is_opened, failures, AreCaused, IsRefusal}
 use Rattle.batch_engine.specs.declared.run.BatchEnd.{BatchEnd}
-use Rattle.batch_engine.specs.declared.run.BatchEnd.TheVariants.{Done, Script as Refused, ReadFault, WriteFault, ShelfFault, Memory}
+use Rattle.batch_engine.specs.declared.run.BatchEnd.TheVariants.{Done, Script as Refused, ReadFault}
+use Rattle.batch_engine.specs.declared.run.BatchEnd.TheVariants.{WriteFault, ShelfFault, Memory}
 
 -- an event is of an item: an ask with some ending, or a restart with some choice for each name
 abbrev pub IsEventOf : BatchItem → ScriptEvent → Type 0
-IsEventOf (asked ask) (script_ask name session text ending) = (name ≡ ask.name) × (session ≡ ask.session) × (text ≡ ask.text)
+IsEventOf (asked ask) (script_ask name session text ending) =
+    (name ≡ ask.name) × (session ≡ ask.session) × (text ≡ ask.text)
 IsEventOf restarted (script_restart found opened) = Unit {0}
 IsEventOf item event = ⊥
 
@@ -49,54 +54,80 @@ with_opening found opened events = script_opening found opened ∷ events
 
 module _ (schema : DatabaseSchema) (world : FactSet) (header : List ℕ) (journals : Journals) where
   -- What a script means for one user.
-  pub record Serves (users : List NamedUser) (events : List ScriptEvent) (user : NamedUser) : Type 0 where
-    -- his opening history is the legal one that his journal's bytes stand for, and the empty one where they open no desk
-    pub opening_is : IsOpening schema world user.profile header (journals.bytes user.name) user.opened
+  pub record Serves (users : List NamedUser) (events : List ScriptEvent) (user : NamedUser) :
+      Type 0 where
+    -- his opening history is the legal one that his journal's bytes stand for, and the empty one
+    -- where they open no desk
+    pub opening_is : IsOpening schema world user.profile header
+        (journals.bytes user.name) user.opened
     -- his replies are those of the run of his own events, whatever others are, ask or are told
-    pub private : own_replies user.name (transcript schema world users events) ≡ replies schema world user.profile user.opened (own_events user.name events)
-    -- his final history is legal; and where he is admitted, each secret is false in some database that satisfies what he knows and gives him the same lines
-    pub legal : IsLegal schema world user.profile (final_history schema world user.profile user.opened (own_events user.name events))
-    pub hides : admitted schema world user.profile ≡ true → HidesInScript schema users user events world
-    -- an append failed only where an entry was to be added, and a restart found only one that was in flight
-    pub caused : AreCaused schema world user.profile (opening schema world user.profile user.opened) (own_events user.name events)
-    -- bytes that open no desk are refused at each opening; of others each refusal and each append that failed raised the count
-    pub refused : OpensNone schema world user.profile header (journals.bytes user.name) → list_any is_opened (own_events user.name events) ≡ false
-    pub counted : Opens schema world user.profile header user.opened (journals.bytes user.name) → RoseBy (failures (own_events user.name events)) (journals.before user.name) (journals.now user.name)
+    pub private : own_replies user.name (transcript schema world users events)
+        ≡ replies schema world user.profile user.opened (own_events user.name events)
+    -- his final history is legal; and where he is admitted, each secret is false in some database
+    -- that satisfies what he knows and gives him the same lines
+    pub legal : IsLegal schema world user.profile
+        (final_history schema world user.profile user.opened (own_events user.name events))
+    pub hides : admitted schema world user.profile ≡ true
+        → HidesInScript schema users user events world
+    -- an append failed only where an entry was to be added, and a restart found only one that was
+    -- in flight
+    pub caused : AreCaused schema world user.profile (opening schema world user.profile user.opened)
+        (own_events user.name events)
+    -- bytes that open no desk are refused at each opening; of others each refusal and each append
+    -- that failed raised the count
+    pub refused : OpensNone schema world user.profile header (journals.bytes user.name)
+        → list_any is_opened (own_events user.name events) ≡ false
+    pub counted : Opens schema world user.profile header user.opened (journals.bytes user.name)
+        → RoseBy (failures (own_events user.name events)) (journals.before user.name)
+        (journals.now user.name)
     -- where an opening held, each crash leaves his history, or this and the entry in flight
-    pub stands : list_any is_opened (own_events user.name events) ≡ true → (c : List ℕ) → journals.image user.name c
+    pub stands : list_any is_opened (own_events user.name events) ≡ true → (c : List ℕ)
+        → journals.image user.name c
         → Holds schema world user.profile header (state_after schema world user events) c
     -- and unless one held and he asked, his journal is as it was
-    pub kept : (list_any is_opened (own_events user.name events) && list_any is_ask (own_events user.name events)) ≡ false → IsKept journals user.name
+    pub kept : (list_any is_opened (own_events user.name events)
+        && list_any is_ask (own_events user.name events)) ≡ false → IsKept journals user.name
 
-  -- what was written answers these items: it is the lines of the transcript of a script in which all journals are opened, each ask has some ending, and each restart finds and opens what it may
-  pub record Answers (policy : List NamedUser) (items : List BatchItem) (written : List ℕ) : Type 0 where
+  -- what was written answers these items: it is the lines of the transcript of a script in which
+  -- all journals are opened, each ask has some ending, and each restart finds and opens what it may
+  pub record Answers (policy : List NamedUser) (items : List BatchItem) (written : List ℕ) :
+      Type 0 where
     pub users : List NamedUser
     pub of_policy : map unopened users ≡ policy
     pub found : Text → Bool
     pub opened : Text → Bool
     pub events : List ScriptEvent
     pub of_items : AreEventsOf items events
-    pub lines : written ≡ line_bytes (transcript schema world users (with_opening found opened events))
+    pub lines : written
+        ≡ line_bytes (transcript schema world users (with_opening found opened events))
     pub each_user : AllByRecursion (Serves users (with_opening found opened events)) users
 
   -- the first refusal of each user's openings
   abbrev pub AreRefusals : List ScriptEvent → List NamedUser → List (Option DeskError) → Type 0
   AreRefusals events [] [] = Unit {0}
   AreRefusals events (user ∷ users) (refusal ∷ refusals) =
-      IsRefusal schema world user.profile header (journals.bytes user.name) (journals.before user.name) (journals.now user.name) (own_events user.name events) refusal
+      IsRefusal schema world user.profile header (journals.bytes user.name)
+      (journals.before user.name) (journals.now user.name) (own_events user.name events) refusal
       × AreRefusals events users refusals
   AreRefusals events users refusals = ⊥
 
   module _ (policy : List NamedUser) where
-    -- what was appended answers all these items; with the first refusal of each user, and whether some line says that an append failed
-    pub record AppendsAll (items : List BatchItem) (old new : List ℕ) (refusals : List (Option DeskError)) (is_broken : Bool) : Type 0 where
+    -- what was appended answers all these items; with the first refusal of each user, and whether
+    -- some line says that an append failed
+    pub record AppendsAll (items : List BatchItem) (old new : List ℕ)
+        (refusals : List (Option DeskError)) (is_broken : Bool) : Type 0 where
       pub written : List ℕ
       pub appended : new ≡ old ++ written
       pub answers : Answers policy items written
-      pub refused : AreRefusals (with_opening answers.found answers.opened answers.events) answers.users refusals
-      pub broken : is_broken ≡ list_any is_broken_line (transcript schema world answers.users (with_opening answers.found answers.opened answers.events))
+      pub refused : AreRefusals
+          (with_opening answers.found answers.opened answers.events) answers.users refusals
+      pub broken : is_broken
+          ≡ list_any is_broken_line
+          (transcript schema world answers.users
+          (with_opening answers.found answers.opened answers.events))
 
-    -- what was appended are the lines that answer the first of these items, of the last line maybe only a part; so no item was answered behind a line that wasn't written
+    -- what was appended are the lines that answer the first of these items, of the last line maybe
+    -- only a part; so no item was answered behind a line that wasn't written
     pub record AppendsSome (items : List BatchItem) (old new : List ℕ) : Type 0 where
       pub front : List BatchItem
       pub back : List BatchItem
@@ -107,7 +138,8 @@ module _ (schema : DatabaseSchema) (world : FactSet) (header : List ℕ) (journa
       pub part : ℕ
       pub appended : new ≡ old ++ (line_bytes whole ++ take part (line_bytes last))
       pub answers : Answers policy front (line_bytes (whole ++ last))
-      pub lines : transcript schema world answers.users (with_opening answers.found answers.opened answers.events) ≡ whole ++ last
+      pub lines : transcript schema world answers.users
+          (with_opening answers.found answers.opened answers.events) ≡ whole ++ last
 
     -- what was appended answers the items before a restart, and no more
     pub record AppendsTo (items : List BatchItem) (old new : List ℕ) : Type 0 where
@@ -120,20 +152,25 @@ module _ (schema : DatabaseSchema) (world : FactSet) (header : List ℕ) (journa
 
     -- the bytes are a batch, and its first items were answered so, the last line maybe in part
     abbrev pub Breaks : List ℕ → List ℕ → List ℕ → Type 0
-    Breaks bytes old new = (items : List BatchItem) × (batch_of bytes ≡ Ok items) × AppendsSome items old new
+    Breaks bytes old new =
+        (items : List BatchItem) × (batch_of bytes ≡ Ok items) × AppendsSome items old new
 
     -- the bytes are a batch, and its items before a restart were answered so
     abbrev pub Stops : List ℕ → List ℕ → List ℕ → Type 0
-    Stops bytes old new = (items : List BatchItem) × (batch_of bytes ≡ Ok items) × AppendsTo items old new
+    Stops bytes old new =
+        (items : List BatchItem) × (batch_of bytes ≡ Ok items) × AppendsTo items old new
 
     -- nothing was written, and all journals are as they were
     abbrev pub LeavesAll : List ℕ → List ℕ → Type 0
     LeavesAll old new = (new ≡ old) × AreKept journals
 
-    -- what each end of a batch says of the bytes that were left before and after, and of the output before and after
+    -- what each end of a batch says of the bytes that were left before and after, and of the output
+    -- before and after
     abbrev pub Ends : BatchEnd → List ℕ → List ℕ → List ℕ → List ℕ → Type 0
-    Ends (Done refusals is_broken) before after old new = (after ≡ []) × (items : List BatchItem) × (batch_of before ≡ Ok items) × AppendsAll items old new refusals.items is_broken
-    Ends (Refused refusal) before after old new = (batch_of before ≡ Err refusal) × LeavesAll old new × IsReadThrough 1 before after
+    Ends (Done refusals is_broken) before after old new = (after ≡ []) × (items : List BatchItem)
+        × (batch_of before ≡ Ok items) × AppendsAll items old new refusals.items is_broken
+    Ends (Refused refusal) before after old new =
+        (batch_of before ≡ Err refusal) × LeavesAll old new × IsReadThrough 1 before after
     Ends ReadFault before after old new = LeavesAll old new
     Ends WriteFault before after old new = Breaks before old new
     Ends ShelfFault before after old new = LeavesAll old new

@@ -1,5 +1,6 @@
 -- What one line of a batch says, and what its lines add up to.
-use Rattle.std.specs.Prelude.{◌==◌, ℕ, ◌+◌, ◌-◌, ◌*◌, not, ◌&&◌, nat_le, List, [], ◌∷◌, ◌++◌, Option, Some, None, Result, Ok, Err, if◌then◌else◌, codes, bytes_eq}
+use Rattle.std.specs.Prelude.{◌==◌, ℕ, ◌+◌, ◌-◌, ◌*◌, not, ◌&&◌, nat_le, List, [], ◌∷◌, ◌++◌}
+use Rattle.std.specs.Prelude.{Option, Some, None, Result, Ok, Err, if◌then◌else◌, codes, bytes_eq}
 use Rattle.std.specs.List.{list_all, list_any, before_first, after_first}
 use Rattle.std.specs.Char.{is_ascii_digit}
 use Rattle.cqe_base.specs.declared.text.ScriptKind.{ScriptKind}
@@ -35,7 +36,8 @@ pub data BatchItem : Type 0 where
 abbrev pub session_number : Text → Option ℕ
 session_number (a ∷ []) = if is_ascii_digit a && not (a == 48) then Some (a - 48) else None
 session_number (a ∷ b ∷ []) =
-    if (is_ascii_digit a && not (a == 48)) && (is_ascii_digit b && nat_le (10 * (a - 48) + (b - 48)) 64)
+    if (is_ascii_digit a && not (a == 48))
+    && (is_ascii_digit b && nat_le (10 * (a - 48) + (b - 48)) 64)
     then Some (10 * (a - 48) + (b - 48)) else None
 session_number _ = None
 
@@ -43,12 +45,14 @@ session_number _ = None
 abbrev pub ask_text : Text → Option Text
 ask_text request =
     if list_any is_blank request
-    then (if bytes_eq (before_first is_blank request) (codes "ask") then Some (after_first is_blank request) else None)
+    then (if bytes_eq (before_first is_blank request) (codes "ask")
+    then Some (after_first is_blank request) else None)
     else (if bytes_eq request (codes "ask") then Some [] else None)
 
 -- the ask of a name with a session and a text, if both are there
 abbrev pub ask_of : Text → Option ℕ → Option Text → Option BatchLine
-ask_of name (Some session) (Some text) = Some (asks (record { name = name; session = session; text = text }))
+ask_of name (Some session) (Some text) =
+    Some (asks (record { name = name; session = session; text = text }))
 ask_of name (Some session) None = None
 ask_of name None text = None
 
@@ -56,17 +60,21 @@ ask_of name None text = None
 abbrev pub named_ask : Text → Text → Option BatchLine
 named_ask name rest =
     if is_schema_name name && list_any is_blank rest
-    then ask_of name (session_number (before_first is_blank rest)) (ask_text (after_first is_blank rest)) else None
+    then ask_of name (session_number (before_first is_blank rest))
+    (ask_text (after_first is_blank rest)) else None
 
--- the line of a first word, and the text behind the blank that ends it: `* restart`, or an ask of a name
+-- the line of a first word, and the text behind the blank that ends it: `* restart`, or an ask of a
+-- name
 abbrev pub worded : Text → Text → Option BatchLine
 worded word rest =
-    if bytes_eq word (codes "*") then (if bytes_eq rest (codes "restart") then Some restarts else None)
+    if bytes_eq word (codes "*")
+    then (if bytes_eq rest (codes "restart") then Some restarts else None)
     else named_ask word rest
 
 -- what printable bytes say
 abbrev pub spoken : Text → Option BatchLine
-spoken line = if list_any is_blank line then worded (before_first is_blank line) (after_first is_blank line) else None
+spoken line = if list_any is_blank line
+    then worded (before_first is_blank line) (after_first is_blank line) else None
 
 -- what a line says, if it has one of the shapes
 unfoldable pub batch_line : Text → Option BatchLine

@@ -8,7 +8,8 @@ use Rattle.batch_engine.specs.declared.batch.BatchItem.TheVariants.{Ask, Restart
 
 -- an ask in memory
 abbrev pub ask_in : BatchAsk → NamedAsk
-ask_in ask = record { name = string_bytes ask.name; session = ask.session; text = string_bytes ask.text }
+ask_in ask =
+    record { name = string_bytes ask.name; session = ask.session; text = string_bytes ask.text }
 
 -- an item in memory
 abbrev pub item_in : BatchItem → BatchLines.BatchItem

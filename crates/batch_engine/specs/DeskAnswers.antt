@@ -7,5 +7,6 @@ use Rattle.desk_counter.specs.declared.ticketed_desk.TicketedDesk.{TicketedDesk}
 use Rattle.batch_engine.specs.declared.run.Answered.{Answered}
 
 -- how items were answered at seats whose values are desks over disks of this type
-abbrev pub DeskAnswered : (D : Type 0) (g : DiskGhosts D) → OwnedGhosts (TicketedDesk D g) Item (Fixed D) → Type 0
+abbrev pub DeskAnswered : (D : Type 0) (g : DiskGhosts D)
+    → OwnedGhosts (TicketedDesk D g) Item (Fixed D) → Type 0
 DeskAnswered D g h = Answered (TicketedDesk D g) Item (Fixed D) h

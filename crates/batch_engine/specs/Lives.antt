@@ -1,10 +1,13 @@
--- What a user's run shows of its journal: entries in flight, appends that failed, openings that held or were refused.
-use Rattle.std.specs.Prelude.{◌≡◌, ◌⊎◌, ℕ, ◌+◌, ◌^◌, ◌≤◌, Bool, true, false, List, [], ◌∷◌, Option, Some, None, is_some}
+-- What a user's run shows of its journal: entries in flight, appends that failed, openings that
+-- held or were refused.
+use Rattle.std.specs.Prelude.{◌≡◌, ◌⊎◌, ℕ, ◌+◌, ◌^◌, ◌≤◌, Bool, true, false, List, [], ◌∷◌, Option}
+use Rattle.std.specs.Prelude.{Some, None, is_some}
 use Rattle.std.specs.List.{list_any}
 use Rattle.cqe_base.specs.Schema.{DatabaseSchema}
 use Rattle.cqe_base.specs.Facts.{FactSet}
 use Rattle.cqe_base.specs.History.{UserProfile}
-use Rattle.cqe_base.specs.Run.{Event, ask, stop, restart, want, kept, failed, UserState, entry_at, after_event}
+use Rattle.cqe_base.specs.Run.{Event, ask, stop, restart, want, kept, failed, UserState, entry_at}
+use Rattle.cqe_base.specs.Run.{after_event}
 use Rattle.user_desk.specs.Causes.{IsSealedBy}
 use Rattle.user_desk.specs.declared.standing.DeskError.{DeskError}
 
@@ -46,7 +49,8 @@ failures [] = 0
 failures (event ∷ events) = failures_in event + failures events
 
 module _ (schema : DatabaseSchema) (world : FactSet) (user : UserProfile) where
-  -- an append fails only of an entry that the text would add; a restart finds only an entry that is in flight; and no crash cuts an ask
+  -- an append fails only of an entry that the text would add; a restart finds only an entry that is
+  -- in flight; and no crash cuts an ask
   abbrev pub IsCaused : UserState → Event → Type 0
   IsCaused state (ask text want) = Unit {0}
   IsCaused state (ask text kept) = Unit {0}
@@ -57,10 +61,13 @@ module _ (schema : DatabaseSchema) (world : FactSet) (user : UserProfile) where
   -- this holds of each event, in the state in which it finds the user
   abbrev pub AreCaused : UserState → List Event → Type 0
   AreCaused state [] = Unit {0}
-  AreCaused state (event ∷ events) = IsCaused state event × AreCaused (after_event schema world user state event) events
+  AreCaused state (event ∷ events) =
+      IsCaused state event × AreCaused (after_event schema world user state event) events
 
   module _ (header : List ℕ) where
-    -- the first refusal among a user's openings, by the bytes that his journal had and by the count of its disk's faults before and now
+    -- the first refusal among a user's openings, by the bytes that his journal had and by the count
+    -- of its disk's faults before and now
     abbrev pub IsRefusal : List ℕ → ℕ → ℕ → List Event → Option DeskError → Type 0
     IsRefusal bytes before now events None = list_any is_refused events ≡ false
-    IsRefusal bytes before now events (Some why) = (list_any is_refused events ≡ true) × IsSealedBy schema world user (Unit {0}) header bytes before now why
+    IsRefusal bytes before now events (Some why) = (list_any is_refused events ≡ true)
+        × IsSealedBy schema world user (Unit {0}) header bytes before now why

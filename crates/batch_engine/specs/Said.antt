@@ -1,7 +1,8 @@
 -- What a line and an ask in memory say.
 use Rattle.std.specs.Prelude.{◌≡◌, Bool, true, ◌&&◌, nat_le, length}
 use Rattle.batch_engine.specs.BatchLines
-use Rattle.batch_engine.specs.BatchLines.{NamedAsk, BatchItem, silence, restarts, asks, asked, restarted}
+use Rattle.batch_engine.specs.BatchLines.{NamedAsk, BatchItem, silence, restarts, asks, asked}
+use Rattle.batch_engine.specs.BatchLines.{restarted}
 use Rattle.batch_engine.specs.declared.line.BatchLine.{BatchLine}
 use Rattle.batch_engine.specs.declared.line.BatchLine.TheVariants.{Silence, Restart, Ask}
 use Rattle.batch_engine.specs.declared.line.LineAsk.{LineAsk}
@@ -16,9 +17,11 @@ said Silence = silence
 said Restart = restarts
 said (Ask ask) = asks (ask_said ask)
 
--- whether its name has at most 32 bytes, its session is at most 64, and its text has at most 4,096 bytes
+-- whether its name has at most 32 bytes, its session is at most 64, and its text has at most 4,096
+-- bytes
 abbrev pub is_short_ask : NamedAsk → Bool
-is_short_ask ask = (nat_le (length ask.name) 32 && nat_le ask.session 64) && nat_le (length ask.text) 4096
+is_short_ask ask =
+    (nat_le (length ask.name) 32 && nat_le ask.session 64) && nat_le (length ask.text) 4096
 
 -- the ask of a line is short
 abbrev pub IsShortLine : BatchLine → Type 0

@@ -1,13 +1,16 @@
-//! The batch: a script of many users and sessions over their journals, read whole, checked, and answered line by line.
+//! The batch: a script of many users and sessions over their journals, read whole, checked, and
+//! answered line by line.
 //!
-//! `run_batch` reads the script from a source, opens each user's journal as a desk, and writes one line for each ask
-//! and each restart. The script's meaning is `batch_of` of `specs/BatchLines.antt`; what is written, and what it means
-//! for each user, stands in `specs/Batch.antt` over `specs/Lives.antt`: the lines of the transcript, in which each
-//! user's replies are those of the run of his own events, and each admitted user's final history hides. Each user asks
-//! by a counter with one pass, as a session does. A mark is in the journal before its line is written, no user's reply
-//! depends on another user, and all disks are given back.
+//! `run_batch` reads the script from a source, opens each user's journal as a desk, and writes one
+//! line for each ask and each restart. The script's meaning is `batch_of` of
+//! `specs/BatchLines.antt`; what is written, and what it means for each user, stands in
+//! `specs/Batch.antt` over `specs/Lives.antt`: the lines of the transcript, in which each user's
+//! replies are those of the run of his own events, and each admitted user's final history hides.
+//! Each user asks by a counter with one pass, as a session does. A mark is in the journal before
+//! its line is written, no user's reply depends on another user, and all disks are given back.
 //!
-//! Read `line`, `batch`, then `run`; proofs begin with `proofs/Courses.antt`, one user over his lives.
+//! Read `line`, `batch`, then `run`; proofs begin with `proofs/Courses.antt`, one user over his
+//! lives.
 #![tactic(auto)]
 
 mod batch;

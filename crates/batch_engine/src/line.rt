@@ -1,9 +1,11 @@
 //! What one line of a batch says, by its shape alone.
 
-ghost use Rattle.std.specs.Prelude.{◌≡◌, ◌≤◌, true, Some, None, length, option_map, IfSome, bytes_eq, codes, if◌then◌else◌};
+ghost use Rattle.std.specs.Prelude.{◌≡◌, ◌≤◌, true, Some, None, length, option_map, IfSome};
+ghost use Rattle.std.specs.Prelude.{bytes_eq, codes, if◌then◌else◌};
 ghost use Rattle.std.specs.List.{list_all, list_any};
 ghost use Rattle.line_protocol.specs.Words.{is_printable};
-ghost use Rattle.batch_engine.specs.BatchLines.{session_number, ask_text, ask_of, named_ask, worded, spoken, batch_line};
+ghost use Rattle.batch_engine.specs.BatchLines.{session_number, ask_text, ask_of, named_ask};
+ghost use Rattle.batch_engine.specs.BatchLines.{worded, spoken, batch_line};
 ghost use Rattle.batch_engine.specs.Said.{said, IsShortLine};
 
 use cqe_base::declarations::is_schema_name;
@@ -60,7 +62,8 @@ fn ask_text(request: &[u8]) -> Option<&str>
 /// The text behind a word, if that is `ask`.
 fn text_behind<'a>(word: &str, text: &'a str) -> Option<&'a str>
     requires { length text.now ≤ 4096 }
-    ensures text { option_map (λ t. t.now) result ≡ (if bytes_eq word.now (codes "ask") then Some text.now else None) }
+    ensures text { option_map (λ t. t.now) result
+        ≡ (if bytes_eq word.now (codes "ask") then Some text.now else None) }
     ensures short { IfSome result (λ t. length t.now ≤ 4096) }
 {
     if word == "ask" { Some(text) } else { None }
@@ -71,7 +74,8 @@ fn ask_of<'a>(name: &'a str, session: Option<u8>, text: Option<&'a str>) -> Opti
     requires name { length name.now ≤ 32 }
     requires session { IfSome session (λ n. n ≤ 64) }
     requires text { IfSome text (λ t. length t.now ≤ 4096) }
-    ensures says { option_map said result ≡ ask_of name.now session (option_map (λ t. t.now) text.entry) }
+    ensures says { option_map said result
+        ≡ ask_of name.now session (option_map (λ t. t.now) text.entry) }
     ensures short { IfSome result IsShortLine }
 {
     let session = session?;

@@ -1,6 +1,7 @@
 //! A batch from its first byte to its last line.
 
-ghost use Rattle.std.specs.Prelude.{◌≡◌, ◌≤◌, ◌++◌, ◌∷◌, [], true, false, map, length, All, option_map, IfOk, IfSome, IfNone, OnSome, vec_capacity};
+ghost use Rattle.std.specs.Prelude.{◌≡◌, ◌≤◌, ◌++◌, ◌∷◌, [], true, false, map, length, All};
+ghost use Rattle.std.specs.Prelude.{option_map, IfOk, IfSome, IfNone, OnSome, vec_capacity};
 ghost use Rattle.std.specs.List.{AllByRecursion};
 ghost use Rattle.outside.specs.Faults.{Rose};
 ghost use Rattle.outside.specs.Shelf.{SameNames};
@@ -15,7 +16,8 @@ ghost use Rattle.batch_engine.specs.Said.{is_short_ask, is_short_item};
 ghost use Rattle.batch_engine.specs.Batches.{ask_in, item_in};
 ghost use Rattle.batch_engine.specs.BatchLines.{restarted};
 ghost use Rattle.desk_crew.specs.Crew.{named_user, seat_user, IsServed};
-ghost use Rattle.desk_crew.specs.Shelved.{journals, journals_on, AllOut, AllIn, NoneOut, NoneFell, SomeRose, AreLater, AreBack, SameBeside};
+ghost use Rattle.desk_crew.specs.Shelved.{journals, journals_on, AllOut, AllIn, NoneOut, NoneFell};
+ghost use Rattle.desk_crew.specs.Shelved.{SomeRose, AreLater, AreBack, SameBeside};
 ghost use Rattle.batch_engine.specs.BatchOf.{items_of};
 ghost use Rattle.batch_engine.specs.AnswerTexts.{answer_text};
 ghost use Rattle.batch_engine.specs.Steps.{Carries, is_broken_reply, IsAnswered, HasSeats, IsCut};
@@ -44,8 +46,8 @@ use user_log::Reply;
 /// How a batch ends.
 #[derive(Debug, Drop)]
 pub enum BatchEnd {
-    /// Each item was answered. Of each user, in order, there is the first refusal of his journal, if one was; and it
-    /// says whether some ask was answered that an append failed.
+    /// Each item was answered. Of each user, in order, there is the first refusal of his journal,
+    /// if one was; and it says whether some ask was answered that an append failed.
     Done(Vec<Option<DeskError>>, bool),
     /// The script is refused. Nothing was written.
     Script(ScriptError),
@@ -104,8 +106,8 @@ fn is_broken_reply(reply: Option<Reply>) -> bool
     matches!(reply, Some(Reply::Broken))
 }
 
-/// Does what an item says: the seats behind it, its line, and whether that says that an append failed. Where memory is
-/// wanting at a restart, all disks are back.
+/// Does what an item says: the seats behind it, its line, and whether that says that an append
+/// failed. Where memory is wanting at a restart, all disks are back.
 fn carry_out<'w, R: Wait, G: Gate, F: Shelf>(
     rt: &R,
     alloc: Global,
@@ -131,8 +133,10 @@ fn carry_out<'w, R: Wait, G: Gate, F: Shelf>(
         (F.disk_faults shelf.new) seats.entry.items) }
     ensures inside { IfNone result (AllIn (journals seats.entry.items) (F.is_out shelf.new)) }
     ensures restart { IfNone result (item_in item.now ≡ restarted) }
-    ensures others_out { SameBeside (journals seats.entry.items) (F.is_out shelf.old) (F.is_out shelf.new) }
-    ensures counts { SameBeside (journals seats.entry.items) (F.disk_faults shelf.old) (F.disk_faults shelf.new) }
+    ensures others_out { SameBeside (journals seats.entry.items) (F.is_out shelf.old)
+        (F.is_out shelf.new) }
+    ensures counts { SameBeside (journals seats.entry.items) (F.disk_faults shelf.old)
+        (F.disk_faults shelf.new) }
     ensures disks { SameBeside (journals seats.entry.items) (F.disk shelf.old) (F.disk shelf.new) }
     ensures faults { F.faults shelf.new ≡ F.faults shelf.old }
     ensures files { SameNames (F.file shelf.old) (F.file shelf.new) }
@@ -172,12 +176,16 @@ fn answer_all<'w, R: Wait, G: Gate, F: Shelf, K: Sink>(
     requires later { AreLater F.D.faults (F.disk_faults shelf.old) seats.items }
     ensures answered { IsAnswered registry.now.schema.now registry.now.world.now
         (header_bytes registry.now.header.now) F.D.tells F.D.reads F.D.image F.D.faults K.tells
-        (λ left. AreBack F.tells F.D.reads F.D.image F.D.faults (F.disk shelf.new) (F.disk_faults shelf.new) left)
+        (λ left. AreBack F.tells F.D.reads F.D.image F.D.faults (F.disk shelf.new)
+        (F.disk_faults shelf.new) left)
         (items_of batch.now) seats.entry.items (K.written sink.old) (K.written sink.new) result }
     ensures untouched { HasSeats result → shelf.new ≡ shelf.old }
-    ensures inside { (HasSeats result → ⊥) → AllIn (journals seats.entry.items) (F.is_out shelf.new) }
-    ensures others_out { SameBeside (journals seats.entry.items) (F.is_out shelf.old) (F.is_out shelf.new) }
-    ensures counts { SameBeside (journals seats.entry.items) (F.disk_faults shelf.old) (F.disk_faults shelf.new) }
+    ensures inside { (HasSeats result → ⊥)
+        → AllIn (journals seats.entry.items) (F.is_out shelf.new) }
+    ensures others_out { SameBeside (journals seats.entry.items) (F.is_out shelf.old)
+        (F.is_out shelf.new) }
+    ensures counts { SameBeside (journals seats.entry.items) (F.disk_faults shelf.old)
+        (F.disk_faults shelf.new) }
     ensures disks { SameBeside (journals seats.entry.items) (F.disk shelf.old) (F.disk shelf.new) }
     ensures faults { F.faults shelf.new ≡ F.faults shelf.old }
     ensures files { SameNames (F.file shelf.old) (F.file shelf.new) }
@@ -203,10 +211,11 @@ fn answer_all<'w, R: Wait, G: Gate, F: Shelf, K: Sink>(
     Answered::All(seats, is_broken)
 }
 
-/// Reads the whole script of a batch from the source, refuses it before the first ask, or opens the journals of all
-/// users and answers its asks with one line each. Each desk stands under a counter, at which an ask is settled as those
-/// of threads are, and passes the gate. A restart closes every desk and opens it again from its disk. All disks are
-/// given back on every path. It may wait, at the counters and at the gate.
+/// Reads the whole script of a batch from the source, refuses it before the first ask, or opens the
+/// journals of all users and answers its asks with one line each. Each desk stands under a counter,
+/// at which an ask is settled as those of threads are, and passes the gate. A restart closes every
+/// desk and opens it again from its disk. All disks are given back on every path. It may wait, at
+/// the counters and at the gate.
 pub fn run_batch<R: Wait, F: Shelf, S: Source, K: Sink, G: Gate>(
     rt: &R,
     alloc: Global,
@@ -216,14 +225,18 @@ pub fn run_batch<R: Wait, F: Shelf, S: Source, K: Sink, G: Gate>(
     sink: &mut K,
     gate: &G,
 ) -> BatchEnd
-    requires limits { All (λ user. KeepsLimits registry.now.schema.now (profile_of user)) registry.now.users.now }
-    requires names { has_duplicate (map (λ user. user.name) (map named_user registry.now.users.now)) ≡ false }
+    requires limits { All
+        (λ user. KeepsLimits registry.now.schema.now (profile_of user)) registry.now.users.now }
+    requires names { has_duplicate (map (λ user. user.name) (map named_user registry.now.users.now))
+        ≡ false }
     requires inside { NoneOut (F.is_out shelf.old) }
     ensures ends { F.tells → S.tells → K.tells
         → Ends registry.now.schema.now registry.now.world.now (header_bytes registry.now.header.now)
-        (journals_on F.D.reads F.D.image registry.now.directory.now (F.disk shelf.old) (F.disk shelf.new)
+        (journals_on F.D.reads F.D.image registry.now.directory.now (F.disk shelf.old)
+        (F.disk shelf.new)
         (F.disk_faults shelf.old) (F.disk_faults shelf.new))
-        (map named_user registry.now.users.now) result (S.left source.old) (S.left source.new) (K.written sink.old)
+        (map named_user registry.now.users.now) result (S.left source.old) (S.left source.new)
+        (K.written sink.old)
         (K.written sink.new) }
 
     // The same of the journals alone, where neither the script nor the output is told.
@@ -235,7 +248,8 @@ pub fn run_batch<R: Wait, F: Shelf, S: Source, K: Sink, G: Gate>(
 
     // No disk but the users' journals is touched, and all are back.
     ensures disks { SameBeside (map (journal_name registry.now.directory.now)
-        (map (λ user. user.name) (map named_user registry.now.users.now))) (F.disk shelf.old) (F.disk shelf.new) }
+        (map (λ user. user.name) (map named_user registry.now.users.now))) (F.disk shelf.old)
+        (F.disk shelf.new) }
     ensures inside { NoneOut (F.is_out shelf.new) }
     ensures files { SameNames (F.file shelf.old) (F.file shelf.new) }
     ensures looked { F.looked shelf.new ≡ F.looked shelf.old }
@@ -245,10 +259,14 @@ pub fn run_batch<R: Wait, F: Shelf, S: Source, K: Sink, G: Gate>(
     ensures shelf_later { F.faults shelf.old ≤ F.faults shelf.new }
     ensures source_later { S.faults source.old ≤ S.faults source.new }
     ensures sink_later { K.faults sink.old ≤ K.faults sink.new }
-    ensures read_cause { result ≡ BatchEnd.ReadFault → Rose (S.faults source.old) (S.faults source.new) }
-    ensures write_cause { result ≡ BatchEnd.WriteFault → Rose (K.faults sink.old) (K.faults sink.new) }
-    ensures shelf_cause { result ≡ BatchEnd.ShelfFault → Rose (F.faults shelf.old) (F.faults shelf.new) }
-    ensures disk_cause { IsBroken result → SomeRose (F.disk_faults shelf.old) (F.disk_faults shelf.new) }
+    ensures read_cause { result ≡ BatchEnd.ReadFault
+        → Rose (S.faults source.old) (S.faults source.new) }
+    ensures write_cause { result ≡ BatchEnd.WriteFault
+        → Rose (K.faults sink.old) (K.faults sink.new) }
+    ensures shelf_cause { result ≡ BatchEnd.ShelfFault
+        → Rose (F.faults shelf.old) (F.faults shelf.new) }
+    ensures disk_cause { IsBroken result
+        → SomeRose (F.disk_faults shelf.old) (F.disk_faults shelf.new) }
 {
     let batch = match read_script(alloc, source, Batch::new(alloc)) {
         Reading::Whole(batch) => batch,

@@ -5,7 +5,9 @@ use Rattle.std.proofs.lemmas.Bool.{and_parts, and_from}
 use Rattle.cqe_base.specs.declared.sentence.Term.{Term}
 use Rattle.cqe_base.specs.declared.sentence.Term.TheVariants.{Constant as constant, Place}
 use Rattle.cqe_base.specs.Schema.{DatabaseSchema, domain_size, columns_of}
-use Rattle.cqe_base.specs.Formula.{Formula, verum, falsum, atom, equality, inequality, negation, conjunction, disjunction, implication, biconditional, universal, existential, nodes, term_domain, is_domain, have_one_domain, have_domains, fit_relation, may_quantify, is_well_formed}
+use Rattle.cqe_base.specs.Formula.{Formula, verum, falsum, atom, equality, inequality, negation, conjunction, disjunction, implication, biconditional}
+use Rattle.cqe_base.specs.Formula.{universal, existential, nodes, term_domain, is_domain, have_one_domain, have_domains, fit_relation, may_quantify}
+use Rattle.cqe_base.specs.Formula.{is_well_formed}
 
 -- the domains and relations of a schema are those of another, which may have more
 pub record Grows (small big : DatabaseSchema) : Type 0 where
@@ -15,7 +17,8 @@ pub record Grows (small big : DatabaseSchema) : Type 0 where
 
 module _ (small big : DatabaseSchema) (grows : Grows small big) where
   -- a term keeps its domain
-  constant_domain : (i d e : ℕ) (b : Bool) → nat_lt i (domain_size small d) ≡ b → (if b then Some d else None) ≡ Some e → (if nat_lt i (domain_size big d) then Some d else None) ≡ Some e
+  constant_domain : (i d e : ℕ) (b : Bool) → nat_lt i (domain_size small d) ≡ b → (if b then Some d else None) ≡ Some e
+      → (if nat_lt i (domain_size big d) then Some d else None) ≡ Some e
   constant_domain i d e true low is = rw (grows.sizes d i low, low) is
   constant_domain i d e false low is = absurd cc
 
@@ -24,15 +27,18 @@ module _ (small big : DatabaseSchema) (grows : Grows small big) where
   term_grows scope (Place i) d is = is
 
   -- where a term has a domain, it has it in the grown schema
-  domain_grows : (scope : List ℕ) (t : Term) (o : Option ℕ) (d : ℕ) → term_domain small scope t ≡ o → is_domain o d ≡ true → is_domain (term_domain big scope t) d ≡ true
+  domain_grows : (scope : List ℕ) (t : Term) (o : Option ℕ) (d : ℕ) → term_domain small scope t ≡ o → is_domain o d ≡ true
+      → is_domain (term_domain big scope t) d ≡ true
   domain_grows scope t None d is same = absurd cc
   domain_grows scope t (Some e) d is same = rw (term_grows scope t e is) same
 
-  one_domain_grows : (scope : List ℕ) (s t : Term) (o : Option ℕ) → term_domain small scope s ≡ o → have_one_domain o (term_domain small scope t) ≡ true → have_one_domain (term_domain big scope s) (term_domain big scope t) ≡ true
+  one_domain_grows : (scope : List ℕ) (s t : Term) (o : Option ℕ) → term_domain small scope s ≡ o → have_one_domain o (term_domain small scope t) ≡ true
+      → have_one_domain (term_domain big scope s) (term_domain big scope t) ≡ true
   one_domain_grows scope s t None is same = absurd cc
   one_domain_grows scope s t (Some d) is same = rw (term_grows scope s d is) (domain_grows scope t (term_domain small scope t) d refl same)
 
-  columns_grow : (scope : List ℕ) (terms : List Term) (domains : List ℕ) → have_domains small scope terms domains ≡ true → have_domains big scope terms domains ≡ true
+  columns_grow : (scope : List ℕ) (terms : List Term) (domains : List ℕ) → have_domains small scope terms domains ≡ true
+      → have_domains big scope terms domains ≡ true
   columns_grow scope [] [] fit = refl
   columns_grow scope [] (d ∷ domains) fit = absurd cc
   columns_grow scope (t ∷ terms) [] fit = absurd cc
@@ -41,7 +47,8 @@ module _ (small big : DatabaseSchema) (grows : Grows small big) where
       and_from (is_domain (term_domain big scope t) d) (have_domains big scope terms domains)
       (domain_grows scope t (term_domain small scope t) d refl parts.0) (columns_grow scope terms domains parts.1)
 
-  relation_grows : (scope : List ℕ) (terms : List Term) (r : ℕ) (o : Option (List ℕ)) → columns_of small r ≡ o → fit_relation small scope terms o ≡ true → fit_relation big scope terms (columns_of big r) ≡ true
+  relation_grows : (scope : List ℕ) (terms : List Term) (r : ℕ) (o : Option (List ℕ)) → columns_of small r ≡ o → fit_relation small scope terms o ≡ true
+      → fit_relation big scope terms (columns_of big r) ≡ true
   relation_grows scope terms r None is fit = absurd cc
   relation_grows scope terms r (Some columns) is fit = rw (grows.relations r columns is) (columns_grow scope terms columns fit)
 
@@ -71,10 +78,12 @@ module _ (small big : DatabaseSchema) (grows : Grows small big) where
       and_from (is_well_formed big scope a) (is_well_formed big scope b) (well_formed_grows scope a parts.0) (well_formed_grows scope b parts.1)
   well_formed_grows scope (universal d a) is =
       let parts = and_parts (may_quantify small scope d) (is_well_formed small (scope ++ d ∷ []) a) is in
-      and_from (may_quantify big scope d) (is_well_formed big (scope ++ d ∷ []) a) (quantifier_grows scope d parts.0) (well_formed_grows (scope ++ d ∷ []) a parts.1)
+      and_from (may_quantify big scope d) (is_well_formed big (scope ++ d ∷ []) a) (quantifier_grows scope d parts.0)
+      (well_formed_grows (scope ++ d ∷ []) a parts.1)
   well_formed_grows scope (existential d a) is =
       let parts = and_parts (may_quantify small scope d) (is_well_formed small (scope ++ d ∷ []) a) is in
-      and_from (may_quantify big scope d) (is_well_formed big (scope ++ d ∷ []) a) (quantifier_grows scope d parts.0) (well_formed_grows (scope ++ d ∷ []) a parts.1)
+      and_from (may_quantify big scope d) (is_well_formed big (scope ++ d ∷ []) a) (quantifier_grows scope d parts.0)
+      (well_formed_grows (scope ++ d ∷ []) a parts.1)
 
   -- a quantifier keeps the number of its instances
   size_kept : (scope : List ℕ) (d : ℕ) → may_quantify small scope d ≡ true → domain_size big d ≡ domain_size small d

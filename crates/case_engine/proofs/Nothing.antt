@@ -13,13 +13,16 @@ use Rattle.case_engine.specs.Scripts.{script_in}
 abbrev Declarations : Type 0
 Declarations = List (String Global × Vec (String Global) Global)
 
-pub nothing_said : (domains relations : Declarations) (facts : FactSet) (know secrets : List Sentence) (asks : List (String Global)) → domains ≡ [] → relations ≡ [] → facts ≡ set.empty → know ≡ [] → secrets ≡ [] → asks ≡ [] → script_in domains relations facts None know secrets None asks ≡ empty_script
+pub nothing_said : (domains relations : Declarations) (facts : FactSet) (know secrets : List Sentence) (asks : List (String Global)) → domains ≡ []
+    → relations ≡ [] → facts ≡ set.empty → know ≡ [] → secrets ≡ [] → asks ≡ [] → script_in domains relations facts None know secrets None asks ≡ empty_script
 nothing_said domains relations facts know secrets asks a b c d e f =
     ap (λ x. script_in x relations facts None know secrets None asks) a ∙ ap (λ x. script_in [] x facts None know secrets None asks) b
     ∙ ap (λ x. script_in [] [] x None know secrets None asks) c ∙ ap (λ x. script_in [] [] set.empty None x secrets None asks) d
     ∙ ap (λ x. script_in [] [] set.empty None [] x None asks) e ∙ ap (λ x. script_in [] [] set.empty None [] [] None x) f
 
-pub no_declarations : (domains relations : Declarations) → domains ≡ [] → relations ≡ [] → (schema_of (map declaration_of domains) (map declaration_of relations) ≡ schema_of [] []) × (schema_refusal (map declaration_of domains) (map declaration_of relations) ≡ None → schema_refusal [] [] ≡ None)
+pub no_declarations : (domains relations : Declarations) → domains ≡ [] → relations ≡ []
+    → (schema_of (map declaration_of domains) (map declaration_of relations) ≡ schema_of [] [])
+    × (schema_refusal (map declaration_of domains) (map declaration_of relations) ≡ None → schema_refusal [] [] ≡ None)
 no_declarations domains relations a b = (
   ap (λ x. schema_of (map declaration_of x) (map declaration_of relations)) a ∙ ap (λ x. schema_of [] (map declaration_of x)) b,
   λ e. sym (ap (λ x. schema_refusal (map declaration_of x) (map declaration_of relations)) a ∙ ap (λ x. schema_refusal [] (map declaration_of x)) b) ∙ e,

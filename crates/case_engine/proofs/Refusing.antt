@@ -27,14 +27,17 @@ third_fails false b c e = refl
 not_le : (a b : ℕ) → b < a → nat_le a b ≡ false
 not_le a b h = grind (arith, h)
 
-module _ (script : Script) (schema : DatabaseSchema) (n count total : ℕ) (s : Formula) (sound : IsSound script schema n) (small : count ≤ 20000 → count ≡ nodes schema s) (large : 20000 < count → 20000 < nodes schema s) (views : ViewsWithoutEntries) where
+module _ (script : Script) (schema : DatabaseSchema) (n count total : ℕ) (s : Formula) (sound : IsSound script schema n)
+    (small : count ≤ 20000 → count ≡ nodes schema s) (large : 20000 < count → 20000 < nodes schema s) (views : ViewsWithoutEntries) where
   many_nodes : nat_le count 20000 ≡ false → nat_le (nodes (script_schema script) s) 20000 ≡ false
   many_nodes e =
       let above : 20000 < count = grind (arith, e) in
       not_le (nodes (script_schema script) s) 20000 (subst (λ x. 20000 < nodes x s) sound.schema_is (large above))
 
-  known_fails : (a b c : Bool) → nat_le count 20000 ≡ a → nat_lt (length script.know) 256 ≡ b → nat_le total 40000 ≡ c → nat_le total 40000 ≡ nat_le (n + count) 40000 → (a && (b && c)) ≡ false
-      → (nat_le (nodes (script_schema script) s) 20000 && (nat_le (length (script.know ++ s ∷ [])) 256 && nat_le (length script.secrets) 16) && nat_le (view_size (script_schema script) (script_user (with_known script s)) []) 40000) ≡ false
+  known_fails : (a b c : Bool) → nat_le count 20000 ≡ a → nat_lt (length script.know) 256 ≡ b → nat_le total 40000 ≡ c
+      → nat_le total 40000 ≡ nat_le (n + count) 40000 → (a && (b && c)) ≡ false
+      → (nat_le (nodes (script_schema script) s) 20000 && (nat_le (length (script.know ++ s ∷ [])) 256 && nat_le (length script.secrets) 16)
+      && nat_le (view_size (script_schema script) (script_user (with_known script s)) []) 40000) ≡ false
   known_fails false b c p q r sum fails = first_fails _ _ _ (many_nodes p)
   known_fails true false c p q r sum fails =
       let many : 256 ≤ length script.know = grind (arith, q) in
@@ -47,21 +50,29 @@ module _ (script : Script) (schema : DatabaseSchema) (n count total : ℕ) (s : 
       let counted = small few in
       let was = sound.nodes_are in
       let over : 40000 < view_size schema (script_user (with_known script s)) [] = omega (arith, above, more, counted, was) in
-      third_fails (nat_le (nodes (script_schema script) s) 20000) (nat_le (length (script.know ++ s ∷ [])) 256 && nat_le (length script.secrets) 16) _ (not_le (view_size (script_schema script) (script_user (with_known script s)) []) 40000 (subst (λ x. 40000 < view_size x (script_user (with_known script s)) []) sound.schema_is over))
+      third_fails (nat_le (nodes (script_schema script) s) 20000) (nat_le (length (script.know ++ s ∷ [])) 256
+      && nat_le (length script.secrets) 16) _
+      (not_le (view_size (script_schema script) (script_user (with_known script s)) []) 40000
+      (subst (λ x. 40000 < view_size x (script_user (with_known script s)) []) sound.schema_is over))
   known_fails true true true p q r sum fails = absurd cc
 
-  pub known_refused : (read : Result Formula Refusal) → read ≡ Ok s → nat_le total 40000 ≡ nat_le (n + count) 40000 → (nat_le count 20000 && (nat_lt (length script.know) 256 && nat_le total 40000)) ≡ false → say (with_known script) read ≡ Err Limit
+  pub known_refused : (read : Result Formula Refusal) → read ≡ Ok s → nat_le total 40000 ≡ nat_le (n + count) 40000
+      → (nat_le count 20000 && (nat_lt (length script.know) 256 && nat_le total 40000)) ≡ false → say (with_known script) read ≡ Err Limit
   known_refused read is sum fails =
       ap (say (with_known script)) is
       ∙ ap (λ b. if b then Ok (with_known script s) else Err Limit) (known_fails _ _ _ refl refl refl sum fails)
 
-  secret_fails : (a b c : Bool) → nat_le count 20000 ≡ a → nat_lt (length script.secrets) 16 ≡ b → nat_le total 40000 ≡ c → nat_le total 40000 ≡ nat_le (n + (1 + count)) 40000 → (a && (b && c)) ≡ false
-      → (nat_le (nodes (script_schema script) s) 20000 && (nat_le (length script.know) 256 && nat_le (length (script.secrets ++ s ∷ [])) 16) && nat_le (view_size (script_schema script) (script_user (with_secret script s)) []) 40000) ≡ false
+  secret_fails : (a b c : Bool) → nat_le count 20000 ≡ a → nat_lt (length script.secrets) 16 ≡ b → nat_le total 40000 ≡ c
+      → nat_le total 40000 ≡ nat_le (n + (1 + count)) 40000 → (a && (b && c)) ≡ false
+      → (nat_le (nodes (script_schema script) s) 20000 && (nat_le (length script.know) 256 && nat_le (length (script.secrets ++ s ∷ [])) 16)
+      && nat_le (view_size (script_schema script) (script_user (with_secret script s)) []) 40000) ≡ false
   secret_fails false b c p q r sum fails = first_fails _ _ _ (many_nodes p)
   secret_fails true false c p q r sum fails =
       let many : 16 ≤ length script.secrets = grind (arith, q) in
       let long : length (script.secrets ++ s ∷ []) ≡ length script.secrets + 1 = grind (arith, common_steps) in
-      second_fails _ _ _ (behind (nat_le (length script.know) 256) (nat_le (length (script.secrets ++ s ∷ [])) 16) (not_le (length (script.secrets ++ s ∷ [])) 16 (omega (arith, many, long))))
+      second_fails _ _ _
+      (behind (nat_le (length script.know) 256) (nat_le (length (script.secrets ++ s ∷ [])) 16)
+      (not_le (length (script.secrets ++ s ∷ [])) 16 (omega (arith, many, long))))
     where
       behind : (a b : Bool) → b ≡ false → (a && b) ≡ false
       behind true b e = e
@@ -73,10 +84,14 @@ module _ (script : Script) (schema : DatabaseSchema) (n count total : ℕ) (s : 
       let counted = small few in
       let was = sound.nodes_are in
       let over : 40000 < view_size schema (script_user (with_secret script s)) [] = omega (arith, above, more, counted, was) in
-      third_fails (nat_le (nodes (script_schema script) s) 20000) (nat_le (length script.know) 256 && nat_le (length (script.secrets ++ s ∷ [])) 16) _ (not_le (view_size (script_schema script) (script_user (with_secret script s)) []) 40000 (subst (λ x. 40000 < view_size x (script_user (with_secret script s)) []) sound.schema_is over))
+      third_fails (nat_le (nodes (script_schema script) s) 20000) (nat_le (length script.know) 256
+      && nat_le (length (script.secrets ++ s ∷ [])) 16) _
+      (not_le (view_size (script_schema script) (script_user (with_secret script s)) []) 40000
+      (subst (λ x. 40000 < view_size x (script_user (with_secret script s)) []) sound.schema_is over))
   secret_fails true true true p q r sum fails = absurd cc
 
-  pub secret_refused : (read : Result Formula Refusal) → read ≡ Ok s → nat_le total 40000 ≡ nat_le (n + (1 + count)) 40000 → (nat_le count 20000 && (nat_lt (length script.secrets) 16 && nat_le total 40000)) ≡ false → say (with_secret script) read ≡ Err Limit
+  pub secret_refused : (read : Result Formula Refusal) → read ≡ Ok s → nat_le total 40000 ≡ nat_le (n + (1 + count)) 40000
+      → (nat_le count 20000 && (nat_lt (length script.secrets) 16 && nat_le total 40000)) ≡ false → say (with_secret script) read ≡ Err Limit
   secret_refused read is sum fails =
       ap (say (with_secret script)) is
       ∙ ap (λ b. if b then Ok (with_secret script s) else Err Limit) (secret_fails _ _ _ refl refl refl sum fails)

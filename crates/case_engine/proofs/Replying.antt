@@ -11,7 +11,8 @@ use Rattle.cqe_base.specs.History.{UserProfile, AnsweredQuery, History, is_user_
 use Rattle.cqe_base.specs.Censor.{admitted, EmptyHistoryIsLegal}
 use Rattle.cqe_base.specs.Headline.{RunsStayLegal}
 use Rattle.cqe_base.specs.Hiding.{LegalHistoriesHide}
-use Rattle.cqe_base.specs.Run.{Reply, Standing, standing_open, standing_closed, user_closed, Ending, want, kept, Event, ask, UserState, opening, after_event, after_events, replies_from, replies_to_event, reply_to_ask, replies, final_history, entry_added}
+use Rattle.cqe_base.specs.Run.{Reply, Standing, standing_open, standing_closed, user_closed, Ending, want, kept, Event, ask, UserState, opening, after_event}
+use Rattle.cqe_base.specs.Run.{after_events, replies_from, replies_to_event, reply_to_ask, replies, final_history, entry_added}
 use Rattle.cqe_base.specs.Transcript.{reply_text}
 use Rattle.cqe_base.proofs.Runs.{after_events-push}
 use Rattle.user_log.specs.Asked.{IsAsked, wanted, answered}
@@ -20,13 +21,15 @@ use Rattle.case_engine.specs.Case.{ask_events, IsKeptOrWant, reply_lines, Answer
 
 -- ---- lists
 
-ask_events-push : (asks : List Text) (endings : List Ending) (text : Text) (ending : Ending) → length endings ≡ length asks → ask_events (asks ++ text ∷ []) (endings ++ ending ∷ []) ≡ ask_events asks endings ++ ask text ending ∷ []
+ask_events-push : (asks : List Text) (endings : List Ending) (text : Text) (ending : Ending) → length endings ≡ length asks
+    → ask_events (asks ++ text ∷ []) (endings ++ ending ∷ []) ≡ ask_events asks endings ++ ask text ending ∷ []
 ask_events-push [] [] text ending same = refl
 ask_events-push [] (e ∷ endings) text ending same = absurd (omega arith)
 ask_events-push (t ∷ asks) [] text ending same = absurd (omega arith)
 ask_events-push (t ∷ asks) (e ∷ endings) text ending same = ap (λ events. ask t e ∷ events) (ask_events-push asks endings text ending (omega arith))
 
-all_push : (endings : List Ending) (ending : Ending) → AllByRecursion IsKeptOrWant endings → IsKeptOrWant ending → AllByRecursion IsKeptOrWant (endings ++ ending ∷ [])
+all_push : (endings : List Ending) (ending : Ending) → AllByRecursion IsKeptOrWant endings → IsKeptOrWant ending
+    → AllByRecursion IsKeptOrWant (endings ++ ending ∷ [])
 all_push [] ending all here = (here, tt)
 all_push (e ∷ endings) ending all here = (all.0, all_push endings ending all.1 here)
 
@@ -38,16 +41,21 @@ one_line earlier told = sym (lines-append earlier (told ∷ []) ∙ ap (λ l. re
 
 module _ (schema : DatabaseSchema) (world : FactSet) (user : UserProfile) where
   -- one reply for each ask
-  pub replies_count : (state : UserState) (asks : List Text) (endings : List Ending) → length endings ≡ length asks → length (replies_from schema world user state (ask_events asks endings)) ≡ length asks
+  pub replies_count : (state : UserState) (asks : List Text) (endings : List Ending) → length endings ≡ length asks
+      → length (replies_from schema world user state (ask_events asks endings)) ≡ length asks
   replies_count state [] endings same = refl
   replies_count state (text ∷ asks) [] same = absurd (omega arith)
-  replies_count state (text ∷ asks) (ending ∷ endings) same = ap suc (replies_count (after_event schema world user state (ask text ending)) asks endings (omega (arith, same)))
+  replies_count state (text ∷ asks) (ending ∷ endings) same =
+      ap suc (replies_count (after_event schema world user state (ask text ending)) asks endings (omega (arith, same)))
 
-  replies_from-push : (state : UserState) (events : List Event) (event : Event) → replies_from schema world user state (events ++ event ∷ []) ≡ replies_from schema world user state events ++ replies_to_event schema world user (after_events schema world user state events) event
+  replies_from-push : (state : UserState) (events : List Event) (event : Event)
+      → replies_from schema world user state (events ++ event ∷ [])
+      ≡ replies_from schema world user state events ++ replies_to_event schema world user (after_events schema world user state events) event
   replies_from-push state [] event = append-nil (replies_to_event schema world user state event)
   replies_from-push state (e ∷ events) event =
       ap (λ later. replies_to_event schema world user state e ++ later) (replies_from-push (after_event schema world user state e) events event)
-      ∙ sym (append_assoc (replies_to_event schema world user state e) (replies_from schema world user (after_event schema world user state e) events) (replies_to_event schema world user (after_events schema world user (after_event schema world user state e) events) event))
+      ∙ sym (append_assoc (replies_to_event schema world user state e) (replies_from schema world user (after_event schema world user state e) events)
+      (replies_to_event schema world user (after_events schema world user (after_event schema world user state e) events) event))
 
   -- ---- the run so far
 
@@ -66,7 +74,8 @@ module _ (schema : DatabaseSchema) (world : FactSet) (user : UserProfile) where
     pub lines : output ≡ reply_lines (replies_from schema world user (opening schema world user []) (ask_events asks endings))
     pub state : after_events schema world user (opening schema world user []) (ask_events asks endings) ≡ state_with is_open history
 
-  pub standing_is : (is_open : Bool) → is_open ≡ admitted schema world user → (if admitted schema world user then standing_open else standing_closed) ≡ standing_by is_open
+  pub standing_is : (is_open : Bool) → is_open ≡ admitted schema world user
+      → (if admitted schema world user then standing_open else standing_closed) ≡ standing_by is_open
   standing_is true e = ap (λ b. if b then standing_open else standing_closed) (sym e)
   standing_is false e = ap (λ b. if b then standing_open else standing_closed) (sym e)
 
@@ -80,7 +89,10 @@ module _ (schema : DatabaseSchema) (world : FactSet) (user : UserProfile) where
   }
 
   -- one more ask with this ending, its reply and the state behind it
-  pushed : (is_open : Bool) (asks : List Text) (output : List ℕ) (history new : History) (text : Text) (told : Reply) (ending : Ending) → SoFar is_open asks output history → IsKeptOrWant ending → replies_to_event schema world user (state_with is_open history) (ask text ending) ≡ told ∷ [] → after_event schema world user (state_with is_open history) (ask text ending) ≡ state_with is_open new → SoFar is_open (asks ++ text ∷ []) (output ++ (reply_text told ++ 10 ∷ [])) new
+  pushed : (is_open : Bool) (asks : List Text) (output : List ℕ) (history new : History) (text : Text) (told : Reply) (ending : Ending)
+      → SoFar is_open asks output history → IsKeptOrWant ending → replies_to_event schema world user (state_with is_open history) (ask text ending) ≡ told ∷ []
+      → after_event schema world user (state_with is_open history) (ask text ending) ≡ state_with is_open new
+      → SoFar is_open (asks ++ text ∷ []) (output ++ (reply_text told ++ 10 ∷ [])) new
   pushed is_open asks output history new text told ending so_far here replied next =
       let start = opening schema world user [] in
       let before = ask_events asks so_far.endings in
@@ -92,7 +104,8 @@ module _ (schema : DatabaseSchema) (world : FactSet) (user : UserProfile) where
         lines =
             ap (λ o. o ++ (reply_text told ++ 10 ∷ [])) so_far.lines
             ∙ one_line (replies_from schema world user start before) told
-            ∙ sym (ap (λ r. reply_lines (replies_from schema world user start before ++ r)) (ap (λ s. replies_to_event schema world user s (ask text ending)) so_far.state ∙ replied))
+            ∙ sym (ap (λ r. reply_lines (replies_from schema world user start before ++ r))
+            (ap (λ s. replies_to_event schema world user s (ask text ending)) so_far.state ∙ replied))
             ∙ sym (ap reply_lines (ap (replies_from schema world user start) events ∙ replies_from-push start before (ask text ending)));
         state =
             ap (after_events schema world user start) events ∙ after_events-push schema world user start before (ask text ending)
@@ -133,18 +146,21 @@ module _ (schema : DatabaseSchema) (world : FactSet) (user : UserProfile) where
     next = ap (state_with false) (same_entries history (entry_added text (reading schema text) user_closed) (no_entry text (reading schema text)) ∙ sym same);
   }
 
-  pub one_ask : (is_open : Bool) (history new : History) (text : Text) (told : Reply) → IsTold is_open schema world user history new text told → OneAsk is_open history new text told
+  pub one_ask : (is_open : Bool) (history new : History) (text : Text) (told : Reply) → IsTold is_open schema world user history new text told
+      → OneAsk is_open history new text told
   one_ask true = one_open
   one_ask false = one_closed
 
-  pub told_next : (is_open : Bool) (asks : List Text) (output : List ℕ) (history new : History) (text : Text) (told : Reply) → SoFar is_open asks output history → IsTold is_open schema world user history new text told → SoFar is_open (asks ++ text ∷ []) (output ++ (reply_text told ++ 10 ∷ [])) new
+  pub told_next : (is_open : Bool) (asks : List Text) (output : List ℕ) (history new : History) (text : Text) (told : Reply) → SoFar is_open asks output history
+      → IsTold is_open schema world user history new text told → SoFar is_open (asks ++ text ∷ []) (output ++ (reply_text told ++ 10 ∷ [])) new
   told_next is_open asks output history new text told so_far here =
       let one : OneAsk is_open history new text told = one_ask is_open history new text told here in
       pushed is_open asks output history new text told one.ending so_far one.kept_or_want (ap (λ t. t ∷ []) one.replied) one.next
 
   -- ---- the end of the run
 
-  pub answers_asks : (is_open : Bool) (asks : List Text) (output : List ℕ) (history : History) → SoFar is_open asks output history → EmptyHistoryIsLegal → RunsStayLegal → LegalHistoriesHide → is_valid_schema schema ≡ true → is_user_of schema user ≡ true → Answers schema world user asks output
+  pub answers_asks : (is_open : Bool) (asks : List Text) (output : List ℕ) (history : History) → SoFar is_open asks output history → EmptyHistoryIsLegal
+      → RunsStayLegal → LegalHistoriesHide → is_valid_schema schema ≡ true → is_user_of schema user ≡ true → Answers schema world user asks output
   unfolding replies
   answers_asks is_open asks output history so_far empty runs hide valid is_user =
       let legal = runs schema world user [] (ask_events asks so_far.endings) (empty schema world user) in

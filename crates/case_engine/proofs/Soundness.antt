@@ -24,7 +24,8 @@ secret_nodes schema sentences = sum_by (λ s. 1 + nodes schema s) sentences
 
 -- ---- before the first line
 
-pub sound_empty : (schema : DatabaseSchema) → schema ≡ script_schema empty_script → schema_refusal [] [] ≡ None → ViewsWithoutEntries → IsSound empty_script schema 0
+pub sound_empty : (schema : DatabaseSchema) → schema ≡ script_schema empty_script → schema_refusal [] [] ≡ None → ViewsWithoutEntries
+    → IsSound empty_script schema 0
 sound_empty schema is accepted views = record {
   schema_is = is;
   accepted = accepted;
@@ -51,14 +52,17 @@ module _ (small big : DatabaseSchema) (grows : Grows small big) where
   sentences_grow [] are = refl
   sentences_grow (s ∷ sentences) are =
       let each = and_parts (is_sentence_of small s) (list_all (is_sentence_of small) sentences) are in
-      and_from (is_sentence_of big s) (list_all (is_sentence_of big) sentences) (well_formed_grows small big grows [] s each.0) (sentences_grow sentences each.1)
+      and_from (is_sentence_of big s) (list_all (is_sentence_of big) sentences) (well_formed_grows small big grows [] s each.0)
+      (sentences_grow sentences each.1)
 
-  smalls_grow : (sentences : List Formula) → list_all (is_sentence_of small) sentences ≡ true → list_all (is_small small) sentences ≡ true → list_all (is_small big) sentences ≡ true
+  smalls_grow : (sentences : List Formula) → list_all (is_sentence_of small) sentences ≡ true → list_all (is_small small) sentences ≡ true
+      → list_all (is_small big) sentences ≡ true
   smalls_grow [] are smalls = refl
   smalls_grow (s ∷ sentences) are smalls =
       let each = and_parts (is_sentence_of small s) (list_all (is_sentence_of small) sentences) are in
       let few = and_parts (is_small small s) (list_all (is_small small) sentences) smalls in
-      and_from (is_small big s) (list_all (is_small big) sentences) (ap (λ n. nat_le n 20000) (nodes_kept small big grows [] s each.0) ∙ few.0) (smalls_grow sentences each.1 few.1)
+      and_from (is_small big s) (list_all (is_small big) sentences) (ap (λ n. nat_le n 20000) (nodes_kept small big grows [] s each.0)
+      ∙ few.0) (smalls_grow sentences each.1 few.1)
 
   known_kept : (sentences : List Formula) → list_all (is_sentence_of small) sentences ≡ true → known_nodes big sentences ≡ known_nodes small sentences
   known_kept [] are = refl
@@ -76,7 +80,9 @@ module _ (small big : DatabaseSchema) (grows : Grows small big) where
       let rest = secrets_kept sentences each.1 in
       grind (arith, common_steps, here, rest)
 
-  grown : (script new : Script) (view_nodes : ℕ) → IsSound script small view_nodes → big ≡ script_schema new → schema_refusal new.domains new.relations ≡ None → script_user new ≡ script_user script → new.method ≡ script.method → new.budget ≡ script.budget → new.asks ≡ script.asks → ViewsWithoutEntries → IsSound new big view_nodes
+  grown : (script new : Script) (view_nodes : ℕ) → IsSound script small view_nodes → big ≡ script_schema new → schema_refusal new.domains new.relations ≡ None
+      → script_user new ≡ script_user script → new.method ≡ script.method → new.budget ≡ script.budget → new.asks ≡ script.asks → ViewsWithoutEntries
+      → IsSound new big view_nodes
   grown script new view_nodes sound is accepted same_user same_method same_budget same_asks views =
       let same_know = ap (λ u. u.know) same_user in
       let same_secrets = ap (λ u. u.secrets) same_user in
@@ -89,26 +95,34 @@ module _ (small big : DatabaseSchema) (grows : Grows small big) where
         small_secrets = ap (list_all (is_small big)) same_secrets ∙ smalls_grow script.secrets sound.secret sound.small_secrets;
         few_known = subst (λ k. length k ≤ 256) (sym same_know) sound.few_known;
         few_secrets = subst (λ k. length k ≤ 16) (sym same_secrets) sound.few_secrets;
-        nodes_are = sound.nodes_are ∙ views small (script_user script) ∙ sym (ap (λ n. n + secret_nodes small script.secrets) (known_kept script.know sound.known))
-            ∙ sym (ap (λ n. known_nodes big script.know + n) (secrets_kept script.secrets sound.secret)) ∙ sym (views big (script_user script)) ∙ sym (ap (λ u. view_size big u []) same_user);
+        nodes_are =
+            sound.nodes_are ∙ views small (script_user script) ∙ sym (ap (λ n. n + secret_nodes small script.secrets) (known_kept script.know sound.known))
+            ∙ sym (ap (λ n. known_nodes big script.know + n) (secrets_kept script.secrets sound.secret)) ∙ sym (views big (script_user script))
+            ∙ sym (ap (λ u. view_size big u []) same_user);
         view = sound.view;
         budget = ap is_fit_budget same_budget ∙ sound.budget;
-        ready = λ e. ap (λ m. is_none m || nat_le (length new.secrets) 0) same_method ∙ ap (λ k. is_none script.method || nat_le (length k) 0) same_secrets ∙ sound.ready (sym (ap (λ a. nat_le 1 (length a)) same_asks) ∙ e);
+        ready = λ e. ap (λ m. is_none m || nat_le (length new.secrets) 0) same_method ∙ ap (λ k. is_none script.method || nat_le (length k) 0) same_secrets
+            ∙ sound.ready (sym (ap (λ a. nat_le 1 (length a)) same_asks) ∙ e);
         short = subst (λ a. list_all (λ t. nat_le (length t) 4096) a ≡ true) (sym same_asks) sound.short;
       }
 
-pub sound_grows : (script : Script) (small big : DatabaseSchema) (view_nodes : ℕ) (domains relations : List Declaration) → IsSound script small view_nodes → Grows small big → big ≡ script_schema (record script { domains = domains; relations = relations }) → schema_refusal domains relations ≡ None → ViewsWithoutEntries → IsSound (record script { domains = domains; relations = relations }) big view_nodes
+pub sound_grows : (script : Script) (small big : DatabaseSchema) (view_nodes : ℕ) (domains relations : List Declaration) → IsSound script small view_nodes
+    → Grows small big → big ≡ script_schema (record script { domains = domains; relations = relations }) → schema_refusal domains relations ≡ None
+    → ViewsWithoutEntries → IsSound (record script { domains = domains; relations = relations }) big view_nodes
 sound_grows script small big view_nodes domains relations sound grows is accepted views =
     grown small big grows script (record script { domains = domains; relations = relations }) view_nodes sound is accepted refl refl refl refl views
 
 -- ---- what is said of the user
 
 -- the nodes of a view depend on the sentences alone
-same_view : (schema : DatabaseSchema) (script new : Script) → new.know ≡ script.know → new.secrets ≡ script.secrets → ViewsWithoutEntries → view_size schema (script_user script) [] ≡ view_size schema (script_user new) []
+same_view : (schema : DatabaseSchema) (script new : Script) → new.know ≡ script.know → new.secrets ≡ script.secrets → ViewsWithoutEntries
+    → view_size schema (script_user script) [] ≡ view_size schema (script_user new) []
 same_view schema script new same_know same_secrets views =
-    views schema (script_user script) ∙ sym (ap (λ k. known_nodes schema k + secret_nodes schema script.secrets) same_know) ∙ sym (ap (λ k. known_nodes schema new.know + secret_nodes schema k) same_secrets) ∙ sym (views schema (script_user new))
+    views schema (script_user script) ∙ sym (ap (λ k. known_nodes schema k + secret_nodes schema script.secrets) same_know)
+    ∙ sym (ap (λ k. known_nodes schema new.know + secret_nodes schema k) same_secrets) ∙ sym (views schema (script_user new))
 
-pub sound_method : (script : Script) (schema : DatabaseSchema) (view_nodes : ℕ) (method : Method) → IsSound script schema view_nodes → ViewsWithoutEntries → IsSound (record script { method = Some method }) schema view_nodes
+pub sound_method : (script : Script) (schema : DatabaseSchema) (view_nodes : ℕ) (method : Method) → IsSound script schema view_nodes → ViewsWithoutEntries
+    → IsSound (record script { method = Some method }) schema view_nodes
 sound_method script schema view_nodes method sound views = record {
   schema_is = sound.schema_is;
   accepted = sound.accepted;
@@ -125,7 +139,8 @@ sound_method script schema view_nodes method sound views = record {
   short = sound.short;
 }
 
-pub sound_budget : (script : Script) (schema : DatabaseSchema) (view_nodes budget : ℕ) → IsSound script schema view_nodes → 1 ≤ budget → budget ≤ 4000000 → ViewsWithoutEntries → IsSound (record script { budget = Some budget }) schema view_nodes
+pub sound_budget : (script : Script) (schema : DatabaseSchema) (view_nodes budget : ℕ) → IsSound script schema view_nodes → 1 ≤ budget → budget ≤ 4000000
+    → ViewsWithoutEntries → IsSound (record script { budget = Some budget }) schema view_nodes
 sound_budget script schema view_nodes budget sound low high views = record {
   schema_is = sound.schema_is;
   accepted = sound.accepted;
@@ -149,21 +164,29 @@ all_push p (x ∷ sentences) s all here =
     let each = and_parts (p x) (list_all p sentences) all in
     and_from (p x) (list_all p (sentences ++ s ∷ [])) each.0 (all_push p sentences s each.1 here)
 
-pub known_more : (schema : DatabaseSchema) (script : Script) (s : Formula) → ViewsWithoutEntries → view_size schema (script_user (record script { know = script.know ++ s ∷ [] })) [] ≡ view_size schema (script_user script) [] + nodes schema s
+pub known_more : (schema : DatabaseSchema) (script : Script) (s : Formula) → ViewsWithoutEntries → view_size schema (script_user (record script {
+  know =
+      script.know ++ s ∷ [];
+})) [] ≡ view_size schema (script_user script) [] + nodes schema s
 known_more schema script s views =
     let now = views schema (script_user (record script { know = script.know ++ s ∷ [] })) in
     let was = views schema (script_user script) in
     let sums : known_nodes schema (script.know ++ s ∷ []) ≡ known_nodes schema script.know + nodes schema s = grind (arith, common_steps) in
     omega (arith, now, was, sums)
 
-pub secret_more : (schema : DatabaseSchema) (script : Script) (s : Formula) → ViewsWithoutEntries → view_size schema (script_user (record script { secrets = script.secrets ++ s ∷ [] })) [] ≡ view_size schema (script_user script) [] + (1 + nodes schema s)
+pub secret_more : (schema : DatabaseSchema) (script : Script) (s : Formula) → ViewsWithoutEntries → view_size schema (script_user (record script {
+  secrets =
+      script.secrets ++ s ∷ [];
+})) [] ≡ view_size schema (script_user script) [] + (1 + nodes schema s)
 secret_more schema script s views =
     let now = views schema (script_user (record script { secrets = script.secrets ++ s ∷ [] })) in
     let was = views schema (script_user script) in
     let sums : secret_nodes schema (script.secrets ++ s ∷ []) ≡ secret_nodes schema script.secrets + (1 + nodes schema s) = grind (arith, common_steps) in
     omega (arith, now, was, sums)
 
-pub sound_known : (script : Script) (schema : DatabaseSchema) (view_nodes count : ℕ) (s : Formula) → IsSound script schema view_nodes → is_sentence_of schema s ≡ true → count ≡ nodes schema s → count ≤ 20000 → length script.know < 256 → view_nodes + count ≤ 40000 → ViewsWithoutEntries → IsSound (record script { know = script.know ++ s ∷ [] }) schema (view_nodes + count)
+pub sound_known : (script : Script) (schema : DatabaseSchema) (view_nodes count : ℕ) (s : Formula) → IsSound script schema view_nodes
+    → is_sentence_of schema s ≡ true → count ≡ nodes schema s → count ≤ 20000 → length script.know < 256 → view_nodes + count ≤ 40000 → ViewsWithoutEntries
+    → IsSound (record script { know = script.know ++ s ∷ [] }) schema (view_nodes + count)
 sound_known script schema view_nodes count s sound sentence counted small few room views = record {
   schema_is = sound.schema_is;
   accepted = sound.accepted;
@@ -180,7 +203,9 @@ sound_known script schema view_nodes count s sound sentence counted small few ro
   short = sound.short;
 }
 
-pub sound_secret : (script : Script) (schema : DatabaseSchema) (view_nodes count : ℕ) (s : Formula) → IsSound script schema view_nodes → is_sentence_of schema s ≡ true → count ≡ nodes schema s → count ≤ 20000 → length script.secrets < 16 → view_nodes + (1 + count) ≤ 40000 → ViewsWithoutEntries → IsSound (record script { secrets = script.secrets ++ s ∷ [] }) schema (view_nodes + (1 + count))
+pub sound_secret : (script : Script) (schema : DatabaseSchema) (view_nodes count : ℕ) (s : Formula) → IsSound script schema view_nodes
+    → is_sentence_of schema s ≡ true → count ≡ nodes schema s → count ≤ 20000 → length script.secrets < 16 → view_nodes + (1 + count) ≤ 40000
+    → ViewsWithoutEntries → IsSound (record script { secrets = script.secrets ++ s ∷ [] }) schema (view_nodes + (1 + count))
 sound_secret script schema view_nodes count s sound sentence counted small few room views = record {
   schema_is = sound.schema_is;
   accepted = sound.accepted;
@@ -203,26 +228,35 @@ sound_secret script schema view_nodes count s sound sentence counted small few r
 
 -- ---- one more declaration
 
-pub sound_domain : (script : Script) (small big : DatabaseSchema) (view_nodes : ℕ) (d : Declaration) (domains copied_domains copied_relations : List Declaration) → IsSound script small view_nodes → domains ≡ script.domains ++ d ∷ [] → copied_domains ≡ script.domains ++ d ∷ [] → copied_relations ≡ script.relations → schema_refusal copied_domains copied_relations ≡ None → big ≡ schema_of copied_domains copied_relations → ViewsWithoutEntries → IsSound (record script { domains = domains }) big view_nodes
+pub sound_domain : (script : Script) (small big : DatabaseSchema) (view_nodes : ℕ) (d : Declaration)
+    (domains copied_domains copied_relations : List Declaration) → IsSound script small view_nodes → domains ≡ script.domains ++ d ∷ []
+    → copied_domains ≡ script.domains ++ d ∷ [] → copied_relations ≡ script.relations → schema_refusal copied_domains copied_relations ≡ None
+    → big ≡ schema_of copied_domains copied_relations → ViewsWithoutEntries → IsSound (record script { domains = domains }) big view_nodes
 sound_domain script small big view_nodes d domains copied_domains copied_relations sound pushed copied same accepted is views =
     let all = copied ∙ sym pushed in
     let big_is : big ≡ schema_of domains script.relations = is ∙ ap (λ ds. schema_of ds copied_relations) all ∙ ap (λ rs. schema_of domains rs) same in
-    let grows : Grows (schema_of script.domains script.relations) (schema_of (script.domains ++ d ∷ []) script.relations) = domain_grows script.domains script.relations d sound.accepted in
+    let grows : Grows (schema_of script.domains script.relations) (schema_of (script.domains ++ d ∷ []) script.relations) =
+    domain_grows script.domains script.relations d sound.accepted in
     let from_small = subst (λ s. Grows s (schema_of (script.domains ++ d ∷ []) script.relations)) (sym sound.schema_is) grows in
     let to_big = subst (λ s. Grows small s) (sym (big_is ∙ ap (λ ds. schema_of ds script.relations) pushed)) from_small in
     sound_grows script small big view_nodes domains script.relations sound to_big big_is
     (sym (ap (λ ds. schema_refusal ds copied_relations) all ∙ ap (λ rs. schema_refusal domains rs) same) ∙ accepted) views
 
-pub sound_relation : (script : Script) (small big : DatabaseSchema) (view_nodes : ℕ) (r : Declaration) (relations copied_domains copied_relations : List Declaration) → IsSound script small view_nodes → relations ≡ script.relations ++ r ∷ [] → copied_domains ≡ script.domains → copied_relations ≡ script.relations ++ r ∷ [] → schema_refusal copied_domains copied_relations ≡ None → big ≡ schema_of copied_domains copied_relations → ViewsWithoutEntries → IsSound (record script { relations = relations }) big view_nodes
+pub sound_relation : (script : Script) (small big : DatabaseSchema) (view_nodes : ℕ) (r : Declaration)
+    (relations copied_domains copied_relations : List Declaration) → IsSound script small view_nodes → relations ≡ script.relations ++ r ∷ []
+    → copied_domains ≡ script.domains → copied_relations ≡ script.relations ++ r ∷ [] → schema_refusal copied_domains copied_relations ≡ None
+    → big ≡ schema_of copied_domains copied_relations → ViewsWithoutEntries → IsSound (record script { relations = relations }) big view_nodes
 sound_relation script small big view_nodes r relations copied_domains copied_relations sound pushed same copied accepted is views =
     let all = copied ∙ sym pushed in
     let big_is : big ≡ schema_of script.domains relations = is ∙ ap (λ ds. schema_of ds copied_relations) same ∙ ap (λ rs. schema_of script.domains rs) all in
-    let grows : Grows (schema_of script.domains script.relations) (schema_of script.domains (script.relations ++ r ∷ [])) = relation_grows script.domains script.relations r in
+    let grows : Grows (schema_of script.domains script.relations) (schema_of script.domains (script.relations ++ r ∷ [])) =
+    relation_grows script.domains script.relations r in
     let from_small = subst (λ s. Grows s (schema_of script.domains (script.relations ++ r ∷ []))) (sym sound.schema_is) grows in
     let to_big = subst (λ s. Grows small s) (sym (big_is ∙ ap (λ rs. schema_of script.domains rs) pushed)) from_small in
     sound_grows script small big view_nodes script.domains relations sound to_big big_is
     (sym (ap (λ ds. schema_refusal ds copied_relations) same ∙ ap (λ rs. schema_refusal script.domains rs) all) ∙ accepted) views
 
 -- a script with nothing in it is the empty one
-pub sound_nothing : (script : Script) (schema : DatabaseSchema) → script ≡ empty_script → schema ≡ schema_of [] [] → schema_refusal [] [] ≡ None → ViewsWithoutEntries → IsSound script schema 0
+pub sound_nothing : (script : Script) (schema : DatabaseSchema) → script ≡ empty_script → schema ≡ schema_of [] [] → schema_refusal [] [] ≡ None
+    → ViewsWithoutEntries → IsSound script schema 0
 sound_nothing script schema nothing is accepted views = subst (λ s. IsSound s schema 0) (sym nothing) (sound_empty schema is accepted views)

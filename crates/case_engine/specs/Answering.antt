@@ -12,7 +12,8 @@ use Rattle.case_engine.specs.Script.{Script, script_schema, script_user}
 use Rattle.case_engine.specs.Sound.{is_short}
 use Rattle.case_engine.specs.declared.parts.Parts.{Parts}
 
--- the parts of a script: its schema and facts, its user, who keeps the limits where he asks anything, and his asks
+-- the parts of a script: its schema and facts, its user, who keeps the limits where he asks
+-- anything, and his asks
 pub record ArePartsOf (script : Script) (parts : Parts) : Type 0 where
   pub schema : parts.schema ≡ script_schema script
   pub facts : parts.facts ≡ script.facts
@@ -20,9 +21,11 @@ pub record ArePartsOf (script : Script) (parts : Parts) : Type 0 where
   pub asks : map string_bytes parts.asks.items ≡ script.asks
   pub sentences : is_user_of parts.schema (profile_of parts.user) ≡ true
   pub short : list_all is_short script.asks ≡ true
-  pub limits : nat_le 1 (length script.asks) ≡ true → KeepsLimits parts.schema (profile_of parts.user)
+  pub limits : nat_le 1 (length script.asks) ≡ true
+      → KeepsLimits parts.schema (profile_of parts.user)
 
 -- what a user who is admitted, or isn't, is told of a text, and his entries before and after
-abbrev pub IsTold : Bool → DatabaseSchema → FactSet → UserProfile → History → History → Text → Run.Reply → Type 0
+abbrev pub IsTold : Bool → DatabaseSchema → FactSet → UserProfile → History → History → Text
+    → Run.Reply → Type 0
 IsTold true schema world user old new text told = IsAsked schema world user old new text told
 IsTold false schema world user old new text told = (told ≡ user_closed) × (new ≡ old)

@@ -11,7 +11,8 @@ use Rattle.cqe_base.specs.Hiding.{Hides}
 use Rattle.script_lines.specs.Read.{IsReadThrough}
 use Rattle.case_engine.specs.Script.{Script, script_schema, script_user, script_of}
 use Rattle.case_engine.specs.declared.case.CaseEnd.{CaseEnd}
-use Rattle.case_engine.specs.declared.case.CaseEnd.TheVariants.{Done, Script as Refused, ReadFault, WriteFault, Memory}
+use Rattle.case_engine.specs.declared.case.CaseEnd.TheVariants.{Done, Script as Refused, ReadFault}
+use Rattle.case_engine.specs.declared.case.CaseEnd.TheVariants.{WriteFault, Memory}
 
 -- the events of asks with these endings
 abbrev pub ask_events : List Text → List Ending → List Event
@@ -27,26 +28,31 @@ IsKeptOrWant ending = (ending ≡ kept) ⊎ (ending ≡ want)
 abbrev pub reply_lines : List Reply → List ℕ
 reply_lines told = flat_map (λ reply. reply_text reply ++ 10 ∷ []) told
 
--- what was written answers these asks of a user in a world: one line for each, the replies of a run from the empty history in which
--- each ask keeps its entry or finds no memory; the history is legal, and where the user is admitted it hides his secrets
-pub record Answers (schema : DatabaseSchema) (world : FactSet) (user : UserProfile) (asks : List Text) (written : List ℕ) : Type 0 where
+-- what was written answers these asks of a user in a world: one line for each, the replies of a run
+-- from the empty history in which each ask keeps its entry or finds no memory; the history is
+-- legal, and where the user is admitted it hides his secrets
+pub record Answers (schema : DatabaseSchema) (world : FactSet) (user : UserProfile)
+    (asks : List Text) (written : List ℕ) : Type 0 where
   pub endings : List Ending
   pub one_each : length endings ≡ length asks
   pub kept_or_want : AllByRecursion IsKeptOrWant endings
   pub lines : written ≡ reply_lines (replies schema world user [] (ask_events asks endings))
-  pub legal : IsLegal schema world user (final_history schema world user [] (ask_events asks endings))
-  pub hides : admitted schema world user ≡ true → Hides schema world user (final_history schema world user [] (ask_events asks endings))
+  pub legal : IsLegal schema world user
+      (final_history schema world user [] (ask_events asks endings))
+  pub hides : admitted schema world user ≡ true
+      → Hides schema world user (final_history schema world user [] (ask_events asks endings))
 
 -- the same of asks of a script
 abbrev pub AnswersOf : Script → List Text → List ℕ → Type 0
-AnswersOf script asks written = Answers (script_schema script) script.facts (script_user script) asks written
+AnswersOf script asks written =
+    Answers (script_schema script) script.facts (script_user script) asks written
 
 -- the lines of replies, and a part of one more
 abbrev pub lines_cut : List Reply → Reply → ℕ → List ℕ
 lines_cut whole told part = reply_lines whole ++ take part (reply_text told ++ 10 ∷ [])
 
--- What was written are the lines that answer the first asks of a script, and a part of the line of the next; so nothing was
--- asked behind a line that wasn't written whole.
+-- What was written are the lines that answer the first asks of a script, and a part of the line of
+-- the next; so nothing was asked behind a line that wasn't written whole.
 pub record Begins (script : Script) (written : List ℕ) : Type 0 where
   pub first : List Text
   pub next : Text
@@ -75,10 +81,12 @@ pub record Breaks (bytes old new : List ℕ) : Type 0 where
   pub appended : new ≡ old ++ written
   pub begins : Begins script written
 
--- what each end of a case says of the bytes that were left before and after, and of the output before and after
+-- what each end of a case says of the bytes that were left before and after, and of the output
+-- before and after
 abbrev pub Ends : CaseEnd → List ℕ → List ℕ → List ℕ → List ℕ → Type 0
 Ends Done before after old new = (after ≡ []) × Completes before old new
-Ends (Refused refusal) before after old new = (script_of before ≡ Err refusal) × (new ≡ old) × IsReadThrough 1 before after
+Ends (Refused refusal) before after old new =
+    (script_of before ≡ Err refusal) × (new ≡ old) × IsReadThrough 1 before after
 Ends ReadFault before after old new = new ≡ old
 Ends WriteFault before after old new = Breaks before old new
 Ends Memory before after old new = new ≡ old

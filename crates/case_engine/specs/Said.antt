@@ -2,9 +2,12 @@
 use Rattle.std.specs.Prelude.{◌≤◌, length}
 use Rattle.cqe_base.specs.Memory.{declaration_of}
 use Rattle.case_engine.specs.Statements
-use Rattle.case_engine.specs.Statements.{silence, domain_is, relation_is, fact_is, method_is, user_knows, secret_is, budget_is, user_asks}
+use Rattle.case_engine.specs.Statements.{silence, domain_is, relation_is, fact_is, method_is}
+use Rattle.case_engine.specs.Statements.{user_knows, secret_is, budget_is, user_asks}
 use Rattle.case_engine.specs.declared.statement.Statement.{Statement}
-use Rattle.case_engine.specs.declared.statement.Statement.TheVariants.{Silence, Domain, Relation, Fact, Method, Know, Secret, Budget, Ask}
+use Rattle.case_engine.specs.declared.statement.Statement.TheVariants.{Silence, Domain, Relation}
+use Rattle.case_engine.specs.declared.statement.Statement.TheVariants.{Fact, Method, Know, Secret}
+use Rattle.case_engine.specs.declared.statement.Statement.TheVariants.{Budget, Ask}
 
 -- what a statement in memory says
 abbrev pub said : Statement → Statements.Statement

@@ -9,7 +9,8 @@ use Rattle.script_lines.specs.declared.error.LineError.TheVariants.{Refused, Mem
 
 -- want of memory, or the refusal of these declarations
 abbrev pub IsSchemaRefusal : List Declaration → List Declaration → LineError → Type 0
-IsSchemaRefusal domains relations (Refused kind) = (kind ≡ Schema) × (is_some (schema_refusal domains relations) ≡ true)
+IsSchemaRefusal domains relations (Refused kind) =
+    (kind ≡ Schema) × (is_some (schema_refusal domains relations) ≡ true)
 IsSchemaRefusal domains relations Memory = Unit {0}
 
 -- want of memory, or the refusal of a text that doesn't read

@@ -1,10 +1,12 @@
 -- What a script means, and where it is refused.
-use Rattle.std.specs.Prelude.{ℕ, not, ◌&&◌, ◌||◌, nat_le, List, [], ◌∷◌, ◌++◌, length, Option, Some, None, is_some, is_none, unwrap_or, Result, Ok, Err, if◌then◌else◌}
+use Rattle.std.specs.Prelude.{ℕ, not, ◌&&◌, ◌||◌, nat_le, List, [], ◌∷◌, ◌++◌, length, Option, Some}
+use Rattle.std.specs.Prelude.{None, is_some, is_none, unwrap_or, Result, Ok, Err, if◌then◌else◌}
 use Rattle.std.specs.FinSet as set
 use Rattle.cqe_base.specs.declared.user.Method.{Method}
 use Rattle.cqe_base.specs.declared.user.Method.TheVariants.{Lying}
 use Rattle.cqe_base.specs.declared.text.ScriptKind.{ScriptKind}
-use Rattle.cqe_base.specs.declared.text.ScriptKind.TheVariants.{NotALine, Schema, Fact, Sentence, Limit, Order}
+use Rattle.cqe_base.specs.declared.text.ScriptKind.TheVariants.{NotALine, Schema, Fact, Sentence}
+use Rattle.cqe_base.specs.declared.text.ScriptKind.TheVariants.{Limit, Order}
 use Rattle.cqe_base.specs.declared.text.ScriptError.{ScriptError}
 use Rattle.cqe_base.specs.declared.world.Fact.{Fact as GroundFact}
 use Rattle.cqe_base.specs.Schema.{Text, Declaration, DatabaseSchema, schema_refusal, schema_of}
@@ -14,7 +16,9 @@ use Rattle.cqe_base.specs.Reading.{Refusal, reading}
 use Rattle.cqe_base.specs.FactText.{stated_fact}
 use Rattle.script_lines.specs.Scripts.{script_from}
 use Rattle.cqe_base.specs.History.{UserProfile, view_size}
-use Rattle.case_engine.specs.Statements.{Statement, silence, domain_is, relation_is, fact_is, method_is, user_knows, secret_is, budget_is, user_asks, statement_of}
+use Rattle.case_engine.specs.Statements.{Statement, silence, domain_is, relation_is, fact_is}
+use Rattle.case_engine.specs.Statements.{method_is, user_knows, secret_is, budget_is, user_asks}
+use Rattle.case_engine.specs.Statements.{statement_of}
 
 -- what the lines of a script have said
 pub record Script : Type 0 where
@@ -44,7 +48,8 @@ empty_script = record {
 abbrev pub script_schema : Script → DatabaseSchema
 script_schema script = schema_of script.domains script.relations
 
--- the user of a script; one without a method or a secret asks nothing, since an ask stands behind both
+-- the user of a script; one without a method or a secret asks nothing, since an ask stands behind
+-- both
 abbrev pub script_user : Script → UserProfile
 script_user script = record {
   method = unwrap_or script.method Lying;
@@ -77,7 +82,8 @@ Step = Result Script ScriptKind
 
 -- the schema with the new declaration is one
 abbrev pub declare : Script → Step
-declare script = if is_some (schema_refusal script.domains script.relations) then Err Schema else Ok script
+declare script =
+    if is_some (schema_refusal script.domains script.relations) then Err Schema else Ok script
 
 -- one more fact, of which there are at most 100,000
 abbrev pub state : Script → Option GroundFact → Step
@@ -86,7 +92,8 @@ state script (Some fact) =
     if nat_le 100000 (set.len script.facts) && not (set.contains script.facts fact) then Err Fact
     else Ok (record script { facts = set.insert script.facts fact })
 
--- at most 256 sentences are known and 16 secret, the new one has at most 20,000 nodes, and the view of the empty history at most 40,000
+-- at most 256 sentences are known and 16 secret, the new one has at most 20,000 nodes, and the view
+-- of the empty history at most 40,000
 abbrev pub limit : Script → Formula → Step
 limit script sentence =
     if nat_le (nodes (script_schema script) sentence) 20000
@@ -101,13 +108,17 @@ say with_sentence (Ok sentence) = limit (with_sentence sentence) sentence
 
 -- the method is said once
 abbrev pub choose : Script → Method → Step
-choose script method = if is_some script.method then Err Order else Ok (record script { method = Some method })
+choose script method =
+    if is_some script.method then Err Order else Ok (record script { method = Some method })
 
 -- the budget is said once, and is from 1 to 4,000,000
 abbrev pub allow : Script → ℕ → Step
 allow script budget =
     if is_some script.budget then Err Order
-    else if nat_le 1 budget && nat_le budget 4000000 then Ok (record script { budget = Some budget })
+    else if nat_le 1 budget && nat_le budget 4000000 then Ok (record script {
+      budget =
+          Some budget;
+    })
     else Err Limit
 
 -- an ask stands behind a method and a secret
@@ -123,12 +134,17 @@ before_asks script step = if nat_le 1 (length script.asks) then Err Order else s
 -- the script with one more statement
 abbrev pub with_statement : Script → Statement → Step
 with_statement script silence = Ok script
-with_statement script (domain_is declared) = before_asks script (declare (with_domain script declared))
-with_statement script (relation_is declared) = before_asks script (declare (with_relation script declared))
-with_statement script (fact_is text) = before_asks script (state script (stated_fact (script_schema script) text))
+with_statement script (domain_is declared) =
+    before_asks script (declare (with_domain script declared))
+with_statement script (relation_is declared) =
+    before_asks script (declare (with_relation script declared))
+with_statement script (fact_is text) =
+    before_asks script (state script (stated_fact (script_schema script) text))
 with_statement script (method_is method) = before_asks script (choose script method)
-with_statement script (user_knows text) = before_asks script (say (with_known script) (reading (script_schema script) text))
-with_statement script (secret_is text) = before_asks script (say (with_secret script) (reading (script_schema script) text))
+with_statement script (user_knows text) =
+    before_asks script (say (with_known script) (reading (script_schema script) text))
+with_statement script (secret_is text) =
+    before_asks script (say (with_secret script) (reading (script_schema script) text))
 with_statement script (budget_is budget) = before_asks script (allow script budget)
 with_statement script (user_asks text) = ask_next script text
 

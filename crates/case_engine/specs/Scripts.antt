@@ -9,7 +9,9 @@ use Rattle.cqe_base.specs.Memory.{declaration_of}
 use Rattle.case_engine.specs.Script.{Script}
 
 -- the script that these parts in memory are
-abbrev pub script_in : List (String Global × Vec (String Global) Global) → List (String Global × Vec (String Global) Global) → FactSet → Option Method → List Sentence → List Sentence → Option ℕ → List (String Global) → Script
+abbrev pub script_in : List (String Global × Vec (String Global) Global)
+    → List (String Global × Vec (String Global) Global) → FactSet → Option Method → List Sentence
+    → List Sentence → Option ℕ → List (String Global) → Script
 script_in domains relations facts method know secrets budget asks = record {
   domains = map declaration_of domains;
   relations = map declaration_of relations;

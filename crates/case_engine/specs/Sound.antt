@@ -1,5 +1,6 @@
 -- What a script keeps while its lines are read.
-use Rattle.std.specs.Prelude.{◌≡◌, ◌≤◌, ℕ, Bool, true, false, ◌&&◌, ◌||◌, nat_le, [], length, Option, Some, None, is_none}
+use Rattle.std.specs.Prelude.{◌≡◌, ◌≤◌, ℕ, Bool, true, false, ◌&&◌, ◌||◌, nat_le, [], length}
+use Rattle.std.specs.Prelude.{Option, Some, None, is_none}
 use Rattle.std.specs.List.{list_all}
 use Rattle.std.proofs.Props.{props}
 use Rattle.cqe_base.specs.Schema.{Text, DatabaseSchema, schema_refusal}
@@ -18,7 +19,8 @@ is_fit_budget (Some budget) = nat_le 1 budget && nat_le budget 4000000
 abbrev pub is_short : Text → Bool
 is_short text = nat_le (length text) 4096
 
--- the declarations are a schema, the user's sentences are of it and keep the limits, and asks stand behind a method and a secret
+-- the declarations are a schema, the user's sentences are of it and keep the limits, and asks stand
+-- behind a method and a secret
 pub record IsSound (script : Script) (schema : DatabaseSchema) (view_nodes : ℕ) : Type 0 where
   pub schema_is : schema ≡ script_schema script
   pub accepted : schema_refusal script.domains script.relations ≡ None
@@ -31,8 +33,10 @@ pub record IsSound (script : Script) (schema : DatabaseSchema) (view_nodes : ℕ
   pub nodes_are : view_nodes ≡ view_size schema (script_user script) []
   pub view : view_nodes ≤ 40000
   pub budget : is_fit_budget script.budget ≡ true
-  pub ready : nat_le 1 (length script.asks) ≡ true → (is_none script.method || nat_le (length script.secrets) 0) ≡ false
+  pub ready : nat_le 1 (length script.asks) ≡ true
+      → (is_none script.method || nat_le (length script.secrets) 0) ≡ false
   pub short : list_all is_short script.asks ≡ true
 
-pub IsSound-prop : (script : Script) (schema : DatabaseSchema) (view_nodes : ℕ) → IsProp (IsSound script schema view_nodes)
+pub IsSound-prop : (script : Script) (schema : DatabaseSchema) (view_nodes : ℕ)
+    → IsProp (IsSound script schema view_nodes)
 IsSound-prop script schema view_nodes = hlevel (props, formula_set)

@@ -1,5 +1,7 @@
 -- What one line of a script says, by its shape alone.
-use Rattle.std.specs.Prelude.{◌==◌, ◌-◌, ℕ, Bool, false, ◌&&◌, List, [], ◌∷◌, length, take, map, filter, Option, Some, None, option_map, option_and_then, slice_get, if◌then◌else◌, codes, bytes_eq}
+use Rattle.std.specs.Prelude.{◌==◌, ◌-◌, ℕ, Bool, false, ◌&&◌, List, [], ◌∷◌, length, take, map}
+use Rattle.std.specs.Prelude.{filter, Option, Some, None, option_map, option_and_then, slice_get}
+use Rattle.std.specs.Prelude.{if◌then◌else◌, codes, bytes_eq}
 use Rattle.std.specs.List.{list_all, list_any, before_first, after_first}
 use Rattle.cqe_base.specs.declared.user.Method.{Method}
 use Rattle.cqe_base.specs.declared.text.Symbol.TheVariants.{Open, Close, Comma, Equal}
@@ -55,7 +57,9 @@ is_closed (Some t) = is_symbol Close t
 
 -- names before a `)` at the end
 abbrev pub closed_names : List Token → Option (List Text)
-closed_names ts = if is_closed (slice_get ts (length ts - 1)) then names_or_none (take (length ts - 1) ts) else None
+closed_names ts =
+    if is_closed (slice_get ts (length ts - 1)) then names_or_none (take (length ts - 1) ts)
+    else None
 
 -- the declaration of a name with these parts
 abbrev pub declared_as : Text → List Text → Declaration
@@ -64,13 +68,15 @@ declared_as name parts = record { name = name; parts = parts }
 -- `NAME = CONSTANT, CONSTANT`
 abbrev pub domain_shape : List Token → Option Declaration
 domain_shape (name ∷ equals ∷ rest) =
-    if is_word name && is_symbol Equal equals then option_map (declared_as name.text) (names_or_none rest) else None
+    if is_word name && is_symbol Equal equals
+    then option_map (declared_as name.text) (names_or_none rest) else None
 domain_shape _ = None
 
 -- `NAME(DOMAIN, DOMAIN)`
 abbrev pub relation_shape : List Token → Option Declaration
 relation_shape (name ∷ opening ∷ rest) =
-    if is_word name && is_symbol Open opening then option_map (declared_as name.text) (closed_names rest) else None
+    if is_word name && is_symbol Open opening
+    then option_map (declared_as name.text) (closed_names rest) else None
 relation_shape _ = None
 
 -- the tokens of a text that holds nothing else
@@ -82,8 +88,10 @@ whole_tokens text = if end_of_tokens text == length text then Some (tokens text)
 -- a statement whose first word has a blank and a text after it
 abbrev pub worded : Text → Text → Option Statement
 worded word text =
-    if bytes_eq word (codes "domain") then option_map domain_is (option_and_then domain_shape (whole_tokens text))
-    else if bytes_eq word (codes "relation") then option_map relation_is (option_and_then relation_shape (whole_tokens text))
+    if bytes_eq word (codes "domain")
+    then option_map domain_is (option_and_then domain_shape (whole_tokens text))
+    else if bytes_eq word (codes "relation")
+    then option_map relation_is (option_and_then relation_shape (whole_tokens text))
     else if bytes_eq word (codes "fact") then Some (fact_is text)
     else if bytes_eq word (codes "method") then option_map method_is (method_named text)
     else if bytes_eq word (codes "know") then Some (user_knows text)
@@ -98,7 +106,8 @@ lone word = if bytes_eq word (codes "ask") then Some (user_asks []) else None
 
 -- the statement of printable bytes: its first word, one blank, and the rest
 abbrev pub spoken : Text → Option Statement
-spoken line = if list_any is_blank line then worded (before_first is_blank line) (after_first is_blank line) else lone line
+spoken line = if list_any is_blank line
+    then worded (before_first is_blank line) (after_first is_blank line) else lone line
 
 -- what a line says, if it has one of the shapes
 unfoldable pub statement_of : Text → Option Statement

@@ -6,9 +6,11 @@ use Rattle.cqe_base.specs.History.{UserProfile}
 use Rattle.cqe_base.specs.Run.{Reply}
 use Rattle.case_engine.specs.Case.{Answers, reply_lines, lines_cut}
 use Rattle.case_engine.specs.declared.case.CaseEnd.{CaseEnd}
-use Rattle.case_engine.specs.declared.case.CaseEnd.TheVariants.{Done, Script as Refused, ReadFault, WriteFault, Memory}
+use Rattle.case_engine.specs.declared.case.CaseEnd.TheVariants.{Done, Script as Refused, ReadFault}
+use Rattle.case_engine.specs.declared.case.CaseEnd.TheVariants.{WriteFault, Memory}
 
-module _ (schema : DatabaseSchema) (world : FactSet) (user : UserProfile) (asks : List Text) (old new : List ℕ) where
+module _ (schema : DatabaseSchema) (world : FactSet) (user : UserProfile) (asks : List Text)
+    (old new : List ℕ) where
   -- what was appended answers all asks
   pub record AppendsAll : Type 0 where
     pub written : List ℕ

@@ -1,12 +1,14 @@
 //! The asks of a script are answered, one line for each.
 
-ghost use Rattle.std.specs.Prelude.{◌≡◌, ◌≤◌, true, IfOk, length, map, nat_le, string_bytes, vec_len};
+ghost use Rattle.std.specs.Prelude.{◌≡◌, ◌≤◌, true, IfOk, length, map, nat_le, string_bytes};
+ghost use Rattle.std.specs.Prelude.{vec_len};
 ghost use Rattle.std.specs.List.{list_all};
 ghost use Rattle.outside.specs.Faults.{Rose};
 ghost use Rattle.cqe_base.specs.Transcript.{reply_text};
 ghost use Rattle.line_protocol.specs.Replies.{text_of};
 ghost use Rattle.user_log.specs.Replies.{reply_of};
-ghost use Rattle.user_log.specs.UserLogs.{kept_schema, kept_world, kept_user, kept_history, IsOfSame};
+ghost use Rattle.user_log.specs.UserLogs.{kept_schema, kept_world, kept_user, kept_history};
+ghost use Rattle.user_log.specs.UserLogs.{IsOfSame};
 ghost use Rattle.cqe_base.specs.History.{profile_of, is_user_of};
 ghost use Rattle.cqe_base.specs.Censor.{admitted};
 ghost use Rattle.cqe_base.specs.Limits.{KeepsLimits};
@@ -49,7 +51,8 @@ pub fn line_reply(reply: Reply) -> line_protocol::Reply
 pub fn told(alloc: Global, log: &mut UserLog<'_>, is_open: bool, text: &str) -> Reply
     requires { length text.now ≤ 4096 }
     ensures same { IsOfSame log.old log.new }
-    ensures told { IsTold is_open (kept_schema log.old) (kept_world log.old) (kept_user log.old) (kept_history log.old) (kept_history log.new) text.now (reply_of result) }
+    ensures told { IsTold is_open (kept_schema log.old) (kept_world log.old) (kept_user log.old)
+        (kept_history log.old) (kept_history log.new) text.now (reply_of result) }
 {
     if is_open {
         log.ask(alloc, text)
@@ -66,7 +69,8 @@ pub fn is_admitted(
     user: &User,
 ) -> Result<bool, AllocError>
     requires { KeepsLimits schema.now (profile_of user.now) }
-    ensures { IfOk result (λ is_open. is_open ≡ admitted schema.now facts.now (profile_of user.now)) }
+    ensures { IfOk result (λ is_open. is_open
+        ≡ admitted schema.now facts.now (profile_of user.now)) }
 {
     match admit(alloc, schema, facts, user)? {
         Admission::Open => Ok(true),
@@ -78,8 +82,11 @@ pub fn is_admitted(
 pub fn answer_all<K: Sink>(alloc: Global, parts: &Parts, sink: &mut K) -> CaseEnd
     requires short { list_all is_short (map string_bytes parts.now.asks.items) ≡ true }
     requires sentences { is_user_of parts.now.schema (profile_of parts.now.user) ≡ true }
-    requires limits { nat_le 1 (vec_len parts.now.asks) ≡ true → KeepsLimits parts.now.schema (profile_of parts.now.user) }
-    ensures answered { K.tells → IsAnswered parts.now.schema parts.now.facts (profile_of parts.now.user) (map string_bytes parts.now.asks.items)
+    requires limits { nat_le 1 (vec_len parts.now.asks) ≡ true
+        → KeepsLimits parts.now.schema (profile_of parts.now.user) }
+    ensures answered { K.tells
+        → IsAnswered parts.now.schema parts.now.facts (profile_of parts.now.user)
+        (map string_bytes parts.now.asks.items)
         (K.written sink.old) (K.written sink.new) result }
     ensures no_read { result ≡ CaseEnd.ReadFault → ⊥ }
     ensures later { K.faults sink.old ≤ K.faults sink.new }

@@ -26,15 +26,19 @@ pub enum CaseEnd {
     Memory,
 }
 
-/// Reads the whole script of a case from the source, refuses it before the first ask, or answers its asks with one line
-/// each, which is written before the next is answered.
+/// Reads the whole script of a case from the source, refuses it before the first ask, or answers
+/// its asks with one line each, which is written before the next is answered.
 pub fn run_case<S: Source, K: Sink>(alloc: Global, source: &mut S, sink: &mut K) -> CaseEnd
-    ensures ends { S.tells → K.tells → Ends result (S.left source.old) (S.left source.new) (K.written sink.old) (K.written sink.new) }
+    ensures ends { S.tells → K.tells
+        → Ends result (S.left source.old) (S.left source.new) (K.written sink.old)
+        (K.written sink.new) }
     ensures held { S.held source.new ≡ S.held source.old }
     ensures source_later { S.faults source.old ≤ S.faults source.new }
     ensures sink_later { K.faults sink.old ≤ K.faults sink.new }
-    ensures read_cause { result ≡ CaseEnd.ReadFault → Rose (S.faults source.old) (S.faults source.new) }
-    ensures write_cause { result ≡ CaseEnd.WriteFault → Rose (K.faults sink.old) (K.faults sink.new) }
+    ensures read_cause { result ≡ CaseEnd.ReadFault
+        → Rose (S.faults source.old) (S.faults source.new) }
+    ensures write_cause { result ≡ CaseEnd.WriteFault
+        → Rose (K.faults sink.old) (K.faults sink.new) }
 {
     let Ok(start) = Script::new(alloc) else {
         return CaseEnd::Memory;

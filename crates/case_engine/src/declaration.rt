@@ -1,11 +1,15 @@
-//! The shapes of declarations: a domain with its constants, a relation with the domains of its columns.
+//! The shapes of declarations: a domain with its constants, a relation with the domains of its
+//! columns.
 
-ghost use Rattle.std.specs.Prelude.{◌≡◌, ◌≤◌, ◌-◌, map, slice_get, length, option_map, option_and_then, string_bytes, IfOk};
+ghost use Rattle.std.specs.Prelude.{◌≡◌, ◌≤◌, ◌-◌, map, slice_get, length, option_map};
+ghost use Rattle.std.specs.Prelude.{option_and_then, string_bytes, IfOk};
 ghost use Rattle.cqe_base.specs.Memory.{declaration_of};
 ghost use Rattle.cqe_base.specs.Tokens.{tokens};
 ghost use Rattle.cqe_base.specs.Reading.{is_symbol};
 ghost use Rattle.sentence_text.specs.Upcoming.{token_of};
-ghost use Rattle.case_engine.specs.Statements.{is_word, are_listed, listed_words, listed_names, names_or_none, is_closed, closed_names, declared_as, domain_shape, relation_shape, whole_tokens};
+ghost use Rattle.case_engine.specs.Statements.{is_word, are_listed, listed_words, listed_names};
+ghost use Rattle.case_engine.specs.Statements.{names_or_none, is_closed, closed_names, declared_as};
+ghost use Rattle.case_engine.specs.Statements.{domain_shape, relation_shape, whole_tokens};
 ghost use Rattle.case_engine.specs.Memory.{tokens_in, names_in};
 
 use cqe_base::declarations::is_identifier;
@@ -82,7 +86,8 @@ fn listed_words(alloc: Global, tokens: &[Token<'_>]) -> Result<Vec<String>, Allo
 
 /// Names with a comma between each two, if the tokens are such a list.
 fn listed_names(alloc: Global, tokens: &[Token<'_>]) -> Result<Option<Vec<String>>, AllocError>
-    ensures { IfOk result (λ names. option_map names_in names ≡ listed_names (map token_of tokens.now)) }
+    ensures { IfOk result (λ names. option_map names_in names
+        ≡ listed_names (map token_of tokens.now)) }
 {
     if are_listed(tokens) {
         Ok(Some(listed_words(alloc, tokens)?))
@@ -93,7 +98,8 @@ fn listed_names(alloc: Global, tokens: &[Token<'_>]) -> Result<Option<Vec<String
 
 /// The same, where there may be no name.
 fn names_or_none(alloc: Global, tokens: &[Token<'_>]) -> Result<Option<Vec<String>>, AllocError>
-    ensures { IfOk result (λ names. option_map names_in names ≡ names_or_none (map token_of tokens.now)) }
+    ensures { IfOk result (λ names. option_map names_in names
+        ≡ names_or_none (map token_of tokens.now)) }
 {
     if tokens.is_empty() {
         Ok(Some(Vec::new(alloc)))
@@ -114,7 +120,8 @@ fn is_closed(tokens: &[Token<'_>]) -> bool
 
 /// Names before a `)` at the end.
 fn closed_names(alloc: Global, tokens: &[Token<'_>]) -> Result<Option<Vec<String>>, AllocError>
-    ensures { IfOk result (λ names. option_map names_in names ≡ closed_names (map token_of tokens.now)) }
+    ensures { IfOk result (λ names. option_map names_in names
+        ≡ closed_names (map token_of tokens.now)) }
 {
     if is_closed(tokens) {
         // With a name the goal is a plain equation, and no implication under `IfOk`.
@@ -131,7 +138,8 @@ fn declared(
     name: &Token<'_>,
     parts: Option<Vec<String>>,
 ) -> Result<Option<Declared>, AllocError>
-    ensures { IfOk result (λ made. option_map declaration_of made ≡ option_map (declared_as (token_of name.now).text) (option_map names_in parts)) }
+    ensures { IfOk result (λ made. option_map declaration_of made
+        ≡ option_map (declared_as (token_of name.now).text) (option_map names_in parts)) }
 {
     match parts {
         Some(parts) => Ok(Some((name_of(alloc, name)?, parts))),
@@ -141,7 +149,8 @@ fn declared(
 
 /// The domain that tokens declare: `NAME = CONSTANT, CONSTANT`.
 fn domain_shape(alloc: Global, tokens: &[Token<'_>]) -> Result<Option<Declared>, AllocError>
-    ensures { IfOk result (λ made. option_map declaration_of made ≡ domain_shape (map token_of tokens.now)) }
+    ensures { IfOk result (λ made. option_map declaration_of made
+        ≡ domain_shape (map token_of tokens.now)) }
 {
     match tokens {
         [name, equals, rest @ ..] if is_word(name) && is_symbol(Symbol::Equal, equals) => {
@@ -154,7 +163,8 @@ fn domain_shape(alloc: Global, tokens: &[Token<'_>]) -> Result<Option<Declared>,
 
 /// The relation that tokens declare: `NAME(DOMAIN, DOMAIN)`.
 fn relation_shape(alloc: Global, tokens: &[Token<'_>]) -> Result<Option<Declared>, AllocError>
-    ensures { IfOk result (λ made. option_map declaration_of made ≡ relation_shape (map token_of tokens.now)) }
+    ensures { IfOk result (λ made. option_map declaration_of made
+        ≡ relation_shape (map token_of tokens.now)) }
 {
     match tokens {
         [name, open, rest @ ..] if is_word(name) && is_symbol(Symbol::Open, open) => {
@@ -168,7 +178,8 @@ fn relation_shape(alloc: Global, tokens: &[Token<'_>]) -> Result<Option<Declared
 /// The domain that a text declares.
 pub fn domain_in(alloc: Global, text: &str) -> Result<Option<Declared>, AllocError>
     requires { length text.now ≤ 4096 }
-    ensures { IfOk result (λ made. option_map declaration_of made ≡ option_and_then domain_shape (whole_tokens text.now)) }
+    ensures { IfOk result (λ made. option_map declaration_of made
+        ≡ option_and_then domain_shape (whole_tokens text.now)) }
 {
     match whole_tokens(alloc, text)? {
         Some(tokens) => domain_shape(alloc, &tokens),
@@ -179,7 +190,8 @@ pub fn domain_in(alloc: Global, text: &str) -> Result<Option<Declared>, AllocErr
 /// The relation that a text declares.
 pub fn relation_in(alloc: Global, text: &str) -> Result<Option<Declared>, AllocError>
     requires { length text.now ≤ 4096 }
-    ensures { IfOk result (λ made. option_map declaration_of made ≡ option_and_then relation_shape (whole_tokens text.now)) }
+    ensures { IfOk result (λ made. option_map declaration_of made
+        ≡ option_and_then relation_shape (whole_tokens text.now)) }
 {
     match whole_tokens(alloc, text)? {
         Some(tokens) => relation_shape(alloc, &tokens),

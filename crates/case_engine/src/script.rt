@@ -1,6 +1,7 @@
 //! What the lines of a script have said so far.
 
-ghost use Rattle.std.specs.Prelude.{◌≡◌, ◌≤◌, ◌++◌, ◌∷◌, [], map, length, true, false, ◌&&◌, nat_le, nat_lt, Ok, Err, None, IfOk, IfErr, OnOk, string_bytes};
+ghost use Rattle.std.specs.Prelude.{◌≡◌, ◌≤◌, ◌++◌, ◌∷◌, [], map, length, true, false, ◌&&◌};
+ghost use Rattle.std.specs.Prelude.{nat_le, nat_lt, Ok, Err, None, IfOk, IfErr, OnOk, string_bytes};
 ghost use Rattle.cqe_base.specs.Memory.{declaration_of};
 ghost use Rattle.cqe_base.specs.Formula.{formula_of, is_sentence_of};
 ghost use Rattle.cqe_base.specs.Reading.{reading};
@@ -51,11 +52,16 @@ pub struct Script {
     budget: Option<u64>,
     asks: Vec<String>,
     view_nodes: u64,
-    ghost sound: { IsSound (script_in domains.items relations.items facts method know.items secrets.items budget asks.items) schema view_nodes } by { IsSound-prop _ _ _ },
+    ghost sound: { IsSound
+        (script_in domains.items relations.items facts method know.items secrets.items budget
+        asks.items) schema view_nodes } by { IsSound-prop _ _ _ },
 }
 
 impl Script {
-    ghost use Rattle.case_engine.specs.Script.{empty_script, with_spoken, with_statement, before_asks, declare, with_domain, with_relation, with_known, with_secret, choose, allow, ask_next, state, say, script_schema};
+    ghost use Rattle.case_engine.specs.Script.{empty_script, with_spoken, with_statement};
+    ghost use Rattle.case_engine.specs.Script.{before_asks, declare, with_domain, with_relation};
+    ghost use Rattle.case_engine.specs.Script.{with_known, with_secret, choose, allow, ask_next};
+    ghost use Rattle.case_engine.specs.Script.{state, say, script_schema};
     ghost use Rattle.case_engine.specs.SchemaRefusal.{IsNoSentence};
     ghost use Rattle.case_engine.specs.Answering.{ArePartsOf};
     ghost use Rattle.case_engine.specs.Statements.{statement_of};
@@ -119,8 +125,10 @@ impl Script {
     /// One more statement. Behind a refusal nobody looks at what was said.
     pub fn say(&mut self, alloc: Global, statement: Statement<'_>) -> Result<(), LineError>
         requires { IsShortStatement statement }
-        ensures added { OnOk result (with_statement (script_is self.old) (said statement.entry) ≡ Ok (script_is self.new)) }
-        ensures refused { IfErr result (Refuses (with_statement (script_is self.old) (said statement.entry))) }
+        ensures added { OnOk result (with_statement (script_is self.old) (said statement.entry)
+            ≡ Ok (script_is self.new)) }
+        ensures refused { IfErr result
+            (Refuses (with_statement (script_is self.old) (said statement.entry))) }
     {
         match statement {
             Statement::Silence => Ok(()),
@@ -159,7 +167,8 @@ impl Script {
     /// A declaration stands before the first ask.
     fn stands_before_asks(&self) -> Result<(), LineError>
         ensures before { OnOk result (nat_le 1 (length (script_is self.now).asks) ≡ false) }
-        ensures behind { IfErr result (λ e. (e ≡ LineError.Refused ScriptKind.Order) × (nat_le 1 (length (script_is self.now).asks) ≡ true)) }
+        ensures behind { IfErr result (λ e. (e ≡ LineError.Refused ScriptKind.Order)
+            × (nat_le 1 (length (script_is self.now).asks) ≡ true)) }
     {
         if self.asks.is_empty() {
             Ok(())
@@ -170,8 +179,11 @@ impl Script {
 
     /// One more domain.
     fn add_domain(&mut self, alloc: Global, declared: Declared) -> Result<(), LineError>
-        ensures added { OnOk result (declare (with_domain (script_is self.old) (declaration_of declared)) ≡ Ok (script_is self.new)) }
-        ensures refused { IfErr result (Refuses (declare (with_domain (script_is self.old) (declaration_of declared)))) }
+        ensures added { OnOk result
+            (declare (with_domain (script_is self.old) (declaration_of declared))
+            ≡ Ok (script_is self.new)) }
+        ensures refused { IfErr result
+            (Refuses (declare (with_domain (script_is self.old) (declaration_of declared)))) }
     {
         law_views_without_entries();
         let domains = copies_with(alloc, &self.domains, &declared)?;
@@ -184,8 +196,11 @@ impl Script {
 
     /// One more relation.
     fn add_relation(&mut self, alloc: Global, declared: Declared) -> Result<(), LineError>
-        ensures added { OnOk result (declare (with_relation (script_is self.old) (declaration_of declared)) ≡ Ok (script_is self.new)) }
-        ensures refused { IfErr result (Refuses (declare (with_relation (script_is self.old) (declaration_of declared)))) }
+        ensures added { OnOk result
+            (declare (with_relation (script_is self.old) (declaration_of declared))
+            ≡ Ok (script_is self.new)) }
+        ensures refused { IfErr result
+            (Refuses (declare (with_relation (script_is self.old) (declaration_of declared)))) }
     {
         law_views_without_entries();
         let domains = copies(alloc, &self.domains)?;
@@ -228,8 +243,12 @@ impl Script {
     /// One more fact.
     fn add_fact(&mut self, alloc: Global, text: &str) -> Result<(), LineError>
         requires { length text.now ≤ 4096 }
-        ensures added { OnOk result (state (script_is self.old) (stated_fact (script_schema (script_is self.old)) text.now) ≡ Ok (script_is self.new)) }
-        ensures refused { IfErr result (Refuses (state (script_is self.old) (stated_fact (script_schema (script_is self.old)) text.now))) }
+        ensures added { OnOk result
+            (state (script_is self.old) (stated_fact (script_schema (script_is self.old)) text.now)
+            ≡ Ok (script_is self.new)) }
+        ensures refused { IfErr result
+            (Refuses (state (script_is self.old)
+            (stated_fact (script_schema (script_is self.old)) text.now))) }
     {
         let Some(fact) = stated_fact(alloc, &self.schema, text)? else {
             return Err(LineError::Refused(ScriptKind::Fact));
@@ -244,9 +263,11 @@ impl Script {
     /// A sentence over the names that stand above.
     fn read(&self, alloc: Global, text: &str) -> Result<Sentence, LineError>
         requires { length text.now ≤ 4096 }
-        ensures read { IfOk result (λ s. reading (script_schema (script_is self.now)) text.now ≡ Ok (formula_of s)) }
+        ensures read { IfOk result (λ s. reading (script_schema (script_is self.now)) text.now
+            ≡ Ok (formula_of s)) }
         ensures sentence { IfOk result (λ s. is_sentence_of self.now.schema (formula_of s) ≡ true) }
-        ensures refused { IfErr result (IsNoSentence (reading (script_schema (script_is self.now)) text.now)) }
+        ensures refused { IfErr result
+            (IsNoSentence (reading (script_schema (script_is self.now)) text.now)) }
     {
         match read_sentence(alloc, &self.schema, text) {
             Ok(sentence) => Ok(sentence),
@@ -258,8 +279,12 @@ impl Script {
     /// One more sentence that the user knows.
     fn add_known(&mut self, alloc: Global, text: &str) -> Result<(), LineError>
         requires { length text.now ≤ 4096 }
-        ensures added { OnOk result (say (with_known (script_is self.old)) (reading (script_schema (script_is self.old)) text.now) ≡ Ok (script_is self.new)) }
-        ensures refused { IfErr result (Refuses (say (with_known (script_is self.old)) (reading (script_schema (script_is self.old)) text.now))) }
+        ensures added { OnOk result
+            (say (with_known (script_is self.old))
+            (reading (script_schema (script_is self.old)) text.now) ≡ Ok (script_is self.new)) }
+        ensures refused { IfErr result
+            (Refuses (say (with_known (script_is self.old))
+            (reading (script_schema (script_is self.old)) text.now))) }
     {
         law_views_without_entries();
         let sentence = self.read(alloc, text)?;
@@ -280,8 +305,12 @@ impl Script {
     /// One more secret.
     fn add_secret(&mut self, alloc: Global, text: &str) -> Result<(), LineError>
         requires { length text.now ≤ 4096 }
-        ensures added { OnOk result (say (with_secret (script_is self.old)) (reading (script_schema (script_is self.old)) text.now) ≡ Ok (script_is self.new)) }
-        ensures refused { IfErr result (Refuses (say (with_secret (script_is self.old)) (reading (script_schema (script_is self.old)) text.now))) }
+        ensures added { OnOk result
+            (say (with_secret (script_is self.old))
+            (reading (script_schema (script_is self.old)) text.now) ≡ Ok (script_is self.new)) }
+        ensures refused { IfErr result
+            (Refuses (say (with_secret (script_is self.old))
+            (reading (script_schema (script_is self.old)) text.now))) }
     {
         law_views_without_entries();
         let sentence = self.read(alloc, text)?;
@@ -298,7 +327,8 @@ impl Script {
     /// One more ask, which stands behind a method and a secret.
     fn add_ask(&mut self, alloc: Global, text: &str) -> Result<(), LineError>
         requires { length text.now ≤ 4096 }
-        ensures added { OnOk result (ask_next (script_is self.old) text.now ≡ Ok (script_is self.new)) }
+        ensures added { OnOk result
+            (ask_next (script_is self.old) text.now ≡ Ok (script_is self.new)) }
         ensures refused { IfErr result (Refuses (ask_next (script_is self.old) text.now)) }
     {
         if self.method.is_none() || self.secrets.is_empty() {
@@ -342,9 +372,13 @@ fn new_schema(
     domains: Vec<Declared>,
     relations: Vec<Declared>,
 ) -> Result<Schema, LineError>
-    ensures accepted { IfOk result (λ schema. (schema_refusal (map declaration_of domains.items) (map declaration_of relations.items) ≡ None)
-        × (schema ≡ schema_of (map declaration_of domains.items) (map declaration_of relations.items))) }
-    ensures refused { IfErr result (IsSchemaRefusal (map declaration_of domains.items) (map declaration_of relations.items)) }
+    ensures accepted { IfOk result (λ schema.
+        (schema_refusal (map declaration_of domains.items) (map declaration_of relations.items)
+        ≡ None)
+        × (schema ≡ schema_of (map declaration_of domains.items)
+        (map declaration_of relations.items))) }
+    ensures refused { IfErr result
+        (IsSchemaRefusal (map declaration_of domains.items) (map declaration_of relations.items)) }
 {
     match Schema::new(alloc, domains, relations) {
         Ok(schema) => Ok(schema),
@@ -375,7 +409,8 @@ fn copied_texts(alloc: Global, texts: &[String]) -> Result<Vec<String>, AllocErr
 
 /// Declarations in memory of their own.
 fn copies(alloc: Global, declared: &[Declared]) -> Result<Vec<Declared>, AllocError>
-    ensures { IfOk result (λ copies. map declaration_of copies.items ≡ map declaration_of declared.now) }
+    ensures { IfOk result (λ copies. map declaration_of copies.items
+        ≡ map declaration_of declared.now) }
 {
     let mut copies = Vec::new(alloc);
     for one in declared {
@@ -390,7 +425,8 @@ fn copies_with(
     declared: &[Declared],
     last: &Declared,
 ) -> Result<Vec<Declared>, AllocError>
-    ensures { IfOk result (λ copies. map declaration_of copies.items ≡ map declaration_of declared.now ++ declaration_of last.now ∷ []) }
+    ensures { IfOk result (λ copies. map declaration_of copies.items
+        ≡ map declaration_of declared.now ++ declaration_of last.now ∷ []) }
 {
     let mut copies = copies(alloc, declared)?;
     copies.push(copy(alloc, last)?)?;

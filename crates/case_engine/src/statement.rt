@@ -1,13 +1,17 @@
 //! What one line of a script says, by its shape alone.
 
-ghost use Rattle.std.specs.Prelude.{◌≡◌, ◌≤◌, true, map, length, option_map, IfOk, IfSome, OnOk, string_bytes};
+ghost use Rattle.std.specs.Prelude.{◌≡◌, ◌≤◌, true, map, length, option_map, IfOk, IfSome, OnOk};
+ghost use Rattle.std.specs.Prelude.{string_bytes};
 ghost use Rattle.std.specs.List.{list_all, list_any, before_first, after_first};
 ghost use Rattle.cqe_base.specs.Tokens.{is_blank};
 ghost use Rattle.cqe_base.specs.Memory.{declaration_of};
 ghost use Rattle.line_protocol.specs.Words.{is_printable};
 ghost use Rattle.script_lines.specs.Silence.{is_silent};
 ghost use Rattle.case_engine.specs.Said.{said, IsShortStatement};
-ghost use Rattle.case_engine.specs.Statements.{is_word, listed_names, names_or_none, closed_names, domain_shape, relation_shape, whole_tokens, domain_is, relation_is, method_is, budget_is, worded, lone, spoken, statement_of};
+ghost use Rattle.case_engine.specs.Statements.{is_word, listed_names, names_or_none, closed_names};
+ghost use Rattle.case_engine.specs.Statements.{domain_shape, relation_shape, whole_tokens};
+ghost use Rattle.case_engine.specs.Statements.{domain_is, relation_is, method_is, budget_is};
+ghost use Rattle.case_engine.specs.Statements.{worded, lone, spoken, statement_of};
 
 use crate::declaration::{Declared, domain_in, relation_in};
 use cqe_base::user::Method;
@@ -57,10 +61,12 @@ fn worded<'a>(alloc: Global, word: &str, text: &'a str) -> Result<Option<Stateme
     }
 }
 
-// The four below have a `match`: the closure of an `Option::map` to a statement gets no generated proof.
+// The four below have a `match`: the closure of an `Option::map` to a statement gets no generated
+// proof.
 
 fn domain_statement<'a>(declared: Option<Declared>) -> Option<Statement<'a>>
-    ensures says { option_map said result ≡ option_map domain_is (option_map declaration_of declared) }
+    ensures says { option_map said result
+        ≡ option_map domain_is (option_map declaration_of declared) }
     ensures short { IfSome result IsShortStatement }
 {
     match declared {
@@ -70,7 +76,8 @@ fn domain_statement<'a>(declared: Option<Declared>) -> Option<Statement<'a>>
 }
 
 fn relation_statement<'a>(declared: Option<Declared>) -> Option<Statement<'a>>
-    ensures says { option_map said result ≡ option_map relation_is (option_map declaration_of declared) }
+    ensures says { option_map said result
+        ≡ option_map relation_is (option_map declaration_of declared) }
     ensures short { IfSome result IsShortStatement }
 {
     match declared {

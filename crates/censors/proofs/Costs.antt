@@ -27,23 +27,28 @@ is_spent-at Follows e = absurd cc
 is_spent-at Open e = absurd cc
 is_spent-at Spent e = refl
 
-probe-cost : SpentIsCost → (schema : DatabaseSchema) (premises : List Signed) (goal : Signed) (budget : ℕ) → (is_spent (outcome schema premises goal budget) ≡ true) ↔ CostsMore schema premises goal budget
+probe-cost : SpentIsCost → (schema : DatabaseSchema) (premises : List Signed) (goal : Signed) (budget : ℕ)
+    → (is_spent (outcome schema premises goal budget) ≡ true) ↔ CostsMore schema premises goal budget
 unfolding outcome
 probe-cost law schema premises goal budget =
     let both = law (map (grounded_signed schema) premises) (grounded_signed schema goal) budget in
     (λ h. both.0 (is_spent-at _ h), λ h. ap is_spent (both.1 h))
 
-query-cost : SpentIsCost → (schema : DatabaseSchema) (user : UserProfile) (log : List Signed) (query : Formula) → (spent schema user log query ≡ true) ↔ QueryCostsMore schema user log query
+query-cost : SpentIsCost → (schema : DatabaseSchema) (user : UserProfile) (log : List Signed) (query : Formula)
+    → (spent schema user log query ≡ true) ↔ QueryCostsMore schema user log query
 unfolding spent
 query-cost law schema user log query =
     let at : Probe → Bool = λ probe. is_spent (outcome schema probe.premises probe.goal user.budget) in
     let all : List Probe = probes user log query in (
-      λ h. any-weaker (λ probe. at probe ≡ true) (ProbeCostsMore schema user) (λ probe. (probe-cost law schema probe.premises probe.goal user.budget).0) all (Any-from_list_any at all h),
-      λ h. list_any-from_Any at all (any-weaker (ProbeCostsMore schema user) (λ probe. at probe ≡ true) (λ probe. (probe-cost law schema probe.premises probe.goal user.budget).1) all h),
+      λ h. any-weaker (λ probe. at probe ≡ true) (ProbeCostsMore schema user) (λ probe. (probe-cost law schema probe.premises probe.goal user.budget).0) all
+          (Any-from_list_any at all h),
+      λ h. list_any-from_Any at all
+          (any-weaker (ProbeCostsMore schema user) (λ probe. at probe ≡ true) (λ probe. (probe-cost law schema probe.premises probe.goal user.budget).1) all h),
     )
 
 -- so findings that are those of a query are spent by cost
-pub spent-by-cost : SpentIsCost → (schema : DatabaseSchema) (user : UserProfile) (log : List Signed) (query : Formula) (found : Findings) → HasFindings schema user log query found → AreSpentByCost schema user log query found
+pub spent-by-cost : SpentIsCost → (schema : DatabaseSchema) (user : UserProfile) (log : List Signed) (query : Formula) (found : Findings)
+    → HasFindings schema user log query found → AreSpentByCost schema user log query found
 spent-by-cost law schema user log query found has =
     let both = query-cost law schema user log query in
     (λ h. both.0 (sym has.is_spent ∙ h), λ h. has.is_spent ∙ both.1 h)
@@ -77,14 +82,16 @@ decided-at Combined found false true false e = cc
 decided-at Combined found false false true e = cc
 decided-at Combined found false false false e = cc
 
-undecided-is : (method : Method) (any : Bool) (found : Option Bool) (as_yes as_no truth : Bool) → (mark_by method any found as_yes as_no truth ≡ Undecided) ↔ (any ≡ true)
+undecided-is : (method : Method) (any : Bool) (found : Option Bool) (as_yes as_no truth : Bool)
+    → (mark_by method any found as_yes as_no truth ≡ Undecided) ↔ (any ≡ true)
 undecided-is method true found as_yes as_no truth = (λ h. refl, λ h. undecided-at method found as_yes as_no truth)
 undecided-is method false found as_yes as_no truth = (λ h. absurd (decided-at method found as_yes as_no truth h), λ h. absurd cc)
 
 pub undecided-is-cost : SpentIsCost → UndecidedIsCost
 unfolding rule
 undecided-is-cost law schema world user log query =
-    let mark = undecided-is user.method (spent schema user log query) (implied schema user log query) (yes_harm schema user log query) (no_harm schema user log query) (true_in schema world query) in
+    let mark = undecided-is user.method (spent schema user log query) (implied schema user log query) (yes_harm schema user log query)
+    (no_harm schema user log query) (true_in schema world query) in
     let cost = query-cost law schema user log query in
     (λ h. cost.0 (mark.0 h), λ h. mark.1 (cost.1 h))
 

@@ -10,7 +10,8 @@ use Rattle.cqe_base.specs.Formula.{Formula}
 use Rattle.cqe_base.specs.Entailment.{Signed}
 use Rattle.cqe_base.specs.Outcome.{outcome, is_spent}
 use Rattle.cqe_base.specs.History.{UserProfile, disjunction_of}
-use Rattle.cqe_base.specs.Censor.{Probe, probes_against, probes_by, guarded, guarded_by, with_query, with_negation, implied_by, spent, yes_harm, no_harm, implied}
+use Rattle.cqe_base.specs.Censor.{Probe, probes_against, probes_by, guarded, guarded_by, with_query, with_negation, implied_by, spent, yes_harm, no_harm}
+use Rattle.cqe_base.specs.Censor.{implied}
 use Rattle.cqe_base.proofs.Lists.{or_assoc}
 use Rattle.censors.specs.declared.examination.Harms.{Harms}
 use Rattle.censors.specs.declared.examination.Implied.{Implied}
@@ -22,7 +23,8 @@ module _ (schema : DatabaseSchema) (user : UserProfile) (log : List Signed) (que
   abbrev probe_spent : Probe → Bool
   probe_spent probe = is_spent (outcome schema probe.premises probe.goal user.budget)
 
-  against-spent : (premises : List Signed) (goals : List Formula) → list_any probe_spent (probes_against premises goals) ≡ some_spent schema user.budget premises goals
+  against-spent : (premises : List Signed) (goals : List Formula)
+      → list_any probe_spent (probes_against premises goals) ≡ some_spent schema user.budget premises goals
   against-spent premises [] = refl
   against-spent premises (goal ∷ goals) = ap (λ b. is_spent_at schema user.budget premises (goal, true) || b) (against-spent premises goals)
 
@@ -34,7 +36,8 @@ module _ (schema : DatabaseSchema) (user : UserProfile) (log : List Signed) (que
       ∙ (λ k. against-spent (with_query log query) goals k || against-spent (with_negation log query) goals k)
 
   -- the findings of a method that probes both answers alone
-  found_plain : probes_by user.method (guarded user) log query ≡ probes_against (with_query log query) (guarded user) ++ probes_against (with_negation log query) (guarded user)
+  found_plain : probes_by user.method (guarded user) log query
+      ≡ probes_against (with_query log query) (guarded user) ++ probes_against (with_negation log query) (guarded user)
       → implied_by user.method schema log query ≡ None
       → (harms : Harms) → AreHarms schema user.budget log query (guarded user) harms → HasFindings schema user log query (findings_of harms None)
   unfolding spent implied yes_harm no_harm
@@ -45,12 +48,14 @@ module _ (schema : DatabaseSchema) (user : UserProfile) (log : List Signed) (que
     is_no_harm = are.no;
   }
 
-  pub found_lying : user.method ≡ Lying → (harms : Harms) → AreHarms schema user.budget log query (disjunction_of user.secrets ∷ []) harms → HasFindings schema user log query (findings_of harms None)
+  pub found_lying : user.method ≡ Lying → (harms : Harms) → AreHarms schema user.budget log query (disjunction_of user.secrets ∷ []) harms
+      → HasFindings schema user log query (findings_of harms None)
   found_lying is harms are =
       found_plain (ap (λ m. probes_by m (guarded user) log query) is) (ap (λ m. implied_by m schema log query) is) harms
       (subst (λ goals. AreHarms schema user.budget log query goals harms) (sym (ap (λ m. guarded_by m user.secrets) is)) are)
 
-  pub found_combined : user.method ≡ Combined → (harms : Harms) → AreHarms schema user.budget log query user.secrets harms → HasFindings schema user log query (findings_of harms None)
+  pub found_combined : user.method ≡ Combined → (harms : Harms) → AreHarms schema user.budget log query user.secrets harms
+      → HasFindings schema user log query (findings_of harms None)
   found_combined is harms are =
       found_plain (ap (λ m. probes_by m (guarded user) log query) is) (ap (λ m. implied_by m schema log query) is) harms
       (subst (λ goals. AreHarms schema user.budget log query goals harms) (sym (ap (λ m. guarded_by m user.secrets) is)) are)

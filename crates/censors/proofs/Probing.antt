@@ -13,7 +13,8 @@ use Rattle.censors.specs.declared.examination.Answer.{Answer}
 use Rattle.censors.specs.Asked.{is_spent_at, IsAnswer, IsAnswerOfAll, together}
 
 -- each of the sentences passes a test that all pass
-pub each_passes : (p : Formula → Bool) (sentences : List Sentence) (i : ℕ) (s : Sentence) → s ≡ get_or sentences i s → i < length sentences → list_all p (map formula_of sentences) ≡ true → p (formula_of s) ≡ true
+pub each_passes : (p : Formula → Bool) (sentences : List Sentence) (i : ℕ) (s : Sentence) → s ≡ get_or sentences i s → i < length sentences
+    → list_all p (map formula_of sentences) ≡ true → p (formula_of s) ≡ true
 each_passes p sentences i s is low all =
     ap (λ t. p (formula_of t)) is ∙ AllPass-from_list_all (λ t. p (formula_of t)) sentences (sym (list_all-map p formula_of sentences) ∙ all) i s low
 
@@ -25,8 +26,10 @@ any_more p sentences i s is low =
     ∙ ap (λ f. list_any p (take i (map formula_of sentences)) || p f) (get_or-map formula_of sentences i s (formula_of s) low ∙ ap formula_of (sym is))
 
 -- the answer of the probes up to this one is that of those before it together with its own
-pub answer_more : (schema : DatabaseSchema) (budget : ℕ) (premises : List Signed) (sentences : List Sentence) (i : ℕ) (s : Sentence) → s ≡ get_or sentences i s → i < length sentences
-    → (all one : Answer) → IsAnswerOfAll schema budget premises (take i (map formula_of sentences)) all → IsAnswer schema budget premises (formula_of s, true) one
+pub answer_more : (schema : DatabaseSchema) (budget : ℕ) (premises : List Signed) (sentences : List Sentence) (i : ℕ) (s : Sentence) → s ≡ get_or sentences i s
+    → i < length sentences
+    → (all one : Answer) → IsAnswerOfAll schema budget premises (take i (map formula_of sentences)) all
+    → IsAnswer schema budget premises (formula_of s, true) one
     → IsAnswerOfAll schema budget premises (take (i + 1) (map formula_of sentences)) (together all one)
 answer_more schema budget premises sentences i s is low all one before now = record {
   spent = (λ k. before.spent k || now.spent k) ∙ sym (any_more (λ g. is_spent_at schema budget premises (g, true)) sentences i s is low);

@@ -21,15 +21,19 @@ QueryCostsMore schema user log query = Any (ProbeCostsMore schema user) (probes 
 
 -- the findings are spent exactly where some probe of the query costs more than the user's budget
 abbrev pub AreSpentByCost : DatabaseSchema → UserProfile → List Signed → Formula → Findings → Type 0
-AreSpentByCost schema user log query found = (found.spent ≡ true) ↔ QueryCostsMore schema user log query
+AreSpentByCost schema user log query found =
+    (found.spent ≡ true) ↔ QueryCostsMore schema user log query
 
--- in any world, the rule gives undecided exactly where some probe of the query costs more than the user's budget
+-- in any world, the rule gives undecided exactly where some probe of the query costs more than the
+-- user's budget
 abbrev pub UndecidedIsCost : Type 0
 UndecidedIsCost =
-    (schema : DatabaseSchema) (world : FactSet) (user : UserProfile) (log : List Signed) (query : Formula)
+    (schema : DatabaseSchema) (world : FactSet) (user : UserProfile) (log : List Signed)
+    (query : Formula)
     → (rule schema world user log query ≡ Undecided) ↔ QueryCostsMore schema user log query
 
 -- in any world, the rule gives undecided exactly where the findings are spent
-abbrev pub DecideUndecided : DatabaseSchema → UserProfile → List Signed → Formula → Findings → Type 0
+abbrev pub DecideUndecided : DatabaseSchema → UserProfile → List Signed → Formula → Findings
+    → Type 0
 DecideUndecided schema user log query found =
     (world : FactSet) → (rule schema world user log query ≡ Undecided) ↔ (found.spent ≡ true)

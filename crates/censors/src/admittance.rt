@@ -8,7 +8,8 @@ ghost use Rattle.cqe_base.specs.Limits.{KeepsLimits};
 ghost use Rattle.cqe_base.specs.Censor.{admitted};
 ghost use Rattle.entailment.specs.Logs.{log_nodes};
 ghost use Rattle.entailment.specs.Views.{schema_of, log_of};
-ghost use Rattle.censors.specs.Admitting.{probe_objection, secrets_objection, truth_objection, objection_of, admission_of};
+ghost use Rattle.censors.specs.Admitting.{probe_objection, secrets_objection, truth_objection};
+ghost use Rattle.censors.specs.Admitting.{objection_of, admission_of};
 
 use crate::disjunction;
 use cqe_base::laws::law_limits;
@@ -23,9 +24,10 @@ use truth_eval::holds;
 /// The budget of the probes at admission, in steps of the search.
 pub const ADMISSION_BUDGET: u64 = 4_000_000;
 
-/// Whether a user can be served in a world, and else the first test that fails: for refusal those of the sentences that
-/// he knows, in their order; then the probes of these against the disjunction of the secrets, for lying, or against each
-/// secret in order. A number is that of a sentence or a secret, from 0; `None` stands for the disjunction.
+/// Whether a user can be served in a world, and else the first test that fails: for refusal those
+/// of the sentences that he knows, in their order; then the probes of these against the disjunction
+/// of the secrets, for lying, or against each secret in order. A number is that of a sentence or a
+/// secret, from 0; `None` stands for the disjunction.
 #[derive(Clone, Copy, Debug, PartialEq, Eq)]
 pub enum Admission {
     /// He is admitted.
@@ -46,8 +48,10 @@ pub fn admit(
     user: &User,
 ) -> Result<Admission, AllocError>
     requires { KeepsLimits schema.now (profile_of user.now) }
-    ensures first { IfOk result (λ found. found ≡ admission_of schema.now world.now (profile_of user.now)) }
-    ensures open { IfOk result (λ found. (found ≡ Admission.Open) ↔ (admitted schema.now world.now (profile_of user.now) ≡ true)) }
+    ensures first { IfOk result (λ found. found
+        ≡ admission_of schema.now world.now (profile_of user.now)) }
+    ensures open { IfOk result (λ found. (found ≡ Admission.Open)
+        ↔ (admitted schema.now world.now (profile_of user.now) ≡ true)) }
 {
     match objection(alloc, schema, world, user)? {
         Some(found) => Ok(found),
@@ -63,7 +67,8 @@ fn objection(
     user: &User,
 ) -> Result<Option<Admission>, AllocError>
     requires { KeepsLimits schema.now (profile_of user.now) }
-    ensures { IfOk result (λ found. found ≡ objection_of user.now.method schema.now world.now (map formula_of user.now.know.items)
+    ensures { IfOk result (λ found. found
+        ≡ objection_of user.now.method schema.now world.now (map formula_of user.now.know.items)
         (known (profile_of user.now)) (map formula_of user.now.secrets.items)) }
 {
     match user.method {
@@ -78,7 +83,8 @@ fn objection(
 
 /// The first of the sentences that is false in the world.
 fn truth_objection(schema: &Schema, world: &World, sentences: &[Sentence]) -> Option<Admission>
-    requires sentences { list_all (is_sentence_of schema.now) (map formula_of sentences.now) ≡ true }
+    requires sentences { list_all (is_sentence_of schema.now) (map formula_of sentences.now)
+        ≡ true }
     requires few { length sentences.now ≤ 256 }
     ensures { result ≡ truth_objection schema.now world.now (map formula_of sentences.now) }
 {
@@ -98,7 +104,9 @@ fn disjunction_objection(
 ) -> Result<Option<Admission>, AllocError>
     requires limits { KeepsLimits schema.now (profile_of user.now) }
     requires lying { user.now.method ≡ Method.Lying }
-    ensures { IfOk result (λ found. found ≡ probe_objection schema.now (known (profile_of user.now)) (disjunction_of (map formula_of user.now.secrets.items)) None) }
+    ensures { IfOk result (λ found. found
+        ≡ probe_objection schema.now (known (profile_of user.now))
+        (disjunction_of (map formula_of user.now.secrets.items)) None) }
 {
     law_limits();
     let mut view = View::new(alloc, schema, user)?;
@@ -113,7 +121,9 @@ fn secrets_objection(
     user: &User,
 ) -> Result<Option<Admission>, AllocError>
     requires { KeepsLimits schema.now (profile_of user.now) }
-    ensures { IfOk result (λ found. found ≡ secrets_objection schema.now (known (profile_of user.now)) 0 (map formula_of user.now.secrets.items)) }
+    ensures { IfOk result (λ found. found
+        ≡ secrets_objection schema.now (known (profile_of user.now)) 0
+        (map formula_of user.now.secrets.items)) }
 {
     law_limits();
     let mut view = View::new(alloc, schema, user)?;
@@ -136,7 +146,8 @@ fn probe_objection(
     requires sentence { is_sentence_of (schema_of view.old) (formula_of goal.now) ≡ true }
     requires goal_nodes { nodes (schema_of view.old) (formula_of goal.now) ≤ 40000 }
     requires log_nodes { log_nodes (schema_of view.old) (log_of view.old) ≤ 40000 }
-    ensures found { IfOk result (λ found. found ≡ probe_objection (schema_of view.old) (log_of view.old) (formula_of goal.now) number) }
+    ensures found { IfOk result (λ found. found
+        ≡ probe_objection (schema_of view.old) (log_of view.old) (formula_of goal.now) number) }
     ensures schema { schema_of view.new ≡ schema_of view.old }
     ensures log { log_of view.new ≡ log_of view.old }
 {

@@ -1,6 +1,7 @@
 //! What the probes of a query find.
 
-ghost use Rattle.std.specs.Prelude.{◌≡◌, ◌≤◌, ◌+◌, [], ◌∷◌, ◌++◌, true, false, Some, None, nat_le, map, IfOk, if◌then◌else◌};
+ghost use Rattle.std.specs.Prelude.{◌≡◌, ◌≤◌, ◌+◌, [], ◌∷◌, ◌++◌, true, false, Some, None, nat_le};
+ghost use Rattle.std.specs.Prelude.{map, IfOk, if◌then◌else◌};
 ghost use Rattle.std.specs.List.{list_all};
 ghost use Rattle.cqe_base.specs.Formula.{formula_of, nodes, is_sentence_of};
 ghost use Rattle.cqe_base.specs.Entailment.{are_sentences_of};
@@ -11,7 +12,8 @@ ghost use Rattle.entailment.specs.Views.{schema_of, log_of};
 ghost use Rattle.entailment.specs.Probes.{premise_of, goal_of, signed_at};
 ghost use Rattle.censors.specs.Found.{HasFindings};
 ghost use Rattle.censors.specs.Costs.{AreSpentByCost, DecideUndecided};
-ghost use Rattle.censors.specs.Asked.{IsAnswer, IsAnswerOfAll, AreHarms, IsImplied, together, findings_of};
+ghost use Rattle.censors.specs.Asked.{IsAnswer, IsAnswerOfAll, AreHarms, IsImplied, together};
+ghost use Rattle.censors.specs.Asked.{findings_of};
 
 use crate::{disjunction, law_undecided_is_cost};
 use cqe_base::laws::{law_entailment, law_limits};
@@ -34,8 +36,8 @@ pub struct Findings {
     pub no_harm: bool,
 }
 
-/// What one probe found, or several against different goals: whether some is spent, and where none is, whether some goal
-/// is entailed.
+/// What one probe found, or several against different goals: whether some is spent, and where none
+/// is, whether some goal is entailed.
 #[derive(Clone, Copy)]
 struct Answer {
     spent: bool,
@@ -67,9 +69,14 @@ pub fn examine(
     requires limits { KeepsLimits (schema_of view.now) (profile_of user.now) }
     requires sentence { is_sentence_of (schema_of view.now) (formula_of query.now) ≡ true }
     requires query_nodes { nodes (schema_of view.now) (formula_of query.now) ≤ 20000 }
-    requires all_nodes { log_nodes (schema_of view.now) (log_of view.now) + nodes (schema_of view.now) (formula_of query.now) ≤ 60000 }
-    ensures findings { IfOk result (HasFindings (schema_of view.now) (profile_of user.now) (log_of view.now) (formula_of query.now)) }
-    ensures spent { IfOk result (AreSpentByCost (schema_of view.now) (profile_of user.now) (log_of view.now) (formula_of query.now)) }
+    requires all_nodes { log_nodes (schema_of view.now) (log_of view.now)
+        + nodes (schema_of view.now) (formula_of query.now) ≤ 60000 }
+    ensures findings { IfOk result
+        (HasFindings (schema_of view.now) (profile_of user.now) (log_of view.now)
+        (formula_of query.now)) }
+    ensures spent { IfOk result
+        (AreSpentByCost (schema_of view.now) (profile_of user.now) (log_of view.now)
+        (formula_of query.now)) }
     ensures undecided { IfOk result (DecideUndecided (schema_of view.now) (profile_of user.now)
         (log_of view.now) (formula_of query.now)) }
 {
@@ -125,9 +132,11 @@ fn ask_log(
 ) -> Result<Implied, AllocError>
     requires sentence { is_sentence_of (schema_of view.old) (formula_of query.now) ≡ true }
     requires query_nodes { nodes (schema_of view.old) (formula_of query.now) ≤ 20000 }
-    requires all_nodes { log_nodes (schema_of view.old) (log_of view.old) + nodes (schema_of view.old) (formula_of query.now) ≤ 60000 }
+    requires all_nodes { log_nodes (schema_of view.old) (log_of view.old)
+        + nodes (schema_of view.old) (formula_of query.now) ≤ 60000 }
     requires budget { budget ≤ 4000000 }
-    ensures implied { IfOk result (IsImplied (schema_of view.old) budget (log_of view.old) (formula_of query.now)) }
+    ensures implied { IfOk result
+        (IsImplied (schema_of view.old) budget (log_of view.old) (formula_of query.now)) }
     ensures schema { schema_of view.new ≡ schema_of view.old }
     ensures log { log_of view.new ≡ log_of view.old }
 {
@@ -178,11 +187,16 @@ fn ask_both(
 ) -> Result<Harms, AllocError>
     requires sentence { is_sentence_of (schema_of view.old) (formula_of query.now) ≡ true }
     requires query_nodes { nodes (schema_of view.old) (formula_of query.now) ≤ 20000 }
-    requires all_nodes { log_nodes (schema_of view.old) (log_of view.old) + nodes (schema_of view.old) (formula_of query.now) ≤ 60000 }
-    requires goals { list_all (is_sentence_of (schema_of view.old)) (map formula_of goals.now) ≡ true }
-    requires goal_nodes { list_all (λ goal. nat_le (nodes (schema_of view.old) goal) 40000) (map formula_of goals.now) ≡ true }
+    requires all_nodes { log_nodes (schema_of view.old) (log_of view.old)
+        + nodes (schema_of view.old) (formula_of query.now) ≤ 60000 }
+    requires goals { list_all (is_sentence_of (schema_of view.old)) (map formula_of goals.now)
+        ≡ true }
+    requires goal_nodes { list_all (λ goal. nat_le (nodes (schema_of view.old) goal) 40000)
+        (map formula_of goals.now) ≡ true }
     requires budget { budget ≤ 4000000 }
-    ensures harms { IfOk result (AreHarms (schema_of view.old) budget (log_of view.old) (formula_of query.now) (map formula_of goals.now)) }
+    ensures harms { IfOk result
+        (AreHarms (schema_of view.old) budget (log_of view.old) (formula_of query.now)
+        (map formula_of goals.now)) }
     ensures schema { schema_of view.new ≡ schema_of view.old }
     ensures log { log_of view.new ≡ log_of view.old }
 {
@@ -195,7 +209,8 @@ fn ask_both(
     })
 }
 
-/// Probes the log with a premise against each goal, to the last, whatever the probes before it found.
+/// Probes the log with a premise against each goal, to the last, whatever the probes before it
+/// found.
 fn ask_each(
     alloc: Global,
     view: &mut View<'_>,
@@ -205,11 +220,16 @@ fn ask_each(
 ) -> Result<Answer, AllocError>
     requires premise { is_sentence_of (schema_of view.old) (signed_at premise).0 ≡ true }
     requires premise_nodes { nodes (schema_of view.old) (signed_at premise).0 ≤ 20000 }
-    requires all_nodes { log_nodes (schema_of view.old) (log_of view.old) + nodes (schema_of view.old) (signed_at premise).0 ≤ 60000 }
-    requires goals { list_all (is_sentence_of (schema_of view.old)) (map formula_of goals.now) ≡ true }
-    requires goal_nodes { list_all (λ goal. nat_le (nodes (schema_of view.old) goal) 40000) (map formula_of goals.now) ≡ true }
+    requires all_nodes { log_nodes (schema_of view.old) (log_of view.old)
+        + nodes (schema_of view.old) (signed_at premise).0 ≤ 60000 }
+    requires goals { list_all (is_sentence_of (schema_of view.old)) (map formula_of goals.now)
+        ≡ true }
+    requires goal_nodes { list_all (λ goal. nat_le (nodes (schema_of view.old) goal) 40000)
+        (map formula_of goals.now) ≡ true }
     requires budget { budget ≤ 4000000 }
-    ensures answer { IfOk result (IsAnswerOfAll (schema_of view.old) budget (log_of view.old ++ signed_at premise.entry ∷ []) (map formula_of goals.now)) }
+    ensures answer { IfOk result
+        (IsAnswerOfAll (schema_of view.old) budget (log_of view.old ++ signed_at premise.entry ∷ [])
+        (map formula_of goals.now)) }
     ensures schema { schema_of view.new ≡ schema_of view.old }
     ensures log { log_of view.new ≡ log_of view.old }
 {
@@ -247,12 +267,16 @@ fn ask(
 ) -> Result<Answer, AllocError>
     requires premise { are_sentences_of (schema_of view.old) (premise_of probe.now) ≡ true }
     requires goal { is_sentence_of (schema_of view.old) (goal_of probe.now).0 ≡ true }
-    requires premise_nodes { list_all (λ signed. nat_le (nodes (schema_of view.old) signed.0) 20000) (premise_of probe.now) ≡ true }
+    requires premise_nodes { list_all (λ signed. nat_le (nodes (schema_of view.old) signed.0) 20000)
+        (premise_of probe.now) ≡ true }
     requires goal_nodes { nodes (schema_of view.old) (goal_of probe.now).0 ≤ 40000 }
-    requires all_nodes { log_nodes (schema_of view.old) (log_of view.old) + sentence_nodes (schema_of view.old) (premise_of probe.now)
+    requires all_nodes { log_nodes (schema_of view.old) (log_of view.old)
+        + sentence_nodes (schema_of view.old) (premise_of probe.now)
         + nodes (schema_of view.old) (goal_of probe.now).0 ≤ 100000 }
     requires budget { budget ≤ 4000000 }
-    ensures answer { IfOk result (IsAnswer (schema_of view.old) budget (log_of view.old ++ premise_of probe.now) (goal_of probe.now)) }
+    ensures answer { IfOk result
+        (IsAnswer (schema_of view.old) budget (log_of view.old ++ premise_of probe.now)
+        (goal_of probe.now)) }
     ensures schema { schema_of view.new ≡ schema_of view.old }
     ensures log { log_of view.new ≡ log_of view.old }
 {

@@ -14,9 +14,12 @@ fn plain_mark(truth: bool) -> Mark
     if truth { Mark::Yes } else { Mark::No }
 }
 
-/// The mark that a method gives a query with these findings, whose truth in the database is `truth`.
+/// The mark that a method gives a query with these findings, whose truth in the database is
+/// `truth`.
 pub fn decide(method: Method, findings: &Findings, truth: bool) -> Mark
-    ensures { result ≡ mark_by method findings.now.spent findings.now.implied findings.now.yes_harm findings.now.no_harm truth }
+    ensures { result
+        ≡ mark_by method findings.now.spent findings.now.implied findings.now.yes_harm
+        findings.now.no_harm truth }
 {
     if findings.spent {
         return Mark::Undecided;
@@ -30,7 +33,9 @@ pub fn decide(method: Method, findings: &Findings, truth: bool) -> Mark
 
 /// Lying: the true answer, or where it harms, the other.
 fn lie(findings: &Findings, truth: bool) -> Mark
-    ensures { result ≡ mark_by Lying false findings.now.implied findings.now.yes_harm findings.now.no_harm truth }
+    ensures { result
+        ≡ mark_by Lying false findings.now.implied findings.now.yes_harm findings.now.no_harm
+        truth }
 {
     if truth && findings.yes_harm {
         Mark::No
@@ -41,9 +46,12 @@ fn lie(findings: &Findings, truth: bool) -> Mark
     }
 }
 
-/// Refusal: the answer that the log entails, if there is one; none where either answer harms; else the true answer.
+/// Refusal: the answer that the log entails, if there is one; none where either answer harms; else
+/// the true answer.
 fn refuse(findings: &Findings, truth: bool) -> Mark
-    ensures { result ≡ mark_by Refusal false findings.now.implied findings.now.yes_harm findings.now.no_harm truth }
+    ensures { result
+        ≡ mark_by Refusal false findings.now.implied findings.now.yes_harm findings.now.no_harm
+        truth }
 {
     match findings.implied {
         Some(answer) => plain_mark(answer),
@@ -54,7 +62,9 @@ fn refuse(findings: &Findings, truth: bool) -> Mark
 
 /// Combined: none where both answers harm, and else as lying.
 fn combine(findings: &Findings, truth: bool) -> Mark
-    ensures { result ≡ mark_by Combined false findings.now.implied findings.now.yes_harm findings.now.no_harm truth }
+    ensures { result
+        ≡ mark_by Combined false findings.now.implied findings.now.yes_harm findings.now.no_harm
+        truth }
 {
     if findings.yes_harm && findings.no_harm {
         Mark::Refused

@@ -21,7 +21,8 @@ cut_within prefix formulas more =
     omega arith
 
 -- the first part of the form of a longer list is the form of the list
-pub cut_back : ClauseFormIsPrefix → NumberedFactsStay → (formulas more : List SignedGround) → first_of (size_of (form_of formulas)) (form_of (formulas ++ more)) ≡ form_of formulas
+pub cut_back : ClauseFormIsPrefix → NumberedFactsStay → (formulas more : List SignedGround)
+    → first_of (size_of (form_of formulas)) (form_of (formulas ++ more)) ≡ form_of formulas
 cut_back prefix stay formulas more =
     let facts : take (length (numbering_of formulas).facts) (numbering_of (formulas ++ more)).facts ≡ (numbering_of formulas).facts =
     ap (take (length (numbering_of formulas).facts)) (stay formulas more).1 ∙ take-append_seam (numbering_of formulas).facts (stay formulas more).0 in

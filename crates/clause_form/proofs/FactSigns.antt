@@ -18,7 +18,8 @@ use Rattle.clause_form.specs.Inside.{numbered_of, numbered_facts}
 abbrev pub true_facts : List NumberedFact → (ℕ → Bool) → List Fact
 true_facts facts signs = map (λ e. e.fact) (filter (λ e. signs e.number) facts)
 
-true_facts-push : (entries : List (Fact × ℕ)) (f : Fact) (n : ℕ) (signs : ℕ → Bool) → true_facts (numbered_facts (entries ++ (f, n) ∷ [])) signs ≡ true_facts (numbered_facts entries) signs ++ cond (signs n) (f ∷ []) []
+true_facts-push : (entries : List (Fact × ℕ)) (f : Fact) (n : ℕ) (signs : ℕ → Bool)
+    → true_facts (numbered_facts (entries ++ (f, n) ∷ [])) signs ≡ true_facts (numbered_facts entries) signs ++ cond (signs n) (f ∷ []) []
 true_facts-push [] f n signs = by (signs n)
   where
     by : (b : Bool) → map (λ e. e.fact) (cond b (numbered_of (f, n) ∷ []) []) ≡ cond b (f ∷ []) []
@@ -27,8 +28,12 @@ true_facts-push [] f n signs = by (signs n)
 true_facts-push (e ∷ entries) f n signs = by (signs e.1) (true_facts-push entries f n signs)
   where
     by : (b : Bool) → true_facts (numbered_facts (entries ++ (f, n) ∷ [])) signs ≡ true_facts (numbered_facts entries) signs ++ cond (signs n) (f ∷ []) []
-        → map (λ e. e.fact) (cond b (numbered_of e ∷ filter (λ e. signs e.number) (numbered_facts (entries ++ (f, n) ∷ []))) (filter (λ e. signs e.number) (numbered_facts (entries ++ (f, n) ∷ []))))
-        ≡ map (λ e. e.fact) (cond b (numbered_of e ∷ filter (λ e. signs e.number) (numbered_facts entries)) (filter (λ e. signs e.number) (numbered_facts entries))) ++ cond (signs n) (f ∷ []) []
+        → map (λ e. e.fact)
+        (cond b (numbered_of e ∷ filter (λ e. signs e.number) (numbered_facts (entries ++ (f, n) ∷ [])))
+        (filter (λ e. signs e.number) (numbered_facts (entries ++ (f, n) ∷ []))))
+        ≡ map (λ e. e.fact)
+        (cond b (numbered_of e ∷ filter (λ e. signs e.number) (numbered_facts entries)) (filter (λ e. signs e.number) (numbered_facts entries)))
+        ++ cond (signs n) (f ∷ []) []
     by true h = ap (λ fs. e.0 ∷ fs) h
     by false h = h
 
@@ -47,7 +52,9 @@ or_nothing true = refl
 or_nothing false = refl
 
 -- a fact with a true sign joins the world
-pub fact_joins : (world new : FactSet) (entries : List (Fact × ℕ)) (f : Fact) (n : ℕ) (signs : ℕ → Bool) → HasFacts world (true_facts (numbered_facts entries) signs) → signs n ≡ true → new ≡ set.insert world f → HasFacts new (true_facts (numbered_facts (entries ++ (f, n) ∷ [])) signs)
+pub fact_joins : (world new : FactSet) (entries : List (Fact × ℕ)) (f : Fact) (n : ℕ) (signs : ℕ → Bool)
+    → HasFacts world (true_facts (numbered_facts entries) signs) → signs n ≡ true → new ≡ set.insert world f
+    → HasFacts new (true_facts (numbered_facts (entries ++ (f, n) ∷ [])) signs)
 fact_joins world new entries f n signs has sign e q =
     let facts = true_facts (numbered_facts entries) signs in
     ap (λ w. set.contains w q) e
@@ -59,7 +66,8 @@ fact_joins world new entries f n signs has sign e q =
     ∙ ap (list_any (eq_by_cmp fact_cmp q)) (sym (true_facts-push entries f n signs))
 
 -- and one with a false sign doesn't
-pub fact_stays_out : (world : FactSet) (entries : List (Fact × ℕ)) (f : Fact) (n : ℕ) (signs : ℕ → Bool) → HasFacts world (true_facts (numbered_facts entries) signs) → signs n ≡ false → HasFacts world (true_facts (numbered_facts (entries ++ (f, n) ∷ [])) signs)
+pub fact_stays_out : (world : FactSet) (entries : List (Fact × ℕ)) (f : Fact) (n : ℕ) (signs : ℕ → Bool)
+    → HasFacts world (true_facts (numbered_facts entries) signs) → signs n ≡ false → HasFacts world (true_facts (numbered_facts (entries ++ (f, n) ∷ [])) signs)
 fact_stays_out world entries f n signs has sign q =
     let facts = true_facts (numbered_facts entries) signs in
     has q
@@ -79,10 +87,12 @@ len_joins world new f e = by (set.contains world f) (ap set.len e ∙ set.len-in
 -- a world with just these facts is the world of them
 pub world_has : (world : FactSet) (facts : List NumberedFact) (signs : ℕ → Bool) → HasFacts world (true_facts facts signs) → world ≡ world_of facts signs
 world_has world facts signs has =
-    set.same_set fact_cmp_total fact_cmp-IsAntisymmetric world (world_of facts signs) (λ q. has q ∙ sym (set.contains-from_list fact_cmp_total (true_facts facts signs) q))
+    set.same_set fact_cmp_total fact_cmp-IsAntisymmetric world (world_of facts signs) (λ q. has q
+    ∙ sym (set.contains-from_list fact_cmp_total (true_facts facts signs) q))
 
 -- each numbered fact passes where all do
-pub passes_at : (p : Fact → Bool) (entries : List (Fact × ℕ)) (k : ℕ) (e : Fact × ℕ) → list_all (λ d. p d.fact) (numbered_facts entries) ≡ true → slice_get entries k ≡ Some e → p e.0 ≡ true
+pub passes_at : (p : Fact → Bool) (entries : List (Fact × ℕ)) (k : ℕ) (e : Fact × ℕ) → list_all (λ d. p d.fact) (numbered_facts entries) ≡ true
+    → slice_get entries k ≡ Some e → p e.0 ≡ true
 passes_at p [] k e all at = absurd (let x : ⊥ = cc in x)
 passes_at p (d ∷ entries) zero e all at =
     let same : d ≡ e = cc in

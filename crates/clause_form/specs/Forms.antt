@@ -2,7 +2,8 @@
 use Rattle.std.specs.Prelude.{◌≡◌, ℕ, List, [], ◌∷◌, ◌++◌, length, take}
 use Rattle.cqe_base.specs.Literal.{Literal}
 use Rattle.cqe_base.specs.SignedGround.{SignedGround}
-use Rattle.cqe_base.specs.ClauseForm.{Numbering, clause_form, numbering_of, clauses_of_list, numbering_after_list}
+use Rattle.cqe_base.specs.ClauseForm.{Numbering, clause_form, numbering_of, clauses_of_list}
+use Rattle.cqe_base.specs.ClauseForm.{numbering_after_list}
 
 -- numbered clauses over the variables of a numbering
 pub record Form : Type 0 where
@@ -42,15 +43,18 @@ size_of form =
       variables = form.numbering.variables;
     }
 
--- the size is that of an earlier form: this form is that of a list, and the size is that of the form of its beginning
+-- the size is that of an earlier form: this form is that of a list, and the size is that of the
+-- form of its beginning
 abbrev pub IsSizeWithin : FormSize → Form → Type 0
 IsSizeWithin size form =
-    (formulas more : List SignedGround) × (form ≡ form_of (formulas ++ more)) × (size ≡ size_of (form_of formulas))
+    (formulas more : List SignedGround) × (form ≡ form_of (formulas ++ more))
+    × (size ≡ size_of (form_of formulas))
 
 -- a form cut back to a size: its first clauses and facts, so many, and so many variables
 abbrev pub first_of : FormSize → Form → Form
 first_of size form =
     record {
       clauses = take size.clauses form.clauses;
-      numbering = record { variables = size.variables; facts = take size.facts form.numbering.facts };
+      numbering =
+          record { variables = size.variables; facts = take size.facts form.numbering.facts };
     }

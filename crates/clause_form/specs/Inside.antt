@@ -19,7 +19,8 @@ abbrev pub form_inside : Inside → Form
 form_inside former =
     record {
       clauses = former.clauses;
-      numbering = record { variables = former.variables; facts = numbered_facts former.facts.entries };
+      numbering =
+          record { variables = former.variables; facts = numbered_facts former.facts.entries };
     }
 
 -- a literal can name each number, and the next free one has room

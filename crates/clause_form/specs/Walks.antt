@@ -22,21 +22,25 @@ pub record GoesOn (old new : Form) : Type 0 where
 
 -- the form after a walk
 abbrev pub walked_form : Ground → Form → Form
-walked_form a old = with_clauses (with_numbering old (numbering_after a old.numbering)) (clauses_of a old.numbering)
+walked_form a old =
+    with_clauses (with_numbering old (numbering_after a old.numbering)) (clauses_of a old.numbering)
 
 -- the form after the walks of formulas from left to right
 abbrev pub walked_parts : Grounds → Form → Form
 walked_parts parts old =
-    with_clauses (with_numbering old (numbering_after_parts parts old.numbering)) (clauses_of_parts parts old.numbering)
+    with_clauses (with_numbering old (numbering_after_parts parts old.numbering))
+    (clauses_of_parts parts old.numbering)
 
--- the walk of a formula gave this literal and led to this form, at most one variable further for each node
+-- the walk of a formula gave this literal and led to this form, at most one variable further for
+-- each node
 pub record Walked (a : Ground) (old : Form) (literal : Literal) (new : Form) : Type 0 where
   pub literal_is : literal ≡ literal_of a old.numbering
   pub form_is : new ≡ walked_form a old
   pub few : new.numbering.variables ≤ old.numbering.variables + ground_nodes a
 
 -- the same of formulas from left to right
-pub record WalkedParts (parts : Grounds) (old : Form) (literals : List Literal) (new : Form) : Type 0 where
+pub record WalkedParts (parts : Grounds) (old : Form) (literals : List Literal) (new : Form) :
+    Type 0 where
   pub literals_are : literals ≡ literals_of parts old.numbering
   pub form_is : new ≡ walked_parts parts old
   pub few : new.numbering.variables ≤ old.numbering.variables + part_nodes parts

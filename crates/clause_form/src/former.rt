@@ -1,6 +1,7 @@
 //! Formers: the clause form of what is added, one formula after the other.
 
-ghost use Rattle.std.specs.Prelude.{◌≡◌, true, ◌<◌, ◌≤◌, ◌^◌, ◌+◌, List, [], ◌++◌, length, IfOk, OnOk, OnErr};
+ghost use Rattle.std.specs.Prelude.{◌≡◌, true, ◌<◌, ◌≤◌, ◌^◌, ◌+◌, List, [], ◌++◌, length, IfOk};
+ghost use Rattle.std.specs.Prelude.{OnOk, OnErr};
 ghost use Rattle.std.specs.List.{list_all};
 ghost use Rattle.cqe_base.specs.Facts.{is_fact_of};
 ghost use Rattle.cqe_base.specs.Ground.{ground_of, ground_nodes};
@@ -82,7 +83,8 @@ impl Former {
     /// Adds a formula, or where `positive` is false its negation. A refusal changes nothing.
     pub fn add(&mut self, alloc: Global, prop: &Prop, positive: bool) -> Result<(), AllocError>
         requires { self.old.numbering.variables + ground_nodes (ground_of prop.now) < 2 ^ 31 }
-        ensures added { OnOk result (self.new ≡ with_formula self.old (ground_of prop.now, positive)) }
+        ensures added { OnOk result
+            (self.new ≡ with_formula self.old (ground_of prop.now, positive)) }
         ensures refused { OnErr result (self.new ≡ self.old) }
     {
         let before = self.mark();
@@ -135,7 +137,8 @@ impl Former {
     pub fn cut(&mut self, mark: FormMark)
         requires { IsSizeWithin mark self.old }
         ensures { (formulas more : List SignedGround) →
-            self.old ≡ form_of (formulas ++ more) → mark ≡ size_of (form_of formulas) → self.new ≡ form_of formulas }
+            self.old ≡ form_of (formulas ++ more) → mark ≡ size_of (form_of formulas)
+            → self.new ≡ form_of formulas }
     {
         law_clause_form_is_prefix();
         law_numbering_goes_on();
@@ -161,8 +164,10 @@ impl Former {
         model: &Signs,
     ) -> Result<World, AllocError>
         requires few { length self.now.numbering.facts ≤ 100000 }
-        requires of_schema { list_all (λ e. is_fact_of schema.now e.fact) self.now.numbering.facts ≡ true }
-        ensures { IfOk result (λ world. world ≡ world_of self.now.numbering.facts (sign_at model.now.values.items)) }
+        requires of_schema { list_all (λ e. is_fact_of schema.now e.fact) self.now.numbering.facts
+            ≡ true }
+        ensures { IfOk result (λ world. world
+            ≡ world_of self.now.numbering.facts (sign_at model.now.values.items)) }
     {
         let mut world = World::new(alloc);
         for (fact, number) in self.facts.iter() {

@@ -1,4 +1,5 @@
-//! The clauses of a node. Each call appends: where it is refused, the clauses that were there still stand in front.
+//! The clauses of a node. Each call appends: where it is refused, the clauses that were there still
+//! stand in front.
 
 ghost use Rattle.std.specs.Prelude.{◌≡◌, ◌<◌, ◌^◌, ◌+◌, [], ◌∷◌, ◌++◌, map, IfOk, OnOk};
 ghost use Rattle.cqe_base.specs.Literal.{opposite, distinct_literals};
@@ -13,7 +14,8 @@ use std::alloc::{AllocError, Global};
 /// Appends a clause, in which each of these literals stands once, where it came first.
 #[tactic(auto, using(crate::proofs::Beginnings::beginnings))]
 fn push_distinct(alloc: Global, clauses: &mut Clauses, literals: &[Lit]) -> Result<(), AllocError>
-    ensures pushed { OnOk result (clauses.new ≡ clauses.old ++ distinct_literals literals.now ∷ []) }
+    ensures pushed { OnOk result
+        (clauses.new ≡ clauses.old ++ distinct_literals literals.now ∷ []) }
     ensures begins { BeginsWith clauses.old clauses.new }
 {
     let mut clause = Vec::new(alloc);
@@ -48,7 +50,8 @@ fn push_all(
     first: Lit,
     literals: &[Lit],
 ) -> Result<(), AllocError>
-    ensures pushed { OnOk result (clauses.new ≡ clauses.old ++ distinct_literals (first ∷ literals.now) ∷ []) }
+    ensures pushed { OnOk result (clauses.new
+        ≡ clauses.old ++ distinct_literals (first ∷ literals.now) ∷ []) }
     ensures begins { BeginsWith clauses.old clauses.new }
 {
     let mut clause = Vec::new(alloc);
@@ -101,7 +104,8 @@ pub fn push_or(
     Ok(())
 }
 
-/// The clauses that say that a variable is true exactly where the two literals are both true or both false.
+/// The clauses that say that a variable is true exactly where the two literals are both true or
+/// both false.
 #[tactic(auto, using(crate::proofs::Beginnings::beginnings))]
 pub fn push_iff(
     alloc: Global,

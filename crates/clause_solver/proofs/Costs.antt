@@ -19,7 +19,8 @@ all_within cost left None h = refl
 all_within cost left (Some e) h = let more : left < cost + e.cost = omega arith in ap (λ b. cond b (cost + e.cost) left) (lt-leb (cost + e.cost) left more)
 
 -- a step that goes on adds its cost
-pub cost_went_on : (n left cost k j : ℕ) (s s' : State) → k ≡ suc j → step n s ≡ Continues cost s' → cost ≤ left → cost_within left (end_within n k s) ≡ cost + cost_within (left - cost) (end_within n j s')
+pub cost_went_on : (n left cost k j : ℕ) (s s' : State) → k ≡ suc j → step n s ≡ Continues cost s' → cost ≤ left
+    → cost_within left (end_within n k s) ≡ cost + cost_within (left - cost) (end_within n j s')
 unfolding end_within
 cost_went_on n left cost k j s s' e h le =
     ap (λ m. cost_within left (end_within n m s)) e
@@ -35,7 +36,8 @@ cost_went_past n left cost k j s s' e h lt =
     ∙ all_within cost left (end_within n j s') lt
 
 -- a step that ends within the budget
-pub cost_ended_within : (n left cost k j : ℕ) (s : State) (end : End) → k ≡ suc j → step n s ≡ Ends cost end → cost ≤ left → cost_within left (end_within n k s) ≡ cost
+pub cost_ended_within : (n left cost k j : ℕ) (s : State) (end : End) → k ≡ suc j → step n s ≡ Ends cost end → cost ≤ left
+    → cost_within left (end_within n k s) ≡ cost
 unfolding end_within
 cost_ended_within n left cost k j s end e h le =
     ap (λ m. cost_within left (end_within n m s)) e
@@ -43,7 +45,8 @@ cost_ended_within n left cost k j s end e h le =
     ∙ ap (λ b. cond b cost left) (le-leb cost left le)
 
 -- a step that ends past the budget
-pub cost_ended_past : (n left cost k j : ℕ) (s : State) (end : End) → k ≡ suc j → step n s ≡ Ends cost end → left < cost → cost_within left (end_within n k s) ≡ left
+pub cost_ended_past : (n left cost k j : ℕ) (s : State) (end : End) → k ≡ suc j → step n s ≡ Ends cost end → left < cost
+    → cost_within left (end_within n k s) ≡ left
 unfolding end_within
 cost_ended_past n left cost k j s end e h lt =
     ap (λ m. cost_within left (end_within n m s)) e
@@ -60,7 +63,8 @@ pub spent_cost : (budget left rest whole : ℕ) → left ≤ budget → rest ≡
 spent_cost budget left rest whole room all so_far = let e : budget ≡ budget - left + rest = omega arith in e ∙ so_far
 
 -- a cost is taken from what is left
-pub added_cost : (budget left cost rest next whole : ℕ) → left ≤ budget → cost ≤ left → rest ≡ cost + next → budget - left + rest ≡ whole → budget - (left - cost) + next ≡ whole
+pub added_cost : (budget left cost rest next whole : ℕ) → left ≤ budget → cost ≤ left → rest ≡ cost + next → budget - left + rest ≡ whole
+    → budget - (left - cost) + next ≡ whole
 added_cost budget left cost rest next whole room within all so_far = let e : budget - (left - cost) + next ≡ budget - left + rest = omega arith in e ∙ so_far
 
 -- nothing is taken from a budget yet

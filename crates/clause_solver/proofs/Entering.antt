@@ -1,5 +1,6 @@
 -- One more clause among those that are watched.
-use Rattle.std.proofs.Common.{◌≡◌, ℕ, ◌+◌, ◌*◌, ◌<◌, ◌≤◌, Bool, true, false, ◌&&◌, ◌||◌, eqb, List, [], ◌∷◌, ◌++◌, length, get_or, set, Option, Some, None, refl, sym, ap, ◌∙◌, subst, inl, inr, ⊎_elim, ◌⊎◌, arith}
+use Rattle.std.proofs.Common.{◌≡◌, ℕ, ◌+◌, ◌*◌, ◌<◌, ◌≤◌, Bool, true, false, ◌&&◌, ◌||◌, eqb, List, [], ◌∷◌, ◌++◌, length, get_or, set, Option, Some, None}
+use Rattle.std.proofs.Common.{refl, sym, ap, ◌∙◌, subst, inl, inr, ⊎_elim, ◌⊎◌, arith}
 use Rattle.std.specs.Prelude.{IfSome}
 use Rattle.std.specs.List.{list_all, AllByRecursion}
 use Rattle.std.proofs.lemmas.Bool.{both_ways, cases_lt, or_cases, or_left, or_right, eq-eqb, eqb-true, and_parts, and_from}
@@ -12,7 +13,8 @@ use Rattle.clause_solver.specs.declared.watches.Pair.{Pair}
 use Rattle.clause_solver.specs.declared.watches.Watch.{Watch}
 use Rattle.clause_solver.specs.declared.watches.Watches.{Watches}
 use Rattle.clause_store.specs.Codes.{code_of}
-use Rattle.clause_solver.specs.Watching.{IsAnswered, satisfied, is_unit, is_falsified, IsWatched, IsWatching, IsWatchOf, AllFalseBut, has_number, has_clause, is_caught, lowest, no_pair, HaveSameLiterals}
+use Rattle.clause_solver.specs.Watching.{IsAnswered, satisfied, is_unit, is_falsified, IsWatched, IsWatching, IsWatchOf, AllFalseBut, has_number, has_clause}
+use Rattle.clause_solver.specs.Watching.{is_caught, lowest, no_pair, HaveSameLiterals}
 use Rattle.clause_solver.specs.WatchesInside.{lists_of}
 use Rattle.clause_store.proofs.Marking.{code_of-below}
 use Rattle.clause_solver.proofs.Watching.{watched_more}
@@ -40,7 +42,8 @@ module _ (t : List Assigned) (c d : List Literal) (same : (l : Literal) → has_
 
 single_but : (t : List Assigned) (c : List Literal) (l : Literal) → length c ≡ 1 → has_literal c l ≡ true → AllFalseBut t l c
 single_but t [] l e h = tt
-single_but t (x ∷ []) l e h = (inl (sym (⊎_elim (λ s. same_literal-true l x s) (λ s. absurd (both_ways false refl s)) (or_cases (same_literal l x) false h))), tt)
+single_but t (x ∷ []) l e h =
+    (inl (sym (⊎_elim (λ s. same_literal-true l x s) (λ s. absurd (both_ways false refl s)) (or_cases (same_literal l x) false h))), tt)
 single_but t (x ∷ y ∷ c) l e h = absurd (omega arith)
 
 below_push : (n : ℕ) (cs : List (List Literal)) (c : List Literal) → ClausesBelow n cs → ClauseBelow n c → ClausesBelow n (cs ++ c ∷ [])
@@ -51,7 +54,8 @@ all_weaker : (P Q : Watch → Type 0) → ((w : Watch) → P w → Q w) → (ws 
 all_weaker P Q f [] h = tt
 all_weaker P Q f (w ∷ ws) h = (f w h.0, all_weaker P Q f ws h.1)
 
-module _ (n : ℕ) (t : List Assigned) (cs : List (List Literal)) (lists : List (List Watch)) (pairs : List Pair) (units : List ℕ) (falsified : Option ℕ) (g : Literal)
+module _ (n : ℕ) (t : List Assigned) (cs : List (List Literal)) (lists : List (List Watch)) (pairs : List Pair) (units : List ℕ) (falsified : Option ℕ)
+    (g : Literal)
     (before : IsWatching n t cs lists pairs units falsified g []) (c : List Literal) (p : Pair) (low : ClauseBelow n c) (m : ℕ) (number : m ≡ length cs) where
   abbrev cs' : List (List Literal)
   cs' = cs ++ c ∷ []
@@ -72,7 +76,11 @@ module _ (n : ℕ) (t : List Assigned) (cs : List (List Literal)) (lists : List 
   new_pair i e = get_or_push pairs p no_pair i (before.pairs_room ∙ sym number ∙ sym e)
 
   watch_more : (w : Watch) → IsWatchOf cs w → IsWatchOf cs' w
-  watch_more w h = record { within = let lt = h.within in let e = size in omega arith; blocker = ap (λ x. has_literal x w.blocker) (old_clause w.clause h.within) ∙ h.blocker }
+  watch_more w h = record {
+    within = let lt = h.within in let e = size in
+        omega arith;
+    blocker = ap (λ x. has_literal x w.blocker) (old_clause w.clause h.within) ∙ h.blocker;
+  }
 
   module _ (lists' : List (List Watch)) (units' : List ℕ) (falsified' : Option ℕ)
       (lists_kept : (i k : ℕ) → has_clause (get_or lists k []) i ≡ true → has_clause (get_or lists' k []) i ≡ true)
@@ -98,12 +106,18 @@ module _ (n : ℕ) (t : List Assigned) (cs : List (List Literal)) (lists : List 
       pairs_room = let a = length_push pairs p in let b = size in let e = before.pairs_room in omega arith;
       watches = lists_all;
       first_listed = λ i lt pos. elim (cases_lt i (length cs)) [
-        | inl old ↦ subst (λ x. has_clause (get_or lists' (code_of x.first) []) i ≡ true) (sym (old_pair i old)) (lists_kept i _ (before.first_listed i old (subst (λ x. 0 < length x) (old_clause i old) pos)))
-        | inr ge ↦ let e = last i lt ge in subst (λ x. has_clause (get_or lists' (code_of x.first) []) i ≡ true) (sym (new_pair i e)) (subst (λ j. has_clause (get_or lists' (code_of p.first) []) j ≡ true) (sym e) (first_now (subst (λ x. 0 < length x) (new_clause i e) pos)))
+        | inl old ↦ subst (λ x. has_clause (get_or lists' (code_of x.first) []) i ≡ true) (sym (old_pair i old))
+            (lists_kept i _ (before.first_listed i old (subst (λ x. 0 < length x) (old_clause i old) pos)))
+        | inr ge ↦ let e = last i lt ge in
+            subst (λ x. has_clause (get_or lists' (code_of x.first) []) i ≡ true) (sym (new_pair i e))
+            (subst (λ j. has_clause (get_or lists' (code_of p.first) []) j ≡ true) (sym e) (first_now (subst (λ x. 0 < length x) (new_clause i e) pos)))
       ];
       second_listed = λ i lt pos. elim (cases_lt i (length cs)) [
-        | inl old ↦ subst (λ x. has_clause (get_or lists' (code_of x.second) []) i ≡ true) (sym (old_pair i old)) (lists_kept i _ (before.second_listed i old (subst (λ x. 0 < length x) (old_clause i old) pos)))
-        | inr ge ↦ let e = last i lt ge in subst (λ x. has_clause (get_or lists' (code_of x.second) []) i ≡ true) (sym (new_pair i e)) (subst (λ j. has_clause (get_or lists' (code_of p.second) []) j ≡ true) (sym e) (second_now (subst (λ x. 0 < length x) (new_clause i e) pos)))
+        | inl old ↦ subst (λ x. has_clause (get_or lists' (code_of x.second) []) i ≡ true) (sym (old_pair i old))
+            (lists_kept i _ (before.second_listed i old (subst (λ x. 0 < length x) (old_clause i old) pos)))
+        | inr ge ↦ let e = last i lt ge in
+            subst (λ x. has_clause (get_or lists' (code_of x.second) []) i ≡ true) (sym (new_pair i e))
+            (subst (λ j. has_clause (get_or lists' (code_of p.second) []) j ≡ true) (sym e) (second_now (subst (λ x. 0 < length x) (new_clause i e) pos)))
       ];
       each = λ i lt. inl (elim (cases_lt i (length cs)) [
         | inl old ↦
@@ -122,12 +136,14 @@ module _ (n : ℕ) (t : List Assigned) (cs : List (List Literal)) (lists : List 
       falsified_is = falsified_now;
     }
 
-  falsified_before : (o : Option ℕ) → IfSome o (λ i. (i < length cs) × (list_all (is_false t) (get_or cs i []) ≡ true)) → IfSome o (λ i. (i < length cs') × (list_all (is_false t) (get_or cs' i []) ≡ true))
+  falsified_before : (o : Option ℕ) → IfSome o (λ i. (i < length cs) × (list_all (is_false t) (get_or cs i []) ≡ true))
+      → IfSome o (λ i. (i < length cs') × (list_all (is_false t) (get_or cs' i []) ≡ true))
   falsified_before None h = tt
   falsified_before (Some i) h = let lt = h.0 in let e = size in (omega arith, ap (list_all (is_false t)) (old_clause i h.0) ∙ h.1)
 
   -- a clause with no literal
-  pub entered_empty : length c ≡ 0 → level t ≡ 0 → IsWatched t c p (eqb (length c) 1) (eqb (length c) 0) → IsWatching n t cs' lists (pairs ++ p ∷ []) units (lowest falsified m) g []
+  pub entered_empty : length c ≡ 0 → level t ≡ 0 → IsWatched t c p (eqb (length c) 1) (eqb (length c) 0)
+      → IsWatching n t cs' lists (pairs ++ p ∷ []) units (lowest falsified m) g []
   entered_empty none base w =
       entered lists units (lowest falsified m)
       (λ i k h. h) refl (λ l. all_weaker (IsWatchOf cs) (IsWatchOf cs') watch_more _ (before.watches l))
@@ -135,7 +151,12 @@ module _ (n : ℕ) (t : List Assigned) (cs : List (List Literal)) (lists : List 
       (λ i h. h) (λ i h. lowest_more falsified m i h)
       (watched_more t c p _ _ _ _ (λ e. absurd (let x = eqb-true (length c) 1 e in omega arith)) (λ _. lowest_caught falsified m) w)
       (λ i h. inl h)
-      (lowest_is (λ i. (i < length cs') × (list_all (is_false t) (get_or cs' i []) ≡ true)) falsified m (falsified_before falsified before.falsified_is) (let e = size in omega arith, ap (list_all (is_false t)) (new_clause m refl) ∙ no_literal c none))
+      (lowest_is (λ i. (i < length cs')
+      × (list_all (is_false t) (get_or cs' i []) ≡ true)) falsified m (falsified_before falsified before.falsified_is) (
+        let e = size in
+            omega arith,
+        ap (list_all (is_false t)) (new_clause m refl) ∙ no_literal c none,
+      ))
     where
       no_literal : (d : List Literal) → length d ≡ 0 → list_all (is_false t) d ≡ true
       no_literal [] e = refl
@@ -163,8 +184,11 @@ module _ (n : ℕ) (t : List Assigned) (cs : List (List Literal)) (lists : List 
     second1 : code_of p.second < length lists1
     second1 = let e = room1 in omega arith
 
-    more_both : (P : List Watch → Type 0) → ((zs : List Watch) → P zs → P (zs ++ v1 ∷ [])) → ((zs : List Watch) → P zs → P (zs ++ v2 ∷ [])) → (k : ℕ) → P (get_or lists k []) → P (get_or lists2 k [])
-    more_both P f1 f2 k h = more_at P lists1 (code_of p.second) second1 (code_of p.second) v2 second1 f2 k (more_at P lists (code_of p.first) first_room (code_of p.first) v1 first_room f1 k h)
+    more_both : (P : List Watch → Type 0) → ((zs : List Watch) → P zs → P (zs ++ v1 ∷ [])) → ((zs : List Watch) → P zs → P (zs ++ v2 ∷ [])) → (k : ℕ)
+        → P (get_or lists k []) → P (get_or lists2 k [])
+    more_both P f1 f2 k h =
+        more_at P lists1 (code_of p.second) second1 (code_of p.second) v2 second1 f2 k
+        (more_at P lists (code_of p.first) first_room (code_of p.first) v1 first_room f1 k h)
 
     is_watch : (b : Literal) → has_literal c b ≡ true → IsWatchOf cs' (watch_of m b)
     is_watch b h = record { within = let e = size in omega arith; blocker = ap (λ x. has_literal x b) (new_clause m refl) ∙ h }
@@ -174,31 +198,38 @@ module _ (n : ℕ) (t : List Assigned) (cs : List (List Literal)) (lists : List 
         entered lists2 units' falsified
         (λ i k h. more_both (λ zs. has_clause zs i ≡ true) (λ zs. more_has zs v1 i) (λ zs. more_has zs v2 i) k h)
         (length-set lists1 (code_of p.second) _ ∙ room1)
-        (λ l. more_both (AllByRecursion (IsWatchOf cs')) (λ zs. more_all (IsWatchOf cs') zs v1 (is_watch p.second (w.second_in pos))) (λ zs. more_all (IsWatchOf cs') zs v2 (is_watch p.first (w.first_in pos))) (code_of l) (all_weaker (IsWatchOf cs) (IsWatchOf cs') watch_more _ (before.watches l)))
+        (λ l. more_both (AllByRecursion (IsWatchOf cs')) (λ zs. more_all (IsWatchOf cs') zs v1 (is_watch p.second (w.second_in pos))) (λ zs.
+        more_all (IsWatchOf cs') zs v2 (is_watch p.first (w.first_in pos))) (code_of l)
+        (all_weaker (IsWatchOf cs) (IsWatchOf cs') watch_more _ (before.watches l)))
         (λ _. more_at (λ zs. has_clause zs m ≡ true) lists1 (code_of p.second) second1 (code_of p.second) v2 second1 (λ zs. more_has zs v2 m) (code_of p.first)
         (ap (λ zs. has_clause zs m) (get_or-set_same lists (code_of p.first) _ [] first_room) ∙ last_has (get_or lists (code_of p.first) []) m p.second))
         (λ _. ap (λ zs. has_clause zs m) (get_or-set_same lists1 (code_of p.second) _ [] second1) ∙ last_has (get_or lists1 (code_of p.second) []) m p.first)
         (λ i h. units_are i ∙ or_left _ _ h)
         (λ i h. h)
-        (watched_more t c p _ _ _ _ (λ e. units_are m ∙ or_right _ _ (and_from _ _ e (eq-eqb m m refl))) (λ e. absurd (let x = eqb-true (length c) 0 e in omega arith)) w)
+        (watched_more t c p _ _ _ _ (λ e. units_are m ∙ or_right _ _ (and_from _ _ e (eq-eqb m m refl))) (λ e. absurd (let x = eqb-true (length c) 0 e in
+        omega arith)) w)
         (λ i h. ⊎_elim
         (λ e. inl e)
-        (λ e. let parts : (eqb (length c) 1 ≡ true) × (eqb m i ≡ true) = and_parts _ _ e in inr (sym (eqb-true m i parts.1), p.first, single_but t c p.first (eqb-true (length c) 1 parts.0) (w.first_in pos)))
+        (λ e. let parts : (eqb (length c) 1 ≡ true) × (eqb m i ≡ true) = and_parts _ _ e in
+        inr (sym (eqb-true m i parts.1), p.first, single_but t c p.first (eqb-true (length c) 1 parts.0) (w.first_in pos)))
         (or_cases _ _ (sym (units_are i) ∙ h)))
         (falsified_before falsified before.falsified_is)
 
 -- ---- the same literals in each clause, with one more
 
-pub same_more : (cs ds : List (List Literal)) (c d : List Literal) → HaveSameLiterals cs ds → ((l : Literal) → has_literal c l ≡ has_literal d l) → length c ≡ length d → HaveSameLiterals (cs ++ c ∷ []) (ds ++ d ∷ [])
+pub same_more : (cs ds : List (List Literal)) (c d : List Literal) → HaveSameLiterals cs ds → ((l : Literal) → has_literal c l ≡ has_literal d l)
+    → length c ≡ length d → HaveSameLiterals (cs ++ c ∷ []) (ds ++ d ∷ [])
 same_more cs ds c d h same size = record {
   room = let a = length_push cs c in let b = length_push ds d in let e = h.room in omega arith;
   sizes = λ i. at (λ x y. length x ≡ length y) i (h.sizes i) size refl;
   same = λ i l. at (λ x y. has_literal x l ≡ has_literal y l) i (h.same i l) (same l) refl;
 }
   where
-    at : (R : List Literal → List Literal → Type 0) (i : ℕ) → R (get_or cs i []) (get_or ds i []) → R c d → R [] [] → R (get_or (cs ++ c ∷ []) i []) (get_or (ds ++ d ∷ []) i [])
+    at : (R : List Literal → List Literal → Type 0) (i : ℕ) → R (get_or cs i []) (get_or ds i []) → R c d → R [] []
+        → R (get_or (cs ++ c ∷ []) i []) (get_or (ds ++ d ∷ []) i [])
     at R i old new none = elim (cases_lt i (length cs)) [
-      | inl lt ↦ subst (λ x. R x (get_or (ds ++ d ∷ []) i [])) (sym (get_or_append_left cs (c ∷ []) [] i lt)) (subst (λ y. R (get_or cs i []) y) (sym (get_or_append_left ds (d ∷ []) [] i (let e = h.room in omega arith))) old)
+      | inl lt ↦ subst (λ x. R x (get_or (ds ++ d ∷ []) i [])) (sym (get_or_append_left cs (c ∷ []) [] i lt))
+          (subst (λ y. R (get_or cs i []) y) (sym (get_or_append_left ds (d ∷ []) [] i (let e = h.room in omega arith))) old)
       | inr ge ↦ elim (cases_lt (length cs) i) [
         | inl past ↦
             subst (λ x. R x (get_or (ds ++ d ∷ []) i [])) (sym (get_or_past (cs ++ c ∷ []) i [] (let a = length_push cs c in omega arith)))
@@ -210,7 +241,8 @@ same_more cs ds c d h same size = record {
     ]
 
 -- a literal of a clause has a list
-pub code_listed : (n : ℕ) (w : Watches) (clause : List Literal) (l : Literal) → length (lists_of w) ≡ 2 * n → ClauseBelow n clause → has_literal clause l ≡ true → code_of l < length w.lists.items
+pub code_listed : (n : ℕ) (w : Watches) (clause : List Literal) (l : Literal) → length (lists_of w) ≡ 2 * n → ClauseBelow n clause → has_literal clause l ≡ true
+    → code_of l < length w.lists.items
 code_listed n w clause l room below has =
     let e = length-map w.lists.items (λ v. v.items) in
     let k = code_of-below n l (each_has (λ m. variable_of m < n) clause l below has) in

@@ -1,5 +1,6 @@
 -- The numbers of a heap's values, of which the first one has the least.
-use Rattle.std.proofs.Common.{◌≡◌, ℕ, ◌<◌, ◌≤◌, true, false, eqb, ◌||◌, List, [], ◌∷◌, length, map, Option, Some, None, refl, sym, ap, ◌∙◌, subst, ⊎_elim, arith}
+use Rattle.std.proofs.Common.{◌≡◌, ℕ, ◌<◌, ◌≤◌, true, false, eqb, ◌||◌, List, [], ◌∷◌, length, map, Option, Some, None, refl, sym, ap, ◌∙◌, subst, ⊎_elim}
+use Rattle.std.proofs.Common.{arith}
 use Rattle.std.specs.Prelude.{slice_index_or, IfSome, IfNone}
 use Rattle.std.specs.List.{list_any}
 use Rattle.std.specs.List.Sorted.{IsPermutation}
@@ -35,7 +36,8 @@ module _ {X : Type 0} (f : X → ℕ) where
   first_there x [] lt e = absurd (omega arith)
   first_there x (y ∷ ys) lt e = or_left _ _ (eq-eqb _ _ (ap f (sym e)))
 
-  pub first_is_least : (x : X) (xs : List X) → 0 < length xs → x ≡ slice_index_or xs 0 x → IsUpperBound (λ a b. nat_cmp (f b) (f a)) x xs → IsLeast (map f xs) (f x)
+  pub first_is_least : (x : X) (xs : List X) → 0 < length xs → x ≡ slice_index_or xs 0 x → IsUpperBound (λ a b. nat_cmp (f b) (f a)) x xs
+      → IsLeast (map f xs) (f x)
   first_is_least x xs lt e h = record { there = first_there x xs lt e; low = λ k. below_each x xs k h }
 
   without : (x : X) (xs ys : List X) (k : ℕ) → f x ≡ k → IsPermutation xs (x ∷ ys) → IsWithout k (map f xs) (map f ys)
@@ -47,7 +49,9 @@ module _ {X : Type 0} (f : X → ℕ) where
   }
 
   -- the value that is popped has the least number
-  pub popped : (o : Option X) (xs ys : List X) (size k : ℕ) → size ≡ length xs → IsHeap (λ a b. nat_cmp (f b) (f a)) xs → IfSome o (λ x. IsPermutation xs (x ∷ ys)) → IfSome o (λ x. PopsGreatest (λ a b. nat_cmp (f b) (f a)) xs x ys) → IfNone o (size ≡ 0) → IsLeast (map f xs) k → IsWithout k (map f xs) (map f ys)
+  pub popped : (o : Option X) (xs ys : List X) (size k : ℕ) → size ≡ length xs → IsHeap (λ a b. nat_cmp (f b) (f a)) xs
+      → IfSome o (λ x. IsPermutation xs (x ∷ ys)) → IfSome o (λ x. PopsGreatest (λ a b. nat_cmp (f b) (f a)) xs x ys) → IfNone o (size ≡ 0)
+      → IsLeast (map f xs) k → IsWithout k (map f xs) (map f ys)
   popped None xs ys size k same heap permuted greatest none l = absurd (no_number xs k (sym same ∙ none) l.there)
   popped (Some x) xs ys size k same heap permuted greatest none l =
       let above = below_each x xs k (greatest heap).1 l.there in

@@ -1,8 +1,10 @@
 -- What is kept of a trail stays that of the trail.
-use Rattle.std.proofs.Common.{◌≡◌, ℕ, zero, suc, ◌+◌, ◌-◌, ◌*◌, ◌<◌, ◌≤◌, min, Bool, true, false, cond, not, ◌&&◌, ◌||◌, eqb, List, [], ◌∷◌, ◌++◌, length, reverse, get_or, set, replicate, Option, Some, None, refl, sym, ap, ◌∙◌, subst, inl, inr, ⊎_elim, ◌⊎◌, arith}
+use Rattle.std.proofs.Common.{◌≡◌, ℕ, zero, suc, ◌+◌, ◌-◌, ◌*◌, ◌<◌, ◌≤◌, min, Bool, true, false, cond, not, ◌&&◌, ◌||◌, eqb, List, [], ◌∷◌, ◌++◌, length}
+use Rattle.std.proofs.Common.{reverse, get_or, set, replicate, Option, Some, None, refl, sym, ap, ◌∙◌, subst, inl, inr, ⊎_elim, ◌⊎◌, arith}
 use Rattle.std.specs.Prelude.{unwrap_or, IfSome}
 use Rattle.std.specs.List.{find, range_with_len}
-use Rattle.std.proofs.lemmas.Bool.{both_ways, cases_eq, cases_lt, false_from_ne_true, true_from_ne_false, or_left, or_right, eq-eqb, ne_eqb, and_from, and_left, and_right}
+use Rattle.std.proofs.lemmas.Bool.{both_ways, cases_eq, cases_lt, false_from_ne_true, true_from_ne_false, or_left, or_right, eq-eqb, ne_eqb, and_from, and_left}
+use Rattle.std.proofs.lemmas.Bool.{and_right}
 use Rattle.std.proofs.lemmas.List.{get_or-set_same, get_or-set_other, length-set, get_or_past, get_or-replicate, length-replicate, reverse-append}
 use Rattle.cqe_base.specs.Literal.{Literal, Positive, Negative, variable_of, same_literal}
 use Rattle.cqe_base.specs.Machine.{Assigned, assigned_literal, is_true, level, level_of, first_unassigned}
@@ -26,7 +28,8 @@ pub unassigned-level : (t : List Assigned) (v : ℕ) → is_assigned t v ≡ fal
 unassigned-level [] v h = refl
 unassigned-level (a ∷ t) v h = step (λ e. unassigned-level t v e) (eqb v (variable_of (assigned_literal a))) h
   where
-    step : (is_assigned t v ≡ false → level_of t (Positive v) ≡ 0) → (b : Bool) → (b || is_assigned t v) ≡ false → cond b (level (a ∷ t)) (level_of t (Positive v)) ≡ 0
+    step : (is_assigned t v ≡ false → level_of t (Positive v) ≡ 0) → (b : Bool) → (b || is_assigned t v) ≡ false
+        → cond b (level (a ∷ t)) (level_of t (Positive v)) ≡ 0
     step go true e = absurd (both_ways true e refl)
     step go false e = go e
 
@@ -51,7 +54,9 @@ pub assigned-true : (t : List Assigned) (v : ℕ) → is_assigned t v ≡ true �
 assigned-true [] v h = absurd (both_ways false refl h)
 assigned-true (a ∷ t) v h = step (λ e. assigned-true t v e) (assigned_literal a) (eqb v (variable_of (assigned_literal a))) refl h
   where
-    step : (is_assigned t v ≡ true → (is_true t (Positive v) ≡ true) ⊎ (is_true t (Negative v) ≡ true)) → (m : Literal) (b : Bool) → eqb v (variable_of m) ≡ b → (b || is_assigned t v) ≡ true → ((same_literal (Positive v) m || is_true t (Positive v)) ≡ true) ⊎ ((same_literal (Negative v) m || is_true t (Negative v)) ≡ true)
+    step : (is_assigned t v ≡ true → (is_true t (Positive v) ≡ true) ⊎ (is_true t (Negative v) ≡ true)) → (m : Literal) (b : Bool) → eqb v (variable_of m) ≡ b
+        → (b || is_assigned t v) ≡ true → ((same_literal (Positive v) m || is_true t (Positive v)) ≡ true)
+        ⊎ ((same_literal (Negative v) m || is_true t (Negative v)) ≡ true)
     step go (Positive w) true e h = inl (or_left _ _ e)
     step go (Negative w) true e h = inr (or_left _ _ e)
     step go m false e h = ⊎_elim (λ u. inl (or_right _ _ u)) (λ u. inr (or_right _ _ u)) (go h)
@@ -75,10 +80,12 @@ module _ (p : ℕ → Bool) where
   find_range-some zero s i lo hi e h = absurd (omega arith)
   find_range-some (suc n) s i lo hi e h = elim (cases_eq s i) [
     | inl same ↦ ap (λ b. cond b (Some s) (find p (range_with_len (s + 1) n))) (subst (λ x. p x ≡ true) (sym same) e) ∙ ap Some same
-    | inr other ↦ ap (λ b. cond b (Some s) (find p (range_with_len (s + 1) n))) (h s (omega arith) (omega arith)) ∙ find_range-some n (s + 1) i (omega arith) (omega arith) e (λ k l2 h2. h k (omega arith) h2)
+    | inr other ↦ ap (λ b. cond b (Some s) (find p (range_with_len (s + 1) n))) (h s (omega arith) (omega arith))
+        ∙ find_range-some n (s + 1) i (omega arith) (omega arith) e (λ k l2 h2. h k (omega arith) h2)
   ]
 
-module _ (n : ℕ) (t : List Assigned) (truths : List Bool) (levels places : List ℕ) (decisions next : ℕ) (kept : IsKept n t truths levels places decisions next) where
+module _ (n : ℕ) (t : List Assigned) (truths : List Bool) (levels places : List ℕ) (decisions next : ℕ)
+    (kept : IsKept n t truths levels places decisions next) where
   -- a variable whose place isn't 0 is assigned
   placed : (v : ℕ) → (get_or places v 0 ≡ 0 → ⊥) → is_assigned t v ≡ true
   placed v h = true_from_ne_false _ (λ e. h (kept.place_at v ∙ unassigned-place t v e))
@@ -95,10 +102,11 @@ module _ (n : ℕ) (t : List Assigned) (truths : List Bool) (levels places : Lis
     | inl low ↦ kept.assigned_below k low
     | inr high ↦ placed k (h k high (omega arith))
   ])))
-  first_open (Some i) h = sym (find_range-some (λ v. not (is_true t (Positive v)) && not (is_true t (Negative v))) n 0 i (omega arith) (let x = h.1 in omega arith) (open_test t i ∙ ap not (unplaced i h.2)) (λ k lo hi. taken k (elim (cases_lt k next) [
-    | inl low ↦ kept.assigned_below k low
-    | inr high ↦ placed k (h.3 k high hi)
-  ])))
+  first_open (Some i) h = sym (find_range-some (λ v. not (is_true t (Positive v)) && not (is_true t (Negative v))) n 0 i (omega arith) (let x = h.1 in
+      omega arith) (open_test t i ∙ ap not (unplaced i h.2)) (λ k lo hi. taken k (elim (cases_lt k next) [
+        | inl low ↦ kept.assigned_below k low
+        | inr high ↦ placed k (h.3 k high hi)
+      ])))
 
   pub first_below : (r : Option ℕ) → IsFirstZero places next n r → IfSome r (λ v. v < n)
   first_below None h = tt
@@ -141,7 +149,8 @@ module _ (n : ℕ) (t : List Assigned) (truths : List Bool) (levels places : Lis
   }
 
   -- one more entry
-  pub kept_push : (a : Assigned) (c v size more : ℕ) → c ≡ code_of (assigned_literal a) → v ≡ variable_of (assigned_literal a) → size ≡ length t + 1 → more ≡ level (a ∷ t) → v < n → is_assigned t v ≡ false
+  pub kept_push : (a : Assigned) (c v size more : ℕ) → c ≡ code_of (assigned_literal a) → v ≡ variable_of (assigned_literal a) → size ≡ length t + 1
+      → more ≡ level (a ∷ t) → v < n → is_assigned t v ≡ false
       → IsKept n (a ∷ t) (set truths c true) (set levels v more) (set places v size) more next
   kept_push a c v size more ec ev es em low free = record {
     once = (subst (λ x. x < n) ev low, subst (λ x. is_assigned t x ≡ false) ev free, kept.once);
@@ -149,16 +158,22 @@ module _ (n : ℕ) (t : List Assigned) (truths : List Bool) (levels places : Lis
     levels_room = length-set levels v more ∙ kept.levels_room;
     places_room = length-set places v size ∙ kept.places_room;
     true_at = λ l. elim (cases_eq (code_of l) c) [
-      | inl same ↦ subst (λ x. get_or (set truths c true) x false ≡ true) (sym same) (get_or-set_same truths c true false in_truths) ∙ sym (or_left _ _ (subst (λ m. same_literal l m ≡ true) (code_of-injective l (assigned_literal a) (same ∙ ec)) (same_literal-same l)))
-      | inr other ↦ get_or-set_other truths c (code_of l) true false other ∙ kept.true_at l ∙ sym (ap (λ b. b || is_true t l) (false_from_ne_true _ (λ s. other (ap code_of (same_literal-true l (assigned_literal a) s) ∙ sym ec))))
+      | inl same ↦ subst (λ x. get_or (set truths c true) x false ≡ true) (sym same) (get_or-set_same truths c true false in_truths)
+          ∙ sym (or_left _ _ (subst (λ m. same_literal l m ≡ true) (code_of-injective l (assigned_literal a) (same ∙ ec)) (same_literal-same l)))
+      | inr other ↦ get_or-set_other truths c (code_of l) true false other ∙ kept.true_at l
+          ∙ sym (ap (λ b. b || is_true t l) (false_from_ne_true _ (λ s. other (ap code_of (same_literal-true l (assigned_literal a) s) ∙ sym ec))))
     ];
     level_at = λ w. elim (cases_eq w v) [
-      | inl same ↦ subst (λ x. get_or (set levels v more) x 0 ≡ more) (sym same) (get_or-set_same levels v more 0 in_levels) ∙ em ∙ sym (ap (λ b. cond b (level (a ∷ t)) (level_of t (Positive w))) (eq-eqb _ _ (same ∙ ev)))
-      | inr other ↦ get_or-set_other levels v w more 0 other ∙ kept.level_at w ∙ sym (ap (λ b. cond b (level (a ∷ t)) (level_of t (Positive w))) (ne_eqb _ _ (λ e. other (e ∙ sym ev))))
+      | inl same ↦ subst (λ x. get_or (set levels v more) x 0 ≡ more) (sym same) (get_or-set_same levels v more 0 in_levels) ∙ em
+          ∙ sym (ap (λ b. cond b (level (a ∷ t)) (level_of t (Positive w))) (eq-eqb _ _ (same ∙ ev)))
+      | inr other ↦ get_or-set_other levels v w more 0 other ∙ kept.level_at w
+          ∙ sym (ap (λ b. cond b (level (a ∷ t)) (level_of t (Positive w))) (ne_eqb _ _ (λ e. other (e ∙ sym ev))))
     ];
     place_at = λ w. elim (cases_eq w v) [
-      | inl same ↦ subst (λ x. get_or (set places v size) x 0 ≡ size) (sym same) (get_or-set_same places v size 0 in_places) ∙ es ∙ (let x : length t + 1 ≡ suc (length t) = omega arith in x) ∙ sym (ap (λ b. cond b (suc (length t)) (place_of t w)) (eq-eqb _ _ (same ∙ ev)))
-      | inr other ↦ get_or-set_other places v w size 0 other ∙ kept.place_at w ∙ sym (ap (λ b. cond b (suc (length t)) (place_of t w)) (ne_eqb _ _ (λ e. other (e ∙ sym ev))))
+      | inl same ↦ subst (λ x. get_or (set places v size) x 0 ≡ size) (sym same) (get_or-set_same places v size 0 in_places) ∙ es
+          ∙ (let x : length t + 1 ≡ suc (length t) = omega arith in x) ∙ sym (ap (λ b. cond b (suc (length t)) (place_of t w)) (eq-eqb _ _ (same ∙ ev)))
+      | inr other ↦ get_or-set_other places v w size 0 other ∙ kept.place_at w
+          ∙ sym (ap (λ b. cond b (suc (length t)) (place_of t w)) (ne_eqb _ _ (λ e. other (e ∙ sym ev))))
     ];
     level_is = em;
     assigned_below = λ w low. assigned_more w (kept.assigned_below w low);
@@ -178,7 +193,9 @@ module _ (n : ℕ) (t : List Assigned) (truths : List Bool) (levels places : Lis
       assigned_more w e = or_right _ _ e
 
 -- without the latest entry
-pub kept_pop : (n : ℕ) (a : Assigned) (t : List Assigned) (truths : List Bool) (levels places : List ℕ) (decisions next c v less low : ℕ) → IsKept n (a ∷ t) truths levels places decisions next → c ≡ code_of (assigned_literal a) → v ≡ variable_of (assigned_literal a) → less ≡ cond (is_decided a) (decisions - 1) decisions → low ≡ min next v
+pub kept_pop : (n : ℕ) (a : Assigned) (t : List Assigned) (truths : List Bool) (levels places : List ℕ) (decisions next c v less low : ℕ)
+    → IsKept n (a ∷ t) truths levels places decisions next → c ≡ code_of (assigned_literal a) → v ≡ variable_of (assigned_literal a)
+    → less ≡ cond (is_decided a) (decisions - 1) decisions → low ≡ min next v
     → IsKept n t (set truths c false) (set levels v 0) (set places v 0) less low
 kept_pop n a t truths levels places decisions next c v less low kept ec ev el ew = record {
   once = kept.once.2;
@@ -186,19 +203,26 @@ kept_pop n a t truths levels places decisions next c v less low kept ec ev el ew
   levels_room = length-set levels v 0 ∙ kept.levels_room;
   places_room = length-set places v 0 ∙ kept.places_room;
   true_at = λ l. elim (cases_eq (code_of l) c) [
-    | inl same ↦ subst (λ x. get_or (set truths c false) x false ≡ false) (sym same) (get_or-set_same truths c false false in_truths) ∙ sym (unassigned-true t l (subst (λ m. is_assigned t (variable_of m) ≡ false) (sym (code_of-injective l (assigned_literal a) (same ∙ ec))) free))
-    | inr other ↦ get_or-set_other truths c (code_of l) false false other ∙ kept.true_at l ∙ ap (λ b. b || is_true t l) (false_from_ne_true _ (λ s. other (ap code_of (same_literal-true l (assigned_literal a) s) ∙ sym ec)))
+    | inl same ↦ subst (λ x. get_or (set truths c false) x false ≡ false) (sym same) (get_or-set_same truths c false false in_truths)
+        ∙ sym (unassigned-true t l (subst (λ m. is_assigned t (variable_of m) ≡ false) (sym (code_of-injective l (assigned_literal a) (same ∙ ec))) free))
+    | inr other ↦ get_or-set_other truths c (code_of l) false false other ∙ kept.true_at l
+        ∙ ap (λ b. b || is_true t l) (false_from_ne_true _ (λ s. other (ap code_of (same_literal-true l (assigned_literal a) s) ∙ sym ec)))
   ];
   level_at = λ w. elim (cases_eq w v) [
-    | inl same ↦ subst (λ x. get_or (set levels v 0) x 0 ≡ 0) (sym same) (get_or-set_same levels v 0 0 in_levels) ∙ sym (unassigned-level t w (subst (λ x. is_assigned t x ≡ false) (sym (same ∙ ev)) free))
-    | inr other ↦ get_or-set_other levels v w 0 0 other ∙ kept.level_at w ∙ ap (λ b. cond b (level (a ∷ t)) (level_of t (Positive w))) (ne_eqb _ _ (λ e. other (e ∙ sym ev)))
+    | inl same ↦ subst (λ x. get_or (set levels v 0) x 0 ≡ 0) (sym same) (get_or-set_same levels v 0 0 in_levels)
+        ∙ sym (unassigned-level t w (subst (λ x. is_assigned t x ≡ false) (sym (same ∙ ev)) free))
+    | inr other ↦ get_or-set_other levels v w 0 0 other ∙ kept.level_at w
+        ∙ ap (λ b. cond b (level (a ∷ t)) (level_of t (Positive w))) (ne_eqb _ _ (λ e. other (e ∙ sym ev)))
   ];
   place_at = λ w. elim (cases_eq w v) [
-    | inl same ↦ subst (λ x. get_or (set places v 0) x 0 ≡ 0) (sym same) (get_or-set_same places v 0 0 in_places) ∙ sym (unassigned-place t w (subst (λ x. is_assigned t x ≡ false) (sym (same ∙ ev)) free))
-    | inr other ↦ get_or-set_other places v w 0 0 other ∙ kept.place_at w ∙ ap (λ b. cond b (suc (length t)) (place_of t w)) (ne_eqb _ _ (λ e. other (e ∙ sym ev)))
+    | inl same ↦ subst (λ x. get_or (set places v 0) x 0 ≡ 0) (sym same) (get_or-set_same places v 0 0 in_places)
+        ∙ sym (unassigned-place t w (subst (λ x. is_assigned t x ≡ false) (sym (same ∙ ev)) free))
+    | inr other ↦ get_or-set_other places v w 0 0 other ∙ kept.place_at w
+        ∙ ap (λ b. cond b (suc (length t)) (place_of t w)) (ne_eqb _ _ (λ e. other (e ∙ sym ev)))
   ];
   level_is = el ∙ lower (is_decided a) (kept.level_is ∙ level-cons a t);
-  assigned_below = λ w lt. subst (λ b. (b || is_assigned t w) ≡ true) (ne_eqb _ _ (λ e. apart (omega arith) (e ∙ sym ev))) (kept.assigned_below w (omega arith));
+  assigned_below =
+      λ w lt. subst (λ b. (b || is_assigned t w) ≡ true) (ne_eqb _ _ (λ e. apart (omega arith) (e ∙ sym ev))) (kept.assigned_below w (omega arith));
   next_room = let r = kept.next_room in omega arith;
 }
   where
@@ -225,7 +249,8 @@ kept_pop n a t truths levels places decisions next c v less low kept ec ev el ew
     lower false e = e
 
 replicate_at : {X : Type 0} (n i : ℕ) (x : X) → get_or (replicate n x) i x ≡ x
-replicate_at n i x = elim (cases_lt i n) [ inl low ↦ get_or-replicate n i x x low | inr high ↦ get_or_past (replicate n x) i x (let e = length-replicate n x in omega arith) ]
+replicate_at n i x =
+    elim (cases_lt i n) [ inl low ↦ get_or-replicate n i x x low | inr high ↦ get_or_past (replicate n x) i x (let e = length-replicate n x in omega arith) ]
 
 -- nothing is assigned
 pub kept_none : (n : ℕ) → IsKept n [] (replicate (2 * n) false) (replicate n 0) (replicate n 0) 0 0
@@ -247,13 +272,21 @@ pub reverse_push : {X : Type 0} (xs : List X) (x : X) → reverse (xs ++ x ∷ [
 reverse_push xs x = reverse-append xs (x ∷ [])
 
 -- the same of fields
-pub kept_with : (n : ℕ) (t u : List Assigned) (truths : List Bool) (levels places : List ℕ) (decisions next : ℕ) → t ≡ u → IsKept n t truths levels places decisions next → IsKept n u truths levels places decisions next
+pub kept_with : (n : ℕ) (t u : List Assigned) (truths : List Bool) (levels places : List ℕ) (decisions next : ℕ) → t ≡ u
+    → IsKept n t truths levels places decisions next → IsKept n u truths levels places decisions next
 kept_with n t u truths levels places decisions next e h = subst (λ w. IsKept n w truths levels places decisions next) e h
 
-pub pop_kept : (n : ℕ) (a : Assigned) (xs t : List Assigned) (truths : List Bool) (levels places : List ℕ) (decisions next c v less low : ℕ) → reverse xs ≡ a ∷ t → IsKept n (reverse xs) truths levels places decisions next → c ≡ code_of (assigned_literal a) → v ≡ variable_of (assigned_literal a) → less ≡ cond (is_decided a) (decisions - 1) decisions → low ≡ min next v
+pub pop_kept : (n : ℕ) (a : Assigned) (xs t : List Assigned) (truths : List Bool) (levels places : List ℕ) (decisions next c v less low : ℕ)
+    → reverse xs ≡ a ∷ t → IsKept n (reverse xs) truths levels places decisions next → c ≡ code_of (assigned_literal a) → v ≡ variable_of (assigned_literal a)
+    → less ≡ cond (is_decided a) (decisions - 1) decisions → low ≡ min next v
     → IsKept n t (set truths c false) (set levels v 0) (set places v 0) less low
-pop_kept n a xs t truths levels places decisions next c v less low e kept = kept_pop n a t truths levels places decisions next c v less low (kept_with n (reverse xs) (a ∷ t) truths levels places decisions next e kept)
+pop_kept n a xs t truths levels places decisions next c v less low e kept =
+    kept_pop n a t truths levels places decisions next c v less low (kept_with n (reverse xs) (a ∷ t) truths levels places decisions next e kept)
 
-pub push_kept : (n : ℕ) (t : List Assigned) (truths : List Bool) (levels places : List ℕ) (decisions next : ℕ) → IsKept n t truths levels places decisions next → (a : Assigned) (xs : List Assigned) (c v size more : ℕ) → xs ≡ a ∷ t → c ≡ code_of (assigned_literal a) → v ≡ variable_of (assigned_literal a) → size ≡ length t + 1 → more ≡ level (a ∷ t) → v < n → is_assigned t v ≡ false
+pub push_kept : (n : ℕ) (t : List Assigned) (truths : List Bool) (levels places : List ℕ) (decisions next : ℕ) → IsKept n t truths levels places decisions next
+    → (a : Assigned) (xs : List Assigned) (c v size more : ℕ) → xs ≡ a ∷ t → c ≡ code_of (assigned_literal a) → v ≡ variable_of (assigned_literal a)
+    → size ≡ length t + 1 → more ≡ level (a ∷ t) → v < n → is_assigned t v ≡ false
     → IsKept n xs (set truths c true) (set levels v more) (set places v size) more next
-push_kept n t truths levels places decisions next kept a xs c v size more e ec ev es em low free = kept_with n (a ∷ t) xs (set truths c true) (set levels v more) (set places v size) more next (sym e) (kept_push n t truths levels places decisions next kept a c v size more ec ev es em low free)
+push_kept n t truths levels places decisions next kept a xs c v size more e ec ev es em low free =
+    kept_with n (a ∷ t) xs (set truths c true) (set levels v more) (set places v size) more next (sym e)
+    (kept_push n t truths levels places decisions next kept a c v size more ec ev es em low free)

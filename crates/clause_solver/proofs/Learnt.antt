@@ -20,7 +20,8 @@ all_one (x ∷ y ∷ c) l r h =
     let b : y ≡ l = h y (or_right _ _ (or_left _ _ (same_literal-same y))) in
     absurd (both_ways _ r.0 (or_left _ _ (subst (λ z. same_literal x z ≡ true) (a ∙ sym b) (same_literal-same x))))
 
-module _ (n num k : ℕ) (t : List Assigned) (c : List Literal) (l m : Literal) (d : IsDistinct n t) (g : GoesBack n t k c l) (once : HasNoRepeat c) (h : IsHighestBeside t c l m) where
+module _ (n num k : ℕ) (t : List Assigned) (c : List Literal) (l m : Literal) (d : IsDistinct n t) (g : GoesBack n t k c l) (once : HasNoRepeat c)
+    (h : IsHighestBeside t c l m) where
   abbrev now : List Assigned
   now = Because num l ∷ cut k t
 
@@ -37,7 +38,8 @@ module _ (n num k : ℕ) (t : List Assigned) (c : List Literal) (l m : Literal) 
   m_level f = elim (eqb (variable_of m) (variable_of l)) as (λ b. eqb (variable_of m) (variable_of l) ≡ b → level now ≤ level_of now m) [
     | true ↦ λ e. let same = ap (λ b. cond b (level now) (level_of (cut k t) m)) e in omega arith
     | false ↦ λ e.
-        let rest : is_false (cut k t) m ≡ true = false_on_rest (Because num l) (cut k t) m f (λ s. both_ways _ e (eq-eqb _ _ (ap variable_of s ∙ variable_of-opposite l))) in
+        let rest : is_false (cut k t) m ≡ true =
+        false_on_rest (Because num l) (cut k t) m f (λ s. both_ways _ e (eq-eqb _ _ (ap variable_of s ∙ variable_of-opposite l))) in
         let there = false_is_assigned (cut k t) m rest in
         let same = ap (λ b. cond b (level now) (level_of (cut k t) m)) e in
         let old = cut_suffix n k t d m there in
@@ -71,7 +73,8 @@ module _ (n num k : ℕ) (t : List Assigned) (c : List Literal) (l m : Literal) 
   }
 
 -- one more literal beside another one
-pub beside_more : (t : List Assigned) (c : List Literal) (l h o r : Literal) → IsHighestBeside t c l h → (r ≡ h) ⊎ (r ≡ o) → (o ≡ l) ⊎ ((r ≡ l → ⊥) × (level_of t o ≤ level_of t r)) → (h ≡ l) ⊎ ((r ≡ l → ⊥) × (level_of t h ≤ level_of t r)) → IsHighestBeside t (c ++ o ∷ []) l r
+pub beside_more : (t : List Assigned) (c : List Literal) (l h o r : Literal) → IsHighestBeside t c l h → (r ≡ h) ⊎ (r ≡ o) → (o ≡ l)
+    ⊎ ((r ≡ l → ⊥) × (level_of t o ≤ level_of t r)) → (h ≡ l) ⊎ ((r ≡ l → ⊥) × (level_of t h ≤ level_of t r)) → IsHighestBeside t (c ++ o ∷ []) l r
 beside_more t c l h o r v either higher kept = record {
   inside = ⊎_elim
       (λ e. ⊎_elim (λ s. inl (e ∙ s)) (λ s. inr (has_more r (or_left _ _ (ap (has_literal c) e ∙ s)))) v.inside)
@@ -88,7 +91,11 @@ beside_more t c l h o r v either higher kept = record {
     has_more x h = list_any-append (same_literal x) c (o ∷ []) ∙ h
 
 -- a clause is watched by its first two literals where nothing is assigned
-pub given_watched : (c : List Literal) → HasNoRepeat c → IsWatched [] c (record { first = (first_two c).0; second = (first_two c).1 }) (eqb (length c) 1) (eqb (length c) 0)
+pub given_watched : (c : List Literal) → HasNoRepeat c → IsWatched [] c (record {
+  first =
+      (first_two c).0;
+  second = (first_two c).1;
+}) (eqb (length c) 1) (eqb (length c) 0)
 given_watched [] r = record {
   first_in = λ pos. absurd (omega arith);
   second_in = λ pos. absurd (omega arith);

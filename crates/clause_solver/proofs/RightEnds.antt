@@ -10,7 +10,8 @@ use Rattle.clause_solver.specs.PlainStates.{found_of}
 use Rattle.clause_solver.specs.RightEnds.{IsRightFound}
 
 -- an end that is found within a budget is the machine's, and each of those is right
-pub right_found : BudgetIsWholeCost → MachineEndsAreRight → (clauses : List (List Literal)) (variables budget : ℕ) (found : Found) → ClausesBelow variables clauses → HaveNoRepeat clauses
+pub right_found : BudgetIsWholeCost → MachineEndsAreRight → (clauses : List (List Literal)) (variables budget : ℕ) (found : Found)
+    → ClausesBelow variables clauses → HaveNoRepeat clauses
     → found_of found ≡ end_within_budget clauses variables budget → IsRightFound clauses found
 right_found whole right clauses variables budget (Model signs) below no_repeat is =
     let ended = (whole clauses variables budget (ModelEnd signs.values.items)).0 (sym is) in

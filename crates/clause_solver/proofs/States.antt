@@ -1,8 +1,10 @@
 -- What the watched literals say of the falsified and of the unit clauses.
-use Rattle.std.proofs.Common.{◌≡◌, ℕ, zero, suc, ◌+◌, ◌<◌, ◌≤◌, Bool, true, false, cond, not, ◌&&◌, List, [], ◌∷◌, length, get_or, Option, Some, None, refl, sym, ap, ◌∙◌, subst, inl, inr, ⊎_elim, ◌⊎◌, arith}
+use Rattle.std.proofs.Common.{◌≡◌, ℕ, zero, suc, ◌+◌, ◌<◌, ◌≤◌, Bool, true, false, cond, not, ◌&&◌, List, [], ◌∷◌, length, get_or, Option, Some, None, refl}
+use Rattle.std.proofs.Common.{sym, ap, ◌∙◌, subst, inl, inr, ⊎_elim, ◌⊎◌, arith}
 use Rattle.std.specs.Prelude.{IfSome}
 use Rattle.std.specs.List.{list_all, filter, position_from}
-use Rattle.std.proofs.lemmas.Bool.{both_ways, or_parts, cases_eq, cases_lt, false_from_ne_true, or_cases, or_left, or_right, and_parts, and_from, leb-true, not-true}
+use Rattle.std.proofs.lemmas.Bool.{both_ways, or_parts, cases_eq, cases_lt, false_from_ne_true, or_cases, or_left, or_right, and_parts, and_from, leb-true}
+use Rattle.std.proofs.lemmas.Bool.{not-true}
 use Rattle.cqe_base.specs.Literal.{Literal, same_literal, has_literal, HasNoRepeat, HaveNoRepeat}
 use Rattle.cqe_base.specs.Machine.{Assigned, is_true, is_false, level, unit_literal, only_literal, first_unit, unit_or}
 use Rattle.cqe_base.specs.MachineStates.{IsDistinct}
@@ -12,7 +14,8 @@ use Rattle.cqe_base.proofs.MachineRules.{IsUnit, is_unit, each_has}
 use Rattle.cqe_base.proofs.NoRepeats.{no_repeat_at}
 use Rattle.clause_solver.specs.declared.watches.Pair.{Pair}
 use Rattle.clause_solver.specs.declared.watches.Watch.{Watch}
-use Rattle.clause_solver.specs.Watching.{HasTrue, IsAnswered, satisfied, is_unit as answered_unit, is_falsified, IsWatched, IsWatching, AllFalseBut, has_number, is_caught, no_pair, IsOpenOf, AreClosed, HaveSameLiterals}
+use Rattle.clause_solver.specs.Watching.{HasTrue, IsAnswered, satisfied, is_unit as answered_unit, is_falsified, IsWatched, IsWatching, AllFalseBut, has_number}
+use Rattle.clause_solver.specs.Watching.{is_caught, no_pair, IsOpenOf, AreClosed, HaveSameLiterals}
 use Rattle.clause_solver.proofs.Watching.{watched_more}
 
 -- ---- literals of a clause
@@ -62,10 +65,13 @@ module _ (n : ℕ) (t : List Assigned) (d : IsDistinct n t) (c : List Literal) (
       off = false_from_ne_true _ (λ h. both_ways _ is.unassigned (true_is_assigned t l h))
 
       other : (m : Literal) → has_literal c m ≡ true → same_literal m l ≡ false → is_false t m ≡ true
-      other m h e = ⊎_elim (λ s. absurd (both_ways _ e (subst (λ x. same_literal m x ≡ true) s (same_literal-same m)))) (λ f. f) (each_has (λ m. (m ≡ l) ⊎ (is_false t m ≡ true)) c m is.cause.others h)
+      other m h e = ⊎_elim (λ s. absurd (both_ways _ e (subst (λ x. same_literal m x ≡ true) s (same_literal-same m)))) (λ f. f)
+          (each_has (λ m. (m ≡ l) ⊎ (is_false t m ≡ true)) c m is.cause.others h)
 
       answer : {k : ℕ} {m : Literal} → IsAnswered t c u q k m → u ≡ true
-      answer (satisfied g) = absurd (⊎_elim (λ s. both_ways _ off (subst (λ x. is_true t x ≡ true) s g.holds)) (λ f. not_both n t g.literal d g.holds f) (each_has (λ m. (m ≡ l) ⊎ (is_false t m ≡ true)) c g.literal is.cause.others g.has))
+      answer (satisfied g) =
+          absurd (⊎_elim (λ s. both_ways _ off (subst (λ x. is_true t x ≡ true) s g.holds)) (λ f. not_both n t g.literal d g.holds f)
+          (each_has (λ m. (m ≡ l) ⊎ (is_false t m ≡ true)) c g.literal is.cause.others g.has))
       answer (answered_unit e o g) = g
       answer (is_falsified e g) = absurd (both_ways _ free g)
 
@@ -111,7 +117,8 @@ module _ (n : ℕ) (t : List Assigned) (d : IsDistinct n t) (c : List Literal) (
 
 -- ---- the first place of a test
 
-pub position_at : (p : List Literal → Bool) (cs : List (List Literal)) (s i : ℕ) → i < length cs → p (get_or cs i []) ≡ true → ((k : ℕ) → k < i → p (get_or cs k []) ≡ false) → position_from p s cs ≡ Some (s + i)
+pub position_at : (p : List Literal → Bool) (cs : List (List Literal)) (s i : ℕ) → i < length cs → p (get_or cs i []) ≡ true
+    → ((k : ℕ) → k < i → p (get_or cs k []) ≡ false) → position_from p s cs ≡ Some (s + i)
 position_at p [] s i lt h before = absurd (omega arith)
 position_at p (c ∷ cs) s zero lt h before = ap (λ b. cond b (Some s) (position_from p (s + 1) cs)) h ∙ ap Some (let e : s ≡ s + 0 = omega arith in e)
 position_at p (c ∷ cs) s (suc i) lt h before =
@@ -119,12 +126,14 @@ position_at p (c ∷ cs) s (suc i) lt h before =
     ∙ position_at p cs (s + 1) i (omega arith) h (λ k l. before (suc k) (omega arith))
     ∙ ap Some (let e : s + 1 + i ≡ s + suc i = omega arith in e)
 
-pub position_nowhere : (p : List Literal → Bool) (cs : List (List Literal)) (s : ℕ) → ((k : ℕ) → k < length cs → p (get_or cs k []) ≡ false) → position_from p s cs ≡ None
+pub position_nowhere : (p : List Literal → Bool) (cs : List (List Literal)) (s : ℕ) → ((k : ℕ) → k < length cs → p (get_or cs k []) ≡ false)
+    → position_from p s cs ≡ None
 position_nowhere p [] s h = refl
 position_nowhere p (c ∷ cs) s h =
     ap (λ b. cond b (Some s) (position_from p (s + 1) cs)) (h 0 (omega arith)) ∙ position_nowhere p cs (s + 1) (λ k lt. h (suc k) (omega arith))
 
-pub unit_at_place : (t : List Assigned) (cs : List (List Literal)) (s i : ℕ) (l : Literal) → i < length cs → unit_literal t (get_or cs i []) ≡ Some l → ((k : ℕ) → k < i → unit_literal t (get_or cs k []) ≡ None) → first_unit t s cs ≡ Some (s + i, l)
+pub unit_at_place : (t : List Assigned) (cs : List (List Literal)) (s i : ℕ) (l : Literal) → i < length cs → unit_literal t (get_or cs i []) ≡ Some l
+    → ((k : ℕ) → k < i → unit_literal t (get_or cs k []) ≡ None) → first_unit t s cs ≡ Some (s + i, l)
 unit_at_place t [] s i l lt h before = absurd (omega arith)
 unit_at_place t (c ∷ cs) s zero l lt h before = ap (λ o. unit_or s o (first_unit t (s + 1) cs)) h ∙ ap (λ k. Some (k, l)) (let e : s ≡ s + 0 = omega arith in e)
 unit_at_place t (c ∷ cs) s (suc i) l lt h before =
@@ -132,7 +141,8 @@ unit_at_place t (c ∷ cs) s (suc i) l lt h before =
     ∙ unit_at_place t cs (s + 1) i l (omega arith) h (λ k m. before (suc k) (omega arith))
     ∙ ap (λ k. Some (k, l)) (let e : s + 1 + i ≡ s + suc i = omega arith in e)
 
-pub unit_nowhere : (t : List Assigned) (cs : List (List Literal)) (s : ℕ) → ((k : ℕ) → k < length cs → unit_literal t (get_or cs k []) ≡ None) → first_unit t s cs ≡ None
+pub unit_nowhere : (t : List Assigned) (cs : List (List Literal)) (s : ℕ) → ((k : ℕ) → k < length cs → unit_literal t (get_or cs k []) ≡ None)
+    → first_unit t s cs ≡ None
 unit_nowhere t [] s h = refl
 unit_nowhere t (c ∷ cs) s h =
     ap (λ o. unit_or s o (first_unit t (s + 1) cs)) (h 0 (omega arith)) ∙ unit_nowhere t cs (s + 1) (λ k lt. h (suc k) (omega arith))
@@ -150,7 +160,8 @@ none_left t l (x ∷ c) h m =
     (λ f. ap (λ b. cond (not b) (x ∷ filter (not_false t) c) (filter (not_false t) c)) f ∙ none_left t l c h.1 parts.1)
     h.0
 
-one_left : (t : List Assigned) (l : Literal) (c : List Literal) → AllFalseBut t l c → HasNoRepeat c → is_false t l ≡ false → has_literal c l ≡ true → filter (not_false t) c ≡ l ∷ []
+one_left : (t : List Assigned) (l : Literal) (c : List Literal) → AllFalseBut t l c → HasNoRepeat c → is_false t l ≡ false → has_literal c l ≡ true
+    → filter (not_false t) c ≡ l ∷ []
 one_left t l [] h r free m = absurd (both_ways false refl m)
 one_left t l (x ∷ c) h r free m = elim (same_literal x l) as (λ b. same_literal x l ≡ b → filter (not_false t) (x ∷ c) ≡ l ∷ []) [
   | true ↦ λ e.
@@ -171,7 +182,8 @@ each_but t l (x ∷ c) h = (h x (or_left _ _ (same_literal-same x)), each_but t 
 
 -- ---- all clauses
 
-module _ (n : ℕ) (t : List Assigned) (d : IsDistinct n t) (cs ds : List (List Literal)) (same : HaveSameLiterals cs ds) (lists : List (List Watch)) (pairs : List Pair) (units : List ℕ) (falsified : Option ℕ) (g : Literal)
+module _ (n : ℕ) (t : List Assigned) (d : IsDistinct n t) (cs ds : List (List Literal)) (same : HaveSameLiterals cs ds) (lists : List (List Watch))
+    (pairs : List Pair) (units : List ℕ) (falsified : Option ℕ) (g : Literal)
     (w : IsWatching n t ds lists pairs units falsified g []) where
   watched : (i : ℕ) → i < length ds → IsWatched t (get_or ds i []) (get_or pairs i no_pair) (has_number units i) (is_caught falsified i)
   watched i lt = ⊎_elim (λ x. x) (λ h. absurd (both_ways false refl h.0)) (w.each i lt)
@@ -190,9 +202,12 @@ module _ (n : ℕ) (t : List Assigned) (d : IsDistinct n t) (cs ds : List (List 
 
   -- the least falsified clause is the first one
   pub first_falsified : (o : Option ℕ) → o ≡ falsified → o ≡ position_from (list_all (is_false t)) 0 cs
-  first_falsified None e = sym (position_nowhere (list_all (is_false t)) cs 0 (λ k lt. false_from_ne_true _ (λ h. both_ways _ (ap (λ o. is_caught o k) (sym e)) (caught k lt h))))
+  first_falsified None e =
+      sym (position_nowhere (list_all (is_false t)) cs 0 (λ k lt. false_from_ne_true _ (λ h. both_ways _ (ap (λ o. is_caught o k) (sym e)) (caught k lt h))))
   first_falsified (Some j) e =
-      let is : (j < length ds) × (list_all (is_false t) (get_or ds j []) ≡ true) = subst (λ o. IfSome o (λ i. (i < length ds) × (list_all (is_false t) (get_or ds i []) ≡ true))) (sym e) w.falsified_is in
+      let is : (j < length ds)
+      × (list_all (is_false t) (get_or ds j []) ≡ true) =
+      subst (λ o. IfSome o (λ i. (i < length ds) × (list_all (is_false t) (get_or ds i []) ≡ true))) (sym e) w.falsified_is in
       let lt : j < length cs = (let a = is.0 in let r = same.room in omega arith) in
       sym (position_at (list_all (is_false t)) cs 0 j lt (from_sorted j is.1)
       (λ k low. false_from_ne_true _ (λ h. let le = leb-true j k (ap (λ o. is_caught o k) e ∙ caught k (omega arith) h) in absurd (omega arith)))
@@ -201,7 +216,9 @@ module _ (n : ℕ) (t : List Assigned) (d : IsDistinct n t) (cs ds : List (List 
   pub falsified_within : (o : Option ℕ) → o ≡ falsified → IfSome o (λ i. i < length cs)
   falsified_within None e = tt
   falsified_within (Some j) e =
-      let is : (j < length ds) × (list_all (is_false t) (get_or ds j []) ≡ true) = subst (λ o. IfSome o (λ i. (i < length ds) × (list_all (is_false t) (get_or ds i []) ≡ true))) (sym e) w.falsified_is in
+      let is : (j < length ds)
+      × (list_all (is_false t) (get_or ds j []) ≡ true) =
+      subst (λ o. IfSome o (λ i. (i < length ds) × (list_all (is_false t) (get_or ds i []) ≡ true))) (sym e) w.falsified_is in
       let a = is.0 in let r = same.room in omega arith
 
   module _ (none : falsified ≡ None) where
@@ -214,7 +231,11 @@ module _ (n : ℕ) (t : List Assigned) (d : IsDistinct n t) (cs ds : List (List 
         let u = is_unit t (get_or cs i []) l h in
         known_unit n t d _ _ _ _ (watched i (within i lt)) l
         (record {
-          cause = record { has = sym (same.same i l) ∙ u.cause.has; others = each_but t l (get_or ds i []) (λ m e. each_has (λ x. (x ≡ l) ⊎ (is_false t x ≡ true)) (get_or cs i []) m u.cause.others (same.same i m ∙ e)) };
+          cause = record {
+            has = sym (same.same i l) ∙ u.cause.has;
+            others =
+                each_but t l (get_or ds i []) (λ m e. each_has (λ x. (x ≡ l) ⊎ (is_false t x ≡ true)) (get_or cs i []) m u.cause.others (same.same i m ∙ e));
+          };
           unassigned = u.unassigned;
         })
         (free i)
@@ -272,7 +293,8 @@ module _ (n : ℕ) (t : List Assigned) (d : IsDistinct n t) (cs ds : List (List 
 
         pub is_unit_literal : unit_literal t (get_or cs i []) ≡ Some l
         is_unit_literal =
-            ap (only_literal t) (one_left t l (get_or cs i []) (each_but t l (get_or cs i []) is_only) (no_repeat_at cs i repeat unit_within) unassigned.1 open_in)
+            ap (only_literal t)
+            (one_left t l (get_or cs i []) (each_but t l (get_or cs i []) is_only) (no_repeat_at cs i repeat unit_within) unassigned.1 open_in)
             ∙ ap (λ b. cond b None (Some l)) unassigned.0
 
         -- it is the first unit clause
@@ -283,7 +305,8 @@ module _ (n : ℕ) (t : List Assigned) (d : IsDistinct n t) (cs ds : List (List 
             ∙ ap (λ k. Some (k, l)) (let z : 0 + i ≡ i = omega arith in z)
 
   -- a clause with a true literal is left out
-  pub unit_dropped : (i : ℕ) (units' : List ℕ) → HasTrue t (level t) (get_or ds i []) → ((k : ℕ) → has_number units' k ≡ true → has_number units k ≡ true) → ((k : ℕ) → (k ≡ i → ⊥) → has_number units k ≡ true → has_number units' k ≡ true) → IsWatching n t ds lists pairs units' falsified g []
+  pub unit_dropped : (i : ℕ) (units' : List ℕ) → HasTrue t (level t) (get_or ds i []) → ((k : ℕ) → has_number units' k ≡ true → has_number units k ≡ true)
+      → ((k : ℕ) → (k ≡ i → ⊥) → has_number units k ≡ true → has_number units' k ≡ true) → IsWatching n t ds lists pairs units' falsified g []
   unit_dropped i units' h fewer others = record {
     below = w.below;
     lists_room = w.lists_room;

@@ -1,5 +1,6 @@
 -- What a look at one watch leaves, by what was found.
-use Rattle.std.proofs.Common.{◌≡◌, ℕ, ◌<◌, ◌≤◌, min, Bool, true, false, cond, not, ◌&&◌, ◌||◌, eqb, List, [], ◌∷◌, ◌++◌, length, get_or, set, Option, Some, None, refl, sym, ap, ◌∙◌, subst, inl, inr, ⊎_elim, arith}
+use Rattle.std.proofs.Common.{◌≡◌, ℕ, ◌<◌, ◌≤◌, min, Bool, true, false, cond, not, ◌&&◌, ◌||◌, eqb, List, [], ◌∷◌, ◌++◌, length, get_or, set, Option, Some}
+use Rattle.std.proofs.Common.{None, refl, sym, ap, ◌∙◌, subst, inl, inr, ⊎_elim, arith}
 use Rattle.std.specs.Prelude.{IfSome}
 use Rattle.std.specs.List.{find, list_all}
 use Rattle.std.proofs.lemmas.Bool.{both_ways, cases_lt, or_cases, or_left, or_right, eq-eqb, eqb-true, and_parts, and_from, not-true, le-leb, leb-true}
@@ -12,7 +13,8 @@ use Rattle.cqe_base.proofs.Conflicts.{two_kept}
 use Rattle.clause_solver.specs.declared.watches.Pair.{Pair}
 use Rattle.clause_solver.specs.declared.watches.Watch.{Watch}
 use Rattle.clause_store.specs.Codes.{code_of}
-use Rattle.clause_solver.specs.Watching.{IsWatched, IsHalfWatched, IsWatching, IsWatchOf, WatchesBeside, AllFalseBut, has_number, has_clause, is_caught, lowest, no_pair}
+use Rattle.clause_solver.specs.Watching.{IsWatched, IsHalfWatched, IsWatching, IsWatchOf, WatchesBeside, AllFalseBut, has_number, has_clause, is_caught, lowest}
+use Rattle.clause_solver.specs.Watching.{no_pair}
 use Rattle.clause_solver.proofs.Watching.{watched_half, looked_true, looked_unit, looked_falsified, looked_moved, half_turned, watched_turned, half_more}
 use Rattle.clause_solver.proofs.Looks.{watch_of, looked_watch, looked_kept, looked_gone, looked_stale}
 
@@ -68,7 +70,8 @@ pub found_next : (t : List Assigned) (other : Literal) (c : List Literal) (l : L
 found_next t other [] l h = absurd (let x : ⊥ = cc in x)
 found_next t other (x ∷ c) l h = step (next_test t other x) refl (λ e. found_next t other c l e) h
   where
-    step : (b : Bool) → next_test t other x ≡ b → (find (next_test t other) c ≡ Some l → IsNext t other c l) → cond b (Some x) (find (next_test t other) c) ≡ Some l → IsNext t other (x ∷ c) l
+    step : (b : Bool) → next_test t other x ≡ b → (find (next_test t other) c ≡ Some l → IsNext t other c l)
+        → cond b (Some x) (find (next_test t other) c) ≡ Some l → IsNext t other (x ∷ c) l
     step true e go h = let same : x ≡ l = cc in subst (IsNext t other (x ∷ c)) same (next_is t other (x ∷ c) x e (or_left _ _ (same_literal-same x)))
     step false e go h = let r = go h in record { has = or_right _ _ r.has; free = r.free; apart = r.apart }
 
@@ -76,7 +79,8 @@ pub none_next : (t : List Assigned) (other : Literal) (c : List Literal) → fin
 none_next t other [] h = tt
 none_next t other (x ∷ c) h = step (is_false t x) (same_literal x other) refl refl (λ e. none_next t other c e) h
   where
-    step : (b d : Bool) → is_false t x ≡ b → same_literal x other ≡ d → (find (next_test t other) c ≡ None → AllFalseBut t other c) → cond (not b && not d) (Some x) (find (next_test t other) c) ≡ None → AllFalseBut t other (x ∷ c)
+    step : (b d : Bool) → is_false t x ≡ b → same_literal x other ≡ d → (find (next_test t other) c ≡ None → AllFalseBut t other c)
+        → cond (not b && not d) (Some x) (find (next_test t other) c) ≡ None → AllFalseBut t other (x ∷ c)
     step true d e g go h = (inr e, go h)
     step false true e g go h = (inl (same_literal-true x other g), go h)
     step false false e g go h = absurd (let y : ⊥ = cc in y)
@@ -105,7 +109,8 @@ module _ (t : List Assigned) (c : List Literal) (f other : Literal) (p : Pair) (
 
 -- ---- one look
 
-module _ (n : ℕ) (t : List Assigned) (cs : List (List Literal)) (lists : List (List Watch)) (pairs : List Pair) (units : List ℕ) (falsified : Option ℕ) (f : Literal) (current : level_of t f ≡ level t) (j : ℕ) (b : Literal) (low : code_of f < length lists)
+module _ (n : ℕ) (t : List Assigned) (cs : List (List Literal)) (lists : List (List Watch)) (pairs : List Pair) (units : List ℕ) (falsified : Option ℕ)
+    (f : Literal) (current : level_of t f ≡ level t) (j : ℕ) (b : Literal) (low : code_of f < length lists)
     (kept rest : List Watch)
     (before : IsWatching n t cs (set lists (code_of f) (kept ++ watch_of j b ∷ rest)) pairs units falsified f (watch_of j b ∷ rest)) where
   abbrev c : List Literal
@@ -127,10 +132,12 @@ module _ (n : ℕ) (t : List Assigned) (cs : List (List Literal)) (lists : List 
   positive = not_empty c b watch.blocker
 
   -- a true literal keeps the clause
-  pub visited_true : (m b' : Literal) → has_literal c m ≡ true → is_true t m ≡ true → has_literal c b' ≡ true → IsWatching n t cs (set lists (code_of f) ((kept ++ watch_of j b' ∷ []) ++ rest)) pairs units falsified f rest
+  pub visited_true : (m b' : Literal) → has_literal c m ≡ true → is_true t m ≡ true → has_literal c b' ≡ true
+      → IsWatching n t cs (set lists (code_of f) ((kept ++ watch_of j b' ∷ []) ++ rest)) pairs units falsified f rest
   visited_true m b' has holds has' =
       looked_kept n t cs lists pairs units falsified f kept rest j b low before units falsified b' (λ i e. e) (λ i e. e)
-      (⊎_elim (λ w. w) (λ h. looked_true t c f current p u q (record { literal = m; has = has; holds = holds; low = level_of-le t m }) h.1) (before.each j watch.within))
+      (⊎_elim (λ w. w) (λ h. looked_true t c f current p u q (record { literal = m; has = has; holds = holds; low = level_of-le t m }) h.1)
+      (before.each j watch.within))
       before.units_are before.falsified_is has'
 
   pub visited_blocker : is_true t b ≡ true → IsWatching n t cs (set lists (code_of f) ((kept ++ watch_of j b ∷ []) ++ rest)) pairs units falsified f rest
@@ -150,29 +157,39 @@ module _ (n : ℕ) (t : List Assigned) (cs : List (List Literal)) (lists : List 
     pub other_in : has_literal c other ≡ true
     other_in = half.second_in positive
 
-    pub visited_other : is_true t other ≡ true → IsWatching n t cs (set lists (code_of f) ((kept ++ watch_of j other ∷ []) ++ rest)) pairs units falsified f rest
+    pub visited_other : is_true t other ≡ true
+        → IsWatching n t cs (set lists (code_of f) ((kept ++ watch_of j other ∷ []) ++ rest)) pairs units falsified f rest
     visited_other holds = visited_true other other other_in holds other_in
 
     -- no other literal is open but perhaps the other one
     module _ (only : AllFalseBut t other c) where
-      pub visited_unit : is_false t other ≡ false → (units' : List ℕ) → ((i : ℕ) → has_number units' i ≡ (has_number units i || eqb j i)) → IsWatching n t cs (set lists (code_of f) ((kept ++ watch_of j other ∷ []) ++ rest)) pairs units' falsified f rest
+      pub visited_unit : is_false t other ≡ false → (units' : List ℕ) → ((i : ℕ) → has_number units' i ≡ (has_number units i || eqb j i))
+          → IsWatching n t cs (set lists (code_of f) ((kept ++ watch_of j other ∷ []) ++ rest)) pairs units' falsified f rest
       visited_unit free units' are =
           looked_kept n t cs lists pairs units falsified f kept rest j b low before units' falsified other
           (λ i h. are i ∙ or_left _ _ h) (λ i e. e)
-          (turn_watched t c f other p beside (has_number units' j) q (looked_unit t c f current other (has_number units' j) q known free (half_more t c _ u q (has_number units' j) q f (λ h. are j ∙ or_left _ _ h) (λ h. h) half)))
-          (λ i h. ⊎_elim (λ e. before.units_are i e) (λ e. let same : j ≡ i = eqb-true j i e in (subst (λ m. m < length cs) same watch.within, other, subst (λ m. AllFalseBut t other (get_or cs m [])) same only)) (or_cases (has_number units i) (eqb j i) (sym (are i) ∙ h)))
+          (turn_watched t c f other p beside (has_number units' j) q
+          (looked_unit t c f current other (has_number units' j) q known free
+          (half_more t c _ u q (has_number units' j) q f (λ h. are j ∙ or_left _ _ h) (λ h. h) half)))
+          (λ i h. ⊎_elim (λ e. before.units_are i e) (λ e. let same : j ≡ i = eqb-true j i e in
+          (subst (λ m. m < length cs) same watch.within, other, subst (λ m. AllFalseBut t other (get_or cs m [])) same only))
+          (or_cases (has_number units i) (eqb j i) (sym (are i) ∙ h)))
           before.falsified_is other_in
         where
           known : has_number units' j ≡ true
           known = are j ∙ or_right _ _ (eq-eqb j j refl)
 
-      pub visited_falsified : is_false t other ≡ true → IsWatching n t cs (set lists (code_of f) ((kept ++ watch_of j other ∷ []) ++ rest)) pairs units (lowest falsified j) f rest
+      pub visited_falsified : is_false t other ≡ true
+          → IsWatching n t cs (set lists (code_of f) ((kept ++ watch_of j other ∷ []) ++ rest)) pairs units (lowest falsified j) f rest
       visited_falsified false_now =
           looked_kept n t cs lists pairs units falsified f kept rest j b low before units (lowest falsified j) other
           (λ i e. e) (λ i e. lowest_more falsified j i e)
-          (turn_watched t c f other p beside u (is_caught (lowest falsified j) j) (looked_falsified t c f current other u (is_caught (lowest falsified j) j) (lowest_caught falsified j) (half_more t c _ u q u (is_caught (lowest falsified j) j) f (λ h. h) (λ h. lowest_more falsified j j h) half)))
+          (turn_watched t c f other p beside u (is_caught (lowest falsified j) j)
+          (looked_falsified t c f current other u (is_caught (lowest falsified j) j) (lowest_caught falsified j)
+          (half_more t c _ u q u (is_caught (lowest falsified j) j) f (λ h. h) (λ h. lowest_more falsified j j h) half)))
           before.units_are
-          (lowest_is (λ i. (i < length cs) × (list_all (is_false t) (get_or cs i []) ≡ true)) falsified j before.falsified_is (watch.within, all_but_false t other c false_now only))
+          (lowest_is (λ i. (i < length cs)
+          × (list_all (is_false t) (get_or cs i []) ≡ true)) falsified j before.falsified_is (watch.within, all_but_false t other c false_now only))
           other_in
 
     -- another literal is open
@@ -185,11 +202,14 @@ module _ (n : ℕ) (t : List Assigned) (cs : List (List Literal)) (lists : List 
 
       listed : has_clause (get_or (set lists (code_of f) (kept ++ watch_of j b ∷ rest)) (code_of other) []) j ≡ true
       listed = ⊎_elim
-          (λ e. subst (λ l. has_clause (get_or (set lists (code_of f) (kept ++ watch_of j b ∷ rest)) (code_of l) []) j ≡ true) e.1 (before.second_listed j watch.within positive))
-          (λ e. subst (λ l. has_clause (get_or (set lists (code_of f) (kept ++ watch_of j b ∷ rest)) (code_of l) []) j ≡ true) e.1 (before.first_listed j watch.within positive))
+          (λ e. subst (λ l. has_clause (get_or (set lists (code_of f) (kept ++ watch_of j b ∷ rest)) (code_of l) []) j
+          ≡ true) e.1 (before.second_listed j watch.within positive))
+          (λ e. subst (λ l. has_clause (get_or (set lists (code_of f) (kept ++ watch_of j b ∷ rest)) (code_of l) []) j
+          ≡ true) e.1 (before.first_listed j watch.within positive))
           beside
 
-      pub visited_next : IsWatching n t cs (set (set lists (code_of next) (get_or lists (code_of next) [] ++ watch_of j other ∷ [])) (code_of f) (kept ++ rest)) (set pairs j (record { first = next; second = other })) units falsified f rest
+      pub visited_next : IsWatching n t cs (set (set lists (code_of next) (get_or lists (code_of next) [] ++ watch_of j other ∷ [])) (code_of f) (kept ++ rest))
+          (set pairs j (record { first = next; second = other })) units falsified f rest
       visited_next =
           looked_gone n t cs lists pairs units falsified f kept rest j b low before next other room next_apart other_apart other_in listed
           (looked_moved t c f current other u q next found.has found.free found.apart (λ e. other_apart (sym e)) half)

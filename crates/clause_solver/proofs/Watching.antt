@@ -9,7 +9,8 @@ use Rattle.cqe_base.proofs.Trails.{true_is_assigned, false_is_assigned, other_va
 use Rattle.cqe_base.proofs.Conflicts.{cut_true, cut_level, cut_suffix, cut_false}
 use Rattle.clause_solver.proofs.Kept.{level_of-variable}
 use Rattle.clause_solver.specs.declared.watches.Pair.{Pair}
-use Rattle.clause_solver.specs.Watching.{HasTrue, IsAnswered, satisfied, is_unit, is_falsified, IsWatched, IsHalfAnswered, satisfied_before, unit_before, falsified_before, IsHalfWatched}
+use Rattle.clause_solver.specs.Watching.{HasTrue, IsAnswered, satisfied, is_unit, is_falsified, IsWatched, IsHalfAnswered, satisfied_before, unit_before}
+use Rattle.clause_solver.specs.Watching.{falsified_before, IsHalfWatched}
 
 -- each literal is this one or another one
 pub which : (f l : Literal) → (l ≡ f) ⊎ (l ≡ f → ⊥)
@@ -21,12 +22,14 @@ which f l = step (same_literal l f) refl
 
 -- ---- more that is known
 
-answered_more : (t : List Assigned) (c : List Literal) (u q u' q' : Bool) (k : ℕ) (l : Literal) → (u ≡ true → u' ≡ true) → (q ≡ true → q' ≡ true) → IsAnswered t c u q k l → IsAnswered t c u' q' k l
+answered_more : (t : List Assigned) (c : List Literal) (u q u' q' : Bool) (k : ℕ) (l : Literal) → (u ≡ true → u' ≡ true) → (q ≡ true → q' ≡ true)
+    → IsAnswered t c u q k l → IsAnswered t c u' q' k l
 answered_more t c u q u' q' k l fu fq (satisfied h) = satisfied h
 answered_more t c u q u' q' k l fu fq (is_unit e o h) = is_unit e o (fu h)
 answered_more t c u q u' q' k l fu fq (is_falsified e h) = is_falsified e (fq h)
 
-pub watched_more : (t : List Assigned) (c : List Literal) (p : Pair) (u q u' q' : Bool) → (u ≡ true → u' ≡ true) → (q ≡ true → q' ≡ true) → IsWatched t c p u q → IsWatched t c p u' q'
+pub watched_more : (t : List Assigned) (c : List Literal) (p : Pair) (u q u' q' : Bool) → (u ≡ true → u' ≡ true) → (q ≡ true → q' ≡ true) → IsWatched t c p u q
+    → IsWatched t c p u' q'
 watched_more t c p u q u' q' fu fq w = record {
   first_in = w.first_in;
   second_in = w.second_in;
@@ -37,12 +40,14 @@ watched_more t c p u q u' q' fu fq w = record {
   empty = λ none. let e = w.empty none in (e.0, fq e.1);
 }
 
-half_answered_more : (t : List Assigned) (c : List Literal) (u q u' q' : Bool) (k : ℕ) → (u ≡ true → u' ≡ true) → (q ≡ true → q' ≡ true) → IsHalfAnswered t c u q k → IsHalfAnswered t c u' q' k
+half_answered_more : (t : List Assigned) (c : List Literal) (u q u' q' : Bool) (k : ℕ) → (u ≡ true → u' ≡ true) → (q ≡ true → q' ≡ true)
+    → IsHalfAnswered t c u q k → IsHalfAnswered t c u' q' k
 half_answered_more t c u q u' q' k fu fq (satisfied_before h) = satisfied_before h
 half_answered_more t c u q u' q' k fu fq (unit_before e h) = unit_before e (fu h)
 half_answered_more t c u q u' q' k fu fq (falsified_before e h) = falsified_before e (fq h)
 
-pub half_more : (t : List Assigned) (c : List Literal) (p : Pair) (u q u' q' : Bool) (f : Literal) → (u ≡ true → u' ≡ true) → (q ≡ true → q' ≡ true) → IsHalfWatched t c p u q f → IsHalfWatched t c p u' q' f
+pub half_more : (t : List Assigned) (c : List Literal) (p : Pair) (u q u' q' : Bool) (f : Literal) → (u ≡ true → u' ≡ true) → (q ≡ true → q' ≡ true)
+    → IsHalfWatched t c p u q f → IsHalfWatched t c p u' q' f
 half_more t c p u q u' q' f fu fq w = record {
   watches = w.watches;
   first_in = w.first_in;
@@ -60,7 +65,8 @@ half_of t c u q k l (satisfied h) = satisfied_before h
 half_of t c u q k l (is_unit e o h) = unit_before e h
 half_of t c u q k l (is_falsified e h) = falsified_before e h
 
-pub watched_half : (t : List Assigned) (c : List Literal) (p : Pair) (u q : Bool) (f : Literal) → (p.first ≡ f) ⊎ (p.second ≡ f) → IsWatched t c p u q → IsHalfWatched t c p u q f
+pub watched_half : (t : List Assigned) (c : List Literal) (p : Pair) (u q : Bool) (f : Literal) → (p.first ≡ f) ⊎ (p.second ≡ f) → IsWatched t c p u q
+    → IsHalfWatched t c p u q f
 watched_half t c p u q f at w = record {
   watches = at;
   first_in = w.first_in;
@@ -116,26 +122,34 @@ module _ (n : ℕ) (a : Assigned) (t : List Assigned) (d : IsDistinct n (a ∷ t
     empty_push e = ⊎_elim (λ same. (same ∙ e.0, e.1)) (λ none. absurd (both_ways _ none.1 e.1)) steady
 
     -- a clause that doesn't watch the literal that became false
-    pub watched_push : (p : Pair) → (p.first ≡ opposite (assigned_literal a) → ⊥) → (p.second ≡ opposite (assigned_literal a) → ⊥) → IsWatched t c p u q → IsWatched (a ∷ t) c p u q
+    pub watched_push : (p : Pair) → (p.first ≡ opposite (assigned_literal a) → ⊥) → (p.second ≡ opposite (assigned_literal a) → ⊥) → IsWatched t c p u q
+        → IsWatched (a ∷ t) c p u q
     watched_push p nf ns w = record {
       first_in = w.first_in;
       second_in = w.second_in;
       single = w.single;
-      first_answered = λ f. subst (λ k. IsAnswered (a ∷ t) c u q k p.second) (level_before p.first nf f) (answered_push _ p.second ns (w.first_answered (false_before p.first nf f)));
-      second_answered = λ f. subst (λ k. IsAnswered (a ∷ t) c u q k p.first) (level_before p.second ns f) (answered_push _ p.first nf (w.second_answered (false_before p.second ns f)));
+      first_answered =
+          λ f. subst (λ k. IsAnswered (a ∷ t) c u q k p.second) (level_before p.first nf f)
+          (answered_push _ p.second ns (w.first_answered (false_before p.first nf f)));
+      second_answered =
+          λ f. subst (λ k. IsAnswered (a ∷ t) c u q k p.first) (level_before p.second ns f)
+          (answered_push _ p.first nf (w.second_answered (false_before p.second ns f)));
       alone = λ pos same. answered_push 0 p.first nf (w.alone pos same);
       empty = λ none. empty_push (w.empty none);
     }
 
     -- a clause that may watch it
-    pub half_push : (p : Pair) → (p.first ≡ opposite (assigned_literal a)) ⊎ (p.second ≡ opposite (assigned_literal a)) → IsWatched t c p u q → IsHalfWatched (a ∷ t) c p u q (opposite (assigned_literal a))
+    pub half_push : (p : Pair) → (p.first ≡ opposite (assigned_literal a)) ⊎ (p.second ≡ opposite (assigned_literal a)) → IsWatched t c p u q
+        → IsHalfWatched (a ∷ t) c p u q (opposite (assigned_literal a))
     half_push p at w = record {
       watches = at;
       first_in = w.first_in;
       second_in = w.second_in;
       single = w.single;
-      first_half = λ ne f. subst (IsHalfAnswered (a ∷ t) c u q) (level_before p.first ne f) (half_push_answered _ p.second (w.first_answered (false_before p.first ne f)));
-      second_half = λ ne f. subst (IsHalfAnswered (a ∷ t) c u q) (level_before p.second ne f) (half_push_answered _ p.first (w.second_answered (false_before p.second ne f)));
+      first_half = λ ne f.
+          subst (IsHalfAnswered (a ∷ t) c u q) (level_before p.first ne f) (half_push_answered _ p.second (w.first_answered (false_before p.first ne f)));
+      second_half = λ ne f.
+          subst (IsHalfAnswered (a ∷ t) c u q) (level_before p.second ne f) (half_push_answered _ p.first (w.second_answered (false_before p.second ne f)));
       alone_half = λ pos same. half_push_answered 0 p.first (w.alone pos same);
       empty = λ none. empty_push (w.empty none);
     }
@@ -169,8 +183,12 @@ module _ (t : List Assigned) (c : List Literal) (f : Literal) (current : level_o
     first_in = w.first_in;
     second_in = w.second_in;
     single = w.single;
-    first_answered = λ e. ⊎_elim (λ same. satisfied (subst (λ j. HasTrue t j c) (sym (ap (level_of t) same ∙ current)) h)) (λ ne. by_true u q _ p.second h (w.first_half ne e)) (which f p.first);
-    second_answered = λ e. ⊎_elim (λ same. satisfied (subst (λ j. HasTrue t j c) (sym (ap (level_of t) same ∙ current)) h)) (λ ne. by_true u q _ p.first h (w.second_half ne e)) (which f p.second);
+    first_answered =
+        λ e. ⊎_elim (λ same. satisfied (subst (λ j. HasTrue t j c) (sym (ap (level_of t) same ∙ current)) h))
+        (λ ne. by_true u q _ p.second h (w.first_half ne e)) (which f p.first);
+    second_answered =
+        λ e. ⊎_elim (λ same. satisfied (subst (λ j. HasTrue t j c) (sym (ap (level_of t) same ∙ current)) h))
+        (λ ne. by_true u q _ p.first h (w.second_half ne e)) (which f p.second);
     alone = λ pos same. by_true u q 0 p.first h (w.alone_half pos same);
     empty = w.empty;
   }
@@ -209,13 +227,15 @@ module _ (t : List Assigned) (c : List Literal) (f : Literal) (current : level_o
       second_in = w.second_in;
       single = w.single;
       first_answered = λ e. is_falsified current known;
-      second_answered = λ e. ⊎_elim (λ same. is_falsified (ap (level_of t) same ∙ current) known) (λ ne. by_conflict known _ f (w.second_half ne e)) (which f other);
+      second_answered =
+          λ e. ⊎_elim (λ same. is_falsified (ap (level_of t) same ∙ current) known) (λ ne. by_conflict known _ f (w.second_half ne e)) (which f other);
       alone = λ pos same. by_conflict known 0 f (w.alone_half pos same);
       empty = w.empty;
     }
 
     -- another literal that isn't false is watched from now on
-    pub looked_moved : (fresh : Literal) → has_literal c fresh ≡ true → is_false t fresh ≡ false → (fresh ≡ other → ⊥) → (f ≡ other → ⊥) → IsHalfWatched t c here u q f → IsWatched t c (record { first = fresh; second = other }) u q
+    pub looked_moved : (fresh : Literal) → has_literal c fresh ≡ true → is_false t fresh ≡ false → (fresh ≡ other → ⊥) → (f ≡ other → ⊥)
+        → IsHalfWatched t c here u q f → IsWatched t c (record { first = fresh; second = other }) u q
     looked_moved fresh has free ne apart w = record {
       first_in = λ _. has;
       second_in = w.second_in;
@@ -232,7 +252,11 @@ module _ (t : List Assigned) (c : List Literal) (f : Literal) (current : level_o
         answer (falsified_before e h) = is_falsified e h
 
 -- the two watched literals in the other order
-pub half_turned : (t : List Assigned) (c : List Literal) (a b : Literal) (u q : Bool) (f : Literal) → IsHalfWatched t c (record { first = a; second = b }) u q f → IsHalfWatched t c (record { first = b; second = a }) u q f
+pub half_turned : (t : List Assigned) (c : List Literal) (a b : Literal) (u q : Bool) (f : Literal) → IsHalfWatched t c (record {
+  first =
+      a;
+  second = b;
+}) u q f → IsHalfWatched t c (record { first = b; second = a }) u q f
 half_turned t c a b u q f w = record {
   watches = ⊎_elim (λ e. inr e) (λ e. inl e) w.watches;
   first_in = w.second_in;
@@ -244,7 +268,11 @@ half_turned t c a b u q f w = record {
   empty = w.empty;
 }
 
-pub watched_turned : (t : List Assigned) (c : List Literal) (a b : Literal) (u q : Bool) → IsWatched t c (record { first = a; second = b }) u q → IsWatched t c (record { first = b; second = a }) u q
+pub watched_turned : (t : List Assigned) (c : List Literal) (a b : Literal) (u q : Bool) → IsWatched t c (record {
+  first =
+      a;
+  second = b;
+}) u q → IsWatched t c (record { first = b; second = a }) u q
 watched_turned t c a b u q w = record {
   first_in = w.second_in;
   second_in = w.first_in;
@@ -271,7 +299,9 @@ module _ (n k : ℕ) (t : List Assigned) (d : IsDistinct n t) where
   cut_true_kept : (l : Literal) → is_true t l ≡ true → level_of t l ≤ k → is_true short l ≡ true
   cut_true_kept l h low =
       let f : is_false t (opposite l) ≡ true = ap (is_true t) (opposite-opposite l) ∙ h in
-      let le : level_of t (opposite l) ≤ k = subst (λ j. j ≤ k) (sym (level_of-variable t (opposite l) ∙ ap (λ v. level_of t (Positive v)) (variable_of-opposite l) ∙ sym (level_of-variable t l))) low in
+      let le : level_of t (opposite l) ≤ k =
+      subst (λ j. j ≤ k)
+      (sym (level_of-variable t (opposite l) ∙ ap (λ v. level_of t (Positive v)) (variable_of-opposite l) ∙ sym (level_of-variable t l))) low in
       ap (is_true short) (sym (opposite-opposite l)) ∙ cut_false n k t (opposite l) f le
 
   has_true_cut : (j : ℕ) (c : List Literal) → j ≤ k → HasTrue t j c → HasTrue short j c
@@ -294,7 +324,8 @@ module _ (n k : ℕ) (t : List Assigned) (d : IsDistinct n t) where
     answered_cut j l m low (is_unit e o h) = absurd (omega arith)
     answered_cut j l m low (is_falsified e h) = absurd (omega arith)
 
-    side_cut : (l m : Literal) → (is_false t l ≡ true → IsAnswered t c u q (level_of t l) m) → is_false short l ≡ true → IsAnswered short c u' q' (level_of short l) m
+    side_cut : (l m : Literal) → (is_false t l ≡ true → IsAnswered t c u q (level_of t l) m) → is_false short l ≡ true
+        → IsAnswered short c u' q' (level_of short l) m
     side_cut l m w e =
         let same = cut_same_level l (false_is_assigned short l e) in
         let low = cut_low l in

@@ -1,5 +1,6 @@
 -- A trail over numbered variables, and what is kept of it at hand.
-use Rattle.std.specs.Prelude.{◌≡◌, ℕ, suc, ◌<◌, ◌≤◌, ◌*◌, Bool, true, false, ◌==◌, if◌then◌else◌, List, [], ◌∷◌, length, Option, Some, None, slice_index_or}
+use Rattle.std.specs.Prelude.{◌≡◌, ℕ, suc, ◌<◌, ◌≤◌, ◌*◌, Bool, true, false, ◌==◌, if◌then◌else◌}
+use Rattle.std.specs.Prelude.{List, [], ◌∷◌, length, Option, Some, None, slice_index_or}
 use Rattle.cqe_base.specs.Literal.{Literal, Positive, variable_of}
 use Rattle.cqe_base.specs.Machine.{Assigned, assigned_literal, is_true, level, level_of}
 use Rattle.cqe_base.specs.MachineStates.{is_assigned, IsDistinct}
@@ -13,10 +14,13 @@ pub record Assigning : Type 0 where
 -- how long the trail is up to and with a variable, and 0 where that isn't assigned
 abbrev pub place_of : List Assigned → ℕ → ℕ
 place_of [] v = 0
-place_of (a ∷ trail) v = if v == variable_of (assigned_literal a) then suc (length trail) else place_of trail v
+place_of (a ∷ trail) v =
+    if v == variable_of (assigned_literal a) then suc (length trail) else place_of trail v
 
--- the truth of each literal, the level and the place of each variable, the level, and a number below which each variable is assigned are those of the trail
-pub record IsKept (n : ℕ) (trail : List Assigned) (truths : List Bool) (levels places : List ℕ) (decisions next : ℕ) : Type 0 where
+-- the truth of each literal, the level and the place of each variable, the level, and a number
+-- below which each variable is assigned are those of the trail
+pub record IsKept (n : ℕ) (trail : List Assigned) (truths : List Bool) (levels places : List ℕ)
+    (decisions next : ℕ) : Type 0 where
   pub once : IsDistinct n trail
   pub truths_room : length truths ≡ 2 * n
   pub levels_room : length levels ≡ n
@@ -32,4 +36,5 @@ pub record IsKept (n : ℕ) (trail : List Assigned) (truths : List Bool) (levels
 abbrev pub IsFirstZero : List ℕ → ℕ → ℕ → Option ℕ → Type 0
 IsFirstZero xs start end None = (k : ℕ) → start ≤ k → k < end → slice_index_or xs k 0 ≡ 0 → ⊥
 IsFirstZero xs start end (Some i) =
-    (start ≤ i) × (i < end) × (slice_index_or xs i 0 ≡ 0) × ((k : ℕ) → start ≤ k → k < i → slice_index_or xs k 0 ≡ 0 → ⊥)
+    (start ≤ i) × (i < end) × (slice_index_or xs i 0 ≡ 0)
+    × ((k : ℕ) → start ≤ k → k < i → slice_index_or xs k 0 ≡ 0 → ⊥)

@@ -10,7 +10,8 @@ use Rattle.clause_solver.specs.declared.indexed.Indexed.{Indexed}
 
 -- a state as plain data
 abbrev pub plain_of : Indexed → PlainState
-plain_of s = record { clauses = s.clauses; trail = s.assignment.trail; lines = map line_of s.lines.items }
+plain_of s =
+    record { clauses = s.clauses; trail = s.assignment.trail; lines = map line_of s.lines.items }
 
 -- all watches were looked at, the sorted clauses are the clauses, and no conflict is being analysed
 pub record IsLookedAt (s : Indexed) : Type 0 where
@@ -24,10 +25,12 @@ pub record IsIndexed (s : Indexed) : Type 0 where
   pub looked : IsLookedAt s
   pub reached : IsReached s.assignment.variables (plain_of s)
 
--- a literal of the highest level among those of a clause beside one, or that one where there is no other
+-- a literal of the highest level among those of a clause beside one, or that one where there is no
+-- other
 pub record IsHighestBeside (t : List Assigned) (c : List Literal) (l m : Literal) : Type 0 where
   pub inside : (m ≡ l) ⊎ (has_literal c m ≡ true)
-  pub highest : (x : Literal) → has_literal c x ≡ true → (x ≡ l) ⊎ ((m ≡ l → ⊥) × (level_of t x ≤ level_of t m))
+  pub highest : (x : Literal) → has_literal c x ≡ true → (x ≡ l)
+      ⊎ ((m ≡ l → ⊥) × (level_of t x ≤ level_of t m))
 
 -- the first two literals of a clause, twice the same where it has only one
 abbrev pub first_two : List Literal → Literal × Literal

@@ -16,4 +16,5 @@ units_of w = w.units
 
 -- all watches of false literals were looked at
 abbrev pub AreWatches : ℕ → List Assigned → Watches → Type 0
-AreWatches n t w = IsWatching n t w.sorted (lists_of w) w.pairs.items (units_of w) w.falsified (Positive 0) []
+AreWatches n t w =
+    IsWatching n t w.sorted (lists_of w) w.pairs.items (units_of w) w.falsified (Positive 0) []

@@ -1,5 +1,7 @@
 -- Two watched literals of each clause under a trail.
-use Rattle.std.specs.Prelude.{◌≡◌, ◌⊎◌, ◌&&◌, ◌||◌, not, ℕ, ◌<◌, ◌≤◌, ◌*◌, ◌==◌, nat_le, min, Bool, true, false, List, [], ◌∷◌, ◌++◌, length, Option, Some, None, IfSome, slice_index_or}
+use Rattle.std.specs.Prelude.{◌≡◌, ◌⊎◌, ◌&&◌, ◌||◌, not, ℕ, ◌<◌, ◌≤◌, ◌*◌, ◌==◌, nat_le, min, Bool}
+use Rattle.std.specs.Prelude.{true, false, List, [], ◌∷◌, ◌++◌, length, Option, Some, None, IfSome}
+use Rattle.std.specs.Prelude.{slice_index_or}
 use Rattle.std.specs.List.{list_any, list_all, AllByRecursion}
 use Rattle.cqe_base.specs.Literal.{Literal, Positive, has_literal, ClausesBelow}
 use Rattle.cqe_base.specs.Machine.{Assigned, is_true, is_false, level, level_of}
@@ -14,37 +16,48 @@ pub record HasTrue (t : List Assigned) (k : ℕ) (c : List Literal) : Type 0 whe
   pub holds : is_true t literal ≡ true
   pub low : level_of t literal ≤ k
 
--- Why a watched literal may be false of a level: the clause has a true literal of no higher level, or the level is the current
--- one and the clause is known as a unit one, where the other watched literal isn't false, or as a falsified one.
-pub data IsAnswered (t : List Assigned) (c : List Literal) (unit falsified : Bool) (k : ℕ) (other : Literal) : Type 0 where
+-- Why a watched literal may be false of a level: the clause has a true literal of no higher level,
+-- or the level is the current one and the clause is known as a unit one, where the other watched
+-- literal isn't false, or as a falsified one.
+pub data IsAnswered (t : List Assigned) (c : List Literal) (unit falsified : Bool) (k : ℕ)
+    (other : Literal) : Type 0 where
   satisfied : HasTrue t k c → IsAnswered t c unit falsified k other
-  is_unit : k ≡ level t → is_false t other ≡ false → unit ≡ true → IsAnswered t c unit falsified k other
+  is_unit : k ≡ level t → is_false t other ≡ false → unit ≡ true
+      → IsAnswered t c unit falsified k other
   is_falsified : k ≡ level t → falsified ≡ true → IsAnswered t c unit falsified k other
 
--- The watched literals of a clause are two of its literals, or its only one twice. Each that is false is answered; a literal that
--- is missing counts as one that is false of level 0.
-pub record IsWatched (t : List Assigned) (c : List Literal) (pair : Pair) (unit falsified : Bool) : Type 0 where
+-- The watched literals of a clause are two of its literals, or its only one twice. Each that is
+-- false is answered; a literal that is missing counts as one that is false of level 0.
+pub record IsWatched (t : List Assigned) (c : List Literal) (pair : Pair) (unit falsified : Bool) :
+    Type 0 where
   pub first_in : 0 < length c → has_literal c pair.first ≡ true
   pub second_in : 0 < length c → has_literal c pair.second ≡ true
-  pub first_answered : is_false t pair.first ≡ true → IsAnswered t c unit falsified (level_of t pair.first) pair.second
-  pub second_answered : is_false t pair.second ≡ true → IsAnswered t c unit falsified (level_of t pair.second) pair.first
+  pub first_answered : is_false t pair.first ≡ true
+      → IsAnswered t c unit falsified (level_of t pair.first) pair.second
+  pub second_answered : is_false t pair.second ≡ true
+      → IsAnswered t c unit falsified (level_of t pair.second) pair.first
   pub single : pair.first ≡ pair.second → length c ≤ 1
   pub alone : 0 < length c → pair.first ≡ pair.second → IsAnswered t c unit falsified 0 pair.first
   pub empty : length c ≡ 0 → (level t ≡ 0) × (falsified ≡ true)
 
 -- The same of a clause that has not been looked at since a literal became false.
-pub data IsHalfAnswered (t : List Assigned) (c : List Literal) (unit falsified : Bool) (k : ℕ) : Type 0 where
+pub data IsHalfAnswered (t : List Assigned) (c : List Literal) (unit falsified : Bool) (k : ℕ) :
+    Type 0 where
   satisfied_before : HasTrue t k c → IsHalfAnswered t c unit falsified k
   unit_before : k ≡ level t → unit ≡ true → IsHalfAnswered t c unit falsified k
   falsified_before : k ≡ level t → falsified ≡ true → IsHalfAnswered t c unit falsified k
 
--- A clause of which one watched literal, this one, has just become false: what the other one needs to be is known of the other alone.
-pub record IsHalfWatched (t : List Assigned) (c : List Literal) (pair : Pair) (unit falsified : Bool) (f : Literal) : Type 0 where
+-- A clause of which one watched literal, this one, has just become false: what the other one needs
+-- to be is known of the other alone.
+pub record IsHalfWatched (t : List Assigned) (c : List Literal) (pair : Pair)
+    (unit falsified : Bool) (f : Literal) : Type 0 where
   pub watches : (pair.first ≡ f) ⊎ (pair.second ≡ f)
   pub first_in : 0 < length c → has_literal c pair.first ≡ true
   pub second_in : 0 < length c → has_literal c pair.second ≡ true
-  pub first_half : (pair.first ≡ f → ⊥) → is_false t pair.first ≡ true → IsHalfAnswered t c unit falsified (level_of t pair.first)
-  pub second_half : (pair.second ≡ f → ⊥) → is_false t pair.second ≡ true → IsHalfAnswered t c unit falsified (level_of t pair.second)
+  pub first_half : (pair.first ≡ f → ⊥) → is_false t pair.first ≡ true
+      → IsHalfAnswered t c unit falsified (level_of t pair.first)
+  pub second_half : (pair.second ≡ f → ⊥) → is_false t pair.second ≡ true
+      → IsHalfAnswered t c unit falsified (level_of t pair.second)
   pub single : pair.first ≡ pair.second → length c ≤ 1
   pub alone_half : 0 < length c → pair.first ≡ pair.second → IsHalfAnswered t c unit falsified 0
   pub empty : length c ≡ 0 → (level t ≡ 0) × (falsified ≡ true)
@@ -99,24 +112,36 @@ pub record IsWatchOf (cs : List (List Literal)) (w : Watch) : Type 0 where
 abbrev pub no_pair : Pair
 no_pair = record { first = Positive 0; second = Positive 0 }
 
--- What is kept of clauses under a trail, while the watches of a literal that became false are looked at; those that are left are
--- listed. The numbers are those of the clauses that may be unit.
-pub record IsWatching (n : ℕ) (t : List Assigned) (cs : List (List Literal)) (lists : List (List Watch)) (pairs : List Pair) (units : List ℕ) (falsified : Option ℕ) (f : Literal) (left : List Watch) : Type 0 where
+-- What is kept of clauses under a trail, while the watches of a literal that became false are
+-- looked at; those that are left are listed. The numbers are those of the clauses that may be unit.
+pub record IsWatching (n : ℕ) (t : List Assigned) (cs : List (List Literal))
+    (lists : List (List Watch)) (pairs : List Pair) (units : List ℕ) (falsified : Option ℕ)
+    (f : Literal) (left : List Watch) : Type 0 where
   pub below : ClausesBelow n cs
   pub lists_room : length lists ≡ 2 * n
   pub pairs_room : length pairs ≡ length cs
   pub watches : (l : Literal) → AllByRecursion (IsWatchOf cs) (slice_index_or lists (code_of l) [])
-  pub first_listed : (i : ℕ) → i < length cs → 0 < length (slice_index_or cs i []) → has_clause (slice_index_or lists (code_of (slice_index_or pairs i no_pair).first) []) i ≡ true
-  pub second_listed : (i : ℕ) → i < length cs → 0 < length (slice_index_or cs i []) → has_clause (slice_index_or lists (code_of (slice_index_or pairs i no_pair).second) []) i ≡ true
+  pub first_listed : (i : ℕ) → i < length cs → 0 < length (slice_index_or cs i [])
+      → has_clause (slice_index_or lists (code_of (slice_index_or pairs i no_pair).first) []) i
+      ≡ true
+  pub second_listed : (i : ℕ) → i < length cs → 0 < length (slice_index_or cs i [])
+      → has_clause (slice_index_or lists (code_of (slice_index_or pairs i no_pair).second) []) i
+      ≡ true
   pub each : (i : ℕ) → i < length cs →
-      IsWatched t (slice_index_or cs i []) (slice_index_or pairs i no_pair) (has_number units i) (is_caught falsified i)
-      ⊎ ((has_clause left i ≡ true) × IsHalfWatched t (slice_index_or cs i []) (slice_index_or pairs i no_pair) (has_number units i) (is_caught falsified i) f)
-  pub units_are : (i : ℕ) → has_number units i ≡ true → (i < length cs) × (l : Literal) × AllFalseBut t l (slice_index_or cs i [])
-  pub falsified_is : IfSome falsified (λ i. (i < length cs) × (list_all (is_false t) (slice_index_or cs i []) ≡ true))
+      IsWatched t (slice_index_or cs i []) (slice_index_or pairs i no_pair) (has_number units i)
+      (is_caught falsified i)
+      ⊎ ((has_clause left i ≡ true)
+      × IsHalfWatched t (slice_index_or cs i []) (slice_index_or pairs i no_pair)
+      (has_number units i) (is_caught falsified i) f)
+  pub units_are : (i : ℕ) → has_number units i ≡ true → (i < length cs) × (l : Literal)
+      × AllFalseBut t l (slice_index_or cs i [])
+  pub falsified_is : IfSome falsified (λ i. (i < length cs)
+      × (list_all (is_false t) (slice_index_or cs i []) ≡ true))
 
 -- a clause watches this literal and that other one
 abbrev pub WatchesBeside : Pair → Literal → Literal → Type 0
-WatchesBeside p l other = ((p.first ≡ l) × (p.second ≡ other)) ⊎ ((p.second ≡ l) × (p.first ≡ other))
+WatchesBeside p l other =
+    ((p.first ≡ l) × (p.second ≡ other)) ⊎ ((p.second ≡ l) × (p.first ≡ other))
 
 -- the watches of a clause that is kept with a new blocker, or that goes
 abbrev pub kept_with : List Watch → ℕ → Option Literal → List Watch
@@ -139,4 +164,5 @@ AreClosed t p = (is_open t p.first ≡ false) × (is_open t p.second ≡ false)
 pub record HaveSameLiterals (cs ds : List (List Literal)) : Type 0 where
   pub room : length cs ≡ length ds
   pub sizes : (i : ℕ) → length (slice_index_or cs i []) ≡ length (slice_index_or ds i [])
-  pub same : (i : ℕ) (l : Literal) → has_literal (slice_index_or cs i []) l ≡ has_literal (slice_index_or ds i []) l
+  pub same : (i : ℕ) (l : Literal)
+      → has_literal (slice_index_or cs i []) l ≡ has_literal (slice_index_or ds i []) l

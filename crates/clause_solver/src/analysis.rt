@@ -1,9 +1,11 @@
 //! The analysis of a conflict with the levels and the marks at hand.
 
-ghost use Rattle.std.specs.Prelude.{◌≡◌, ◌<◌, ◌^◌, ◌↔◌, IsTrue, [], length, not, max, if◌then◌else◌, Some, IfOk, slice_index_or};
+ghost use Rattle.std.specs.Prelude.{◌≡◌, ◌<◌, ◌^◌, ◌↔◌, IsTrue, [], length, not, max};
+ghost use Rattle.std.specs.Prelude.{if◌then◌else◌, Some, IfOk, slice_index_or};
 ghost use Rattle.std.specs.List.{filter, find};
 ghost use Rattle.cqe_base.specs.Literal.{ClausesBelow};
-ghost use Rattle.cqe_base.specs.Machine.{resolved_with, is_current, level_of, current_count, highest_level, kept_count, conflict_line};
+ghost use Rattle.cqe_base.specs.Machine.{resolved_with, is_current, level_of, current_count};
+ghost use Rattle.cqe_base.specs.Machine.{highest_level, kept_count, conflict_line};
 ghost use Rattle.cqe_base.specs.MachineStates.{IsReached};
 ghost use Rattle.cqe_base.proofs.Analysis.{walk_back};
 ghost use Rattle.clause_store.specs.PlainLines.{line_of};
@@ -17,8 +19,8 @@ use clause_store::marked_clause::MarkedClause;
 use clause_store::refutation::Line;
 use std::alloc::{AllocError, Global};
 
-/// Whether more literals of a clause than so many are of the current level. A resolution appends literals of that level, so the
-/// last ones are looked at first.
+/// Whether more literals of a clause than so many are of the current level. A resolution appends
+/// literals of that level, so the last ones are looked at first.
 fn has_more_current(assignment: &Assignment, clause: &[Lit], most: usize) -> bool
     ensures { IsTrue result ↔ (most < current_count assignment.now.trail clause.now) }
 {
@@ -53,7 +55,8 @@ fn resolve_with(
     chain: &mut Vec<u32>,
 ) -> Result<(), AllocError>
     requires { ClausesBelow clause.old.variables clauses.now }
-    ensures line { IfOk result (λ _. line_with clause.new.clause chain.new.items ≡ resolved_with clauses.now (Some entry) (line_with clause.old.clause chain.old.items)) }
+    ensures line { IfOk result (λ _. line_with clause.new.clause chain.new.items
+        ≡ resolved_with clauses.now (Some entry) (line_with clause.old.clause chain.old.items)) }
     ensures variables { IfOk result (λ _. clause.new.variables ≡ clause.old.variables) }
 {
     if entry.is_decided() {
@@ -75,7 +78,9 @@ fn analyse(
     chain: &mut Vec<u32>,
 ) -> Result<(), AllocError>
     requires { ClausesBelow clause.old.variables clauses.now }
-    ensures line { IfOk result (λ _. line_with clause.new.clause chain.new.items ≡ walk_back clauses.now assignment.now.trail keep assignment.now.trail (line_with clause.old.clause chain.old.items)) }
+    ensures line { IfOk result (λ _. line_with clause.new.clause chain.new.items
+        ≡ walk_back clauses.now assignment.now.trail keep assignment.now.trail
+        (line_with clause.old.clause chain.old.items)) }
     ensures variables { IfOk result (λ _. clause.new.variables ≡ clause.old.variables) }
 {
     for entry in assignment.entries().iter().rev() {
@@ -96,7 +101,8 @@ fn kept_count(assignment: &Assignment) -> usize
     if assignment.level() == 0 { 0 } else { 1 }
 }
 
-/// The line that a conflict at a clause gives. The marked clause serves for the resolutions, and is empty before and afterwards.
+/// The line that a conflict at a clause gives. The marked clause serves for the resolutions, and is
+/// empty before and afterwards.
 pub fn conflict_line(
     alloc: Global,
     clauses: &Clauses,
@@ -110,7 +116,8 @@ pub fn conflict_line(
     requires empty { clause.old.clause ≡ [] }
     requires conflict { IsConflict (state_at clauses.now assignment.now.trail) number }
     requires reached { IsReached clause.old.variables (state_at clauses.now assignment.now.trail) }
-    ensures line { IfOk result (λ line. line_of line ≡ conflict_line (state_at clauses.now assignment.now.trail) number) }
+    ensures line { IfOk result (λ line. line_of line
+        ≡ conflict_line (state_at clauses.now assignment.now.trail) number) }
     ensures same { IfOk result (λ _. clause.new ≡ clause.old) }
 {
     clause.append(clauses.clause(number))?;
@@ -140,7 +147,9 @@ pub fn first_current(assignment: &Assignment, clause: &[Lit]) -> Option<Lit>
 
 /// The highest level of a clause's literals that aren't of the current level, or 0.
 pub fn back_level(assignment: &Assignment, clause: &[Lit]) -> usize
-    ensures { result ≡ highest_level assignment.now.trail (filter (λ l. not (is_current assignment.now.trail l)) clause.now) }
+    ensures { result
+        ≡ highest_level assignment.now.trail
+        (filter (λ l. not (is_current assignment.now.trail l)) clause.now) }
 {
     let mut highest = 0;
     for literal in clause {
@@ -151,7 +160,9 @@ pub fn back_level(assignment: &Assignment, clause: &[Lit]) -> usize
 
 /// The higher one of a level and that of a literal, unless the literal is of the current level.
 fn raised_level(assignment: &Assignment, level: usize, literal: Lit) -> usize
-    ensures { result ≡ (if is_current assignment.now.trail literal then level else max level (level_of assignment.now.trail literal)) }
+    ensures { result
+        ≡ (if is_current assignment.now.trail literal then level
+        else max level (level_of assignment.now.trail literal)) }
 {
     if assignment.is_current(literal) {
         level

@@ -1,8 +1,11 @@
-//! The trail with what is asked of it at hand: the truth of each literal, and the level and the place of each variable.
+//! The trail with what is asked of it at hand: the truth of each literal, and the level and the
+//! place of each variable.
 
-ghost use Rattle.std.specs.Prelude.{◌≡◌, ◌<◌, ◌≤◌, ◌^◌, ◌+◌, ◌-◌, ◌*◌, false, [], ◌∷◌, length, reverse, IfOk, IfSome, IfNone, if◌then◌else◌};
+ghost use Rattle.std.specs.Prelude.{◌≡◌, ◌<◌, ◌≤◌, ◌^◌, ◌+◌, ◌-◌, ◌*◌, false, [], ◌∷◌, length};
+ghost use Rattle.std.specs.Prelude.{reverse, IfOk, IfSome, IfNone, if◌then◌else◌};
 ghost use Rattle.cqe_base.specs.Literal.{variable_of};
-ghost use Rattle.cqe_base.specs.Machine.{Assigned, assigned_literal, is_true, is_false, level, level_of, is_current, first_unassigned};
+ghost use Rattle.cqe_base.specs.Machine.{Assigned, assigned_literal, is_true, is_false, level};
+ghost use Rattle.cqe_base.specs.Machine.{level_of, is_current, first_unassigned};
 ghost use Rattle.cqe_base.specs.MachineStates.{is_assigned};
 ghost use Rattle.clause_solver.specs.Entries.{is_decided};
 ghost use Rattle.clause_solver.specs.Assigning.{IsFirstZero};
@@ -142,7 +145,10 @@ impl Assignment {
 
     /// The latest entry leaves the trail.
     pub fn pop(&mut self) -> Option<TrailEntry>
-        ensures some { IfSome result (λ entry. self.old ≡ record self.new { trail = entry ∷ self.new.trail }) }
+        ensures some { IfSome result (λ entry. self.old ≡ record self.new {
+          trail =
+              entry ∷ self.new.trail;
+        }) }
         ensures none { IfNone result (self.old.trail ≡ []) }
     {
         let entry = self.trail.pop()?;

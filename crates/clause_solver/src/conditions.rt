@@ -1,7 +1,8 @@
 //! What a search asks of its clauses, as a test.
 
 ghost use Rattle.std.specs.Prelude.{◌≡◌, ◌<◌, ◌^◌, ◌+◌, ◌↔◌, IsTrue, length};
-ghost use Rattle.cqe_base.specs.Literal.{Literal, ClauseBelow, ClausesBelow, HasNoRepeat, HaveNoRepeat};
+ghost use Rattle.cqe_base.specs.Literal.{Literal, ClauseBelow, ClausesBelow, HasNoRepeat};
+ghost use Rattle.cqe_base.specs.Literal.{HaveNoRepeat};
 
 use clause_store::clauses::Clauses;
 use clause_store::literal::{Lit, has_literal};
@@ -34,7 +35,8 @@ fn has_no_repeat(clause: &[Lit]) -> bool
 fn are_searchable(clauses: &Clauses, variables: u32) -> bool
     ensures below { IsTrue result → ClausesBelow variables clauses.now }
     ensures no_repeat { IsTrue result → HaveNoRepeat clauses.now }
-    ensures searchable { ClausesBelow variables clauses.now → HaveNoRepeat clauses.now → IsTrue result }
+    ensures searchable { ClausesBelow variables clauses.now → HaveNoRepeat clauses.now
+        → IsTrue result }
 {
     for number in 0..clauses.len() {
         let clause = clauses.clause(number);
@@ -45,15 +47,16 @@ fn are_searchable(clauses: &Clauses, variables: u32) -> bool
     true
 }
 
-/// Whether the machine may be run on the clauses: their variables are below the number, no clause has a literal twice, and the
-/// clauses that are learnt within the budget have numbers of 32 bits.
+/// Whether the machine may be run on the clauses: their variables are below the number, no clause
+/// has a literal twice, and the clauses that are learnt within the budget have numbers of 32 bits.
 pub fn is_searchable(clauses: &Clauses, variables: u32, budget: u64) -> bool
     ensures variables { IsTrue result → variables < 2 ^ 31 }
     ensures below { IsTrue result → ClausesBelow variables clauses.now }
     ensures no_repeat { IsTrue result → HaveNoRepeat clauses.now }
     ensures room { IsTrue result → length clauses.now + budget < 2 ^ 32 }
     // And nothing else is asked.
-    ensures searchable { variables < 2 ^ 31 → ClausesBelow variables clauses.now → HaveNoRepeat clauses.now → length clauses.now + budget < 2 ^ 32 → IsTrue result }
+    ensures searchable { variables < 2 ^ 31 → ClausesBelow variables clauses.now
+        → HaveNoRepeat clauses.now → length clauses.now + budget < 2 ^ 32 → IsTrue result }
 {
     let most = 1 << 32;
     variables < 1 << 31

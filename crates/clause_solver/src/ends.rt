@@ -18,7 +18,8 @@ pub enum Found {
     Spent,
 }
 
-/// What a search found, and what it cost: the machine's whole cost, or the budget where that was spent.
+/// What a search found, and what it cost: the machine's whole cost, or the budget where that was
+/// spent.
 #[derive(Drop)]
 pub struct Searched {
     pub found: Found,

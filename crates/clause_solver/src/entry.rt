@@ -7,7 +7,8 @@ ghost use Rattle.clause_solver.specs.Entries.{is_decided, clause_of};
 use clause_store::literal::Lit;
 use std::marker::Model;
 
-/// A literal on the trail, and the number of the clause that it is because of, 0 where it was decided.
+/// A literal on the trail, and the number of the clause that it is because of, 0 where it was
+/// decided.
 #[derive(Clone, Copy)]
 pub struct TrailEntry {
     literal: Lit,
@@ -20,13 +21,15 @@ impl Model for TrailEntry {
 
     ghost Value = { Assigned };
 
-    ghost use Rattle.clause_solver.specs.Entries.{assigned_inside, IsEntry, is_decided, clause_of, parts_same};
+    ghost use Rattle.clause_solver.specs.Entries.{assigned_inside, IsEntry, is_decided, clause_of};
+    ghost use Rattle.clause_solver.specs.Entries.{parts_same};
 
     ghost view = { assigned_inside };
 
     ghost invariant = { IsEntry };
 
-    ghost inverse = { λ d. record { literal = assigned_literal d; clause = clause_of d; decided = is_decided d } };
+    ghost inverse = { λ d.
+        record { literal = assigned_literal d; clause = clause_of d; decided = is_decided d } };
 
     ghost inverse_ok = { λ a h i. record {
       literal = (parts_same a.decided a.clause a.literal h).literal_same i;

@@ -1,10 +1,13 @@
 //! The state of the machine with what is kept of its clauses.
 
-ghost use Rattle.std.specs.Prelude.{◌≡◌, ◌⊎◌, ◌<◌, ◌≤◌, ◌^◌, ◌+◌, ◌==◌, ℕ, true, false, [], ◌∷◌, ◌++◌, length, map, Some, None, IfOk, IfSome, IfNone, not, if◌then◌else◌};
+ghost use Rattle.std.specs.Prelude.{◌≡◌, ◌⊎◌, ◌<◌, ◌≤◌, ◌^◌, ◌+◌, ◌==◌, ℕ, true, false, [], ◌∷◌};
+ghost use Rattle.std.specs.Prelude.{◌++◌, length, map, Some, None, IfOk, IfSome, IfNone, not};
+ghost use Rattle.std.specs.Prelude.{if◌then◌else◌};
 ghost use Rattle.std.specs.List.{position_from, list_all, find};
 ghost use Rattle.std.specs.Option.{option_map};
 ghost use Rattle.cqe_base.specs.Literal.{Literal, variable_of, ClauseBelow};
-ghost use Rattle.cqe_base.specs.Machine.{Assigned, assigned_literal, is_true, is_false, level, first_unit, cut};
+ghost use Rattle.cqe_base.specs.Machine.{Assigned, assigned_literal, is_true, is_false, level};
+ghost use Rattle.cqe_base.specs.Machine.{first_unit, cut};
 ghost use Rattle.cqe_base.specs.MachineStates.{is_assigned};
 ghost use Rattle.clause_solver.specs.Watching.{IsWatched};
 ghost use Rattle.clause_solver.specs.WatchesInside.{units_of};
@@ -35,9 +38,16 @@ impl Indexed {
     pub fn enter(&mut self, clause: &[Lit], first: Lit, second: Lit) -> Result<(), AllocError>
         requires below { ClauseBelow self.old.assignment.variables clause.now }
         requires room { length self.old.clauses < 2 ^ 32 }
-        requires watched { IsWatched self.old.assignment.trail clause.now (record { first = first; second = second }) (length clause.now == 1) (length clause.now == 0) }
+        requires watched { IsWatched self.old.assignment.trail clause.now (record {
+          first =
+              first;
+          second = second;
+        }) (length clause.now == 1) (length clause.now == 0) }
         requires looked { IsLookedAt self.old }
-        ensures plain { IfOk result (λ _. plain_of self.new ≡ record (plain_of self.old) { clauses = self.old.clauses ++ clause.now ∷ [] }) }
+        ensures plain { IfOk result (λ _. plain_of self.new ≡ record (plain_of self.old) {
+          clauses =
+              self.old.clauses ++ clause.now ∷ [];
+        }) }
         ensures variables { self.new.assignment.variables ≡ self.old.assignment.variables }
         ensures looked { IfOk result (λ _. IsLookedAt self.new) }
     {
@@ -49,11 +59,18 @@ impl Indexed {
     /// A literal joins the trail. Where that raises the level, no clause may be unit or falsified.
     pub fn assign(&mut self, entry: TrailEntry) -> Result<(), AllocError>
         requires below { variable_of (assigned_literal entry) < self.old.assignment.variables }
-        requires free { is_assigned self.old.assignment.trail (variable_of (assigned_literal entry)) ≡ false }
-        requires steady { (level (entry ∷ self.old.assignment.trail) ≡ level self.old.assignment.trail) ⊎ ((units_of self.old.watches ≡ []) × (self.old.watches.falsified ≡ None)) }
+        requires free { is_assigned self.old.assignment.trail (variable_of (assigned_literal entry))
+            ≡ false }
+        requires steady { (level (entry ∷ self.old.assignment.trail)
+            ≡ level self.old.assignment.trail)
+            ⊎ ((units_of self.old.watches ≡ []) × (self.old.watches.falsified ≡ None)) }
         requires looked { IsLookedAt self.old }
-        ensures plain { IfOk result (λ _. plain_of self.new ≡ record (plain_of self.old) { trail = entry ∷ self.old.assignment.trail }) }
-        ensures variables { IfOk result (λ _. self.new.assignment.variables ≡ self.old.assignment.variables) }
+        ensures plain { IfOk result (λ _. plain_of self.new ≡ record (plain_of self.old) {
+          trail =
+              entry ∷ self.old.assignment.trail;
+        }) }
+        ensures variables { IfOk result
+            (λ _. self.new.assignment.variables ≡ self.old.assignment.variables) }
         ensures looked { IfOk result (λ _. IsLookedAt self.new) }
     {
         let literal = entry.literal();
@@ -67,7 +84,10 @@ impl Indexed {
     pub fn cut(&mut self, k: usize)
         requires lower { k < level self.old.assignment.trail }
         requires looked { IsLookedAt self.old }
-        ensures plain { plain_of self.new ≡ record (plain_of self.old) { trail = cut k self.old.assignment.trail } }
+        ensures plain { plain_of self.new ≡ record (plain_of self.old) {
+          trail =
+              cut k self.old.assignment.trail;
+        } }
         ensures variables { self.new.assignment.variables ≡ self.old.assignment.variables }
         ensures looked { IsLookedAt self.new }
     {
@@ -80,25 +100,30 @@ impl Indexed {
     /// The first clause with only false literals.
     pub fn first_conflict(&self) -> Option<usize>
         requires { IsIndexed self.now }
-        ensures first { result ≡ position_from (list_all (is_false self.now.assignment.trail)) 0 self.now.clauses }
+        ensures first { result
+            ≡ position_from (list_all (is_false self.now.assignment.trail)) 0 self.now.clauses }
         ensures number { IfSome result (λ i. i < length self.now.clauses) }
         ensures none { IfNone result (self.now.watches.falsified ≡ None) }
     {
-        // A match: its two cases have an answer each, and with `map` the clause `first` doesn't prove alone.
+        // A match: its two cases have an answer each, and with `map` the clause `first` doesn't
+        // prove alone.
         match self.watches.falsified {
             Some(number) => Some(number as usize),
             None => None,
         }
     }
 
-    /// The first clause with no true literal and one that isn't false, with that literal, where no clause is falsified.
+    /// The first clause with no true literal and one that isn't false, with that literal, where no
+    /// clause is falsified.
     pub fn first_unit(&mut self) -> Option<(usize, Lit)>
         requires none { self.old.watches.falsified ≡ None }
         requires indexed { IsIndexed self.old }
-        ensures first { option_map (λ u. (u.0, u.1)) result ≡ first_unit self.old.assignment.trail 0 self.old.clauses }
+        ensures first { option_map (λ u. (u.0, u.1)) result
+            ≡ first_unit self.old.assignment.trail 0 self.old.clauses }
         ensures number { IfSome result (λ u. u.0 < length self.old.clauses) }
         ensures below { IfSome result (λ u. variable_of u.1 < self.old.assignment.variables) }
-        ensures free { IfSome result (λ u. is_assigned self.old.assignment.trail (variable_of u.1) ≡ false) }
+        ensures free { IfSome result
+            (λ u. is_assigned self.old.assignment.trail (variable_of u.1) ≡ false) }
         ensures assignment { self.new.assignment ≡ self.old.assignment }
         ensures clauses { self.new.clauses ≡ self.old.clauses }
         ensures lines { self.new.lines ≡ self.old.lines }

@@ -1,15 +1,20 @@
 //! The search machine.
 //!
-//! `search` answers the machine's end, a model or a refutation, or Spent exactly where the machine's whole cost is above the budget;
+//! `search` answers the machine's end, a model or a refutation, or Spent exactly where the
+//! machine's whole cost is above the budget;
 //! `search_with_cost` answers it with that cost.
-//! It looks at two literals of each clause: for each literal it keeps the clauses that watch it, and looks at them where it becomes
-//! false. What a clause knows of its watched literals is `IsWatched`, and what is kept of all clauses `IsWatching` (specs/Watching.antt).
-//! The clauses that may be unit lie in a heap (`min_heap`). An assignment that is undone touches no clause.
-//! `plain::search_plain` is the plain program of the same contract: it scans the clauses and the trail at each step.
-//! A conflict is analysed on one clause with a mark for each literal (`clause_store::marked_clause`), so a resolution looks at each
-//! literal once.
+//! It looks at two literals of each clause: for each literal it keeps the clauses that watch it,
+//! and looks at them where it becomes false. What a clause knows of its watched literals is
+//! `IsWatched`, and what is kept of all clauses `IsWatching` (specs/Watching.antt).
+//! The clauses that may be unit lie in a heap (`min_heap`). An assignment that is undone touches no
+//! clause.
+//! `plain::search_plain` is the plain program of the same contract: it scans the clauses and the
+//! trail at each step.
+//! A conflict is analysed on one clause with a mark for each literal
+//! (`clause_store::marked_clause`), so a resolution looks at each literal once.
 //!
-//! Read `entry` and `ends`, then `assignment`, `min_heap` and `watches`, then `indexed`, `analysis`, `rules` and `run`.
+//! Read `entry` and `ends`, then `assignment`, `min_heap` and `watches`, then `indexed`,
+//! `analysis`, `rules` and `run`.
 //! `plain` stands alone.
 #![tactic(auto)]
 

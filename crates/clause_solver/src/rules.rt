@@ -1,9 +1,12 @@
 //! The rules of the machine on the state with what is kept of its clauses.
 
-ghost use Rattle.std.specs.Prelude.{◌≡◌, ◌⊎◌, ◌<◌, ◌≤◌, ◌^◌, ◌+◌, ℕ, [], ◌∷◌, ◌++◌, length, map, Some, None, IfOk, IfSome};
+ghost use Rattle.std.specs.Prelude.{◌≡◌, ◌⊎◌, ◌<◌, ◌≤◌, ◌^◌, ◌+◌, ℕ, [], ◌∷◌, ◌++◌, length, map};
+ghost use Rattle.std.specs.Prelude.{Some, None, IfOk, IfSome};
 ghost use Rattle.std.specs.List.{position_from, list_all};
 ghost use Rattle.cqe_base.specs.Literal.{Literal, Negative, variable_of};
-ghost use Rattle.cqe_base.specs.Machine.{State as PlainState, state_after_conflict, step, level, level_of, is_false, signs_of, conflict_step, decide_step, first_unassigned, unit_step, first_unit};
+ghost use Rattle.cqe_base.specs.Machine.{State as PlainState, state_after_conflict, step, level};
+ghost use Rattle.cqe_base.specs.Machine.{level_of, is_false, signs_of, conflict_step, decide_step};
+ghost use Rattle.cqe_base.specs.Machine.{first_unassigned, unit_step, first_unit};
 ghost use Rattle.cqe_base.specs.MachineStates.{Walked};
 ghost use Rattle.clause_store.specs.PlainLines.{line_of};
 ghost use Rattle.clause_solver.specs.PlainStates.{StepIs};
@@ -33,8 +36,12 @@ fn highest_beside(assignment: &Assignment, clause: &[Lit], literal: Lit) -> Lit
 /// The higher one of two literals, where each is another one than the first.
 fn higher_beside(assignment: &Assignment, literal: Lit, highest: Lit, other: Lit) -> Lit
     ensures either { (result ≡ highest) ⊎ (result ≡ other) }
-    ensures higher { (other ≡ literal) ⊎ ((result ≡ literal → ⊥) × (level_of assignment.now.trail other ≤ level_of assignment.now.trail result)) }
-    ensures kept { (highest ≡ literal) ⊎ ((result ≡ literal → ⊥) × (level_of assignment.now.trail highest ≤ level_of assignment.now.trail result)) }
+    ensures higher { (other ≡ literal)
+        ⊎ ((result ≡ literal → ⊥)
+        × (level_of assignment.now.trail other ≤ level_of assignment.now.trail result)) }
+    ensures kept { (highest ≡ literal)
+        ⊎ ((result ≡ literal → ⊥)
+        × (level_of assignment.now.trail highest ≤ level_of assignment.now.trail result)) }
 {
     if other.is(literal)
         || !highest.is(literal) && assignment.level_of(other) <= assignment.level_of(highest)
@@ -49,10 +56,13 @@ fn higher_beside(assignment: &Assignment, literal: Lit, highest: Lit, other: Lit
 fn learn(state: &mut Indexed, line: Line) -> Result<(), AllocError>
     requires room { length state.old.clauses < 2 ^ 32 }
     requires level { 0 < level state.old.assignment.trail }
-    requires walked { Walked state.old.assignment.variables state.old.assignment.trail 1 line.clause.items }
+    requires walked { Walked state.old.assignment.variables state.old.assignment.trail 1
+        line.clause.items }
     requires indexed { IsIndexed state.old }
-    ensures plain { IfOk result (λ _. plain_of state.new ≡ state_after_conflict (plain_of state.old) (line_of line)) }
-    ensures variables { IfOk result (λ _. state.new.assignment.variables ≡ state.old.assignment.variables) }
+    ensures plain { IfOk result (λ _. plain_of state.new
+        ≡ state_after_conflict (plain_of state.old) (line_of line)) }
+    ensures variables { IfOk result
+        (λ _. state.new.assignment.variables ≡ state.old.assignment.variables) }
     ensures indexed { IfOk result (λ _. IsIndexed state.new) }
 {
     let number = state.clauses.len() as u32;
@@ -71,12 +81,15 @@ fn learn(state: &mut Indexed, line: Line) -> Result<(), AllocError>
 /// The first rule, at the clause of this number.
 fn conflict_step(alloc: Global, state: &mut Indexed, number: usize) -> Result<Advance, AllocError>
     requires number { number < length state.old.clauses }
-    requires conflict { position_from (list_all (is_false state.old.assignment.trail)) 0 state.old.clauses ≡ Some number }
+    requires conflict { position_from
+        (list_all (is_false state.old.assignment.trail)) 0 state.old.clauses ≡ Some number }
     requires room { length state.old.clauses < 2 ^ 32 }
     requires indexed { IsIndexed state.old }
-    ensures step { IfOk result (λ a. StepIs (conflict_step (plain_of state.old) number) a (plain_of state.new)) }
+    ensures step { IfOk result (λ a.
+        StepIs (conflict_step (plain_of state.old) number) a (plain_of state.new)) }
     ensures grows { IfOk result (λ _. length state.new.clauses ≤ length state.old.clauses + 1) }
-    ensures variables { IfOk result (λ _. state.new.assignment.variables ≡ state.old.assignment.variables) }
+    ensures variables { IfOk result
+        (λ _. state.new.assignment.variables ≡ state.old.assignment.variables) }
     ensures indexed { IfOk result (λ _. IsIndexed state.new) }
 {
     let line = conflict_line(
@@ -110,15 +123,19 @@ fn signs_of(alloc: Global, assignment: &Assignment, variables: u32) -> Result<Ve
 /// The third rule, or else the fourth.
 fn decide_step(alloc: Global, state: &mut Indexed, variables: u32) -> Result<Advance, AllocError>
     requires variables { variables < 2 ^ 31 }
-    requires no_conflict { position_from (list_all (is_false state.old.assignment.trail)) 0 state.old.clauses ≡ None }
+    requires no_conflict { position_from
+        (list_all (is_false state.old.assignment.trail)) 0 state.old.clauses ≡ None }
     requires no_unit { first_unit state.old.assignment.trail 0 state.old.clauses ≡ None }
     requires no_units { units_of state.old.watches ≡ [] }
     requires no_falsified { state.old.watches.falsified ≡ None }
     requires same { state.old.assignment.variables ≡ variables }
     requires indexed { IsIndexed state.old }
-    ensures step { IfOk result (λ a. StepIs (decide_step variables (plain_of state.old) (first_unassigned state.old.assignment.trail variables)) a (plain_of state.new)) }
+    ensures step { IfOk result (λ a.
+        StepIs (decide_step variables (plain_of state.old)
+        (first_unassigned state.old.assignment.trail variables)) a (plain_of state.new)) }
     ensures grows { IfOk result (λ _. length state.new.clauses ≤ length state.old.clauses + 1) }
-    ensures variables { IfOk result (λ _. state.new.assignment.variables ≡ state.old.assignment.variables) }
+    ensures variables { IfOk result
+        (λ _. state.new.assignment.variables ≡ state.old.assignment.variables) }
     ensures indexed { IfOk result (λ _. IsIndexed state.new) }
 {
     match state.assignment.first_unassigned() {
@@ -136,14 +153,18 @@ fn decide_step(alloc: Global, state: &mut Indexed, variables: u32) -> Result<Adv
 /// The second rule, or else the others.
 fn unit_step(alloc: Global, state: &mut Indexed, variables: u32) -> Result<Advance, AllocError>
     requires variables { variables < 2 ^ 31 }
-    requires no_conflict { position_from (list_all (is_false state.old.assignment.trail)) 0 state.old.clauses ≡ None }
+    requires no_conflict { position_from
+        (list_all (is_false state.old.assignment.trail)) 0 state.old.clauses ≡ None }
     requires no_falsified { state.old.watches.falsified ≡ None }
     requires same { state.old.assignment.variables ≡ variables }
     requires room { length state.old.clauses < 2 ^ 32 }
     requires indexed { IsIndexed state.old }
-    ensures step { IfOk result (λ a. StepIs (unit_step variables (plain_of state.old) (first_unit state.old.assignment.trail 0 state.old.clauses)) a (plain_of state.new)) }
+    ensures step { IfOk result (λ a.
+        StepIs (unit_step variables (plain_of state.old)
+        (first_unit state.old.assignment.trail 0 state.old.clauses)) a (plain_of state.new)) }
     ensures grows { IfOk result (λ _. length state.new.clauses ≤ length state.old.clauses + 1) }
-    ensures variables { IfOk result (λ _. state.new.assignment.variables ≡ state.old.assignment.variables) }
+    ensures variables { IfOk result
+        (λ _. state.new.assignment.variables ≡ state.old.assignment.variables) }
     ensures indexed { IfOk result (λ _. IsIndexed state.new) }
 {
     match state.first_unit() {
@@ -161,9 +182,11 @@ pub fn step(alloc: Global, state: &mut Indexed, variables: u32) -> Result<Advanc
     requires same { state.old.assignment.variables ≡ variables }
     requires room { length state.old.clauses < 2 ^ 32 }
     requires indexed { IsIndexed state.old }
-    ensures step { IfOk result (λ a. StepIs (step variables (plain_of state.old)) a (plain_of state.new)) }
+    ensures step { IfOk result (λ a.
+        StepIs (step variables (plain_of state.old)) a (plain_of state.new)) }
     ensures grows { IfOk result (λ _. length state.new.clauses ≤ length state.old.clauses + 1) }
-    ensures variables { IfOk result (λ _. state.new.assignment.variables ≡ state.old.assignment.variables) }
+    ensures variables { IfOk result
+        (λ _. state.new.assignment.variables ≡ state.old.assignment.variables) }
     ensures indexed { IfOk result (λ _. IsIndexed state.new) }
 {
     match state.first_conflict() {

@@ -82,8 +82,8 @@ fn spent(budget: u64) -> Searched
     }
 }
 
-/// What `search` answers, with the whole cost in the same units. Where the budget is spent the whole cost isn't known, and the
-/// budget stands in its place.
+/// What `search` answers, with the whole cost in the same units. Where the budget is spent the
+/// whole cost isn't known, and the budget stands in its place.
 pub fn search_with_cost(
     alloc: Global,
     clauses: &Clauses,
@@ -94,8 +94,10 @@ pub fn search_with_cost(
     requires below { ClausesBelow variables clauses.now }
     requires no_repeat { HaveNoRepeat clauses.now }
     requires room { length clauses.now + budget < 2 ^ 32 }
-    ensures found { IfOk result (λ searched. found_of searched.found ≡ end_within_budget clauses.now variables budget) }
-    ensures cost { IfOk result (λ searched. searched.cost ≡ cost_within_budget clauses.now variables budget) }
+    ensures found { IfOk result (λ searched. found_of searched.found
+        ≡ end_within_budget clauses.now variables budget) }
+    ensures cost { IfOk result (λ searched. searched.cost
+        ≡ cost_within_budget clauses.now variables budget) }
 {
     let mut state = begin(alloc, clauses, variables)?;
     let mut left = budget;
@@ -132,9 +134,10 @@ pub fn search_with_cost(
 
 /// Runs the machine of `cqe_base` (specs/Machine.antt), for callers that don't ask what it cost.
 ///
-/// The budget is in the machine's own units: a conflict costs 1, 1 for each resolution and 1 for each literal of the learnt
-/// clause, and any other step costs 1. Time and memory aren't counted. The same clauses in the same order give the same
-/// answer. `is_searchable` tests all that is required; `Err` is want of memory.
+/// The budget is in the machine's own units: a conflict costs 1, 1 for each resolution and 1 for
+/// each literal of the learnt clause, and any other step costs 1. Time and memory aren't counted.
+/// The same clauses in the same order give the same answer. `is_searchable` tests all that is
+/// required; `Err` is want of memory.
 pub fn search(
     alloc: Global,
     clauses: &Clauses,
@@ -145,7 +148,8 @@ pub fn search(
     requires below { ClausesBelow variables clauses.now }
     requires no_repeat { HaveNoRepeat clauses.now }
     requires room { length clauses.now + budget < 2 ^ 32 }
-    ensures found { IfOk result (λ found. found_of found ≡ end_within_budget clauses.now variables budget) }
+    ensures found { IfOk result (λ found. found_of found
+        ≡ end_within_budget clauses.now variables budget) }
     ensures right { IfOk result (IsRightFound clauses.now) }
 {
     law_budget_is_whole_cost();

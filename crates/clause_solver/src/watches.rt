@@ -1,13 +1,20 @@
-//! Two watched literals of each clause, and the clauses that became unit or falsified since the last decision.
+//! Two watched literals of each clause, and the clauses that became unit or falsified since the
+//! last decision.
 
 ghost use Rattle.std.specs.List.{find};
 ghost use Rattle.std.specs.List.Sorted.{IsPermutation};
-ghost use Rattle.cqe_base.specs.Literal.{Literal, variable_of, same_literal, ClauseBelow, ClausesBelow};
+ghost use Rattle.cqe_base.specs.Literal.{Literal, variable_of, same_literal, ClauseBelow};
+ghost use Rattle.cqe_base.specs.Literal.{ClausesBelow};
 ghost use Rattle.cqe_base.specs.Machine.{Assigned, is_false, level, level_of};
 ghost use Rattle.clause_store.specs.Codes.{code_of};
-ghost use Rattle.clause_solver.specs.Watching.{IsWatching, IsWatched, HaveSameLiterals, WatchesBeside, kept_with, no_pair, lowest, is_caught, has_number, IsLeast, DropsLeast, IsOpenOf, AreClosed};
+ghost use Rattle.clause_solver.specs.Watching.{IsWatching, IsWatched, HaveSameLiterals};
+ghost use Rattle.clause_solver.specs.Watching.{WatchesBeside, kept_with, no_pair, lowest};
+ghost use Rattle.clause_solver.specs.Watching.{is_caught, has_number, IsLeast, DropsLeast};
+ghost use Rattle.clause_solver.specs.Watching.{IsOpenOf, AreClosed};
 ghost use Rattle.clause_solver.specs.WatchesInside.{AreWatches, lists_of, units_of};
-ghost use Rattle.std.specs.Prelude.{true, false, not, ◌&&◌, ◌||◌, ◌==◌, List, None, map, replicate, take, drop, slice_set, slice_index_or, ◌≡◌, ℕ, ◌<◌, ◌≤◌, ◌+◌, ◌*◌, ◌^◌, [], ◌∷◌, ◌++◌, length, IfOk, IfSome, IfNone};
+ghost use Rattle.std.specs.Prelude.{true, false, not, ◌&&◌, ◌||◌, ◌==◌, List, None, map, replicate};
+ghost use Rattle.std.specs.Prelude.{take, drop, slice_set, slice_index_or, ◌≡◌, ℕ, ◌<◌, ◌≤◌, ◌+◌};
+ghost use Rattle.std.specs.Prelude.{◌*◌, ◌^◌, [], ◌∷◌, ◌++◌, length, IfOk, IfSome, IfNone};
 
 use crate::assignment::Assignment;
 use crate::min_heap::MinHeap;
@@ -38,7 +45,8 @@ pub struct Watches {
     pub lists: Vec<Vec<Watch>>,
     /// The watched literals of each clause.
     pub pairs: Vec<Pair>,
-    /// The clauses with the literals of the lowest variables first, which are the least likely to change.
+    /// The clauses with the literals of the lowest variables first, which are the least likely to
+    /// change.
     pub sorted: Clauses,
     /// Where a clause is sorted.
     pub sorting: Vec<Lit>,
@@ -51,7 +59,9 @@ pub struct Watches {
 /// The first literal that isn't false and isn't this one.
 fn other_open(assignment: &Assignment, clause: &[Lit], literal: Lit) -> Option<Lit>
     requires { ClauseBelow assignment.now.variables clause.now }
-    ensures { result ≡ find (λ l. not (is_false assignment.now.trail l) && not (same_literal l literal)) clause.now }
+    ensures { result
+        ≡ find (λ l. not (is_false assignment.now.trail l)
+        && not (same_literal l literal)) clause.now }
 {
     for other in clause {
         if !assignment.holds(other.opposite()) && !other.is(literal) {
@@ -83,8 +93,13 @@ impl Watches {
         requires first { 0 < length clause.now → code_of first < length self.old.lists.items }
         requires second { 0 < length clause.now → code_of second < length self.old.lists.items }
         requires room { length self.old.pairs.items < 2 ^ 32 }
-        ensures watches { IfOk result (λ _. (n : ℕ) (t : List Assigned) → AreWatches n t self.old → ClauseBelow n clause.now → IsWatched t clause.now (record { first = first; second = second }) (length clause.now == 1) (length clause.now == 0) → AreWatches n t self.new) }
-        ensures sorted { IfOk result (λ _. (cs : List (List Literal)) → HaveSameLiterals cs self.old.sorted → HaveSameLiterals (cs ++ clause.now ∷ []) self.new.sorted) }
+        ensures watches { IfOk result (λ _. (n : ℕ) (t : List Assigned) → AreWatches n t self.old
+            → ClauseBelow n clause.now
+            → IsWatched t clause.now (record { first = first; second = second })
+            (length clause.now == 1) (length clause.now == 0) → AreWatches n t self.new) }
+        ensures sorted { IfOk result (λ _. (cs : List (List Literal))
+            → HaveSameLiterals cs self.old.sorted
+            → HaveSameLiterals (cs ++ clause.now ∷ []) self.new.sorted) }
     {
         let number = self.pairs.len() as u32;
         sort_clause(&mut self.sorting, clause)?;
@@ -102,7 +117,9 @@ impl Watches {
 
     /// A clause may be unit, where this is so.
     fn add_unit(&mut self, clause: u32, unit: bool) -> Result<(), AllocError>
-        ensures units { IfOk result (λ _. (i : ℕ) → has_number (units_of self.new) i ≡ (has_number (units_of self.old) i || (unit && (clause == i)))) }
+        ensures units { IfOk result (λ _. (i : ℕ)
+            → has_number (units_of self.new) i
+            ≡ (has_number (units_of self.old) i || (unit && (clause == i)))) }
         ensures lists { self.new.lists ≡ self.old.lists }
         ensures pairs { self.new.pairs ≡ self.old.pairs }
         ensures sorted { self.new.sorted ≡ self.old.sorted }
@@ -118,7 +135,10 @@ impl Watches {
     /// A clause watches a literal.
     fn watch(&mut self, literal: Lit, clause: u32, blocker: Lit) -> Result<(), AllocError>
         requires { code_of literal < length self.old.lists.items }
-        ensures lists { IfOk result (λ _. lists_of self.new ≡ slice_set (lists_of self.old) (code_of literal) (slice_index_or (lists_of self.old) (code_of literal) [] ++ record { clause = clause; blocker = blocker } ∷ [])) }
+        ensures lists { IfOk result (λ _. lists_of self.new
+            ≡ slice_set (lists_of self.old) (code_of literal)
+            (slice_index_or (lists_of self.old) (code_of literal) []
+            ++ record { clause = clause; blocker = blocker } ∷ [])) }
         ensures room { length self.new.lists.items ≡ length self.old.lists.items }
         ensures pairs { self.new.pairs ≡ self.old.pairs }
         ensures sorted { self.new.sorted ≡ self.old.sorted }
@@ -134,8 +154,11 @@ impl Watches {
         requires below { variable_of literal < assignment.now.variables }
         requires false_now { is_false assignment.now.trail literal ≡ true }
         requires current { level_of assignment.now.trail literal ≡ level assignment.now.trail }
-        requires watching { IsWatching assignment.now.variables assignment.now.trail self.old.sorted (lists_of self.old) self.old.pairs.items (units_of self.old) self.old.falsified literal (slice_index_or (lists_of self.old) (code_of literal) []) }
-        ensures watches { IfOk result (λ _. AreWatches assignment.now.variables assignment.now.trail self.new) }
+        requires watching { IsWatching assignment.now.variables assignment.now.trail self.old.sorted
+            (lists_of self.old) self.old.pairs.items (units_of self.old) self.old.falsified literal
+            (slice_index_or (lists_of self.old) (code_of literal) []) }
+        ensures watches { IfOk result (λ _.
+            AreWatches assignment.now.variables assignment.now.trail self.new) }
         ensures sorted { self.new.sorted ≡ self.old.sorted }
     {
         let mut list = mem::try_take(&mut self.lists[code(literal)])?;
@@ -150,8 +173,8 @@ impl Watches {
         Ok(())
     }
 
-    /// Looks at a clause in the list of a literal that is false. Where it goes on watching that, it answers a literal to be looked
-    /// at first.
+    /// Looks at a clause in the list of a literal that is false. Where it goes on watching that, it
+    /// answers a literal to be looked at first.
     fn visit(
         &mut self,
         assignment: &Assignment,
@@ -167,7 +190,16 @@ impl Watches {
         requires lists_room { length self.old.lists.items ≡ 2 * assignment.now.variables }
         requires pairs_room { length self.old.pairs.items ≡ length self.old.sorted }
         requires below { ClausesBelow assignment.now.variables self.old.sorted }
-        ensures watching { IfOk result (λ o. (kept rest : List Watch) → IsWatching assignment.now.variables assignment.now.trail self.old.sorted (slice_set (lists_of self.old) (code_of literal) (kept ++ record { clause = clause; blocker = blocker } ∷ rest)) self.old.pairs.items (units_of self.old) self.old.falsified literal (record { clause = clause; blocker = blocker } ∷ rest) → IsWatching assignment.now.variables assignment.now.trail self.new.sorted (slice_set (lists_of self.new) (code_of literal) (kept_with kept clause o ++ rest)) self.new.pairs.items (units_of self.new) self.new.falsified literal rest) }
+        ensures watching { IfOk result (λ o. (kept rest : List Watch)
+            → IsWatching assignment.now.variables assignment.now.trail self.old.sorted
+            (slice_set (lists_of self.old) (code_of literal)
+            (kept ++ record { clause = clause; blocker = blocker } ∷ rest))
+            self.old.pairs.items (units_of self.old) self.old.falsified literal
+            (record { clause = clause; blocker = blocker } ∷ rest)
+            → IsWatching assignment.now.variables assignment.now.trail
+            self.new.sorted (slice_set (lists_of self.new) (code_of literal)
+            (kept_with kept clause o ++ rest)) self.new.pairs.items
+            (units_of self.new) self.new.falsified literal rest) }
         ensures sorted { self.new.sorted ≡ self.old.sorted }
         ensures lists_room { length self.new.lists.items ≡ length self.old.lists.items }
         ensures pairs_room { length self.new.pairs.items ≡ length self.old.pairs.items }
@@ -197,8 +229,18 @@ impl Watches {
         requires lists_room { length self.old.lists.items ≡ 2 * assignment.now.variables }
         requires pairs_room { length self.old.pairs.items ≡ length self.old.sorted }
         requires below { ClausesBelow assignment.now.variables self.old.sorted }
-        requires beside { WatchesBeside (slice_index_or self.old.pairs.items clause no_pair) literal other }
-        ensures watching { IfOk result (λ o. (kept rest : List Watch) → IsWatching assignment.now.variables assignment.now.trail self.old.sorted (slice_set (lists_of self.old) (code_of literal) (kept ++ record { clause = clause; blocker = blocker } ∷ rest)) self.old.pairs.items (units_of self.old) self.old.falsified literal (record { clause = clause; blocker = blocker } ∷ rest) → IsWatching assignment.now.variables assignment.now.trail self.new.sorted (slice_set (lists_of self.new) (code_of literal) (kept_with kept clause o ++ rest)) self.new.pairs.items (units_of self.new) self.new.falsified literal rest) }
+        requires beside { WatchesBeside
+            (slice_index_or self.old.pairs.items clause no_pair) literal other }
+        ensures watching { IfOk result (λ o. (kept rest : List Watch)
+            → IsWatching assignment.now.variables assignment.now.trail self.old.sorted
+            (slice_set (lists_of self.old) (code_of literal)
+            (kept ++ record { clause = clause; blocker = blocker } ∷ rest))
+            self.old.pairs.items (units_of self.old) self.old.falsified literal
+            (record { clause = clause; blocker = blocker } ∷ rest)
+            → IsWatching assignment.now.variables assignment.now.trail
+            self.new.sorted (slice_set (lists_of self.new) (code_of literal)
+            (kept_with kept clause o ++ rest)) self.new.pairs.items
+            (units_of self.new) self.new.falsified literal rest) }
         ensures sorted { self.new.sorted ≡ self.old.sorted }
         ensures lists_room { length self.new.lists.items ≡ length self.old.lists.items }
         ensures pairs_room { length self.new.pairs.items ≡ length self.old.pairs.items }
@@ -224,8 +266,13 @@ impl Watches {
 
     /// No literal of a clause is open but perhaps this one: it is unit or falsified.
     fn note(&mut self, assignment: &Assignment, clause: u32, literal: Lit) -> Result<(), AllocError>
-        ensures caught { is_false assignment.now.trail literal ≡ true → (self.new.falsified ≡ lowest self.old.falsified clause) × (units_of self.new ≡ units_of self.old) }
-        ensures unit { IfOk result (λ _. is_false assignment.now.trail literal ≡ false → (self.new.falsified ≡ self.old.falsified) × ((i : ℕ) → has_number (units_of self.new) i ≡ (has_number (units_of self.old) i || (clause == i)))) }
+        ensures caught { is_false assignment.now.trail literal ≡ true
+            → (self.new.falsified ≡ lowest self.old.falsified clause)
+            × (units_of self.new ≡ units_of self.old) }
+        ensures unit { IfOk result (λ _. is_false assignment.now.trail literal ≡ false
+            → (self.new.falsified ≡ self.old.falsified)
+            × ((i : ℕ) → has_number (units_of self.new) i
+            ≡ (has_number (units_of self.old) i || (clause == i)))) }
         ensures lists { self.new.lists ≡ self.old.lists }
         ensures pairs { self.new.pairs ≡ self.old.pairs }
         ensures sorted { self.new.sorted ≡ self.old.sorted }
@@ -273,7 +320,8 @@ impl Watches {
 /// The watched literal beside this one, where that is watched.
 fn other_watched(pair: &Pair, literal: Lit) -> Option<Lit>
     ensures beside { IfSome result (λ other. WatchesBeside pair.now literal other) }
-    ensures none { IfNone result ((pair.now.first ≡ literal → ⊥) × (pair.now.second ≡ literal → ⊥)) }
+    ensures none { IfNone result
+        ((pair.now.first ≡ literal → ⊥) × (pair.now.second ≡ literal → ⊥)) }
 {
     if pair.first.is(literal) {
         Some(pair.second)
@@ -301,7 +349,8 @@ pub fn open_watched(assignment: &Assignment, pair: &Pair) -> Option<Lit>
 /// A watch is kept with this blocker, if there is one, behind those that were kept before it.
 fn keep(list: &mut Vec<Watch>, kept: usize, clause: u32, blocker: Option<Lit>) -> usize
     requires { kept < length list.old.items }
-    ensures kept { take result list.new.items ≡ kept_with (take kept list.old.items) clause blocker }
+    ensures kept { take result list.new.items
+        ≡ kept_with (take kept list.old.items) clause blocker }
     ensures rest { (k : ℕ) → kept < k → drop k list.new.items ≡ drop k list.old.items }
     ensures most { result ≤ kept + 1 }
     ensures length { length list.new.items ≡ length list.old.items }

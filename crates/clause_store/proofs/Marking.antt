@@ -1,5 +1,6 @@
 -- The marks of a clause stay those of the clause.
-use Rattle.std.proofs.Common.{◌≡◌, ℕ, ◌<◌, ◌*◌, Bool, true, false, cond, not, ◌||◌, eqb, List, [], ◌∷◌, length, get_or, set, refl, sym, ap, ◌∙◌, inl, inr, ◌⊎◌, arith}
+use Rattle.std.proofs.Common.{◌≡◌, ℕ, ◌<◌, ◌*◌, Bool, true, false, cond, not, ◌||◌, eqb, List, [], ◌∷◌, length, get_or, set, refl, sym, ap, ◌∙◌, inl, inr, ◌⊎◌}
+use Rattle.std.proofs.Common.{arith}
 use Rattle.std.proofs.lemmas.Bool.{cases_eq, cases_lt, false_from_ne_true, eqb-true, eqb-false}
 use Rattle.std.proofs.lemmas.List.{get_or-set_same, get_or-set_other, length-set, get_or_past, set_past}
 use Rattle.cqe_base.specs.Literal.{Literal, Positive, Negative, variable_of, opposite, same_literal, has_literal, union}
@@ -28,7 +29,8 @@ module _ (v : ℕ) (m : Literal) where
   has_without [] e = refl
   has_without (l ∷ clause) e = step (has_without clause e) (eqb (variable_of l) v) refl
     where
-      step : has_literal (without_variable v clause) m ≡ false → (b : Bool) → eqb (variable_of l) v ≡ b → has_literal (cond (not b) (l ∷ without_variable v clause) (without_variable v clause)) m ≡ false
+      step : has_literal (without_variable v clause) m ≡ false → (b : Bool) → eqb (variable_of l) v ≡ b
+          → has_literal (cond (not b) (l ∷ without_variable v clause) (without_variable v clause)) m ≡ false
       step go true g = go
       step go false g = ap (λ b. b || has_literal (without_variable v clause) m) (other_variable m l (λ s. eqb-false _ _ g (sym s ∙ e))) ∙ go
 
@@ -36,7 +38,8 @@ module _ (v : ℕ) (m : Literal) where
   has_still [] ne = refl
   has_still (l ∷ clause) ne = step (has_still clause ne) (eqb (variable_of l) v) refl
     where
-      step : has_literal (without_variable v clause) m ≡ has_literal clause m → (b : Bool) → eqb (variable_of l) v ≡ b → has_literal (cond (not b) (l ∷ without_variable v clause) (without_variable v clause)) m ≡ (same_literal m l || has_literal clause m)
+      step : has_literal (without_variable v clause) m ≡ has_literal clause m → (b : Bool) → eqb (variable_of l) v ≡ b
+          → has_literal (cond (not b) (l ∷ without_variable v clause) (without_variable v clause)) m ≡ (same_literal m l || has_literal clause m)
       step go true g = go ∙ sym (ap (λ b. b || has_literal clause m) (other_variable m l (λ s. ne (s ∙ eqb-true _ _ g))))
       step go false g = ap (λ b. same_literal m l || b) go
 
@@ -61,13 +64,15 @@ same_or_other (Negative v) (Positive w) e = inr (ap Negative e)
 same_or_other (Negative v) (Negative w) e = inl (ap Negative e)
 
 -- the literals of a variable leave
-pub marks_without : (n : ℕ) (clause : List Literal) (marks : List Bool) (l : Literal) → AreMarksOf n clause marks → AreMarksOf n (without_variable (variable_of l) clause) (set (set marks (code_of l) false) (code_of (opposite l)) false)
+pub marks_without : (n : ℕ) (clause : List Literal) (marks : List Bool) (l : Literal) → AreMarksOf n clause marks
+    → AreMarksOf n (without_variable (variable_of l) clause) (set (set marks (code_of l) false) (code_of (opposite l)) false)
 marks_without n clause marks l h = record {
   room = length-set (set marks (code_of l) false) (code_of (opposite l)) false ∙ length-set marks (code_of l) false ∙ h.room;
   marked = λ m. elim (cases_eq (variable_of m) (variable_of l)) [
     | inl same ↦ gone m (same_or_other m l same) ∙ sym (has_without (variable_of l) m clause same)
     | inr other ↦
-        get_or-set_other (set marks (code_of l) false) (code_of (opposite l)) (code_of m) false false (λ e. other (ap variable_of (code_of-injective m (opposite l) e) ∙ variable_of-opposite l))
+        get_or-set_other (set marks (code_of l) false) (code_of (opposite l)) (code_of m) false false (λ e.
+        other (ap variable_of (code_of-injective m (opposite l) e) ∙ variable_of-opposite l))
         ∙ get_or-set_other marks (code_of l) (code_of m) false false (λ e. other (ap variable_of (code_of-injective m l e)))
         ∙ h.marked m ∙ sym (has_still (variable_of l) m clause other)
   ];
@@ -78,9 +83,11 @@ marks_without n clause marks l h = record {
     gone m (inr e) = cleared (set marks (code_of l) false) (code_of (opposite l)) (code_of m) (inl (ap code_of e))
 
 -- one literal of a clause that is resolved with
-pub union_more : (v : ℕ) (c : List Literal) (l : Literal) (rest : List Literal) → union (union c (without_variable v (l ∷ []))) (without_variable v rest) ≡ union c (without_variable v (l ∷ rest))
+pub union_more : (v : ℕ) (c : List Literal) (l : Literal) (rest : List Literal)
+    → union (union c (without_variable v (l ∷ []))) (without_variable v rest) ≡ union c (without_variable v (l ∷ rest))
 union_more v c l rest = step (eqb (variable_of l) v)
   where
-    step : (b : Bool) → union (union c (cond (not b) (l ∷ []) [])) (without_variable v rest) ≡ union c (cond (not b) (l ∷ without_variable v rest) (without_variable v rest))
+    step : (b : Bool)
+        → union (union c (cond (not b) (l ∷ []) [])) (without_variable v rest) ≡ union c (cond (not b) (l ∷ without_variable v rest) (without_variable v rest))
     step true = refl
     step false = refl

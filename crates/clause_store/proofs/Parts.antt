@@ -17,7 +17,8 @@ pub length-view : (a : Inside) (v : List (List Literal)) → parts_from 0 a.ends
 length-view a v is = ap length (sym is) ∙ length-parts 0 a.ends.items a.literals.items
 
 -- a part is what stands between its start and its end
-pub part_at : {X : Type 0} (from : ℕ) (ends : List ℕ) (xs : List X) (number : ℕ) (d : List X) → number < length ends → slice_index_or (parts_from from ends xs) number d ≡ slice_range xs (start_of from ends number) (slice_index_or ends number 0)
+pub part_at : {X : Type 0} (from : ℕ) (ends : List ℕ) (xs : List X) (number : ℕ) (d : List X) → number < length ends
+    → slice_index_or (parts_from from ends xs) number d ≡ slice_range xs (start_of from ends number) (slice_index_or ends number 0)
 part_at from [] xs number d low = absurd (omega arith)
 part_at from (end ∷ ends) xs zero d low = refl
 part_at from (end ∷ ends) xs (suc number) d low = part_at end ends xs number d (omega arith)
@@ -31,7 +32,8 @@ pub ascends-within : (from : ℕ) (ends : List ℕ) (n : ℕ) → Ascends from e
 ascends-within from [] n h = omega arith
 ascends-within from (end ∷ ends) n h = let low = h.0 in let rest = ascends-within end ends n h.1 in omega arith
 
-pub part_placed : (from : ℕ) (ends : List ℕ) (n number : ℕ) → Ascends from ends n → number < length ends → IsPlaced (start_of from ends number) (slice_index_or ends number 0) n
+pub part_placed : (from : ℕ) (ends : List ℕ) (n number : ℕ) → Ascends from ends n → number < length ends
+    → IsPlaced (start_of from ends number) (slice_index_or ends number 0) n
 part_placed from [] n number h low = absurd (omega arith)
 part_placed from (end ∷ ends) n zero h low = record { ordered = h.0; within = ascends-within end ends n h.1 }
 part_placed from (end ∷ ends) n (suc number) h low = part_placed end ends n number h.1 (omega arith)
@@ -57,18 +59,21 @@ take_all : {X : Type 0} (xs : List X) → take (length xs) xs ≡ xs
 take_all [] = refl
 take_all (x ∷ xs) = ap (λ ys. x ∷ ys) (take_all xs)
 
-parts_of_append : {X : Type 0} (from : ℕ) (ends : List ℕ) (n : ℕ) (xs ys : List X) → n ≤ length xs → Ascends from ends n → parts_from from ends (xs ++ ys) ≡ parts_from from ends xs
+parts_of_append : {X : Type 0} (from : ℕ) (ends : List ℕ) (n : ℕ) (xs ys : List X) → n ≤ length xs → Ascends from ends n
+    → parts_from from ends (xs ++ ys) ≡ parts_from from ends xs
 parts_of_append from [] n xs ys within h = refl
 parts_of_append from (end ∷ ends) n xs ys within h =
     let low = ascends-within end ends n h.1 in
     λ i. part_of_append xs ys from end h.0 (omega arith) i ∷ parts_of_append end ends n xs ys within h.1 i
 
-last_part : {X : Type 0} (from : ℕ) (ends : List ℕ) (xs : List X) (n m : ℕ) → Ascends from ends n → parts_from from (ends ++ m ∷ []) xs ≡ parts_from from ends xs ++ slice_range xs n m ∷ []
+last_part : {X : Type 0} (from : ℕ) (ends : List ℕ) (xs : List X) (n m : ℕ) → Ascends from ends n
+    → parts_from from (ends ++ m ∷ []) xs ≡ parts_from from ends xs ++ slice_range xs n m ∷ []
 last_part from [] xs n m h = ap (λ k. slice_range xs k m ∷ []) h
 last_part from (end ∷ ends) xs n m h = ap (λ ps. slice_range xs from end ∷ ps) (last_part end ends xs n m h.1)
 
 -- one more part at the end
-pub parts-push : {X : Type 0} (from : ℕ) (ends : List ℕ) (xs ys : List X) → Ascends from ends (length xs) → parts_from from (ends ++ (length xs + length ys) ∷ []) (xs ++ ys) ≡ parts_from from ends xs ++ ys ∷ []
+pub parts-push : {X : Type 0} (from : ℕ) (ends : List ℕ) (xs ys : List X) → Ascends from ends (length xs)
+    → parts_from from (ends ++ (length xs + length ys) ∷ []) (xs ++ ys) ≡ parts_from from ends xs ++ ys ∷ []
 parts-push from ends xs ys h =
     last_part from ends (xs ++ ys) (length xs) (length xs + length ys) h
     ∙ ap (λ ps. ps ++ slice_range (xs ++ ys) (length xs) (length xs + length ys) ∷ []) (parts_of_append from ends (length xs) xs ys (omega arith) h)
@@ -94,14 +99,16 @@ parts_of_take from ends xs zero = refl
 parts_of_take from [] xs (suc k) = refl
 parts_of_take from (end ∷ ends) xs (suc k) = ap (λ ps. slice_range xs from end ∷ ps) (parts_of_take end ends xs k)
 
-pub length-take-start : {X : Type 0} (ends : List ℕ) (xs : List X) (k : ℕ) → Ascends 0 ends (length xs) → length (take (start_of 0 ends k) xs) ≡ start_of 0 ends k
+pub length-take-start : {X : Type 0} (ends : List ℕ) (xs : List X) (k : ℕ) → Ascends 0 ends (length xs)
+    → length (take (start_of 0 ends k) xs) ≡ start_of 0 ends k
 length-take-start ends xs k h =
     let low = start-within 0 ends (length xs) k h in
     let e = length-take (start_of 0 ends k) xs in
     omega arith
 
 -- the first parts stand in the first of the list
-pub parts-take : {X : Type 0} (ends : List ℕ) (xs : List X) (k : ℕ) → k ≤ length ends → Ascends 0 ends (length xs) → parts_from 0 (take k ends) (take (start_of 0 ends k) xs) ≡ take k (parts_from 0 ends xs)
+pub parts-take : {X : Type 0} (ends : List ℕ) (xs : List X) (k : ℕ) → k ≤ length ends → Ascends 0 ends (length xs)
+    → parts_from 0 (take k ends) (take (start_of 0 ends k) xs) ≡ take k (parts_from 0 ends xs)
 parts-take ends xs k le h =
     let b : ℕ = start_of 0 ends k in
     let size = length-take-start ends xs k h in
@@ -120,7 +127,8 @@ index_same (x ∷ xs) (suc i) d e low = index_same xs i d e (omega arith)
 abbrev pub HasEnds : Inside → Type 0
 HasEnds a = Ascends 0 a.ends.items (length a.literals.items)
 
-pub placed_inside : (a : Inside) → HasEnds a → (number start end : ℕ) → number < length a.ends.items → start ≡ start_of 0 a.ends.items number → end ≡ slice_index_or a.ends.items number end → IsPlaced start end (length a.literals.items)
+pub placed_inside : (a : Inside) → HasEnds a → (number start end : ℕ) → number < length a.ends.items → start ≡ start_of 0 a.ends.items number
+    → end ≡ slice_index_or a.ends.items number end → IsPlaced start end (length a.literals.items)
 placed_inside a ends number start end low starts ends_at =
     let placed = part_placed 0 a.ends.items (length a.literals.items) number ends low in
     let same = index_same a.ends.items number end 0 low in
@@ -128,7 +136,9 @@ placed_inside a ends number start end low starts ends_at =
     let within = placed.within in
     record { ordered = omega arith; within = omega arith }
 
-pub part_inside : (a : Inside) (v : List (List Literal)) → parts_from 0 a.ends.items a.literals.items ≡ v → (number start end : ℕ) (d : List Literal) → number < length a.ends.items → start ≡ start_of 0 a.ends.items number → end ≡ slice_index_or a.ends.items number end → slice_range a.literals.items start end ≡ slice_index_or v number d
+pub part_inside : (a : Inside) (v : List (List Literal)) → parts_from 0 a.ends.items a.literals.items ≡ v → (number start end : ℕ) (d : List Literal)
+    → number < length a.ends.items → start ≡ start_of 0 a.ends.items number → end ≡ slice_index_or a.ends.items number end
+    → slice_range a.literals.items start end ≡ slice_index_or v number d
 part_inside a v is number start end d low starts ends_at =
     (λ i. slice_range a.literals.items (starts i) ((ends_at ∙ index_same a.ends.items number end 0 low) i))
     ∙ sym (part_at 0 a.ends.items a.literals.items number d low)

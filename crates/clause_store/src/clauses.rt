@@ -1,6 +1,7 @@
 //! Numbered clauses.
 
-ghost use Rattle.std.specs.Prelude.{◌≡◌, ◌==◌, ◌<◌, ◌≤◌, [], ◌∷◌, ◌++◌, length, take, IfOk, OnOk, OnErr, slice_index_or, slice_get};
+ghost use Rattle.std.specs.Prelude.{◌≡◌, ◌==◌, ◌<◌, ◌≤◌, [], ◌∷◌, ◌++◌, length, take, IfOk, OnOk};
+ghost use Rattle.std.specs.Prelude.{OnErr, slice_index_or, slice_get};
 ghost use Rattle.std.specs.Option.{option_copied};
 ghost use Rattle.clause_store.specs.Ends.{start_of};
 

@@ -3,7 +3,8 @@
 ghost use Rattle.std.specs.Prelude.{◌≡◌, ◌<◌, ◌^◌, ◌+◌, ◌↔◌, IsTrue, IfSome, IsNone};
 ghost use Rattle.clause_store.specs.Codes.{code_of};
 ghost use Rattle.clause_store.specs.SignedNumbers.{number_of_literal, IsNoLiteral};
-ghost use Rattle.cqe_base.specs.Literal.{Literal, Positive, Negative, variable_of, opposite, same_literal, has_literal};
+ghost use Rattle.cqe_base.specs.Literal.{Literal, Positive, Negative, variable_of, opposite};
+ghost use Rattle.cqe_base.specs.Literal.{same_literal, has_literal};
 
 use std::marker::Model;
 
@@ -45,7 +46,8 @@ impl Lit {
         Lit(2 * variable + 1)
     }
 
-    /// The literal of a number: variable v is v + 1, and its negation -(v + 1). There is none for 0 and for the least number.
+    /// The literal of a number: variable v is v + 1, and its negation -(v + 1). There is none for 0
+    /// and for the least number.
     pub fn from_number(number: i32) -> Option<Lit>
         ensures literal { IfSome result (λ l. number_of_literal l ≡ number) }
         ensures none { IsNone result ↔ IsNoLiteral number }
@@ -59,8 +61,9 @@ impl Lit {
         }
     }
 
-    /// Its number, as DIMACS writes literals: v + 1 for variable v, numbered from 0, and -(v + 1) for its negation. It is
-    /// never 0, which ends a clause there, and never `i32::MIN`, so it can be negated.
+    /// Its number, as DIMACS writes literals: v + 1 for variable v, numbered from 0, and -(v + 1)
+    /// for its negation. It is never 0, which ends a clause there, and never `i32::MIN`, so it can
+    /// be negated.
     pub fn number(self) -> i32
         ensures { result ≡ number_of_literal self }
     {

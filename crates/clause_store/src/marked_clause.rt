@@ -1,6 +1,8 @@
-//! A clause with a mark for each of its literals, so that a resolution looks at each literal of both clauses once.
+//! A clause with a mark for each of its literals, so that a resolution looks at each literal of
+//! both clauses once.
 
-ghost use Rattle.std.specs.Prelude.{◌≡◌, ◌<◌, ◌^◌, ◌++◌, ◌∷◌, [], false, length, slice_set, slice_index_or, if◌then◌else◌, IfOk, OnErr};
+ghost use Rattle.std.specs.Prelude.{◌≡◌, ◌<◌, ◌^◌, ◌++◌, ◌∷◌, [], false, length, slice_set};
+ghost use Rattle.std.specs.Prelude.{slice_index_or, if◌then◌else◌, IfOk, OnErr};
 ghost use Rattle.cqe_base.specs.Literal.{Literal, variable_of, has_literal, union, ClauseBelow};
 ghost use Rattle.cqe_base.specs.Refutation.{without_variable, resolvent};
 ghost use Rattle.clause_store.specs.Codes.{code_of};
@@ -63,7 +65,10 @@ impl MarkedClause {
     /// One more literal.
     fn add(&mut self, literal: Lit) -> Result<(), AllocError>
         requires { variable_of literal < self.old.variables }
-        ensures { IfOk result (λ _. self.new ≡ record self.old { clause = self.old.clause ++ literal ∷ [] }) }
+        ensures { IfOk result (λ _. self.new ≡ record self.old {
+          clause =
+              self.old.clause ++ literal ∷ [];
+        }) }
     {
         self.literals.push(literal)?;
         self.marks[code(literal)] = true;
@@ -73,7 +78,10 @@ impl MarkedClause {
     /// One more literal, unless it is of the variable or the clause has it.
     fn join(&mut self, variable: u32, literal: Lit) -> Result<(), AllocError>
         requires { variable_of literal < self.old.variables }
-        ensures { IfOk result (λ _. self.new ≡ record self.old { clause = union self.old.clause (without_variable variable (literal ∷ [])) }) }
+        ensures { IfOk result (λ _. self.new ≡ record self.old {
+          clause =
+              union self.old.clause (without_variable variable (literal ∷ []));
+        }) }
     {
         if literal.variable() != variable && !self.has(literal) {
             self.add(literal)?;
@@ -97,7 +105,10 @@ impl MarkedClause {
     /// Appends a clause to it.
     pub fn append(&mut self, clause: &[Lit]) -> Result<(), AllocError>
         requires { ClauseBelow self.old.variables clause.now }
-        ensures { IfOk result (λ _. self.new ≡ record self.old { clause = self.old.clause ++ clause.now }) }
+        ensures { IfOk result (λ _. self.new ≡ record self.old {
+          clause =
+              self.old.clause ++ clause.now;
+        }) }
     {
         for literal in clause {
             self.add(*literal)?;
@@ -107,7 +118,10 @@ impl MarkedClause {
 
     /// Without the literals of a variable.
     fn remove(&mut self, literal: Lit)
-        ensures { self.new ≡ record self.old { clause = without_variable (variable_of literal) self.old.clause } }
+        ensures { self.new ≡ record self.old {
+          clause =
+              without_variable (variable_of literal) self.old.clause;
+        } }
     {
         let variable = literal.variable();
         unmark(&mut self.marks, literal);
@@ -118,7 +132,10 @@ impl MarkedClause {
     /// Resolves it with a clause on the variable of a literal.
     pub fn resolve(&mut self, literal: Lit, clause: &[Lit]) -> Result<(), AllocError>
         requires { ClauseBelow self.old.variables clause.now }
-        ensures { IfOk result (λ _. self.new ≡ record self.old { clause = resolvent (variable_of literal) self.old.clause clause.now }) }
+        ensures { IfOk result (λ _. self.new ≡ record self.old {
+          clause =
+              resolvent (variable_of literal) self.old.clause clause.now;
+        }) }
     {
         self.remove(literal);
         for other in clause {
@@ -148,7 +165,10 @@ fn unmark(marks: &mut Vec<bool>, literal: Lit)
 
 /// The marks of a clause's literals go.
 fn unmark_all(marks: &mut Vec<bool>, clause: &[Lit])
-    ensures gone { (l : Literal) → slice_index_or marks.new.items (code_of l) false ≡ (if has_literal clause.now l then false else slice_index_or marks.old.items (code_of l) false) }
+    ensures gone { (l : Literal)
+        → slice_index_or marks.new.items (code_of l) false
+        ≡ (if has_literal clause.now l then false
+        else slice_index_or marks.old.items (code_of l) false) }
     ensures length { length marks.new.items ≡ length marks.old.items }
 {
     for literal in clause {

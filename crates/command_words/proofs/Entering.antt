@@ -40,7 +40,9 @@ fault_is : (words : List Text) → fault_of program words ≡ whole (walk_of wor
 fault_is words = refl
 
 -- the command that a word names
-met : (table : List CommandRow) (word : Text) → find (answers_to word) (map label_of (map shape_for table)) ≡ option_map (λ (row : CommandRow). (row.name, [])) (find (λ (row : CommandRow). bytes_eq row.name word) table)
+met : (table : List CommandRow) (word : Text)
+    → find (answers_to word) (map label_of (map shape_for table))
+    ≡ option_map (λ (row : CommandRow). (row.name, [])) (find (λ (row : CommandRow). bytes_eq row.name word) table)
 met [] word = refl
 met (row ∷ table) word =
     elim (bytes_eq row.name word) as (λ t. cond (t || false) (Some (label_of (shape_for row))) (find (answers_to word) (map label_of (map shape_for table)))
@@ -49,7 +51,9 @@ met (row ∷ table) word =
       | false ↦ met table word
     ]
 
-found_shape : (table : List CommandRow) (name : Text) → find (λ (s : Shape). answers_to name (label_of s)) (map shape_for table) ≡ option_map shape_for (find (λ (row : CommandRow). bytes_eq row.name name) table)
+found_shape : (table : List CommandRow) (name : Text)
+    → find (λ (s : Shape). answers_to name (label_of s)) (map shape_for table)
+    ≡ option_map shape_for (find (λ (row : CommandRow). bytes_eq row.name name) table)
 found_shape [] name = refl
 found_shape (row ∷ table) name =
     elim (bytes_eq row.name name) as (λ t. cond (t || false) (Some (shape_for row)) (find (λ (s : Shape). answers_to name (label_of s)) (map shape_for table))
@@ -61,7 +65,8 @@ found_shape (row ∷ table) name =
 found_name : (table : List CommandRow) (name : Text) (row : CommandRow) → find (λ (r : CommandRow). bytes_eq r.name name) table ≡ Some row → row.name ≡ name
 found_name [] name row = λ bad. absurd (cc)
 found_name (first ∷ table) name row =
-    elim (bytes_eq first.name name) as (λ t. bytes_eq first.name name ≡ t → cond t (Some first) (find (λ (r : CommandRow). bytes_eq r.name name) table) ≡ Some row → row.name ≡ name) [
+    elim (bytes_eq first.name name) as (λ t. bytes_eq first.name name ≡ t
+    → cond t (Some first) (find (λ (r : CommandRow). bytes_eq r.name name) table) ≡ Some row → row.name ≡ name) [
       | true ↦ λ same is.
           let it : first ≡ row = ap (λ (o : Option CommandRow). unwrap_or o first) is in
           ap (λ (r : CommandRow). r.name) (sym it) ∙ (bytes_eq-Decides first.name name).0 same
@@ -91,7 +96,8 @@ first_fails (k ∷ ks) b c e = refl
 pub no_command : (word : Text) (words : List Text) → Named word → command_of word ≡ None → none (fault_of program (word ∷ words)) ≡ false
 unfolding walk_fault
 no_command word words (plain_word plain) unknown =
-    let none_met : ◌≡◌ {A = Option (Text × List Text)} (find (answers_to word) names) None = met commands word ∙ ap (option_map (λ (row : CommandRow). (row.name, []))) unknown in
+    let none_met : ◌≡◌ {A = Option (Text × List Text)} (find (answers_to word) names) None =
+    met commands word ∙ ap (option_map (λ (row : CommandRow). (row.name, []))) unknown in
     let turn : none (turn_fault top names (walk_from nothing_held) word) ≡ false = rw (none_met, plain.no_end, plain.long, plain.short) refl in
     first_fails (turn_fault top names (walk_from nothing_held) word) _ _ turn
 no_command word words (option_word x xs) unknown = refl

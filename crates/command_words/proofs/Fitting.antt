@@ -25,7 +25,8 @@ is_known options name = list_any (λ (row : OptionRow). bytes_eq row.name name) 
 known_is : (options : List OptionRow) (name : Text) → is_some (needs options name) ≡ is_known options name
 known_is [] name = refl
 known_is (row ∷ options) name =
-    elim (bytes_eq row.name name) as (λ t. is_some (option_map sort_of (cond t (Some row) (find (λ (r : OptionRow). bytes_eq r.name name) options))) ≡ (t || is_known options name)) [
+    elim (bytes_eq row.name name) as (λ t. is_some (option_map sort_of (cond t (Some row) (find (λ (r : OptionRow). bytes_eq r.name name) options)))
+    ≡ (t || is_known options name)) [
       | true ↦ refl
       | false ↦ known_is options name
     ]
@@ -80,7 +81,8 @@ extends_is : (options : List OptionRow) (given uses : List Use)
 extends_is options given [] = refl
 extends_is options given (u ∷ uses) =
     (λ i. known_is options u.name i && (not (is_used given u.name) && extends_is options (given ++ u ∷ []) uses i))
-    ∙ ap (λ (t : Bool). is_known options u.name && (not (is_used given u.name) && (list_all (λ (v : Use). is_known options v.name) uses && (has_no_repeat uses && t)))) (fresh_push given u uses)
+    ∙ ap (λ (t : Bool). is_known options u.name
+    && (not (is_used given u.name) && (list_all (λ (v : Use). is_known options v.name) uses && (has_no_repeat uses && t)))) (fresh_push given u uses)
     ∙ step_bits (is_known options u.name) (not (is_used given u.name)) _ (has_no_repeat uses) (not (is_used uses u.name)) (are_fresh given uses)
 
 all_fresh : (uses : List Use) → are_fresh [] uses ≡ true
@@ -95,7 +97,8 @@ whole_bits true true w = refl
 -- uses from the start fit by the definition
 fits : (options : List OptionRow) (uses : List Use) → (extends options [] uses && is_complete options uses) ≡ do_fit options uses
 fits options uses =
-    ap (λ (t : Bool). t && is_complete options uses) (extends_is options [] uses ∙ ap (λ (t : Bool). list_all (λ (u : Use). is_known options u.name) uses && (has_no_repeat uses && t)) (all_fresh uses))
+    ap (λ (t : Bool). t && is_complete options uses) (extends_is options [] uses
+    ∙ ap (λ (t : Bool). list_all (λ (u : Use). is_known options u.name) uses && (has_no_repeat uses && t)) (all_fresh uses))
     ∙ whole_bits _ (has_no_repeat uses) (is_complete options uses)
 
 -- a word of a short form is no option, no value and no command
@@ -103,7 +106,9 @@ short_word : (word : Text) → is_short word ≡ true → (◌≡◌ {A = Option
 short_word [] e = absurd (cc)
 short_word (a ∷ []) e = absurd (cc)
 short_word (a ∷ b ∷ []) e =
-    let no_option : ◌≡◌ {A = Option (Text × Option Text)} (option_of (a ∷ b ∷ [])) None = rw e (elim (b == 45) as (λ t. ◌≡◌ {A = Option (Text × Option Text)} (option_and_then name_and_value (if t then Some [] else None)) None) [ true ↦ refl | false ↦ refl ]) in
+    let no_option : ◌≡◌ {A = Option (Text × Option Text)} (option_of (a ∷ b ∷ [])) None =
+    rw e (elim (b == 45) as (λ t.
+    ◌≡◌ {A = Option (Text × Option Text)} (option_and_then name_and_value (if t then Some [] else None)) None) [ true ↦ refl | false ↦ refl ]) in
     (no_option, rw e refl)
 short_word (a ∷ b ∷ c ∷ rest) e =
     let parts = and_parts (a == 45) (not (b == 45)) e in
@@ -130,11 +135,14 @@ or_right true b e first = absurd (true≢false first)
 or_right false b e first = e
 
 -- a word before others of which one has a short form
-short_behind : (options : List OptionRow) (word next : Text) (rest : List Text) → Named word → list_any is_short (next ∷ rest) ≡ true → ◌≡◌ {A = Option (List Use)} (uses_of options (next ∷ rest)) None
-    → (list_any is_short rest ≡ true → ◌≡◌ {A = Option (List Use)} (uses_of options rest) None) → ◌≡◌ {A = Option (List Use)} (uses_of options (word ∷ next ∷ rest)) None
+short_behind : (options : List OptionRow) (word next : Text) (rest : List Text) → Named word → list_any is_short (next ∷ rest) ≡ true → ◌≡◌ {A =
+    Option (List Use)} (uses_of options (next ∷ rest)) None
+    → (list_any is_short rest ≡ true → ◌≡◌ {A =
+    Option (List Use)} (uses_of options rest) None) → ◌≡◌ {A = Option (List Use)} (uses_of options (word ∷ next ∷ rest)) None
 unfolding uses_of
 short_behind options word next rest (plain_word plain) e attached apart = rw plain.names_none refl
-short_behind options word next rest (option_word x xs) e attached apart = by_form (is_flag options (name_at x xs)) refl (has_byte 61 (x ∷ xs)) refl (is_short next) refl
+short_behind options word next rest (option_word x xs) e attached apart =
+    by_form (is_flag options (name_at x xs)) refl (has_byte 61 (x ∷ xs)) refl (is_short next) refl
   where
     by_form : (flag : Bool) → is_flag options (name_at x xs) ≡ flag → (t : Bool) → has_byte 61 (x ∷ xs) ≡ t → (s : Bool) → is_short next ≡ s
         → ◌≡◌ {A = Option (List Use)} (uses_of options (option_at x xs ∷ next ∷ rest)) None
@@ -145,7 +153,8 @@ short_behind options word next rest (option_word x xs) e attached apart = by_for
         let no_value : ◌≡◌ {A = Option Use} (followed (name_at x xs) next) None = rw (short_word next short).1 refl in
         uses_apart options x xs next rest is has ∙ ap (λ (w : Option Use). in_front w (uses_of options rest)) no_value
     by_form false is false has false long =
-        uses_apart options x xs next rest is has ∙ ap (in_front (followed (name_at x xs) next)) (apart (or_right (is_short next) (list_any is_short rest) e long)) ∙ front_none _
+        uses_apart options x xs next rest is has
+        ∙ ap (in_front (followed (name_at x xs) next)) (apart (or_right (is_short next) (list_any is_short rest) e long)) ∙ front_none _
 
 -- words with one of a short form make no uses
 short_uses : (options : List OptionRow) (words : List Text) → list_any is_short words ≡ true → ◌≡◌ {A = Option (List Use)} (uses_of options words) None
@@ -185,7 +194,8 @@ abbrev pub matched_reading : Option (Text × List Row) → Option Reading
 matched_reading = option_and_then (λ found. command_with found.0 found.1)
 
 -- words that clap takes
-pub taken : (words : List Text) → list_any is_short words ≡ false → ◌≡◌ {A = Kinds} (fault_of program words) [] → matched_reading (subcommand_of program words) ≡ reading_of words
+pub taken : (words : List Text) → list_any is_short words ≡ false → ◌≡◌ {A =
+    Kinds} (fault_of program words) [] → matched_reading (subcommand_of program words) ≡ reading_of words
 unfolding reading_of
 taken [] long free = absurd (true≢false (sym (ap none free) ∙ no_words))
 taken (word ∷ words) long free = by_command (command_of word) refl

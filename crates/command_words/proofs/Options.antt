@@ -47,7 +47,14 @@ rules_for rows = map rule_for rows
 
 -- the subcommand for a command of the table, as it is built
 abbrev pub shape_for : CommandRow → Shape
-shape_for row = record (new_shape row.name) { rules = rules_for row.options; no_binary_name = true; disable_help_flag = true; disable_help_subcommand = true; is_built = true }
+shape_for row = record (new_shape row.name) {
+  rules = rules_for row.options;
+  no_binary_name = true;
+  disable_help_flag = true;
+  disable_help_subcommand =
+      true;
+  is_built = true;
+}
 
 -- whether an option must be there, and whether it has a value
 abbrev pub Sort : Type 0
@@ -106,7 +113,8 @@ none_nil (k ∷ ks) = refl
 pub flag_is : (options : List OptionRow) (name : Text) → is_flag options name ≡ option_map_or (λ (s : Sort). not s.1) (needs options name) false
 flag_is options name = go (find (λ (row : OptionRow). bytes_eq row.name name) options)
   where
-    go : (o : Option OptionRow) → option_map_or (λ (row : OptionRow). not row.has_value) o false ≡ option_map_or (λ (s : Sort). not s.1) (option_map sort_of o) false
+    go : (o : Option OptionRow)
+        → option_map_or (λ (row : OptionRow). not row.has_value) o false ≡ option_map_or (λ (s : Sort). not s.1) (option_map sort_of o) false
     go None = refl
     go (Some row) = refl
 
@@ -116,7 +124,8 @@ text_of flag value = if flag then codes "true" else value
 
 -- the row of an option that is used
 abbrev pub row_of_use : List OptionRow → Use → Row
-row_of_use options u = record { id = u.name; values = text_of (is_flag options u.name) u.value ∷ []; count = None; source = Some CommandLine; reading = reading_of NonEmptyString }
+row_of_use options u =
+    record { id = u.name; values = text_of (is_flag options u.name) u.value ∷ []; count = None; source = Some CommandLine; reading = reading_of NonEmptyString }
 
 abbrev pub rows_of_uses : List OptionRow → List Use → List Row
 rows_of_uses options uses = map (row_of_use options) uses
@@ -129,12 +138,16 @@ given_rows : (options : List OptionRow) (given : List Use) (name : Text) → is_
 given_rows options [] name = refl
 given_rows options (u ∷ given) name =
     let rest = given_rows options given name in
-    elim (bytes_eq u.name name) as (λ t. option_map_or (λ (r : Row). explicit_source r.source) (cond t (Some (row_of_use options u)) (find (λ (r : Row). bytes_eq r.id name) (rows_of_uses options given))) false ≡ (t || is_used given name)) [
+    elim (bytes_eq u.name name) as (λ t.
+    option_map_or (λ (r : Row). explicit_source r.source)
+    (cond t (Some (row_of_use options u)) (find (λ (r : Row). bytes_eq r.id name) (rows_of_uses options given))) false ≡ (t || is_used given name)) [
       | true ↦ refl
       | false ↦ rest
     ]
 
-fault_bits : (is_again is_there : Bool) → none (or_else (if is_again && true then kind.ArgumentConflict ∷ [] else []) (or_else (if is_there then [] else kind.InvalidValue ∷ []) [])) ≡ (not is_again && is_there)
+fault_bits : (is_again is_there : Bool)
+    → none (or_else (if is_again && true then kind.ArgumentConflict ∷ [] else []) (or_else (if is_there then [] else kind.InvalidValue ∷ []) []))
+    ≡ (not is_again && is_there)
 fault_bits true true = refl
 fault_bits true false = refl
 fault_bits false true = refl
@@ -161,7 +174,8 @@ row_behind id change missing (r ∷ rows) fresh =
     let parts = or_parts (bytes_eq r.id id) (has_row id rows) fresh in
     rw parts.0 (ap (λ (l : List Row). r ∷ l) (row_behind id change missing rows parts.1))
 
-rows_append : (options : List OptionRow) (given more : List Use) → rows_of_uses options given ++ rows_of_uses options more ≡ rows_of_uses options (given ++ more)
+rows_append : (options : List OptionRow) (given more : List Use)
+    → rows_of_uses options given ++ rows_of_uses options more ≡ rows_of_uses options (given ++ more)
 rows_append options [] more = refl
 rows_append options (u ∷ given) more = ap (λ (rows : List Row). row_of_use options u ∷ rows) (rows_append options given more)
 
@@ -171,16 +185,33 @@ append_nil (x ∷ xs) = ap (λ ys. x ∷ ys) (append_nil xs)
 
 -- the row that a use of an option leaves behind the others
 row_used : (options : List OptionRow) (name value text : Text) (given : List Use) → is_used given name ≡ false → text ≡ text_of (is_flag options name) value
-    → with_values name (reading_of NonEmptyString) CommandLine (text ∷ []) (without name (rows_of_uses options given)) ≡ rows_of_uses options (given ++ record { name = name; value = value } ∷ [])
+    → with_values name (reading_of NonEmptyString) CommandLine (text ∷ []) (without name (rows_of_uses options given))
+    ≡ rows_of_uses options (given ++ record { name = name; value = value } ∷ [])
 row_used options name value text given fresh is =
     let no_row : has_row name (rows_of_uses options given) ≡ false = used_rows options given name ∙ fresh in
-    let out : without name (rows_of_uses options given) ≡ rows_of_uses options given = row_behind name (λ _. []) [] (rows_of_uses options given) no_row ∙ append_nil (rows_of_uses options given) in
+    let out : without name (rows_of_uses options given) ≡ rows_of_uses options given =
+    row_behind name (λ _. []) [] (rows_of_uses options given) no_row ∙ append_nil (rows_of_uses options given) in
     ap (with_values name (reading_of NonEmptyString) CommandLine (text ∷ [])) out
-    ∙ row_behind name (more_values CommandLine (text ∷ [])) (record { id = name; values = text ∷ []; count = None; source = Some CommandLine; reading = reading_of NonEmptyString } ∷ []) (rows_of_uses options given) no_row
-    ∙ ap (λ (t : Text). rows_of_uses options given ++ record { id = name; values = t ∷ []; count = None; source = Some CommandLine; reading = reading_of NonEmptyString } ∷ []) is
+    ∙ row_behind name (more_values CommandLine (text ∷ [])) (record {
+      id =
+          name;
+      values = text ∷ [];
+      count = None;
+      source = Some CommandLine;
+      reading = reading_of NonEmptyString;
+    } ∷ []) (rows_of_uses options given) no_row
+    ∙ ap (λ (t : Text). rows_of_uses options given ++ record {
+      id =
+          name;
+      values = t ∷ [];
+      count = None;
+      source = Some CommandLine;
+      reading = reading_of NonEmptyString;
+    } ∷ []) is
     ∙ rows_append options given (record { name = name; value = value } ∷ [])
 
-pub used_behind : (options : List OptionRow) (name : Text) (is_needed : Bool) (v : Text) (given : List Use) → is_used given name ≡ false → is_flag options name ≡ false
+pub used_behind : (options : List OptionRow) (name : Text) (is_needed : Bool) (v : Text) (given : List Use) → is_used given name ≡ false
+    → is_flag options name ≡ false
     → used (rule_named name is_needed true) (v ∷ []) (rows_of_uses options given) ≡ rows_of_uses options (given ++ record { name = name; value = v } ∷ [])
 used_behind options name is_needed v given fresh other = row_used options name v v given fresh (ap (λ (t : Bool). text_of t v) (sym other))
 
@@ -199,7 +230,8 @@ abbrev pub unused_row : Text → Row
 unused_row name = record { id = name; values = codes "false" ∷ []; count = None; source = Some DefaultValue; reading = reading_of NonEmptyString }
 
 -- what an option does to the rows at the end: nothing, or a row behind the others where there is none
-pub default_is : (P : List Row → Type 0) (rows : List Row) (row : OptionRow) → P rows → (row.has_value ≡ false → has_row row.name rows ≡ false → P (rows ++ unused_row row.name ∷ [])) → P (with_default rows (rule_for row))
+pub default_is : (P : List Row → Type 0) (rows : List Row) (row : OptionRow) → P rows
+    → (row.has_value ≡ false → has_row row.name rows ≡ false → P (rows ++ unused_row row.name ∷ [])) → P (with_default rows (rule_for row))
 default_is P rows row same more = go (has_row row.name rows) refl row.has_value refl
   where
     go : (there : Bool) → has_row row.name rows ≡ there → (value : Bool) → row.has_value ≡ value → P (with_default rows (rule_for row))
@@ -218,7 +250,8 @@ given_push name [] r default =
     ]
 given_push name (x ∷ rows) r default =
     let rest = given_push name rows r default in
-    elim (bytes_eq x.id name) as (λ t. option_map_or (λ (y : Row). explicit_source y.source) (cond t (Some x) (find (λ (y : Row). bytes_eq y.id name) (rows ++ r ∷ []))) false
+    elim (bytes_eq x.id name) as (λ t.
+    option_map_or (λ (y : Row). explicit_source y.source) (cond t (Some x) (find (λ (y : Row). bytes_eq y.id name) (rows ++ r ∷ []))) false
     ≡ option_map_or (λ (y : Row). explicit_source y.source) (cond t (Some x) (find (λ (y : Row). bytes_eq y.id name) rows)) false) [
       | true ↦ refl
       | false ↦ rest
@@ -233,7 +266,9 @@ given_finished name rows (row ∷ options) =
 no_default_fault : (rows : List Row) (row : OptionRow) → default_fault rows (rule_for row) ≡ []
 no_default_fault rows row = go (has_row row.name rows) row.has_value
   where
-    go : (there value : Bool) → ◌≡◌ {A = Kinds} (if there || is_empty (flag_text value (codes "false")) then [] else given_default_fault (rule_named row.name row.is_needed value) (flag_text value (codes "false"))) []
+    go : (there value : Bool)
+        → ◌≡◌ {A = Kinds} (if there || is_empty (flag_text value (codes "false")) then []
+        else given_default_fault (rule_named row.name row.is_needed value) (flag_text value (codes "false"))) []
     go true value = refl
     go false true = refl
     go false false = refl
@@ -249,7 +284,8 @@ defaults_pass rows (row ∷ options) =
 abbrev pub is_complete : List OptionRow → List Use → Bool
 is_complete options uses = list_all (λ (row : OptionRow). not row.is_needed || is_used uses row.name) options
 
-missing_bits : (is_needed is_there is_missing is_whole : Bool) → is_missing ≡ not is_whole → ((is_needed && not is_there) || is_missing) ≡ not ((not is_needed || is_there) && is_whole)
+missing_bits : (is_needed is_there is_missing is_whole : Bool) → is_missing ≡ not is_whole
+    → ((is_needed && not is_there) || is_missing) ≡ not ((not is_needed || is_there) && is_whole)
 missing_bits true true is_missing is_whole e = e
 missing_bits true false is_missing is_whole e = refl
 missing_bits false true is_missing is_whole e = e
@@ -269,9 +305,11 @@ not_not : (b : Bool) → not (not b) ≡ b
 not_not true = refl
 not_not false = refl
 
-pub check_passes : (row : CommandRow) (uses : List Use) → none (check_fault (shape_for row) (finished_rows row.options (rows_of_uses row.options uses)) false) ≡ is_complete row.options uses
+pub check_passes : (row : CommandRow) (uses : List Use)
+    → none (check_fault (shape_for row) (finished_rows row.options (rows_of_uses row.options uses)) false) ≡ is_complete row.options uses
 check_passes row uses =
     let rows = finished_rows row.options (rows_of_uses row.options uses) in
     check_bits (list_any (λ (a : Rule). a.required && not (is_given a.id rows)) (rules_for row.options))
-    ∙ ap (λ (b : Bool). not b) (is_missing row.options uses rows (λ name. given_finished name (rows_of_uses row.options uses) row.options ∙ given_rows row.options uses name))
+    ∙ ap (λ (b : Bool). not b)
+    (is_missing row.options uses rows (λ name. given_finished name (rows_of_uses row.options uses) row.options ∙ given_rows row.options uses name))
     ∙ not_not (is_complete row.options uses)

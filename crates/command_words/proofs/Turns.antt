@@ -34,7 +34,8 @@ turns row w word = none (turn_fault (shape_for row) [] w word)
 pub passes_step : (row : CommandRow) (w : Walk) (word : Text) (rest : List Text)
     → passes row w (word ∷ rest) ≡ (turns row w word && passes row (walked (rules_for row.options) [] w word) rest)
 unfolding walk_fault
-passes_step row w word rest = none_first (turn_fault (shape_for row) [] w word) (walk_fault (shape_for row) [] (walked (rules_for row.options) [] w word) rest) _
+passes_step row w word rest =
+    none_first (turn_fault (shape_for row) [] w word) (walk_fault (shape_for row) [] (walked (rules_for row.options) [] w word) rest) _
 
 -- a word that names no option
 pub record IsPlain (word : Text) : Type 0 where
@@ -51,10 +52,11 @@ pub data Named : Text → Type 0 where
 
 one_byte : (a : ℕ) → IsPlain (a ∷ [])
 one_byte a = record {
-  long = elim (a == 45) as (λ t. ◌≡◌ {A = Option (Text × Option Text)} (option_and_then long_of_rest (option_and_then (strip_byte 45) (if t then Some [] else None))) None) [
-    | true ↦ refl
-    | false ↦ refl
-  ];
+  long = elim (a == 45) as (λ t.
+      ◌≡◌ {A = Option (Text × Option Text)} (option_and_then long_of_rest (option_and_then (strip_byte 45) (if t then Some [] else None))) None) [
+        | true ↦ refl
+        | false ↦ refl
+      ];
   short = elim (a == 45) as (λ t. ◌≡◌ {A = Option Text} (option_and_then short_of_rest (if t then Some [] else None)) None) [
     | true ↦ refl
     | false ↦ refl
@@ -63,10 +65,11 @@ one_byte a = record {
     | true ↦ refl
     | false ↦ refl
   ];
-  names_none = elim (a == 45) as (λ t. ◌≡◌ {A = Option (Text × Option Text)} (option_and_then name_and_value (option_and_then behind_hyphen (if t then Some [] else None))) None) [
-    | true ↦ refl
-    | false ↦ refl
-  ];
+  names_none = elim (a == 45) as (λ t.
+      ◌≡◌ {A = Option (Text × Option Text)} (option_and_then name_and_value (option_and_then behind_hyphen (if t then Some [] else None))) None) [
+        | true ↦ refl
+        | false ↦ refl
+      ];
   as_value = λ name. refl;
 }
 
@@ -116,10 +119,12 @@ value_at x xs = after_first is_equals (x ∷ xs)
 no_rule : (row : CommandRow) (name : Text) → needs row.options name ≡ None → ◌≡◌ {A = Option Rule} (arg_by_long (rules_for row.options) name) None
 no_rule row name unknown = by_long row.options name ∙ ap (option_map (rule_of_sort name)) unknown
 
-long_rule : (row : CommandRow) (name : Text) (s : Sort) → needs row.options name ≡ Some s → arg_by_long (rules_for row.options) name ≡ Some (rule_of_sort name s)
+long_rule : (row : CommandRow) (name : Text) (s : Sort) → needs row.options name ≡ Some s
+    → arg_by_long (rules_for row.options) name ≡ Some (rule_of_sort name s)
 long_rule row name s known = by_long row.options name ∙ ap (option_map (rule_of_sort name)) known
 
-pub id_rule : (row : CommandRow) (name : Text) (s : Sort) → needs row.options name ≡ Some s → arg_by_id (rules_for row.options) name ≡ Some (rule_of_sort name s)
+pub id_rule : (row : CommandRow) (name : Text) (s : Sort) → needs row.options name ≡ Some s
+    → arg_by_id (rules_for row.options) name ≡ Some (rule_of_sort name s)
 id_rule row name s known = by_id row.options name ∙ ap (option_map (rule_of_sort name)) known
 
 -- a name that no option has fails, and changes nothing
@@ -133,36 +138,48 @@ none_three [] b = none_nil b
 none_three (k ∷ ks) b = refl
 
 -- an option with its value in the word
-pub idle_attached : (row : CommandRow) (h : Held) (x : ℕ) (xs : Text) (is_needed : Bool) → needs row.options (name_at x xs) ≡ Some (is_needed, true) → has_byte 61 (x ∷ xs) ≡ true
+pub idle_attached : (row : CommandRow) (h : Held) (x : ℕ) (xs : Text) (is_needed : Bool) → needs row.options (name_at x xs) ≡ Some (is_needed, true)
+    → has_byte 61 (x ∷ xs) ≡ true
     → (turns row (walk_from h) (option_at x xs)
-    ≡ (none (settle_fault (rules_for row.options) false h) && none (use_fault false (rule_named (name_at x xs) is_needed true) (value_at x xs ∷ []) (settled (rules_for row.options) h).rows)))
-    × (walked (rules_for row.options) [] (walk_from h) (option_at x xs) ≡ walk_from (reacted (rules_for row.options) (rule_named (name_at x xs) is_needed true) (value_at x xs ∷ []) h))
+    ≡ (none (settle_fault (rules_for row.options) false h)
+    && none (use_fault false (rule_named (name_at x xs) is_needed true) (value_at x xs ∷ []) (settled (rules_for row.options) h).rows)))
+    × (walked (rules_for row.options) [] (walk_from h) (option_at x xs)
+    ≡ walk_from (reacted (rules_for row.options) (rule_named (name_at x xs) is_needed true) (value_at x xs ∷ []) h))
 unfolding walked
-idle_attached row h x xs is_needed known has = rw (long_rule row (name_at x xs) (is_needed, true) known, has) (none_three (settle_fault (rules_for row.options) false h) _, refl)
+idle_attached row h x xs is_needed known has =
+    rw (long_rule row (name_at x xs) (is_needed, true) known, has) (none_three (settle_fault (rules_for row.options) false h) _, refl)
 
 -- a flag
-pub idle_flag : (row : CommandRow) (h : Held) (x : ℕ) (xs : Text) (is_needed : Bool) → needs row.options (name_at x xs) ≡ Some (is_needed, false) → has_byte 61 (x ∷ xs) ≡ false
+pub idle_flag : (row : CommandRow) (h : Held) (x : ℕ) (xs : Text) (is_needed : Bool) → needs row.options (name_at x xs) ≡ Some (is_needed, false)
+    → has_byte 61 (x ∷ xs) ≡ false
     → (turns row (walk_from h) (option_at x xs)
-    ≡ (none (settle_fault (rules_for row.options) false h) && none (use_fault false (rule_named (name_at x xs) is_needed false) [] (settled (rules_for row.options) h).rows)))
-    × (walked (rules_for row.options) [] (walk_from h) (option_at x xs) ≡ walk_from (reacted (rules_for row.options) (rule_named (name_at x xs) is_needed false) [] h))
+    ≡ (none (settle_fault (rules_for row.options) false h)
+    && none (use_fault false (rule_named (name_at x xs) is_needed false) [] (settled (rules_for row.options) h).rows)))
+    × (walked (rules_for row.options) [] (walk_from h) (option_at x xs)
+    ≡ walk_from (reacted (rules_for row.options) (rule_named (name_at x xs) is_needed false) [] h))
 unfolding walked
-idle_flag row h x xs is_needed known has = rw (long_rule row (name_at x xs) (is_needed, false) known, has) (none_three (settle_fault (rules_for row.options) false h) _, refl)
+idle_flag row h x xs is_needed known has =
+    rw (long_rule row (name_at x xs) (is_needed, false) known, has) (none_three (settle_fault (rules_for row.options) false h) _, refl)
 
 -- a flag with a value in the word fails, and changes nothing
-pub idle_flag_valued : (row : CommandRow) (h : Held) (x : ℕ) (xs : Text) (is_needed : Bool) → needs row.options (name_at x xs) ≡ Some (is_needed, false) → has_byte 61 (x ∷ xs) ≡ true
+pub idle_flag_valued : (row : CommandRow) (h : Held) (x : ℕ) (xs : Text) (is_needed : Bool) → needs row.options (name_at x xs) ≡ Some (is_needed, false)
+    → has_byte 61 (x ∷ xs) ≡ true
     → (turns row (walk_from h) (option_at x xs) ≡ false) × (walked (rules_for row.options) [] (walk_from h) (option_at x xs) ≡ walk_from h)
 unfolding walked
 idle_flag_valued row h x xs is_needed known has = rw (long_rule row (name_at x xs) (is_needed, false) known, has, by_index row.options 1) (refl, refl)
 
 -- an option whose value is to follow
-pub idle_apart : (row : CommandRow) (h : Held) (x : ℕ) (xs : Text) (is_needed : Bool) → needs row.options (name_at x xs) ≡ Some (is_needed, true) → has_byte 61 (x ∷ xs) ≡ false
+pub idle_apart : (row : CommandRow) (h : Held) (x : ℕ) (xs : Text) (is_needed : Bool) → needs row.options (name_at x xs) ≡ Some (is_needed, true)
+    → has_byte 61 (x ∷ xs) ≡ false
     → (turns row (walk_from h) (option_at x xs) ≡ none (settle_fault (rules_for row.options) false h))
     × (walked (rules_for row.options) [] (walk_from h) (option_at x xs) ≡ awaiting (name_at x xs) (settled (rules_for row.options) h))
 unfolding walked
-idle_apart row h x xs is_needed known has = rw (long_rule row (name_at x xs) (is_needed, true) known, has) (none_nil (settle_fault (rules_for row.options) false h), refl)
+idle_apart row h x xs is_needed known has =
+    rw (long_rule row (name_at x xs) (is_needed, true) known, has) (none_nil (settle_fault (rules_for row.options) false h), refl)
 
 -- no word follows an option that waits for one
-pub awaiting_end : (row : CommandRow) (name : Text) (h : Held) (is_needed : Bool) → needs row.options name ≡ Some (is_needed, true) → passes row (awaiting name h) [] ≡ false
+pub awaiting_end : (row : CommandRow) (name : Text) (h : Held) (is_needed : Bool) → needs row.options name ≡ Some (is_needed, true)
+    → passes row (awaiting name h) [] ≡ false
 unfolding walk_fault
 awaiting_end row name h is_needed known = rw (id_rule row name (is_needed, true) known) refl
 
@@ -179,7 +196,8 @@ awaiting_option row name h is_needed x xs known = go (needs row.options (name_at
     go (Some (other, false)) found false has = rw (long_rule row (name_at x xs) (other, false) found, has, id_rule row name (is_needed, true) known) refl
 
 -- a value follows
-pub awaiting_plain : (row : CommandRow) (name : Text) (h : Held) (is_needed : Bool) (word : Text) → needs row.options name ≡ Some (is_needed, true) → IsPlain word
+pub awaiting_plain : (row : CommandRow) (name : Text) (h : Held) (is_needed : Bool) (word : Text) → needs row.options name ≡ Some (is_needed, true)
+    → IsPlain word
     → (turns row (awaiting name h) word ≡ true)
     × (walked (rules_for row.options) [] (awaiting name h) word ≡ walk_from (record h { pending = Some (name, word ∷ []) }))
 unfolding walked

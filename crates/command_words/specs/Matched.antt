@@ -1,11 +1,14 @@
 -- What `clap` is asked, and what is made of its answer.
-use Rattle.std.specs.Prelude.{ℕ, ◌==◌, Bool, true, false, not, ◌&&◌, List, [], ◌∷◌, Option, Some, None, option_map, codes, bytes_eq, if◌then◌else◌}
-use Rattle.clap.specs.Words.{App, Row, Rule, Shape, first_of, new_app, new_rule, with_rule, with_subcommand}
+use Rattle.std.specs.Prelude.{ℕ, ◌==◌, Bool, true, false, not, ◌&&◌, List, [], ◌∷◌, Option, Some}
+use Rattle.std.specs.Prelude.{None, option_map, codes, bytes_eq, if◌then◌else◌}
+use Rattle.clap.specs.Words.{App, Row, Rule, Shape, first_of, new_app, new_rule, with_rule}
+use Rattle.clap.specs.Words.{with_subcommand}
 use Rattle.clap.specs.Simple.{on_top}
 use Rattle.clap.specs.declared.builder.action.ArgAction.TheVariants.{Set, SetTrue}
 use Rattle.clap.specs.declared.builder.value_parser.ValueParser.TheVariants.{NonEmptyString}
 use Rattle.command_words.specs.Numbers.{number_from, number_or}
-use Rattle.command_words.specs.Readings.{FileNames, Reading, runs_case, runs_init, runs_batch, files_said, audit_said, selfrun_said, serve_said}
+use Rattle.command_words.specs.Readings.{FileNames, Reading, runs_case, runs_init, runs_batch}
+use Rattle.command_words.specs.Readings.{files_said, audit_said, selfrun_said, serve_said}
 
 -- `--`, or a hyphen and a further byte that isn't one: no reading has such a word
 abbrev pub is_short : List ℕ → Bool
@@ -16,7 +19,8 @@ is_short (a ∷ b ∷ c ∷ rest) = a == 45 && not (b == 45)
 
 -- the argument for an option that may be there and has a text that isn't empty
 abbrev pub optional_rule : List ℕ → Rule
-optional_rule name = record (new_rule name) { long = Some name; action = Some Set; parser = Some NonEmptyString }
+optional_rule name =
+    record (new_rule name) { long = Some name; action = Some Set; parser = Some NonEmptyString }
 
 -- the same of an option that must be there
 abbrev pub needed_rule : List ℕ → Rule
@@ -28,7 +32,9 @@ flag_rule name = record (new_rule name) { long = Some name; action = Some SetTru
 
 -- the subcommand for a command with three options that must be there
 abbrev pub three_command : List ℕ → List ℕ → List ℕ → List ℕ → App
-three_command name one two three = with_rule (with_rule (with_rule (new_app name) (needed_rule one)) (needed_rule two)) (needed_rule three)
+three_command name one two three =
+    with_rule (with_rule (with_rule (new_app name) (needed_rule one)) (needed_rule two))
+    (needed_rule three)
 
 -- the subcommand for a command with files
 abbrev pub file_command : List ℕ → App
@@ -45,7 +51,8 @@ with_settings s = record s {
 
 -- the subcommand `audit`
 abbrev pub audit_command : App
-audit_command = with_rule (with_rule (file_command (codes "audit")) (needed_rule (codes "user"))) (flag_rule (codes "json"))
+audit_command = with_rule (with_rule (file_command (codes "audit")) (needed_rule (codes "user")))
+    (flag_rule (codes "json"))
 
 -- the subcommand `selfrun`
 abbrev pub selfrun_command : App
@@ -53,7 +60,9 @@ selfrun_command = three_command (codes "selfrun") (codes "seed") (codes "users")
 
 -- the subcommand `serve`
 abbrev pub serve_command : App
-serve_command = with_rule (with_rule (with_rule (file_command (codes "serve")) (needed_rule (codes "listen"))) (optional_rule (codes "workers"))) (optional_rule (codes "sessions"))
+serve_command = with_rule
+    (with_rule (with_rule (file_command (codes "serve")) (needed_rule (codes "listen")))
+    (optional_rule (codes "workers"))) (optional_rule (codes "sessions"))
 
 -- a command line with no subcommand yet
 abbrev pub bare : App
@@ -61,12 +70,16 @@ bare = on_top with_settings (new_app (codes "cqe"))
 
 -- the command line of the program
 abbrev pub program : App
-program = with_subcommand (with_subcommand (with_subcommand (with_subcommand (with_subcommand (with_subcommand bare
-    (new_app (codes "case")).top) (file_command (codes "init")).top) (file_command (codes "batch")).top) audit_command.top) selfrun_command.top) serve_command.top
+program = with_subcommand
+    (with_subcommand (with_subcommand (with_subcommand (with_subcommand (with_subcommand bare
+    (new_app (codes "case")).top) (file_command (codes "init")).top)
+    (file_command (codes "batch")).top) audit_command.top) selfrun_command.top)
+    serve_command.top
 
 -- the files that the rows that were matched name
 abbrev pub files_in : List Row → Option FileNames
-files_in rows = files_said (first_of (codes "policy") rows) (first_of (codes "facts") rows) (first_of (codes "journals") rows)
+files_in rows = files_said (first_of (codes "policy") rows) (first_of (codes "facts") rows)
+    (first_of (codes "journals") rows)
 
 -- a text that says that a flag is set
 abbrev pub says_true : Option (List ℕ) → Bool
@@ -75,16 +88,22 @@ says_true (Some text) = bytes_eq text (codes "true")
 
 -- the audit that rows say
 abbrev pub audit_in : List Row → Option Reading
-audit_in rows = audit_said (files_in rows) (first_of (codes "user") rows) (says_true (first_of (codes "json") rows))
+audit_in rows = audit_said (files_in rows) (first_of (codes "user") rows)
+    (says_true (first_of (codes "json") rows))
 
 -- the run that rows say
 abbrev pub selfrun_in : List Row → Option Reading
-selfrun_in rows = selfrun_said (number_from 0 4294967295 (first_of (codes "seed") rows)) (number_from 1 256 (first_of (codes "users") rows)) (number_from 1 10000 (first_of (codes "asks") rows))
+selfrun_in rows =
+    selfrun_said (number_from 0 4294967295 (first_of (codes "seed") rows))
+    (number_from 1 256 (first_of (codes "users") rows))
+    (number_from 1 10000 (first_of (codes "asks") rows))
 
 -- the server that rows say
 abbrev pub serve_in : List Row → Option Reading
 serve_in rows =
-    serve_said (files_in rows) (first_of (codes "listen") rows) (number_or 4 1 64 (first_of (codes "workers") rows)) (number_or 1073741824 1 1000000 (first_of (codes "sessions") rows))
+    serve_said (files_in rows) (first_of (codes "listen") rows)
+    (number_or 4 1 64 (first_of (codes "workers") rows))
+    (number_or 1073741824 1 1000000 (first_of (codes "sessions") rows))
 
 -- the reading of a command with the rows that were matched
 abbrev pub command_with : List ℕ → List Row → Option Reading

@@ -1,10 +1,12 @@
 -- The reading of the words: a table of the commands and their options, and what fits it.
-use Rattle.std.specs.Prelude.{ℕ, Bool, true, false, not, ◌&&◌, ◌||◌, List, [], ◌∷◌, find, Option, Some, None, option_map, codes, bytes_eq, if◌then◌else◌}
+use Rattle.std.specs.Prelude.{ℕ, Bool, true, false, not, ◌&&◌, ◌||◌, List, [], ◌∷◌, find, Option}
+use Rattle.std.specs.Prelude.{Some, None, option_map, codes, bytes_eq, if◌then◌else◌}
 use Rattle.std.specs.List.{list_all, list_any}
 use Rattle.command_words.specs.Uses.{OptionRow, Use, uses_of}
 use Rattle.command_words.specs.Numbers.{number_from, number_or}
 use Rattle.command_words.specs.declared.command.Command.{Command}
-use Rattle.command_words.specs.declared.command.Command.TheVariants.{Case, Init, Batch, Audit, Selfrun, Serve}
+use Rattle.command_words.specs.declared.command.Command.TheVariants.{Case, Init, Batch, Audit}
+use Rattle.command_words.specs.declared.command.Command.TheVariants.{Selfrun, Serve}
 use Rattle.command_words.specs.declared.command.Files.{Files}
 
 -- ---- what words say
@@ -55,7 +57,8 @@ value_of uses name = option_map (λ u. u.value) (find (λ u. bytes_eq u.name nam
 
 -- the names of the files, where all are there
 abbrev pub files_said : Option (List ℕ) → Option (List ℕ) → Option (List ℕ) → Option FileNames
-files_said (Some policy) (Some facts) (Some journals) = Some (record { policy = policy; facts = facts; journals = journals })
+files_said (Some policy) (Some facts) (Some journals) =
+    Some (record { policy = policy; facts = facts; journals = journals })
 files_said _ _ _ = None
 
 -- an audit over these files, of this user
@@ -70,26 +73,34 @@ selfrun_said _ _ _ = None
 
 -- a server over these files, at this address, with these numbers
 abbrev pub serve_said : Option FileNames → Option (List ℕ) → Option ℕ → Option ℕ → Option Reading
-serve_said (Some files) (Some address) (Some workers) (Some sessions) = Some (runs_serve files address workers sessions)
+serve_said (Some files) (Some address) (Some workers) (Some sessions) =
+    Some (runs_serve files address workers sessions)
 serve_said _ _ _ _ = None
 
 -- the files that uses name
 abbrev pub files_of : List Use → Option FileNames
-files_of uses = files_said (value_of uses (codes "policy")) (value_of uses (codes "facts")) (value_of uses (codes "journals"))
+files_of uses = files_said (value_of uses (codes "policy")) (value_of uses (codes "facts"))
+    (value_of uses (codes "journals"))
 
 -- the audit that uses say: as JSON where `--json` is used
 abbrev pub audit_of : List Use → Option Reading
-audit_of uses = audit_said (files_of uses) (value_of uses (codes "user")) (is_used uses (codes "json"))
+audit_of uses =
+    audit_said (files_of uses) (value_of uses (codes "user")) (is_used uses (codes "json"))
 
--- the run that uses say: the seed is a number of 32 bits, the users are 1 to 256, the asks 1 to 10,000
+-- the run that uses say: the seed is a number of 32 bits, the users are 1 to 256, the asks 1 to
+-- 10,000
 abbrev pub selfrun_of : List Use → Option Reading
 selfrun_of uses =
-    selfrun_said (number_from 0 4294967295 (value_of uses (codes "seed"))) (number_from 1 256 (value_of uses (codes "users"))) (number_from 1 10000 (value_of uses (codes "asks")))
+    selfrun_said (number_from 0 4294967295 (value_of uses (codes "seed")))
+    (number_from 1 256 (value_of uses (codes "users")))
+    (number_from 1 10000 (value_of uses (codes "asks")))
 
 -- the server that uses say: 1 to 64 workers, else 4, and 1 to 1,000,000 sessions, else 2^30
 abbrev pub serve_of : List Use → Option Reading
 serve_of uses =
-    serve_said (files_of uses) (value_of uses (codes "listen")) (number_or 4 1 64 (value_of uses (codes "workers"))) (number_or 1073741824 1 1000000 (value_of uses (codes "sessions")))
+    serve_said (files_of uses) (value_of uses (codes "listen"))
+    (number_or 4 1 64 (value_of uses (codes "workers")))
+    (number_or 1073741824 1 1000000 (value_of uses (codes "sessions")))
 
 -- ---- the table
 
@@ -113,7 +124,8 @@ flag name = record { name = name; is_needed = false; has_value = false }
 
 -- the options that name the files of a command, and further ones
 abbrev pub file_options : List OptionRow → List OptionRow
-file_options others = needed (codes "policy") ∷ needed (codes "facts") ∷ needed (codes "journals") ∷ others
+file_options others =
+    needed (codes "policy") ∷ needed (codes "facts") ∷ needed (codes "journals") ∷ others
 
 -- `case`
 abbrev pub case_row : CommandRow
@@ -121,23 +133,50 @@ case_row = record { name = codes "case"; options = []; says = λ uses. Some runs
 
 -- `init --policy P --facts F --journals DIR`
 abbrev pub init_row : CommandRow
-init_row = record { name = codes "init"; options = file_options []; says = λ uses. option_map runs_init (files_of uses) }
+init_row = record {
+  name = codes "init";
+  options = file_options [];
+  says =
+      λ uses. option_map runs_init (files_of uses);
+}
 
 -- `batch --policy P --facts F --journals DIR`
 abbrev pub batch_row : CommandRow
-batch_row = record { name = codes "batch"; options = file_options []; says = λ uses. option_map runs_batch (files_of uses) }
+batch_row = record {
+  name = codes "batch";
+  options = file_options [];
+  says =
+      λ uses. option_map runs_batch (files_of uses);
+}
 
 -- `audit --policy P --facts F --journals DIR --user NAME [--json]`
 abbrev pub audit_row : CommandRow
-audit_row = record { name = codes "audit"; options = file_options (needed (codes "user") ∷ flag (codes "json") ∷ []); says = audit_of }
+audit_row = record {
+  name = codes "audit";
+  options =
+      file_options (needed (codes "user") ∷ flag (codes "json") ∷ []);
+  says = audit_of;
+}
 
 -- `selfrun --seed N --users N --asks N`
 abbrev pub selfrun_row : CommandRow
-selfrun_row = record { name = codes "selfrun"; options = needed (codes "seed") ∷ needed (codes "users") ∷ needed (codes "asks") ∷ []; says = selfrun_of }
+selfrun_row = record {
+  name = codes "selfrun";
+  options =
+      needed (codes "seed") ∷ needed (codes "users") ∷ needed (codes "asks") ∷ [];
+  says = selfrun_of;
+}
 
 -- `serve --policy P --facts F --journals DIR --listen ADDRESS [--workers N] [--sessions N]`
 abbrev pub serve_row : CommandRow
-serve_row = record { name = codes "serve"; options = file_options (needed (codes "listen") ∷ optional (codes "workers") ∷ optional (codes "sessions") ∷ []); says = serve_of }
+serve_row = record {
+  name = codes "serve";
+  options =
+      file_options (needed (codes "listen") ∷ optional (codes "workers")
+      ∷ optional (codes "sessions")
+      ∷ []);
+  says = serve_of;
+}
 
 -- all commands
 abbrev pub commands : List CommandRow
@@ -159,7 +198,8 @@ abbrev pub reading_with : Option CommandRow → List (List ℕ) → Option Readi
 reading_with (Some row) words = reading_by row (uses_of row.options words)
 reading_with None words = None
 
--- the one reading of the words, if they have one: the first is the command, and its options come in any order
+-- the one reading of the words, if they have one: the first is the command, and its options come in
+-- any order
 unfoldable pub reading_of : List (List ℕ) → Option Reading
 reading_of [] = None
 reading_of (command ∷ words) = reading_with (command_of command) words
@@ -168,7 +208,8 @@ reading_of (command ∷ words) = reading_with (command_of command) words
 
 -- the names that files in memory stand for
 abbrev pub names_of_files : Files → FileNames
-names_of_files files = record { policy = files.policy.now; facts = files.facts.now; journals = files.journals.now }
+names_of_files files =
+    record { policy = files.policy.now; facts = files.facts.now; journals = files.journals.now }
 
 -- the reading that a command in memory stands for
 abbrev pub reading_in : Command → Reading
@@ -177,4 +218,5 @@ reading_in (Init files) = runs_init (names_of_files files)
 reading_in (Batch files) = runs_batch (names_of_files files)
 reading_in (Audit words) = runs_audit (names_of_files words.files) words.user.now words.json
 reading_in (Selfrun words) = runs_selfrun words.seed words.users words.asks
-reading_in (Serve words) = runs_serve (names_of_files words.files) words.listen.now words.workers words.sessions
+reading_in (Serve words) =
+    runs_serve (names_of_files words.files) words.listen.now words.workers words.sessions

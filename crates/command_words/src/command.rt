@@ -1,9 +1,12 @@
 //! The command that the words say.
-ghost use Rattle.std.specs.Prelude.{◌≡◌, true, map, option_map, option_and_then, string_bytes, IfOk};
+ghost use Rattle.std.specs.Prelude.{◌≡◌, true, map, option_map, option_and_then, string_bytes};
+ghost use Rattle.std.specs.Prelude.{IfOk};
 ghost use Rattle.std.specs.List.{list_any};
 ghost use Rattle.clap.specs.Words.{found_of, kind_of, rows_of, subcommand_rows_of};
-ghost use Rattle.command_words.specs.Readings.{reading_of, reading_in, names_of_files, files_said, audit_said, selfrun_said, serve_said};
-ghost use Rattle.command_words.specs.Matched.{is_short, says_true, files_in, audit_in, selfrun_in, serve_in, command_with};
+ghost use Rattle.command_words.specs.Readings.{reading_of, reading_in, names_of_files, files_said};
+ghost use Rattle.command_words.specs.Readings.{audit_said, selfrun_said, serve_said};
+ghost use Rattle.command_words.specs.Matched.{is_short, says_true, files_in, audit_in, selfrun_in};
+ghost use Rattle.command_words.specs.Matched.{serve_in, command_with};
 
 use crate::number::{number_from, number_or, small_number_from, small_number_or};
 use crate::program::program;
@@ -76,13 +79,15 @@ pub enum Command<'a> {
 
 /// Reads the words behind the program's name.
 ///
-/// The first word is the command. Its options come behind it in any order, each at most once, as `--name value` or
-/// `--name=value`; only `--json`, `--workers` and `--sessions` may be left out, and `--json` has no value. Words that
-/// begin with a hyphen, but for `-` alone, are values only in the second form, and no value is empty. Numbers are one to
-/// ten decimal digits, within their limits. There is no help among the words and no short form of a name. An error is
-/// want of memory.
+/// The first word is the command. Its options come behind it in any order, each at most once, as
+/// `--name value` or `--name=value`; only `--json`, `--workers` and `--sessions` may be left out,
+/// and `--json` has no value. Words that begin with a hyphen, but for `-` alone, are values only in
+/// the second form, and no value is empty. Numbers are one to ten decimal digits, within their
+/// limits. There is no help among the words and no short form of a name. An error is want of
+/// memory.
 pub fn read_words<'a>(alloc: Global, words: &'a [String]) -> Result<Option<Command<'a>>, AllocError>
-    ensures { IfOk result (λ read. option_map reading_in read ≡ reading_of (map string_bytes words.now)) }
+    ensures { IfOk result (λ read. option_map reading_in read
+        ≡ reading_of (map string_bytes words.now)) }
 {
     if has_short(words) {
         return Ok(None);
@@ -100,7 +105,8 @@ pub fn read_words<'a>(alloc: Global, words: &'a [String]) -> Result<Option<Comma
     }
 }
 
-// Whether one of the words is `--` or has the form `-x`: `clap` takes the first for the end of the options.
+// Whether one of the words is `--` or has the form `-x`: `clap` takes the first for the end of the
+// options.
 fn has_short(words: &[String]) -> bool
     ensures { result ≡ list_any is_short (map string_bytes words.now) }
 {
@@ -129,7 +135,8 @@ fn is_want_of_memory(error: &Error) -> bool
 
 // The command that was matched, with its values.
 fn command_in<'a>(matches: &ArgMatches<'a>) -> Option<Command<'a>>
-    ensures { option_map reading_in result ≡ option_and_then (λ found. command_with found.0 found.1) (subcommand_rows_of matches.now) }
+    ensures { option_map reading_in result
+        ≡ option_and_then (λ found. command_with found.0 found.1) (subcommand_rows_of matches.now) }
 {
     let (name, given) = matches.subcommand()?;
     command_with(name, given)
@@ -166,7 +173,9 @@ fn files_with<'a>(
     facts: Option<&'a str>,
     journals: Option<&'a str>,
 ) -> Option<Files<'a>>
-    ensures { option_map names_of_files result ≡ files_said (option_map (λ s. s.now) policy.entry) (option_map (λ s. s.now) facts.entry) (option_map (λ s. s.now) journals.entry) }
+    ensures { option_map names_of_files result
+        ≡ files_said (option_map (λ s. s.now) policy.entry) (option_map (λ s. s.now) facts.entry)
+        (option_map (λ s. s.now) journals.entry) }
 {
     match (policy, facts, journals) {
         (Some(policy), Some(facts), Some(journals)) => Some(Files {
@@ -194,7 +203,9 @@ fn audit_with<'a>(
     user: Option<&'a str>,
     json: bool,
 ) -> Option<Command<'a>>
-    ensures { option_map reading_in result ≡ audit_said (option_map names_of_files files.entry) (option_map (λ s. s.now) user.entry) json }
+    ensures { option_map reading_in result
+        ≡ audit_said (option_map names_of_files files.entry)
+        (option_map (λ s. s.now) user.entry) json }
 {
     match (files, user) {
         (Some(files), Some(user)) => Some(Command::Audit(AuditWords { files, user, json })),
@@ -252,7 +263,9 @@ fn serve_with<'a>(
     workers: Option<u32>,
     sessions: Option<u64>,
 ) -> Option<Command<'a>>
-    ensures { option_map reading_in result ≡ serve_said (option_map names_of_files files.entry) (option_map (λ s. s.now) listen.entry) workers sessions }
+    ensures { option_map reading_in result
+        ≡ serve_said (option_map names_of_files files.entry)
+        (option_map (λ s. s.now) listen.entry) workers sessions }
 {
     match (files, listen, workers, sessions) {
         (Some(files), Some(listen), Some(workers), Some(sessions)) => {

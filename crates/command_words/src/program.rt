@@ -2,7 +2,8 @@
 ghost use Rattle.std.specs.Prelude.{◌≡◌, false, IfOk};
 ghost use Rattle.clap.specs.Words.{app_of, rule_of};
 ghost use Rattle.clap.specs.declared.builder.command.Command.TheViews.{out-Command};
-ghost use Rattle.command_words.specs.Matched.{audit_command, file_command, flag_rule, needed_rule, optional_rule, program, serve_command, three_command};
+ghost use Rattle.command_words.specs.Matched.{audit_command, file_command, flag_rule, needed_rule};
+ghost use Rattle.command_words.specs.Matched.{optional_rule, program, serve_command, three_command};
 
 use clap::builder::ValueParser;
 use clap::{Arg, ArgAction, Command};
@@ -33,7 +34,8 @@ pub(crate) fn program<'a>(alloc: Global) -> Result<Command<'a>, AllocError>
     Ok(program)
 }
 
-// What each of these returns has a name first: its goals are then plain equations, and no implications under `IfOk`.
+// What each of these returns has a name first: its goals are then plain equations, and no
+// implications under `IfOk`.
 
 // The audit of a user.
 fn audit<'a>(alloc: Global) -> Result<Command<'a>, AllocError>
@@ -77,7 +79,8 @@ fn with_three<'a>(
     two: &'a str,
     three: &'a str,
 ) -> Result<Command<'a>, AllocError>
-    ensures shape { IfOk result (λ command. app_of command ≡ three_command name.now one.now two.now three.now) }
+    ensures shape { IfOk result (λ command. app_of command
+        ≡ three_command name.now one.now two.now three.now) }
     ensures plain { IfOk result (λ command. (out-Command command).has_globals ≡ false) }
 {
     let one = needed(alloc, one);

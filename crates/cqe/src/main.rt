@@ -1,14 +1,17 @@
-//! The program `cqe`: it makes the real files, streams and sockets, calls `top` and ends with its answer.
+//! The program `cqe`: it makes the real files, streams and sockets, calls `top` and ends with its
+//! answer.
 //!
-//! All that is promised is the contract of `top` in `cqe_top`, for any files, streams and sockets that keep to the traits
-//! of `outside`; this crate adds nothing to it. What the system's own files and sockets hold is told to no clause: that they
-//! behave so is tested by the runs that are stored beside this folder and beside `cqe_batch`.
+//! All that is promised is the contract of `top` in `cqe_top`, for any files, streams and sockets
+//! that keep to the traits of `outside`; this crate adds nothing to it. What the system's own files
+//! and sockets hold is told to no clause: that they behave so is tested by the runs that are stored
+//! beside this folder and beside `cqe_batch`.
 //!
-//! Words that aren't text are passed on as no words at all, which have no reading. Where memory is wanting for the words
-//! themselves, it ends as `top` does for want of memory.
+//! Words that aren't text are passed on as no words at all, which have no reading. Where memory is
+//! wanting for the words themselves, it ends as `top` does for want of memory.
 //!
-//! A standard stream that was closed before the start stays closed, and no journal gets its descriptor. An audit reads
-//! journals that a server may have open, and writes to none; every other command works on them alone.
+//! A standard stream that was closed before the start stays closed, and no journal gets its
+//! descriptor. An audit reads journals that a server may have open, and writes to none; every other
+//! command works on them alone.
 //!
 //! Read `top` first, then `main` here.
 #![tactic(auto)]
@@ -57,9 +60,10 @@ fn main(rt: HostRuntime) -> ExitCode {
     ExitCode::from(status)
 }
 
-// What stands in for the standard streams that were closed before the start: the null device, opened so that a read of the
-// first and a write to the others fail as at a closed stream. Else the next file that is opened, a journal, would be given
-// the free descriptor, and would be read as the input or get the output.
+// What stands in for the standard streams that were closed before the start: the null device,
+// opened so that a read of the first and a write to the others fail as at a closed stream. Else the
+// next file that is opened, a journal, would be given the free descriptor, and would be read as the
+// input or get the output.
 fn hold_closed_streams(rt: &HostRuntime) -> io::Result<[Option<File>; 3]> {
     let input = hold_below(rt, OpenOptions::new().write(true), 1)?;
     let output = hold_below(rt, OpenOptions::new().read(true), 3)?;
@@ -85,8 +89,8 @@ fn is_audit(words: &[String]) -> bool {
     }
 }
 
-// The words behind the program's name, or want of memory. Words that aren't text have no reading, and no words have
-// none.
+// The words behind the program's name, or want of memory. Words that aren't text have no reading,
+// and no words have none.
 fn words(rt: &HostRuntime) -> io::Result<Vec<String>> {
     let mut words = Vec::new(rt.alloc());
     let arguments = match env::args(rt) {

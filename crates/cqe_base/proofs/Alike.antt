@@ -17,7 +17,8 @@ use Rattle.cqe_base.proofs.Secrets.{legal_shields, legal_again}
 use Rattle.cqe_base.proofs.Runs.{replies_alike}
 
 -- an admitted user is admitted in each world in which what he knows is true
-admitted_again : (schema : DatabaseSchema) (world : FactSet) (user : UserProfile) (other : FactSet) → admitted schema world user ≡ true → all_hold_in schema other (known user) ≡ true → admitted schema other user ≡ true
+admitted_again : (schema : DatabaseSchema) (world : FactSet) (user : UserProfile) (other : FactSet) → admitted schema world user ≡ true
+    → all_hold_in schema other (known user) ≡ true → admitted schema other user ≡ true
 unfolding admitted
 admitted_again schema world user other admits holds = and_both _ _ (by user.method) (and_second (knows_truth_by user.method schema world (known user)) _ admits)
   where
@@ -47,7 +48,13 @@ logs_keep_secrets schema world user entries admissible legal = none_passes (λ g
   where
     kept : (goal : Formula) → Contains (guarded user) goal → entails schema (log user entries) (goal, true) ≡ false
     kept goal guards =
-        let start : (other : FactSet) × IsCountermodel schema (known user) (goal, true) other = entails-false schema (known user) (goal, true) (list_any-false _ (guarded user) admissible.knows_no_secret goal guards) in
-        let begin : (other : FactSet) × IsCountermodel schema (log user []) (goal, true) other = subst (λ premises. (other : FactSet) × IsCountermodel schema premises (goal, true) other) (sym (log-nil user)) start in
-        let final : (other : FactSet) × IsCountermodel schema (log user entries) (goal, true) other = legal_shields schema user goal guards world entries legal [] entries refl begin in
-        false_if_not_true _ (λ e. true_is_not_false (sym (entails-true schema (log user entries) (goal, true) e final.0 final.1.of_schema final.1.premises_true) ∙ final.1.goal_false))
+        let start : (other : FactSet)
+        × IsCountermodel schema (known user) (goal, true) other =
+        entails-false schema (known user) (goal, true) (list_any-false _ (guarded user) admissible.knows_no_secret goal guards) in
+        let begin : (other : FactSet) × IsCountermodel schema (log user []) (goal, true) other =
+        subst (λ premises. (other : FactSet) × IsCountermodel schema premises (goal, true) other) (sym (log-nil user)) start in
+        let final : (other : FactSet) × IsCountermodel schema (log user entries) (goal, true) other =
+        legal_shields schema user goal guards world entries legal [] entries refl begin in
+        false_if_not_true _ (λ e.
+        true_is_not_false (sym (entails-true schema (log user entries) (goal, true) e final.0 final.1.of_schema final.1.premises_true)
+        ∙ final.1.goal_false))

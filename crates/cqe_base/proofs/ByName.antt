@@ -27,7 +27,8 @@ abbrev pub only_at : Text → Constant → Text → Option Constant
 only_at name constant text = cond (bytes_eq name text) (Some constant) None
 
 -- a name that has a constant keeps it
-pub first_stays : (found : Text → Option Constant) (name : Text) (constant : Constant) (text : Text) → is_some (found name) ≡ true → found text ≡ option_or (found text) (only_at name constant text)
+pub first_stays : (found : Text → Option Constant) (name : Text) (constant : Constant) (text : Text) → is_some (found name) ≡ true
+    → found text ≡ option_or (found text) (only_at name constant text)
 first_stays found name constant text some = by (bytes_eq name text) refl (found text) refl
   where
     by : (same : Bool) → bytes_eq name text ≡ same → (o : Option Constant) → found text ≡ o → o ≡ option_or o (cond same (Some constant) None)
@@ -39,10 +40,12 @@ first_stays found name constant text some = by (bytes_eq name text) refl (found 
         absurd cc
 
 -- a name that has none gets it
-pub new_joins : (found : Text → Option Constant) (name : Text) (constant : Constant) (text : Text) → is_some (found name) ≡ false → cond (bytes_eq name text) (Some constant) (found text) ≡ option_or (found text) (only_at name constant text)
+pub new_joins : (found : Text → Option Constant) (name : Text) (constant : Constant) (text : Text) → is_some (found name) ≡ false
+    → cond (bytes_eq name text) (Some constant) (found text) ≡ option_or (found text) (only_at name constant text)
 new_joins found name constant text none = by (bytes_eq name text) refl (found text) refl
   where
-    by : (same : Bool) → bytes_eq name text ≡ same → (o : Option Constant) → found text ≡ o → cond same (Some constant) o ≡ option_or o (cond same (Some constant) None)
+    by : (same : Bool) → bytes_eq name text ≡ same → (o : Option Constant) → found text ≡ o
+        → cond same (Some constant) o ≡ option_or o (cond same (Some constant) None)
     by true e None f = refl
     by false e None f = refl
     by false e (Some x) f = refl
@@ -63,10 +66,13 @@ abbrev pub from_place : ℕ → ℕ → List (String Global) → Text → Option
 from_place domain place names text = option_map (λ i. record { domain = domain; index = i }) (position_from (λ n. bytes_eq (string_bytes n) text) place names)
 
 pub next_place : (domain place : ℕ) (name : String Global) (names : List (String Global)) (text : Text)
-    → from_place domain place (name ∷ names) text ≡ option_or (only_at (string_bytes name) (record { domain = domain; index = place }) text) (from_place domain (place + 1) names text)
+    → from_place domain place (name ∷ names) text
+    ≡ option_or (only_at (string_bytes name) (record { domain = domain; index = place }) text) (from_place domain (place + 1) names text)
 next_place domain place name names text = by (bytes_eq (string_bytes name) text)
   where
-    by : (same : Bool) → option_map (λ i. record { domain = domain; index = i }) (cond same (Some place) (position_from (λ n. bytes_eq (string_bytes n) text) (place + 1) names))
+    by : (same : Bool)
+        → option_map (λ i. record { domain = domain; index = i })
+        (cond same (Some place) (position_from (λ n. bytes_eq (string_bytes n) text) (place + 1) names))
         ≡ option_or (cond same (Some (record { domain = domain; index = place })) None) (from_place domain (place + 1) names text)
     by true = refl
     by false = refl
@@ -74,12 +80,14 @@ next_place domain place name names text = by (bytes_eq (string_bytes name) text)
 -- the names from the first one on are all of them
 pub all_places : (domain : ℕ) (names : List (String Global)) (text : Text)
     → from_place domain 0 names text ≡ option_map (λ i. record { domain = domain; index = i }) (position (λ n. bytes_eq (string_bytes n) text) names)
-all_places domain names text = ap (option_map (λ i. record { domain = domain; index = i })) (sym (position_from-zero (λ n. bytes_eq (string_bytes n) text) names))
+all_places domain names text =
+    ap (option_map (λ i. record { domain = domain; index = i })) (sym (position_from-zero (λ n. bytes_eq (string_bytes n) text) names))
 
 -- the constants of a domain come before those of the domains behind it
 pub next_domain : (number : ℕ) (domain : Domain) (domains : List Domain) (text : Text)
     → constant_in number (map named_domain_of (domain ∷ domains)) text
-    ≡ option_or (option_map (λ i. record { domain = number; index = i }) (position (λ n. bytes_eq (string_bytes n) text) domain.constants.items)) (constant_in (number + 1) (map named_domain_of domains) text)
+    ≡ option_or (option_map (λ i. record { domain = number; index = i }) (position (λ n. bytes_eq (string_bytes n) text) domain.constants.items))
+    (constant_in (number + 1) (map named_domain_of domains) text)
 next_domain number domain domains text =
     ap (λ place. option_or (option_map (λ i. record { domain = number; index = i }) place) (constant_in (number + 1) (map named_domain_of domains) text))
     (position-map (λ t. bytes_eq t text) string_bytes domain.constants.items)
@@ -87,7 +95,11 @@ next_domain number domain domains text =
 -- what a map has after the last name of a domain
 pub all_added : (found before : Text → Option Constant) (domain place : ℕ) (names : List (String Global)) → length names ≤ place
     → ((text : Text) → option_or (found text) (from_place domain place (drop place names) text) ≡ option_or (before text) (from_place domain 0 names text))
-    → (text : Text) → found text ≡ option_or (before text) (option_map (λ i. record { domain = domain; index = i }) (position (λ n. bytes_eq (string_bytes n) text) names))
+    → (text : Text) → found text ≡ option_or (before text) (option_map (λ i. record {
+      domain =
+          domain;
+      index = i;
+    }) (position (λ n. bytes_eq (string_bytes n) text) names))
 all_added found before domain place names end so_far text =
     sym (or_none (found text))
     ∙ ap (λ rest. option_or (found text) (from_place domain place rest text)) (sym (drop_all place names end))
@@ -97,11 +109,16 @@ all_added found before domain place names end so_far text =
 -- what is left of the domains once those of one more have been added
 pub domain_added : (found new total : Text → Option Constant) (number : ℕ) (domains : List Domain) (domain : Domain) (names : List (String Global))
     → drop number domains ≡ domain ∷ drop (number + 1) domains → names ≡ domain.constants.items
-    → ((text : Text) → new text ≡ option_or (found text) (option_map (λ i. record { domain = number; index = i }) (position (λ n. bytes_eq (string_bytes n) text) names)))
+    → ((text : Text) → new text ≡ option_or (found text) (option_map (λ i. record {
+      domain =
+          number;
+      index = i;
+    }) (position (λ n. bytes_eq (string_bytes n) text) names)))
     → ((text : Text) → option_or (found text) (constant_in number (map named_domain_of (drop number domains)) text) ≡ total text)
     → (text : Text) → option_or (new text) (constant_in (number + 1) (map named_domain_of (drop (number + 1) domains)) text) ≡ total text
 domain_added found new total number domains domain names split same added so_far text =
-    let own : List (String Global) → Option Constant = λ ns. option_map (λ i. record { domain = number; index = i }) (position (λ n. bytes_eq (string_bytes n) text) ns) in
+    let own : List (String Global)
+    → Option Constant = λ ns. option_map (λ i. record { domain = number; index = i }) (position (λ n. bytes_eq (string_bytes n) text) ns) in
     let rest : Option Constant = constant_in (number + 1) (map named_domain_of (drop (number + 1) domains)) text in
     ap (λ o. option_or o rest) (added text)
     ∙ or_grouped (found text) (own names) rest

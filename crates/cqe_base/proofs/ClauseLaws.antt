@@ -1,5 +1,6 @@
 -- The laws of clause forms and refutations, from the lemmas.
-use Rattle.std.proofs.Common.{◌≡◌, ℕ, ◌+◌, ◌<◌, ◌≤◌, arith, append-nil, Bool, true, false, cond, ◌||◌, List, [], ◌∷◌, ◌++◌, map, length, length-append, refl, sym, ap, ◌∙◌, subst, append_assoc}
+use Rattle.std.proofs.Common.{◌≡◌, ℕ, ◌+◌, ◌<◌, ◌≤◌, arith, append-nil, Bool, true, false, cond, ◌||◌, List, [], ◌∷◌, ◌++◌, map, length, length-append, refl}
+use Rattle.std.proofs.Common.{sym, ap, ◌∙◌, subst, append_assoc}
 use Rattle.std.specs.Prelude.{filter}
 use Rattle.std.specs.List.{list_any}
 use Rattle.std.specs.Ordering.{eq_by_cmp}
@@ -8,12 +9,16 @@ use Rattle.std.proofs.lemmas.Bool.{or_parts, or_from, both_ways}
 use Rattle.std.proofs.lemmas.List.Sums.{sum_by-cons}
 use Rattle.cqe_base.specs.declared.world.Fact.{Fact}
 use Rattle.cqe_base.specs.Facts.{fact_cmp}
-use Rattle.cqe_base.specs.Ground.{Ground, Grounds, ground_true, ground_false, ground_atom, ground_not, ground_all, ground_some, ground_implies, ground_iff, no_grounds, more_grounds, ground_nodes, part_nodes}
+use Rattle.cqe_base.specs.Ground.{Ground, Grounds, ground_true, ground_false, ground_atom, ground_not, ground_all, ground_some, ground_implies, ground_iff}
+use Rattle.cqe_base.specs.Ground.{no_grounds, more_grounds, ground_nodes, part_nodes}
 use Rattle.cqe_base.specs.SignedGround.{SignedGround, all_signed_true}
 use Rattle.cqe_base.specs.GroundParts.{nodes_of_list}
 use Rattle.cqe_base.specs.Literal.{Positive, variable_of, ClausesBelow, HaveNoRepeat}
-use Rattle.cqe_base.specs.ClauseForm.{IsProper, NumberedOnce, same_fact, NumberedFact, Numbering, is_numbered, numbering_after, numbering_after_parts, clauses_of, signed_literal, numbering_of, numbering_after_list, clauses_of_list, first_numbering, world_of}
-use Rattle.cqe_base.specs.MachineLaws.{ResolutionIsSound, RefutationIsSound, ModelsAreWorlds, ModelGivesWorld, ClauseFormIsPrefix, NumberingGoesOn, NumberingsAreProper, NumberedFactsStay, ClauseFormUsesItsVariables, ClauseFormHasNoRepeat, VariablesAreFew, NumberedFactsAreFew}
+use Rattle.cqe_base.specs.ClauseForm.{IsProper, NumberedOnce, same_fact, NumberedFact, Numbering, is_numbered, numbering_after, numbering_after_parts}
+use Rattle.cqe_base.specs.ClauseForm.{clauses_of, signed_literal, numbering_of, numbering_after_list, clauses_of_list, first_numbering, world_of}
+use Rattle.cqe_base.specs.MachineLaws.{ResolutionIsSound, RefutationIsSound, ModelsAreWorlds, ModelGivesWorld, ClauseFormIsPrefix, NumberingGoesOn}
+use Rattle.cqe_base.specs.MachineLaws.{NumberingsAreProper, NumberedFactsStay, ClauseFormUsesItsVariables, ClauseFormHasNoRepeat, VariablesAreFew}
+use Rattle.cqe_base.specs.MachineLaws.{NumberedFactsAreFew}
 use Rattle.cqe_base.proofs.Worlds.{fact_cmp_total, tied_is, itself_tied}
 use Rattle.cqe_base.proofs.SameFact.{same_fact-true, same_fact-same}
 use Rattle.cqe_base.proofs.ClauseTruth.{IfResult, resolved_true, refutation_sound}
@@ -49,17 +54,20 @@ tied_same f g = by (eq_by_cmp fact_cmp f g) (same_fact f g) refl refl
 abbrev true_facts : List NumberedFact → (ℕ → Bool) → List Fact
 true_facts facts signs = map (λ e. e.fact) (filter (λ e. signs e.number) facts)
 
-not_among : (facts : List NumberedFact) (signs : ℕ → Bool) (f : Fact) → is_numbered facts f ≡ false → list_any (eq_by_cmp fact_cmp f) (true_facts facts signs) ≡ false
+not_among : (facts : List NumberedFact) (signs : ℕ → Bool) (f : Fact) → is_numbered facts f ≡ false
+    → list_any (eq_by_cmp fact_cmp f) (true_facts facts signs) ≡ false
 not_among [] signs f h = refl
 not_among (e ∷ facts) signs f h = by (signs e.number) (or_parts (same_fact f e.fact) (is_numbered facts f) h) (λ k. not_among facts signs f k)
   where
-    by : (b : Bool) → (same_fact f e.fact ≡ false) × (is_numbered facts f ≡ false) → (is_numbered facts f ≡ false → list_any (eq_by_cmp fact_cmp f) (true_facts facts signs) ≡ false)
+    by : (b : Bool) → (same_fact f e.fact ≡ false) × (is_numbered facts f ≡ false)
+        → (is_numbered facts f ≡ false → list_any (eq_by_cmp fact_cmp f) (true_facts facts signs) ≡ false)
         → list_any (eq_by_cmp fact_cmp f) (map (λ e. e.fact) (cond b (e ∷ filter (λ e. signs e.number) facts) (filter (λ e. signs e.number) facts))) ≡ false
     by true parts go = or_from _ _ (tied_same f e.fact ∙ parts.0) (go parts.1)
     by false parts go = go parts.1
 
 -- where each fact is numbered once, the world has the facts whose sign is true
-among-sign : (facts : List NumberedFact) (signs : ℕ → Bool) (f : Fact) → NumberedOnce facts → list_any (eq_by_cmp fact_cmp f) (true_facts facts signs) ≡ sign_of_fact facts signs f
+among-sign : (facts : List NumberedFact) (signs : ℕ → Bool) (f : Fact) → NumberedOnce facts
+    → list_any (eq_by_cmp fact_cmp f) (true_facts facts signs) ≡ sign_of_fact facts signs f
 among-sign [] signs f once = refl
 among-sign (e ∷ facts) signs f once = by (signs e.number) (same_fact f e.fact) refl refl (among-sign facts signs f once.1)
   where
@@ -67,7 +75,8 @@ among-sign (e ∷ facts) signs f once = by (signs e.number) (same_fact f e.fact)
     gone same = not_among facts signs f (subst (λ x. is_numbered facts x ≡ false) (sym (same_fact-true f e.fact same)) once.0)
 
     by : (b c : Bool) → signs e.number ≡ b → same_fact f e.fact ≡ c → list_any (eq_by_cmp fact_cmp f) (true_facts facts signs) ≡ sign_of_fact facts signs f
-        → list_any (eq_by_cmp fact_cmp f) (map (λ e. e.fact) (cond b (e ∷ filter (λ e. signs e.number) facts) (filter (λ e. signs e.number) facts))) ≡ cond c (signs e.number) (sign_of_fact facts signs f)
+        → list_any (eq_by_cmp fact_cmp f) (map (λ e. e.fact) (cond b (e ∷ filter (λ e. signs e.number) facts) (filter (λ e. signs e.number) facts)))
+        ≡ cond c (signs e.number) (sign_of_fact facts signs f)
     by true true p q go = ap (λ x. x || list_any (eq_by_cmp fact_cmp f) (true_facts facts signs)) (tied_same f e.fact ∙ q) ∙ sym p
     by true false p q go = ap (λ x. x || list_any (eq_by_cmp fact_cmp f) (true_facts facts signs)) (tied_same f e.fact ∙ q) ∙ go
     by false true p q go = gone q ∙ sym p
@@ -77,7 +86,8 @@ list_proper : (formulas : List SignedGround) (n : Numbering) → IsProper n → 
 list_proper [] n p = p
 list_proper (s ∷ rest) n p = list_proper rest _ (IsProper-after s.0 n p)
 
-pub world_of-sign : (formulas : List SignedGround) (signs : ℕ → Bool) (f : Fact) → set.contains (world_of (numbering_of formulas).facts signs) f ≡ sign_of_fact (numbering_of formulas).facts signs f
+pub world_of-sign : (formulas : List SignedGround) (signs : ℕ → Bool) (f : Fact)
+    → set.contains (world_of (numbering_of formulas).facts signs) f ≡ sign_of_fact (numbering_of formulas).facts signs f
 world_of-sign formulas signs f =
     set.contains-from_list fact_cmp_total (true_facts (numbering_of formulas).facts signs) f
     ∙ among-sign (numbering_of formulas).facts signs f (list_proper formulas first_numbering IsProper-first).once
@@ -88,7 +98,8 @@ model_gives_world formulas signs t =
 
 -- ---- longer lists
 
-prefix_from : (formulas more : List SignedGround) (n : Numbering) → clauses_of_list (formulas ++ more) n ≡ clauses_of_list formulas n ++ clauses_of_list more (numbering_after_list formulas n)
+prefix_from : (formulas more : List SignedGround) (n : Numbering)
+    → clauses_of_list (formulas ++ more) n ≡ clauses_of_list formulas n ++ clauses_of_list more (numbering_after_list formulas n)
 prefix_from [] more n = refl
 prefix_from (s ∷ rest) more n =
     ap (λ cs. clauses_of s.0 n ++ (signed_literal s n ∷ []) ∷ cs) (prefix_from rest more (numbering_after s.0 n))
@@ -100,7 +111,8 @@ clause_form_is_prefix formulas more = ap (λ cs. (Positive 0 ∷ []) ∷ cs) (pr
 pub numbering_goes_on : NumberingGoesOn
 numbering_goes_on formulas more = numbered formulas first_numbering
   where
-    numbered : (formulas : List SignedGround) (n : Numbering) → numbering_after_list (formulas ++ more) n ≡ numbering_after_list more (numbering_after_list formulas n)
+    numbered : (formulas : List SignedGround) (n : Numbering)
+        → numbering_after_list (formulas ++ more) n ≡ numbering_after_list more (numbering_after_list formulas n)
     numbered [] n = refl
     numbered (s ∷ rest) n = numbered rest (numbering_after s.0 n)
 
@@ -171,7 +183,8 @@ mutual
   facts_fit : (a : Ground) (n : Numbering) → FactsFit n → FactsFit (numbering_after a n)
   facts_fit ground_true n h = h
   facts_fit ground_false n h = h
-  facts_fit (ground_atom f) n h = with_fact_cases n f FactsFit (λ _. h) (λ _. let e = length-append n.facts (record { fact = f; number = n.variables } ∷ []) in omega arith)
+  facts_fit (ground_atom f) n h =
+      with_fact_cases n f FactsFit (λ _. h) (λ _. let e = length-append n.facts (record { fact = f; number = n.variables } ∷ []) in omega arith)
   facts_fit (ground_not a) n h = facts_fit a n h
   facts_fit (ground_all parts) n h = let k = facts_fit_parts parts n h in omega arith
   facts_fit (ground_some parts) n h = let k = facts_fit_parts parts n h in omega arith
@@ -212,16 +225,21 @@ mutual
   facts_stay (ground_not a) n = facts_stay a n
   facts_stay (ground_all parts) n = facts_stay_parts parts n
   facts_stay (ground_some parts) n = facts_stay_parts parts n
-  facts_stay (ground_implies a b) n = more_then n (numbering_after a n) (numbering_after b (numbering_after a n)) (facts_stay a n) (facts_stay b (numbering_after a n))
-  facts_stay (ground_iff a b) n = more_then n (numbering_after a n) (numbering_after b (numbering_after a n)) (facts_stay a n) (facts_stay b (numbering_after a n))
+  facts_stay (ground_implies a b) n =
+      more_then n (numbering_after a n) (numbering_after b (numbering_after a n)) (facts_stay a n) (facts_stay b (numbering_after a n))
+  facts_stay (ground_iff a b) n =
+      more_then n (numbering_after a n) (numbering_after b (numbering_after a n)) (facts_stay a n) (facts_stay b (numbering_after a n))
 
   facts_stay_parts : (parts : Grounds) (n : Numbering) → MoreFacts n (numbering_after_parts parts n)
   facts_stay_parts no_grounds n = no_more n
-  facts_stay_parts (more_grounds a rest) n = more_then n (numbering_after a n) (numbering_after_parts rest (numbering_after a n)) (facts_stay a n) (facts_stay_parts rest (numbering_after a n))
+  facts_stay_parts (more_grounds a rest) n =
+      more_then n (numbering_after a n) (numbering_after_parts rest (numbering_after a n)) (facts_stay a n) (facts_stay_parts rest (numbering_after a n))
 
 list_facts_stay : (formulas : List SignedGround) (n : Numbering) → MoreFacts n (numbering_after_list formulas n)
 list_facts_stay [] n = no_more n
-list_facts_stay (s ∷ rest) n = more_then n (numbering_after s.0 n) (numbering_after_list rest (numbering_after s.0 n)) (facts_stay s.0 n) (list_facts_stay rest (numbering_after s.0 n))
+list_facts_stay (s ∷ rest) n =
+    more_then n (numbering_after s.0 n) (numbering_after_list rest (numbering_after s.0 n)) (facts_stay s.0 n) (list_facts_stay rest (numbering_after s.0 n))
 
 pub numbered_facts_stay : NumberedFactsStay
-numbered_facts_stay formulas more = subst (MoreFacts (numbering_of formulas)) (sym (numbering_goes_on formulas more)) (list_facts_stay more (numbering_of formulas))
+numbered_facts_stay formulas more =
+    subst (MoreFacts (numbering_of formulas)) (sym (numbering_goes_on formulas more)) (list_facts_stay more (numbering_of formulas))

@@ -7,9 +7,11 @@ use Rattle.std.proofs.lemmas.List.Folds.{list_any-append, list_all-append}
 use Rattle.cqe_base.specs.declared.world.Fact.{Fact}
 use Rattle.cqe_base.specs.ClauseForm.{same_fact}
 use Rattle.cqe_base.specs.Truth.{same_truth}
-use Rattle.cqe_base.specs.Ground.{Ground, Grounds, ground_true, ground_false, ground_atom, ground_not, ground_all, ground_some, ground_implies, ground_iff, no_grounds, more_grounds, true_ground, all_true, some_true}
+use Rattle.cqe_base.specs.Ground.{Ground, Grounds, ground_true, ground_false, ground_atom, ground_not, ground_all, ground_some, ground_implies, ground_iff}
+use Rattle.cqe_base.specs.Ground.{no_grounds, more_grounds, true_ground, all_true, some_true}
 use Rattle.cqe_base.specs.Literal.{Literal, Positive, Negative, opposite, distinct_literals, literal_true, clause_true, clauses_true}
-use Rattle.cqe_base.specs.ClauseForm.{NumberedFact, Numbering, is_numbered, number_of, with_fact, numbering_after, numbering_after_parts, literal_of, literals_of, and_clauses, or_clauses, iff_clauses, clauses_of, clauses_of_parts}
+use Rattle.cqe_base.specs.ClauseForm.{NumberedFact, Numbering, is_numbered, number_of, with_fact, numbering_after, numbering_after_parts, literal_of}
+use Rattle.cqe_base.specs.ClauseForm.{literals_of, and_clauses, or_clauses, iff_clauses, clauses_of, clauses_of_parts}
 use Rattle.cqe_base.proofs.SameFact.{same_fact-same}
 use Rattle.cqe_base.proofs.ClauseTruth.{literal_true-opposite, clause_true-distinct}
 use Rattle.cqe_base.proofs.Numberings.{with_fact_cases, number_next, number_of-append}
@@ -24,21 +26,26 @@ edge_or true l r = refl
 edge_or false true r = refl
 edge_or false false r = refl
 
-and_edges_true : (signs : ℕ → Bool) (v : ℕ) (ls : List Literal) → clauses_true signs (map (λ l. distinct_literals (Negative v ∷ l ∷ [])) ls) ≡ (not (signs v) || list_all (literal_true signs) ls)
+and_edges_true : (signs : ℕ → Bool) (v : ℕ) (ls : List Literal)
+    → clauses_true signs (map (λ l. distinct_literals (Negative v ∷ l ∷ [])) ls) ≡ (not (signs v) || list_all (literal_true signs) ls)
 and_edges_true signs v [] = sym (or-true (not (signs v)))
 and_edges_true signs v (l ∷ ls) =
     let here = clause_true-distinct signs (Negative v ∷ l ∷ []) in
     let rest = and_edges_true signs v ls in
-    let both : (clause_true signs (distinct_literals (Negative v ∷ l ∷ [])) && clauses_true signs (map (λ l. distinct_literals (Negative v ∷ l ∷ [])) ls)) ≡ ((not (signs v) || (literal_true signs l || false)) && (not (signs v) || list_all (literal_true signs) ls)) = cc in
+    let both : (clause_true signs (distinct_literals (Negative v ∷ l ∷ [])) && clauses_true signs (map (λ l. distinct_literals (Negative v ∷ l ∷ [])) ls))
+    ≡ ((not (signs v) || (literal_true signs l || false)) && (not (signs v) || list_all (literal_true signs) ls)) = cc in
     both ∙ edge_and (signs v) (literal_true signs l) (list_all (literal_true signs) ls)
 
-or_edges_true : (signs : ℕ → Bool) (v : ℕ) (ls : List Literal) → clauses_true signs (map (λ l. distinct_literals (Positive v ∷ opposite l ∷ [])) ls) ≡ (signs v || not (list_any (literal_true signs) ls))
+or_edges_true : (signs : ℕ → Bool) (v : ℕ) (ls : List Literal)
+    → clauses_true signs (map (λ l. distinct_literals (Positive v ∷ opposite l ∷ [])) ls) ≡ (signs v || not (list_any (literal_true signs) ls))
 or_edges_true signs v [] = sym (or-true (signs v))
 or_edges_true signs v (l ∷ ls) =
     let here = clause_true-distinct signs (Positive v ∷ opposite l ∷ []) in
     let turned = literal_true-opposite signs l in
     let rest = or_edges_true signs v ls in
-    let both : (clause_true signs (distinct_literals (Positive v ∷ opposite l ∷ [])) && clauses_true signs (map (λ l. distinct_literals (Positive v ∷ opposite l ∷ [])) ls)) ≡ ((signs v || (not (literal_true signs l) || false)) && (signs v || not (list_any (literal_true signs) ls))) = cc in
+    let both : (clause_true signs (distinct_literals (Positive v ∷ opposite l ∷ []))
+    && clauses_true signs (map (λ l. distinct_literals (Positive v ∷ opposite l ∷ [])) ls))
+    ≡ ((signs v || (not (literal_true signs l) || false)) && (signs v || not (list_any (literal_true signs) ls))) = cc in
     both ∙ edge_or (signs v) (literal_true signs l) (list_any (literal_true signs) ls)
 
 not_and : (a b : Bool) → (not a || not b) ≡ not (a && b)
@@ -50,7 +57,8 @@ opposites_true signs [] = refl
 opposites_true signs (l ∷ ls) =
     let turned = literal_true-opposite signs l in
     let rest = opposites_true signs ls in
-    let both : (literal_true signs (opposite l) || clause_true signs (map opposite ls)) ≡ (not (literal_true signs l) || not (list_all (literal_true signs) ls)) = cc in
+    let both : (literal_true signs (opposite l) || clause_true signs (map opposite ls))
+    ≡ (not (literal_true signs l) || not (list_all (literal_true signs) ls)) = cc in
     both ∙ not_and (literal_true signs l) (list_all (literal_true signs) ls)
 
 and_node : (s r : Bool) → ((not s || r) && ((s || not r) && true)) ≡ same_truth s r
@@ -66,25 +74,33 @@ or_node false true = refl
 or_node false false = refl
 
 -- the clauses of a conjunction say that its variable is true exactly where all parts are
-pub and_clauses_true : (signs : ℕ → Bool) (v : ℕ) (ls : List Literal) → clauses_true signs (and_clauses v ls) ≡ same_truth (signs v) (list_all (literal_true signs) ls)
+pub and_clauses_true : (signs : ℕ → Bool) (v : ℕ) (ls : List Literal)
+    → clauses_true signs (and_clauses v ls) ≡ same_truth (signs v) (list_all (literal_true signs) ls)
 and_clauses_true signs v ls =
-    let split = list_all-append (clause_true signs) (map (λ l. distinct_literals (Negative v ∷ l ∷ [])) ls) (distinct_literals (Positive v ∷ map opposite ls) ∷ []) in
+    let split = list_all-append (clause_true signs) (map (λ l. distinct_literals (Negative v ∷ l ∷ [])) ls)
+    (distinct_literals (Positive v ∷ map opposite ls) ∷ []) in
     let edges = and_edges_true signs v ls in
     let last = clause_true-distinct signs (Positive v ∷ map opposite ls) in
     let turned = opposites_true signs ls in
-    let all : clauses_true signs (and_clauses v ls) ≡ ((not (signs v) || list_all (literal_true signs) ls) && ((signs v || not (list_all (literal_true signs) ls)) && true)) = cc in
+    let all : clauses_true signs (and_clauses v ls)
+    ≡ ((not (signs v) || list_all (literal_true signs) ls) && ((signs v || not (list_all (literal_true signs) ls)) && true)) = cc in
     all ∙ and_node (signs v) (list_all (literal_true signs) ls)
 
 -- the clauses of a disjunction say that its variable is true exactly where some part is
-pub or_clauses_true : (signs : ℕ → Bool) (v : ℕ) (ls : List Literal) → clauses_true signs (or_clauses v ls) ≡ same_truth (signs v) (list_any (literal_true signs) ls)
+pub or_clauses_true : (signs : ℕ → Bool) (v : ℕ) (ls : List Literal)
+    → clauses_true signs (or_clauses v ls) ≡ same_truth (signs v) (list_any (literal_true signs) ls)
 or_clauses_true signs v ls =
-    let split = list_all-append (clause_true signs) (map (λ l. distinct_literals (Positive v ∷ opposite l ∷ [])) ls) (distinct_literals (Negative v ∷ ls) ∷ []) in
+    let split = list_all-append (clause_true signs) (map (λ l. distinct_literals (Positive v ∷ opposite l ∷ [])) ls)
+    (distinct_literals (Negative v ∷ ls) ∷ []) in
     let edges = or_edges_true signs v ls in
     let last = clause_true-distinct signs (Negative v ∷ ls) in
-    let all : clauses_true signs (or_clauses v ls) ≡ ((signs v || not (list_any (literal_true signs) ls)) && ((not (signs v) || list_any (literal_true signs) ls) && true)) = cc in
+    let all : clauses_true signs (or_clauses v ls)
+    ≡ ((signs v || not (list_any (literal_true signs) ls)) && ((not (signs v) || list_any (literal_true signs) ls) && true)) = cc in
     all ∙ or_node (signs v) (list_any (literal_true signs) ls)
 
-iff_node : (s a b : Bool) → ((not s || (not a || (b || false))) && ((not s || (a || (not b || false))) && ((s || (a || (b || false))) && ((s || (not a || (not b || false))) && true)))) ≡ same_truth s (same_truth a b)
+iff_node : (s a b : Bool)
+    → ((not s || (not a || (b || false)))
+    && ((not s || (a || (not b || false))) && ((s || (a || (b || false))) && ((s || (not a || (not b || false))) && true)))) ≡ same_truth s (same_truth a b)
 iff_node true true true = refl
 iff_node true true false = refl
 iff_node true false true = refl
@@ -95,7 +111,8 @@ iff_node false false true = refl
 iff_node false false false = refl
 
 -- the clauses of an equivalence say that its variable is true exactly where its two sides agree
-pub iff_clauses_true : (signs : ℕ → Bool) (v : ℕ) (a b : Literal) → clauses_true signs (iff_clauses v a b) ≡ same_truth (signs v) (same_truth (literal_true signs a) (literal_true signs b))
+pub iff_clauses_true : (signs : ℕ → Bool) (v : ℕ) (a b : Literal)
+    → clauses_true signs (iff_clauses v a b) ≡ same_truth (signs v) (same_truth (literal_true signs a) (literal_true signs b))
 iff_clauses_true signs v a b =
     let c1 = clause_true-distinct signs (Negative v ∷ opposite a ∷ b ∷ []) in
     let c2 = clause_true-distinct signs (Negative v ∷ a ∷ opposite b ∷ []) in
@@ -103,7 +120,11 @@ iff_clauses_true signs v a b =
     let c4 = clause_true-distinct signs (Positive v ∷ opposite a ∷ opposite b ∷ []) in
     let na = literal_true-opposite signs a in
     let nb = literal_true-opposite signs b in
-    let all : clauses_true signs (iff_clauses v a b) ≡ ((not (signs v) || (not (literal_true signs a) || (literal_true signs b || false))) && ((not (signs v) || (literal_true signs a || (not (literal_true signs b) || false))) && ((signs v || (literal_true signs a || (literal_true signs b || false))) && ((signs v || (not (literal_true signs a) || (not (literal_true signs b) || false))) && true)))) = cc in
+    let all : clauses_true signs (iff_clauses v a b)
+    ≡ ((not (signs v) || (not (literal_true signs a) || (literal_true signs b || false)))
+    && ((not (signs v) || (literal_true signs a || (not (literal_true signs b) || false)))
+    && ((signs v || (literal_true signs a || (literal_true signs b || false)))
+    && ((signs v || (not (literal_true signs a) || (not (literal_true signs b) || false))) && true)))) = cc in
     all ∙ iff_node (signs v) (literal_true signs a) (literal_true signs b)
 
 -- two truth values that are the same are equal
@@ -133,7 +154,8 @@ agrees_front world es ds signs h =
 
 mutual
   -- signs that agree with a world after a walk did so before it
-  pub agrees_before : (world : Fact → Bool) (signs : ℕ → Bool) (a : Ground) (n : Numbering) → Agrees world (numbering_after a n).facts signs → Agrees world n.facts signs
+  pub agrees_before : (world : Fact → Bool) (signs : ℕ → Bool) (a : Ground) (n : Numbering) → Agrees world (numbering_after a n).facts signs
+      → Agrees world n.facts signs
   agrees_before world signs ground_true n h = h
   agrees_before world signs ground_false n h = h
   agrees_before world signs (ground_atom f) n h =
@@ -144,7 +166,8 @@ mutual
   agrees_before world signs (ground_implies a b) n h = agrees_before world signs a n (agrees_before world signs b _ h)
   agrees_before world signs (ground_iff a b) n h = agrees_before world signs a n (agrees_before world signs b _ h)
 
-  pub agrees_before_parts : (world : Fact → Bool) (signs : ℕ → Bool) (parts : Grounds) (n : Numbering) → Agrees world (numbering_after_parts parts n).facts signs → Agrees world n.facts signs
+  pub agrees_before_parts : (world : Fact → Bool) (signs : ℕ → Bool) (parts : Grounds) (n : Numbering)
+      → Agrees world (numbering_after_parts parts n).facts signs → Agrees world n.facts signs
   agrees_before_parts world signs no_grounds n h = h
   agrees_before_parts world signs (more_grounds a rest) n h = agrees_before world signs a n (agrees_before_parts world signs rest _ h)
 
@@ -158,7 +181,8 @@ pub number_of-self : (f : Fact) (k next : ℕ) → number_of (record { fact = f;
 number_of-self f k next = ap (λ b. cond b k next) (same_fact-same f)
 
 -- a fact that was just numbered has the variable of its literal
-atom_means : (world : Fact → Bool) (signs : ℕ → Bool) (n : Numbering) (f : Fact) → Agrees world (with_fact n f).facts signs → signs (number_of n.facts f n.variables) ≡ world f
+atom_means : (world : Fact → Bool) (signs : ℕ → Bool) (n : Numbering) (f : Fact) → Agrees world (with_fact n f).facts signs
+    → signs (number_of n.facts f n.variables) ≡ world f
 atom_means world signs n f h =
     with_fact_cases n f (λ m. Agrees world m.facts signs → signs (number_of n.facts f n.variables) ≡ world f)
     (λ known h. h.at f n.variables known)
@@ -166,7 +190,8 @@ atom_means world signs n f h =
     let last : List NumberedFact = record { fact = f; number = n.variables } ∷ [] in
     let there : is_numbered (n.facts ++ last) f ≡ true =
     list_any-append (λ e. same_fact f e.fact) n.facts last ∙ or_right _ _ (or_left _ _ (same_fact-same f)) in
-    let number : number_of (n.facts ++ last) f n.variables ≡ n.variables = number_of-append_new n.facts last f n.variables unknown ∙ number_of-self f n.variables n.variables in
+    let number : number_of (n.facts ++ last) f n.variables ≡ n.variables =
+    number_of-append_new n.facts last f n.variables unknown ∙ number_of-self f n.variables n.variables in
     let next = number_next n.facts f n.variables unknown in
     let at = h.at f n.variables there in
     cc)
@@ -196,7 +221,8 @@ pub record PartsMean (world : Fact → Bool) (signs : ℕ → Bool) (parts : Gro
 
 mutual
   -- where the clauses of a formula are true, its literal has its truth
-  pub literal_means : (world : Fact → Bool) (signs : ℕ → Bool) (a : Ground) (n : Numbering) → signs 0 ≡ true → Agrees world (numbering_after a n).facts signs → clauses_true signs (clauses_of a n) ≡ true → literal_true signs (literal_of a n) ≡ true_ground world a
+  pub literal_means : (world : Fact → Bool) (signs : ℕ → Bool) (a : Ground) (n : Numbering) → signs 0 ≡ true → Agrees world (numbering_after a n).facts signs
+      → clauses_true signs (clauses_of a n) ≡ true → literal_true signs (literal_of a n) ≡ true_ground world a
   literal_means world signs ground_true n z h t = z
   literal_means world signs ground_false n z h t = ap not z
   literal_means world signs (ground_atom f) n z h t = atom_means world signs n f h
@@ -226,7 +252,8 @@ mutual
   literal_means world signs (ground_iff a b) n z h t =
       let na = numbering_after a n in
       let m = numbering_after b na in
-      let split = and_parts _ _ (sym (list_all-append (clause_true signs) (clauses_of a n ++ clauses_of b na) (iff_clauses m.variables (literal_of a n) (literal_of b na))) ∙ t) in
+      let split = and_parts _ _
+      (sym (list_all-append (clause_true signs) (clauses_of a n ++ clauses_of b na) (iff_clauses m.variables (literal_of a n) (literal_of b na))) ∙ t) in
       let inner = and_parts _ _ (sym (list_all-append (clause_true signs) (clauses_of a n) (clauses_of b na)) ∙ split.0) in
       let node = same_truth-true _ _ (sym (iff_clauses_true signs m.variables (literal_of a n) (literal_of b na)) ∙ split.1) in
       let before = agrees_before world signs b na h in
@@ -234,7 +261,9 @@ mutual
       let eb = literal_means world signs b na z h inner.1 in
       node ∙ same_truth_same_parts _ _ _ _ ea eb
 
-  pub literals_mean : (world : Fact → Bool) (signs : ℕ → Bool) (parts : Grounds) (n : Numbering) → signs 0 ≡ true → Agrees world (numbering_after_parts parts n).facts signs → clauses_true signs (clauses_of_parts parts n) ≡ true → PartsMean world signs parts (literals_of parts n)
+  pub literals_mean : (world : Fact → Bool) (signs : ℕ → Bool) (parts : Grounds) (n : Numbering) → signs 0 ≡ true
+      → Agrees world (numbering_after_parts parts n).facts signs → clauses_true signs (clauses_of_parts parts n) ≡ true
+      → PartsMean world signs parts (literals_of parts n)
   literals_mean world signs no_grounds n z h t = record { all = refl; some = refl }
   literals_mean world signs (more_grounds a rest) n z h t =
       let na = numbering_after a n in

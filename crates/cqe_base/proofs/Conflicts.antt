@@ -1,11 +1,14 @@
 -- A conflict leads from a reached state to a reached state.
-use Rattle.std.proofs.Common.{◌≡◌, ℕ, zero, suc, ◌+◌, ◌<◌, ◌≤◌, Bool, true, false, cond, not, eqb, List, [], ◌∷◌, ◌++◌, Some, refl, sym, ap, ◌∙◌, subst, inl, inr, ⊎_elim, ◌⊎◌, arith, length, length-append}
+use Rattle.std.proofs.Common.{◌≡◌, ℕ, zero, suc, ◌+◌, ◌<◌, ◌≤◌, Bool, true, false, cond, not, eqb, List, [], ◌∷◌, ◌++◌, Some, refl, sym, ap, ◌∙◌, subst, inl}
+use Rattle.std.proofs.Common.{inr, ⊎_elim, ◌⊎◌, arith, length, length-append}
 use Rattle.std.specs.Prelude.{slice_index_or, nat_le}
 use Rattle.std.specs.List.{list_all, filter, find, count_by, position_from, AllByRecursion}
-use Rattle.std.proofs.lemmas.Bool.{false_from_ne_true, or_cases, or_left, or_right, or_parts, both_ways, eqb-true, eqb-false, eq-eqb, cond_both, not-true, leb-true, leb-false, cases_lt}
+use Rattle.std.proofs.lemmas.Bool.{false_from_ne_true, or_cases, or_left, or_right, or_parts, both_ways, eqb-true, eqb-false, eq-eqb, cond_both, not-true}
+use Rattle.std.proofs.lemmas.Bool.{leb-true, leb-false, cases_lt}
 use Rattle.cqe_base.specs.Literal.{Literal, variable_of, same_literal, has_literal, ClauseBelow, HasNoRepeat}
 use Rattle.cqe_base.specs.Refutation.{RefutationLine}
-use Rattle.cqe_base.specs.Machine.{Assigned, Decided, Because, assigned_literal, State, is_true, is_false, level, level_of, is_current, current_count, kept_count, conflict_line, highest_level, cut, with_asserted, state_after_conflict}
+use Rattle.cqe_base.specs.Machine.{Assigned, Decided, Because, assigned_literal, State, is_true, is_false, level, level_of, is_current, current_count}
+use Rattle.cqe_base.specs.Machine.{kept_count, conflict_line, highest_level, cut, with_asserted, state_after_conflict}
 use Rattle.cqe_base.specs.MachineStates.{is_assigned, IsDistinct, IsCause, Reasons, NotForced, Walked, AllFalse, IsReached}
 use Rattle.cqe_base.proofs.ClauseTruth.{same_literal-true, same_literal-same, variable_of-opposite}
 use Rattle.cqe_base.proofs.Trails.{Suffix, Suffix-tail, base, false_is_assigned, false_on_rest, level_of-le, other_variable}
@@ -13,7 +16,8 @@ use Rattle.cqe_base.proofs.Analysis.{count-cons, Walk, Keeps, walk_back, walk_ba
 use Rattle.cqe_base.proofs.Reached.{base_open, two_current, all_false, position_passes}
 use Rattle.cqe_base.proofs.MachineRules.{each_has, filter_member, each_kept}
 
-cut_true_step : (k : ℕ) (a : Assigned) (t : List Assigned) (l : Literal) (b : Bool) → (is_true (cut k t) l ≡ true → is_true t l ≡ true) → is_true (cond b (a ∷ t) (cut k t)) l ≡ true → is_true (a ∷ t) l ≡ true
+cut_true_step : (k : ℕ) (a : Assigned) (t : List Assigned) (l : Literal) (b : Bool) → (is_true (cut k t) l ≡ true → is_true t l ≡ true)
+    → is_true (cond b (a ∷ t) (cut k t)) l ≡ true → is_true (a ∷ t) l ≡ true
 cut_true_step k a t l true go h = h
 cut_true_step k a t l false go h = or_right _ _ (go h)
 
@@ -22,7 +26,8 @@ pub cut_true : (k : ℕ) (t : List Assigned) (l : Literal) → is_true (cut k t)
 cut_true k [] l h = h
 cut_true k (a ∷ t) l h = cut_true_step k a t l (nat_le (level (a ∷ t)) k) (λ e. cut_true k t l e) h
 
-cut_assigned_step : (k : ℕ) (a : Assigned) (t : List Assigned) (v : ℕ) (b : Bool) → (is_assigned (cut k t) v ≡ true → is_assigned t v ≡ true) → is_assigned (cond b (a ∷ t) (cut k t)) v ≡ true → is_assigned (a ∷ t) v ≡ true
+cut_assigned_step : (k : ℕ) (a : Assigned) (t : List Assigned) (v : ℕ) (b : Bool) → (is_assigned (cut k t) v ≡ true → is_assigned t v ≡ true)
+    → is_assigned (cond b (a ∷ t) (cut k t)) v ≡ true → is_assigned (a ∷ t) v ≡ true
 cut_assigned_step k a t v true go h = h
 cut_assigned_step k a t v false go h = or_right _ _ (go h)
 
@@ -55,7 +60,9 @@ cut_suffix n k (a ∷ t) d =
     let there = cut_assigned k t (variable_of l) h in
     ap (λ b. cond b (level (a ∷ t)) (level_of t l)) (other_variable a t (variable_of l) d.1 there) ∙ cut_suffix n k t d.2 l h)
 
-cut_false_step : (n k : ℕ) (a : Assigned) (t : List Assigned) (l : Literal) (b : Bool) → eqb (variable_of l) (variable_of (assigned_literal a)) ≡ b → k < level (a ∷ t) → is_false (a ∷ t) l ≡ true → cond b (level (a ∷ t)) (level_of t l) ≤ k → (is_false t l ≡ true → level_of t l ≤ k → is_false (cut k t) l ≡ true) → is_false (cut k t) l ≡ true
+cut_false_step : (n k : ℕ) (a : Assigned) (t : List Assigned) (l : Literal) (b : Bool) → eqb (variable_of l) (variable_of (assigned_literal a)) ≡ b
+    → k < level (a ∷ t) → is_false (a ∷ t) l ≡ true → cond b (level (a ∷ t)) (level_of t l) ≤ k
+    → (is_false t l ≡ true → level_of t l ≤ k → is_false (cut k t) l ≡ true) → is_false (cut k t) l ≡ true
 cut_false_step n k a t l true e lt f le go = absurd (omega arith)
 cut_false_step n k a t l false e lt f le go =
     go (false_on_rest a t l f (λ same. both_ways _ e (eq-eqb _ _ (ap variable_of same ∙ variable_of-opposite (assigned_literal a))))) le
@@ -70,7 +77,8 @@ cut_false n k (a ∷ t) l f le =
 -- each level is at most the highest
 pub highest-le : (t : List Assigned) (xs : List Literal) → AllByRecursion (λ m. level_of t m ≤ highest_level t xs) xs
 highest-le t [] = tt
-highest-le t (l ∷ xs) = (omega arith, each_weaker (λ m. level_of t m ≤ highest_level t xs) (λ m. level_of t m ≤ highest_level t (l ∷ xs)) (λ m h. omega arith) xs (highest-le t xs))
+highest-le t (l ∷ xs) =
+    (omega arith, each_weaker (λ m. level_of t m ≤ highest_level t xs) (λ m. level_of t m ≤ highest_level t (l ∷ xs)) (λ m h. omega arith) xs (highest-le t xs))
 
 pub highest-below : (t : List Assigned) (k : ℕ) (xs : List Literal) → 0 < k → AllByRecursion (λ m. level_of t m < k) xs → highest_level t xs < k
 highest-below t k [] pos h = pos
@@ -90,15 +98,18 @@ highest_at t (l ∷ xs) pos = step (cases_lt (level_of t l) (highest_level t xs)
     step (inl lt) go = let r = go (omega arith) in let top = r.highest in record { literal = r.literal; has = or_right _ _ r.has; highest = omega arith }
     step (inr ge) go = record { literal = l; has = or_left _ _ (same_literal-same l); highest = omega arith }
 
-find_step : (p : Literal → Bool) (x l : Literal) (c : List Literal) (b : Bool) → p x ≡ b → (find p c ≡ Some l → (p l ≡ true) × (has_literal c l ≡ true)) → cond b (Some x) (find p c) ≡ Some l → (p l ≡ true) × (has_literal (x ∷ c) l ≡ true)
-find_step p x l c true e go h = let same : x ≡ l = cc in (subst (λ y. p y ≡ true) same e, or_left _ _ (subst (λ y. same_literal l y ≡ true) (sym same) (same_literal-same l)))
+find_step : (p : Literal → Bool) (x l : Literal) (c : List Literal) (b : Bool) → p x ≡ b → (find p c ≡ Some l → (p l ≡ true) × (has_literal c l ≡ true))
+    → cond b (Some x) (find p c) ≡ Some l → (p l ≡ true) × (has_literal (x ∷ c) l ≡ true)
+find_step p x l c true e go h =
+    let same : x ≡ l = cc in (subst (λ y. p y ≡ true) same e, or_left _ _ (subst (λ y. same_literal l y ≡ true) (sym same) (same_literal-same l)))
 find_step p x l c false e go h = let r = go h in (r.0, or_right _ _ r.1)
 
 find_is : (p : Literal → Bool) (c : List Literal) (l : Literal) → find p c ≡ Some l → (p l ≡ true) × (has_literal c l ≡ true)
 find_is p [] l h = absurd (let x : ⊥ = cc in x)
 find_is p (x ∷ c) l h = find_step p x l c (p x) refl (λ e. find_is p c l e) h
 
-counted_step : (p : Literal → Bool) (x : Literal) (c : List Literal) (b : Bool) → p x ≡ b → (1 ≤ count_by p c → (l : Literal) × (find p c ≡ Some l)) → 1 ≤ cond b 1 0 + count_by p c → (l : Literal) × (cond b (Some x) (find p c) ≡ Some l)
+counted_step : (p : Literal → Bool) (x : Literal) (c : List Literal) (b : Bool) → p x ≡ b → (1 ≤ count_by p c → (l : Literal) × (find p c ≡ Some l))
+    → 1 ≤ cond b 1 0 + count_by p c → (l : Literal) × (cond b (Some x) (find p c) ≡ Some l)
 counted_step p x c true e go h = (x, refl)
 counted_step p x c false e go h = go (omega arith)
 
@@ -115,7 +126,8 @@ count_zero p (x ∷ c) h = let e = count-cons p x c in let rest : count_by p c �
     none true h = absurd (omega arith)
     none false h = refl
 
-only_step : (p : Literal → Bool) (x l : Literal) (c : List Literal) (b : Bool) → p x ≡ b → cond b 1 0 + count_by p c ≤ 1 → cond b (Some x) (find p c) ≡ Some l → (count_by p c ≤ 1 → find p c ≡ Some l → AllByRecursion (λ m. p m ≡ true → m ≡ l) c) → AllByRecursion (λ m. p m ≡ true → m ≡ l) (x ∷ c)
+only_step : (p : Literal → Bool) (x l : Literal) (c : List Literal) (b : Bool) → p x ≡ b → cond b 1 0 + count_by p c ≤ 1 → cond b (Some x) (find p c) ≡ Some l
+    → (count_by p c ≤ 1 → find p c ≡ Some l → AllByRecursion (λ m. p m ≡ true → m ≡ l) c) → AllByRecursion (λ m. p m ≡ true → m ≡ l) (x ∷ c)
 only_step p x l c true e n h go =
     let same : x ≡ l = cc in
     (λ _. same, each_weaker (λ m. p m ≡ false) (λ m. p m ≡ true → m ≡ l) (λ m f t. absurd (both_ways _ f t)) c (count_zero p c (omega arith)))
@@ -130,18 +142,21 @@ kept_step : (p : Literal → Bool) (a : Literal) (c : List Literal) → has_lite
 kept_step p a [] h e = absurd (both_ways false refl h)
 kept_step p a (x ∷ c) h e = step (p x) refl (or_cases _ _ h) (λ u. kept_step p a c u e)
   where
-    step : (b : Bool) → p x ≡ b → (same_literal a x ≡ true) ⊎ (has_literal c a ≡ true) → (has_literal c a ≡ true → 1 ≤ length (filter p c)) → 1 ≤ length (cond b (x ∷ filter p c) (filter p c))
+    step : (b : Bool) → p x ≡ b → (same_literal a x ≡ true) ⊎ (has_literal c a ≡ true) → (has_literal c a ≡ true → 1 ≤ length (filter p c))
+        → 1 ≤ length (cond b (x ∷ filter p c) (filter p c))
     step true ex h go = omega arith
     step false ex (inl s) go = absurd (both_ways _ ex (subst (λ y. p y ≡ true) (same_literal-true a x s) e))
     step false ex (inr u) go = go u
 
 -- two different literals that pass are both kept
-pub two_kept : (p : Literal → Bool) (a b : Literal) (c : List Literal) → has_literal c a ≡ true → has_literal c b ≡ true → (a ≡ b → ⊥) → p a ≡ true → p b ≡ true → 2 ≤ length (filter p c)
+pub two_kept : (p : Literal → Bool) (a b : Literal) (c : List Literal) → has_literal c a ≡ true → has_literal c b ≡ true → (a ≡ b → ⊥) → p a ≡ true → p b ≡ true
+    → 2 ≤ length (filter p c)
 two_kept p a b [] ha hb ne ea eb = absurd (both_ways false refl ha)
 two_kept p a b (x ∷ c) ha hb ne ea eb =
     step (p x) refl (or_cases _ _ ha) (or_cases _ _ hb) (λ u w. two_kept p a b c u w ne ea eb)
   where
-    step : (t : Bool) → p x ≡ t → (same_literal a x ≡ true) ⊎ (has_literal c a ≡ true) → (same_literal b x ≡ true) ⊎ (has_literal c b ≡ true) → (has_literal c a ≡ true → has_literal c b ≡ true → 2 ≤ length (filter p c)) → 2 ≤ length (cond t (x ∷ filter p c) (filter p c))
+    step : (t : Bool) → p x ≡ t → (same_literal a x ≡ true) ⊎ (has_literal c a ≡ true) → (same_literal b x ≡ true) ⊎ (has_literal c b ≡ true)
+        → (has_literal c a ≡ true → has_literal c b ≡ true → 2 ≤ length (filter p c)) → 2 ≤ length (cond t (x ∷ filter p c) (filter p c))
     step true ex (inl s) (inl t) go = absurd (ne (same_literal-true a x s ∙ sym (same_literal-true b x t)))
     step true ex (inl s) (inr w) go = let k = kept_step p b c w eb in omega arith
     step true ex (inr u) w go = let k = kept_step p a c u ea in omega arith
@@ -174,7 +189,8 @@ not_false_free : (t : List Assigned) (l : Literal) → is_assigned t (variable_o
 not_false_free t l h = ap not (false_from_ne_true (is_false t l) (λ f. both_ways _ h (false_is_assigned t l f)))
 
 -- the reasons of a trail of at most level k hold with one more clause that goes back to level k
-reasons_more : (n k : ℕ) (cs : List (List Literal)) (t : List Assigned) (c : List Literal) (l : Literal) → GoesBack n t k c l → (u : List Assigned) → IsDistinct n u → Suffix t u → level u ≤ k → is_assigned u (variable_of l) ≡ false → Reasons cs u → Reasons (cs ++ c ∷ []) u
+reasons_more : (n k : ℕ) (cs : List (List Literal)) (t : List Assigned) (c : List Literal) (l : Literal) → GoesBack n t k c l → (u : List Assigned)
+    → IsDistinct n u → Suffix t u → level u ≤ k → is_assigned u (variable_of l) ≡ false → Reasons cs u → Reasons (cs ++ c ∷ []) u
 reasons_more n k cs t c l g [] d s le free r = tt
 reasons_more n k cs t c l g (Because i x ∷ u) d s le free r =
     let within : i < length cs = r.0 in
@@ -203,12 +219,14 @@ not_current_below t m h = let le = level_of-le t m in let ne = eqb-false _ _ (no
     strict : level_of t m ≤ level t → (level_of t m ≡ level t → ⊥) → level_of t m < level t
     strict le ne = ⊎_elim (λ lt. lt) (λ ge. absurd (ne (omega arith))) (cases_lt (level_of t m) (level t))
 
-other_false : (n k : ℕ) (t : List Assigned) (l m : Literal) (b : Bool) → is_current t m ≡ b → is_false t m ≡ true → (is_current t m ≡ true → m ≡ l) → (not (is_current t m) ≡ true → level_of t m ≤ k) → (m ≡ l) ⊎ (is_false (cut k t) m ≡ true)
+other_false : (n k : ℕ) (t : List Assigned) (l m : Literal) (b : Bool) → is_current t m ≡ b → is_false t m ≡ true → (is_current t m ≡ true → m ≡ l)
+    → (not (is_current t m) ≡ true → level_of t m ≤ k) → (m ≡ l) ⊎ (is_false (cut k t) m ≡ true)
 other_false n k t l m true e f only le = inl (only e)
 other_false n k t l m false e f only le = inr (cut_false n k t m f (le (ap not e)))
 
 -- a clause of which one literal of the current level remains goes back to the highest level of its others
-pub goes_back : (n : ℕ) (t : List Assigned) (c : List Literal) (l : Literal) → IsDistinct n t → 0 < level t → Walked n t 1 c → find (is_current t) c ≡ Some l → GoesBack n t (highest_level t (filter (λ m. not (is_current t m)) c)) c l
+pub goes_back : (n : ℕ) (t : List Assigned) (c : List Literal) (l : Literal) → IsDistinct n t → 0 < level t → Walked n t 1 c → find (is_current t) c ≡ Some l
+    → GoesBack n t (highest_level t (filter (λ m. not (is_current t m)) c)) c l
 goes_back n t c l d pos w h =
     let p : Literal → Bool = is_current t in
     let q : Literal → Bool = λ m. not (is_current t m) in
@@ -216,11 +234,15 @@ goes_back n t c l d pos w h =
     let is = find_is p c l h in
     let count : count_by p c ≡ 1 = w.count in
     let most : count_by p c ≤ 1 = omega arith in
-    let low : k < level t = highest-below t (level t) (filter q c) pos (each_weaker (λ m. q m ≡ true) (λ m. level_of t m < level t) (λ m e. not_current_below t m e) (filter q c) (each_passes q c)) in
+    let low : k < level t =
+    highest-below t (level t) (filter q c) pos
+    (each_weaker (λ m. q m ≡ true) (λ m. level_of t m < level t) (λ m e. not_current_below t m e) (filter q c) (each_passes q c)) in
     let within : AllByRecursion (λ m. q m ≡ true → level_of t m ≤ k) c =
-    each_weaker (λ m. q m ≡ true → has_literal (filter q c) m ≡ true) (λ m. q m ≡ true → level_of t m ≤ k) (λ m go e. each_has (λ m. level_of t m ≤ k) (filter q c) m (highest-le t (filter q c)) (go e)) c (each_kept q c) in
+    each_weaker (λ m. q m ≡ true → has_literal (filter q c) m ≡ true) (λ m. q m ≡ true → level_of t m ≤ k) (λ m go e.
+    each_has (λ m. level_of t m ≤ k) (filter q c) m (highest-le t (filter q c)) (go e)) c (each_kept q c) in
     let known : AllByRecursion (λ m. (is_false t m ≡ true) × (p m ≡ true → m ≡ l)) c =
-    each_both (λ m. is_false t m ≡ true) (λ m. p m ≡ true → m ≡ l) (λ m. (is_false t m ≡ true) × (p m ≡ true → m ≡ l)) (λ m a b. (a, b)) c w.clause.falsified (each_only p c l most h) in
+    each_both (λ m. is_false t m ≡ true) (λ m. p m ≡ true → m ≡ l) (λ m. (is_false t m ≡ true) × (p m ≡ true → m ≡ l)) (λ m a b. (a, b)) c w.clause.falsified
+    (each_only p c l most h) in
     record {
       has = is.1;
       free = false_from_ne_true (is_assigned (cut k t) (variable_of l)) (λ a.
@@ -230,7 +252,8 @@ goes_back n t c l d pos w h =
           let ck = cut_level k t in
           omega arith);
       below = each_has (λ m. variable_of m < n) c l w.clause.below is.1;
-      others = each_both (λ m. (is_false t m ≡ true) × (p m ≡ true → m ≡ l)) (λ m. q m ≡ true → level_of t m ≤ k) (λ m. (m ≡ l) ⊎ (is_false (cut k t) m ≡ true)) (λ m a b. other_false n k t l m (p m) refl a.0 a.1 b) c known within;
+      others = each_both (λ m. (is_false t m ≡ true) × (p m ≡ true → m ≡ l)) (λ m. q m ≡ true → level_of t m ≤ k) (λ m. (m ≡ l) ⊎ (is_false (cut k t) m ≡ true))
+          (λ m a b. other_false n k t l m (p m) refl a.0 a.1 b) c known within;
       second = λ kp.
           let top = highest_at t (filter q c) kp in
           let passes : q top.literal ≡ true = each_has (λ m. q m ≡ true) (filter q c) top.literal (each_passes q c) top.has in
@@ -238,7 +261,8 @@ goes_back n t c l d pos w h =
     }
 
 -- a learnt clause leads to a reached state
-pub learnt_reached : (n : ℕ) (s : State) (line : RefutationLine) (l : Literal) → IsReached n s → 0 < level s.trail → Walked n s.trail 1 line.clause → find (is_current s.trail) line.clause ≡ Some l → IsReached n (state_after_conflict s line)
+pub learnt_reached : (n : ℕ) (s : State) (line : RefutationLine) (l : Literal) → IsReached n s → 0 < level s.trail → Walked n s.trail 1 line.clause
+    → find (is_current s.trail) line.clause ≡ Some l → IsReached n (state_after_conflict s line)
 learnt_reached n s line l r pos w h =
     let t : List Assigned = s.trail in
     let cs : List (List Literal) = s.clauses in
@@ -247,12 +271,17 @@ learnt_reached n s line l r pos w h =
     let g = goes_back n t c l r.distinct pos w h in
     let cut_d = cut_distinct n k t r.distinct in
     let long = length-append cs (c ∷ []) in
-    let trail_is : with_asserted (length cs) (find (is_current t) c) (cut k t) ≡ Because (length cs) l ∷ cut k t = ap (λ o. with_asserted (length cs) o (cut k t)) h in
+    let trail_is : with_asserted (length cs) (find (is_current t) c) (cut k t) ≡ Because (length cs) l ∷ cut k t =
+    ap (λ o. with_asserted (length cs) o (cut k t)) h in
     let cause : IsCause (cut k t) l (slice_index_or (cs ++ c ∷ []) (length cs) []) =
     subst (λ e. IsCause (cut k t) l e) (sym (slice_last cs c)) (record { has = g.has; others = g.others }) in
     record {
       distinct = subst (IsDistinct n) (sym trail_is) (g.below, g.free, cut_d);
-      reasons = subst (Reasons (cs ++ c ∷ [])) (sym trail_is) ((omega arith), cause, reasons_more n k cs t c l g (cut k t) cut_d (cut_suffix n k t r.distinct) (cut_level k t) g.free (cut_reasons cs k t r.reasons));
+      reasons = subst (Reasons (cs ++ c ∷ [])) (sym trail_is) (
+        (omega arith),
+        cause,
+        reasons_more n k cs t c l g (cut k t) cut_d (cut_suffix n k t r.distinct) (cut_level k t) g.free (cut_reasons cs k t r.reasons),
+      );
       below = each_more (ClauseBelow n) cs c r.below w.clause.below;
       no_repeat = each_more HasNoRepeat cs c r.no_repeat w.clause.no_repeat;
     }
@@ -294,8 +323,14 @@ conflict_begins n s i r h =
       within = within;
       keeps = keeps_step t (eqb (level t) 0) refl;
       walk = record {
-        clause = record { no_repeat = each_within HasNoRepeat cs i r.no_repeat within; below = each_within (ClauseBelow n) cs i r.below within; falsified = falsified };
-        enough = enough_step t (current_count t c) (eqb (level t) 0) refl (λ pos. two_current n t c r.distinct falsified (each_within (NotForced (base t)) cs i (base_open cs t pos r.reasons) within));
+        clause = record {
+          no_repeat = each_within HasNoRepeat cs i r.no_repeat within;
+          below = each_within (ClauseBelow n) cs i r.below within;
+          falsified =
+              falsified;
+        };
+        enough = enough_step t (current_count t c) (eqb (level t) 0) refl (λ pos.
+            two_current n t c r.distinct falsified (each_within (NotForced (base t)) cs i (base_open cs t pos r.reasons) within));
         ahead = inr (falsified, refl);
       };
     }
@@ -305,13 +340,17 @@ abbrev pub first_line : State → ℕ → RefutationLine
 first_line s i = record { clause = slice_index_or s.clauses i []; chain = i ∷ [] }
 
 -- the line of a conflict is found by one walk back along the trail
-pub conflict_line-is : (n : ℕ) (s : State) (i : ℕ) → IsReached n s → Begins n s i → conflict_line s i ≡ walk_back s.clauses s.trail (kept_count s.trail) s.trail (first_line s i)
+pub conflict_line-is : (n : ℕ) (s : State) (i : ℕ) → IsReached n s → Begins n s i
+    → conflict_line s i ≡ walk_back s.clauses s.trail (kept_count s.trail) s.trail (first_line s i)
 conflict_line-is n s i r b =
-    analysis_is_walk n (kept_count s.trail) s.clauses s.trail b.keeps r.distinct r.no_repeat r.below [] s.trail (first_line s i) (length s.trail) refl (omega arith) r.distinct r.reasons (λ l e. e) (λ l e. refl) b.walk
+    analysis_is_walk n (kept_count s.trail) s.clauses s.trail b.keeps r.distinct r.no_repeat r.below [] s.trail (first_line s i) (length s.trail) refl
+    (omega arith) r.distinct r.reasons (λ l e. e) (λ l e. refl) b.walk
 
 -- the line of a conflict is a false clause with the literals of the current level that are kept
-pub conflict_walked : (n : ℕ) (s : State) (i : ℕ) → IsReached n s → position_from (list_all (is_false s.trail)) 0 s.clauses ≡ Some i → Walked n s.trail (kept_count s.trail) (conflict_line s i).clause
+pub conflict_walked : (n : ℕ) (s : State) (i : ℕ) → IsReached n s → position_from (list_all (is_false s.trail)) 0 s.clauses ≡ Some i
+    → Walked n s.trail (kept_count s.trail) (conflict_line s i).clause
 conflict_walked n s i r h =
     let b = conflict_begins n s i r h in
     subst (λ x. Walked n s.trail (kept_count s.trail) x.clause) (sym (conflict_line-is n s i r b))
-    (walk_back_walked n (kept_count s.trail) s.clauses s.trail b.keeps r.distinct r.no_repeat r.below s.trail (first_line s i) r.distinct r.reasons (λ l e. e) (λ l e. refl) b.walk)
+    (walk_back_walked n (kept_count s.trail) s.clauses s.trail b.keeps r.distinct r.no_repeat r.below s.trail (first_line s i) r.distinct r.reasons (λ l e. e)
+    (λ l e. refl) b.walk)

@@ -48,7 +48,8 @@ none_seen map empty (text ∷ texts) = (λ i. is_some (lookup (tree.is_at (λ k.
 
 -- a text more is known of a map in which it was inserted
 pub inserted : (old new : tree.BTreeMap (Bor Text) Unit) (text : Text) (value : Unit)
-    → ((q : List ℕ) → tree.get_by (λ k. slice_cmp nat_cmp q k.now) new ≡ update bytes_eq (λ ds. tree.get_by (λ k. slice_cmp nat_cmp ds k.now) old) text (Some value) q)
+    → ((q : List ℕ) → tree.get_by (λ k. slice_cmp nat_cmp q k.now) new
+    ≡ update bytes_eq (λ ds. tree.get_by (λ k. slice_cmp nat_cmp ds k.now) old) text (Some value) q)
     → (t : Text) → seen_in new t ≡ (bytes_eq text t || seen_in old t)
 inserted old new text value updates t = ap is_some (updates t) ∙ by (bytes_eq text t) _
   where
@@ -59,7 +60,8 @@ inserted old new text value updates t = ap is_some (updates t) ∙ by (bytes_eq 
 -- the text at a place was new, and is seen from now on
 pub next_text : (texts : List (Bor Text)) (index : ℕ) (text : Bor Text) (value : Unit) (old new : tree.BTreeMap (Bor Text) Unit)
     → drop index texts ≡ text ∷ drop (suc index) texts
-    → ((q : List ℕ) → tree.get_by (λ k. slice_cmp nat_cmp q k.now) new ≡ update bytes_eq (λ ds. tree.get_by (λ k. slice_cmp nat_cmp ds k.now) old) text.now (Some value) q)
+    → ((q : List ℕ) → tree.get_by (λ k. slice_cmp nat_cmp q k.now) new
+    ≡ update bytes_eq (λ ds. tree.get_by (λ k. slice_cmp nat_cmp ds k.now) old) text.now (Some value) q)
     → seen_in old text.now ≡ false
     → Twice texts index old → Twice texts (suc index) new
 next_text texts index text value old new first updates unseen twice =

@@ -14,7 +14,8 @@ at_end-sound : (schema : DatabaseSchema) (end : Refusal) (ts rest : List Token) 
 unfolding Reading.at_end
 at_end-sound schema end [] rest h = at (end.kind == 1) refl h
   where
-    at : (b : Bool) → (end.kind == 1) ≡ b → cond {A = Result (List Token) Refusal} b (Err end) (Ok []) ≡ Ok rest → (◌≡◌ {A = List Token} [] []) × ((end.kind == 1) ≡ false)
+    at : (b : Bool) → (end.kind == 1) ≡ b → cond {A = Result (List Token) Refusal} b (Err end) (Ok []) ≡ Ok rest → (◌≡◌ {A = List Token} [] [])
+        × ((end.kind == 1) ≡ false)
     at true e k = absurd (cc)
     at false e k = (refl, e)
 at_end-sound schema end (t ∷ ts) rest h = absurd (cc)
@@ -37,5 +38,7 @@ reading-sound schema text a h =
     let same : s.0.0 ≡ a = cc in
     record {
       no_bad_character = no_bad_character (end_of_tokens text) (length text) n.1;
-      derives = subst (λ a. Derives schema (tokens text) a) same (subst (λ rest. Begins schema whole 64 [] (tokens text) s.0.0 rest) n.0 (whole-sound schema end 64 (sound schema end 64) [] (tokens text) s.0.1 s.0.0 s.1));
+      derives = subst (λ a. Derives schema (tokens text) a) same
+          (subst (λ rest. Begins schema whole 64 [] (tokens text) s.0.0 rest) n.0
+          (whole-sound schema end 64 (sound schema end 64) [] (tokens text) s.0.1 s.0.0 s.1));
     }

@@ -24,20 +24,24 @@ negated_nodes schema secrets = sum_by (λ s. 1 + nodes schema s) secrets
 abbrev log_nodes : DatabaseSchema → List (Formula × Bool) → ℕ
 log_nodes schema signed = sum_by (λ s. signed_nodes schema s.0 s.1) signed
 
-negated_nodes-cons : (schema : DatabaseSchema) (s : Formula) (secrets : List Formula) → negated_nodes schema (s ∷ secrets) ≡ 1 + nodes schema s + negated_nodes schema secrets
+negated_nodes-cons : (schema : DatabaseSchema) (s : Formula) (secrets : List Formula)
+    → negated_nodes schema (s ∷ secrets) ≡ 1 + nodes schema s + negated_nodes schema secrets
 negated_nodes-cons schema s secrets = sum_by-cons (λ s. 1 + nodes schema s) s secrets
 
-nodes-fold : (schema : DatabaseSchema) (s : Formula) (secrets : List Formula) → nodes schema (fold disjunction s secrets) ≡ nodes schema s + negated_nodes schema secrets
+nodes-fold : (schema : DatabaseSchema) (s : Formula) (secrets : List Formula)
+    → nodes schema (fold disjunction s secrets) ≡ nodes schema s + negated_nodes schema secrets
 nodes-fold schema s [] = omega arith
 nodes-fold schema s (t ∷ secrets) = nodes-fold schema (disjunction s t) secrets ∙ omega (arith, negated_nodes-cons schema t secrets)
 
 -- a disjunction has fewer nodes than its sentences with their negations
-nodes-disjunction : (schema : DatabaseSchema) (secrets : List Formula) → 1 ≤ length secrets → nodes schema (disjunction_of secrets) + 1 ≡ negated_nodes schema secrets
+nodes-disjunction : (schema : DatabaseSchema) (secrets : List Formula) → 1 ≤ length secrets
+    → nodes schema (disjunction_of secrets) + 1 ≡ negated_nodes schema secrets
 nodes-disjunction schema [] some = absurd (omega arith)
 nodes-disjunction schema (s ∷ secrets) some = omega (arith, nodes-fold schema s secrets, negated_nodes-cons schema s secrets)
 
 -- small sentences are smaller than a goal may be
-small_goals : (schema : DatabaseSchema) (secrets : List Formula) → list_all (is_small schema) secrets ≡ true → list_all (λ goal. nat_le (nodes schema goal) 40000) secrets ≡ true
+small_goals : (schema : DatabaseSchema) (secrets : List Formula) → list_all (is_small schema) secrets ≡ true
+    → list_all (λ goal. nat_le (nodes schema goal) 40000) secrets ≡ true
 small_goals schema [] small = refl
 small_goals schema (s ∷ secrets) small = and_both _ _ (larger (nodes schema s) (and_first _ _ small)) (small_goals schema secrets (and_second _ _ small))
   where
@@ -89,7 +93,8 @@ pub small_queries_fit : SmallQueriesFit
 unfolding view_size
 small_queries_fit schema user entries query limits small =
     let size : nodes schema query ≤ 20000 = ltb-false 20000 (nodes schema query) (or_first _ _ small) in
-    let view : view_size schema user entries + nodes schema query ≤ 60000 = ltb-false 60000 (view_size schema user entries + nodes schema query) (or_second (ltb 20000 (nodes schema query)) _ small) in
+    let view : view_size schema user entries + nodes schema query ≤ 60000 =
+    ltb-false 60000 (view_size schema user entries + nodes schema query) (or_second (ltb 20000 (nodes schema query)) _ small) in
     let secrets = some_nodes schema user.secrets limits.some_secret in
     record {
       query_nodes = size;

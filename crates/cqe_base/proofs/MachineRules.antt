@@ -1,5 +1,6 @@
 -- Each rule leads from a reached state to a reached state.
-use Rattle.std.proofs.Common.{◌≡◌, ℕ, zero, suc, ◌+◌, ◌<◌, Bool, true, false, cond, not, ◌&&◌, List, [], ◌∷◌, Some, None, refl, sym, ap, ◌∙◌, subst, inl, inr, ⊎_elim, ◌⊎◌, arith, length}
+use Rattle.std.proofs.Common.{◌≡◌, ℕ, zero, suc, ◌+◌, ◌<◌, Bool, true, false, cond, not, ◌&&◌, List, [], ◌∷◌, Some, None, refl, sym, ap, ◌∙◌, subst, inl, inr}
+use Rattle.std.proofs.Common.{⊎_elim, ◌⊎◌, arith, length}
 use Rattle.std.specs.Prelude.{slice_index_or}
 use Rattle.std.specs.List.{range_with_len, list_any, list_all, filter, find, position_from, AllByRecursion}
 use Rattle.std.proofs.lemmas.Bool.{false_from_ne_true, or_cases, or_left, or_right, and_parts, both_ways, cond_both, not-true}
@@ -74,15 +75,23 @@ is_unit t c l h =
     }
 
 -- the unit rule leads to a reached state
-pub unit_reached : (n : ℕ) (s : State) (u : ℕ × Literal) → IsReached n s → first_unit s.trail 0 s.clauses ≡ Some u → IsReached n (record s { trail = Because u.0 u.1 ∷ s.trail })
+pub unit_reached : (n : ℕ) (s : State) (u : ℕ × Literal) → IsReached n s → first_unit s.trail 0 s.clauses ≡ Some u → IsReached n (record s {
+  trail =
+      Because u.0 u.1 ∷ s.trail;
+})
 unit_reached n s u r h =
     let at = unit_at s.trail s.clauses 0 u h in
     let same : at.place ≡ u.0 = (let e = at.number in omega arith) in
-    let unit : unit_literal s.trail (slice_index_or s.clauses u.0 []) ≡ Some u.1 = subst (λ i. unit_literal s.trail (slice_index_or s.clauses i []) ≡ Some u.1) same at.unit in
+    let unit : unit_literal s.trail (slice_index_or s.clauses u.0 []) ≡ Some u.1 =
+    subst (λ i. unit_literal s.trail (slice_index_or s.clauses i []) ≡ Some u.1) same at.unit in
     let within : u.0 < length s.clauses = subst (λ i. i < length s.clauses) same at.within in
     let is = is_unit s.trail (slice_index_or s.clauses u.0 []) u.1 unit in
     record {
-      distinct = (each_has (λ m. variable_of m < n) (slice_index_or s.clauses u.0 []) u.1 (each_at (ClauseBelow n) s.clauses u.0 r.below tt) is.cause.has, is.unassigned, r.distinct);
+      distinct = (
+        each_has (λ m. variable_of m < n) (slice_index_or s.clauses u.0 []) u.1 (each_at (ClauseBelow n) s.clauses u.0 r.below tt) is.cause.has,
+        is.unassigned,
+        r.distinct,
+      );
       reasons = (within, is.cause, r.reasons);
       below = r.below;
       no_repeat = r.no_repeat;
@@ -97,7 +106,8 @@ find_range : (p : ℕ → Bool) (k m v : ℕ) → find p (range_with_len k m) �
 find_range p k zero v h = absurd (let x : ⊥ = cc in x)
 find_range p k (suc m) v h = step (p k) refl h (λ e. find_range p (k + 1) m v e)
   where
-    step : (b : Bool) → p k ≡ b → cond b (Some k) (find p (range_with_len (k + 1) m)) ≡ Some v → (find p (range_with_len (k + 1) m) ≡ Some v → (p v ≡ true) × (v < k + 1 + m)) → (p v ≡ true) × (v < k + suc m)
+    step : (b : Bool) → p k ≡ b → cond b (Some k) (find p (range_with_len (k + 1) m)) ≡ Some v
+        → (find p (range_with_len (k + 1) m) ≡ Some v → (p v ≡ true) × (v < k + 1 + m)) → (p v ≡ true) × (v < k + suc m)
     step true e h go = let same : k ≡ v = cc in (subst (λ x. p x ≡ true) same e, omega arith)
     step false e h go = let r = go h in let lt = r.1 in (r.0, omega arith)
 
@@ -109,10 +119,12 @@ is_free t n v h =
     let lt = r.1 in
     record {
       below = omega arith;
-      unassigned = false_from_ne_true _ (λ a. ⊎_elim (λ u. both_ways _ (not-true _ parts.0) u) (λ u. both_ways _ (not-true _ parts.1) u) (assigned_cases t (Positive v) a));
+      unassigned = false_from_ne_true _ (λ a.
+          ⊎_elim (λ u. both_ways _ (not-true _ parts.0) u) (λ u. both_ways _ (not-true _ parts.1) u) (assigned_cases t (Positive v) a));
     }
 
-none_open_step : (f : Literal → Bool) (l : Literal) (c : List Literal) (b : Bool) → f l ≡ b → (filter (λ l. not (f l)) c ≡ [] → list_all f c ≡ true) → cond (not b) (l ∷ filter (λ l. not (f l)) c) (filter (λ l. not (f l)) c) ≡ [] → (f l && list_all f c) ≡ true
+none_open_step : (f : Literal → Bool) (l : Literal) (c : List Literal) (b : Bool) → f l ≡ b → (filter (λ l. not (f l)) c ≡ [] → list_all f c ≡ true)
+    → cond (not b) (l ∷ filter (λ l. not (f l)) c) (filter (λ l. not (f l)) c) ≡ [] → (f l && list_all f c) ≡ true
 none_open_step f l c true e go h = ap (λ x. x && list_all f c) e ∙ go h
 none_open_step f l c false e go h = absurd (let y : ⊥ = cc in y)
 
@@ -140,12 +152,14 @@ not_forced t c nf nu = step (filter (λ l. not (is_false t l)) c) refl nu
         true_one false e h = absurd (let y : ⊥ = cc in y)
     step (l ∷ m ∷ xs) e h = inr (let long = ap length e in omega arith)
 
-pub each_not_forced : (t : List Assigned) (cs : List (List Literal)) → AllByRecursion (λ c. list_all (is_false t) c ≡ false) cs → AllByRecursion (λ c. unit_literal t c ≡ None) cs → AllByRecursion (NotForced t) cs
+pub each_not_forced : (t : List Assigned) (cs : List (List Literal)) → AllByRecursion (λ c. list_all (is_false t) c ≡ false) cs
+    → AllByRecursion (λ c. unit_literal t c ≡ None) cs → AllByRecursion (NotForced t) cs
 each_not_forced t [] h k = tt
 each_not_forced t (c ∷ cs) h k = (not_forced t c h.0 k.0, each_not_forced t cs h.1 k.1)
 
 -- the third rule leads to a reached state
-pub decide_reached : (n : ℕ) (s : State) (v : ℕ) → IsReached n s → position_from (list_all (is_false s.trail)) 0 s.clauses ≡ None → first_unit s.trail 0 s.clauses ≡ None → first_unassigned s.trail n ≡ Some v → IsReached n (record s { trail = Decided (Negative v) ∷ s.trail })
+pub decide_reached : (n : ℕ) (s : State) (v : ℕ) → IsReached n s → position_from (list_all (is_false s.trail)) 0 s.clauses ≡ None
+    → first_unit s.trail 0 s.clauses ≡ None → first_unassigned s.trail n ≡ Some v → IsReached n (record s { trail = Decided (Negative v) ∷ s.trail })
 decide_reached n s v r hc hu h =
     let free = is_free s.trail n v h in
     record {

@@ -1,33 +1,40 @@
 -- Runs of the machine: more steps change nothing, and the whole cost is never below the number of steps.
-use Rattle.std.proofs.Common.{◌≡◌, ℕ, zero, suc, ◌+◌, ◌-◌, ◌≤◌, Bool, true, false, cond, List, [], ◌∷◌, ◌++◌, length, Option, Some, None, refl, sym, ap, ◌∙◌, subst, arith, length-append, suc-add, add_comm}
+use Rattle.std.proofs.Common.{◌≡◌, ℕ, zero, suc, ◌+◌, ◌-◌, ◌≤◌, Bool, true, false, cond, List, [], ◌∷◌, ◌++◌, length, Option, Some, None, refl, sym, ap, ◌∙◌}
+use Rattle.std.proofs.Common.{subst, arith, length-append, suc-add, add_comm}
 use Rattle.std.proofs.lemmas.Bool.{cond_both, leb-true, le-leb}
 use Rattle.std.specs.Prelude.{nat_le, nat_lt}
 use Rattle.cqe_base.specs.Literal.{Literal}
 use Rattle.cqe_base.specs.Refutation.{RefutationLine}
 use Rattle.cqe_base.specs.MachineLaws.{BudgetIsWholeCost, MachineHasOneEnd}
-use Rattle.cqe_base.specs.Machine.{Assigned, Decided, Because, State, start, current_count, latest_against, resolved_with, analysis, conflict_line, conflict_cost, state_after_conflict, End, Refuted, Step, Continues, Ends, conflict_step, first_unit, first_unassigned, decide_step, unit_step, conflict_or_unit_step, step, Ended, with_cost, end_after, end_within, end_within_cost}
+use Rattle.cqe_base.specs.Machine.{Assigned, Decided, Because, State, start, current_count, latest_against, resolved_with, analysis, conflict_line}
+use Rattle.cqe_base.specs.Machine.{conflict_cost, state_after_conflict, End, Refuted, Step, Continues, Ends, conflict_step, first_unit, first_unassigned}
+use Rattle.cqe_base.specs.Machine.{decide_step, unit_step, conflict_or_unit_step, step, Ended, with_cost, end_after, end_within, end_within_cost}
 
 -- the cost of a step
 abbrev pub step_cost : Step → ℕ
 step_cost (Continues cost s) = cost
 step_cost (Ends cost end) = cost
 
-with_chain : (clauses : List (List Literal)) (o : Option Assigned) (line : RefutationLine) → 1 ≤ length line.chain → 1 ≤ length (resolved_with clauses o line).chain
+with_chain : (clauses : List (List Literal)) (o : Option Assigned) (line : RefutationLine) → 1 ≤ length line.chain
+    → 1 ≤ length (resolved_with clauses o line).chain
 with_chain clauses None line h = h
 with_chain clauses (Some (Decided l)) line h = h
 with_chain clauses (Some (Because i l)) line h = let e = length-append line.chain (i ∷ []) in omega arith
 
-analysis_chain : (clauses : List (List Literal)) (trail : List Assigned) (keep times : ℕ) (line : RefutationLine) → 1 ≤ length line.chain → 1 ≤ length (analysis clauses trail keep times line).chain
+analysis_chain : (clauses : List (List Literal)) (trail : List Assigned) (keep times : ℕ) (line : RefutationLine) → 1 ≤ length line.chain
+    → 1 ≤ length (analysis clauses trail keep times line).chain
 analysis_chain clauses trail keep zero line h = h
 analysis_chain clauses trail keep (suc times) line h =
-    cond_both (nat_lt keep (current_count trail line.clause)) (analysis clauses trail keep times (resolved_with clauses (latest_against trail line.clause) line)) line (λ x. 1 ≤ length x.chain)
+    cond_both (nat_lt keep (current_count trail line.clause))
+    (analysis clauses trail keep times (resolved_with clauses (latest_against trail line.clause) line)) line (λ x. 1 ≤ length x.chain)
     (λ _. analysis_chain clauses trail keep times _ (with_chain clauses (latest_against trail line.clause) line h)) (λ _. h)
 
 conflict_step_cost : (s : State) (i : ℕ) → 1 ≤ step_cost (conflict_step s i)
 conflict_step_cost s i =
     let line = conflict_line s i in
     let h : 1 ≤ length line.chain = analysis_chain s.clauses s.trail _ (length s.trail) _ (omega arith) in
-    cond_both _ (Ends (conflict_cost line) (Refuted (s.lines ++ line ∷ []))) (Continues (conflict_cost line) (state_after_conflict s line)) (λ x. 1 ≤ step_cost x) (λ _. omega arith) (λ _. omega arith)
+    cond_both _ (Ends (conflict_cost line) (Refuted (s.lines ++ line ∷ []))) (Continues (conflict_cost line) (state_after_conflict s line))
+    (λ x. 1 ≤ step_cost x) (λ _. omega arith) (λ _. omega arith)
 
 decide_step_cost : (n : ℕ) (s : State) (o : Option ℕ) → 1 ≤ step_cost (decide_step n s o)
 decide_step_cost n s None = omega arith
@@ -46,7 +53,8 @@ pub step-cost : (n : ℕ) (s : State) → 1 ≤ step_cost (step n s)
 unfolding step
 step-cost n s = conflict_or_unit_cost n s _
 
-more_after : (n k j : ℕ) (e : Ended) (x : Step) → ((s : State) (e : Ended) → end_within n k s ≡ Some e → end_within n (k + j) s ≡ Some e) → end_after x (end_within n k) ≡ Some e → end_after x (end_within n (k + j)) ≡ Some e
+more_after : (n k j : ℕ) (e : Ended) (x : Step) → ((s : State) (e : Ended) → end_within n k s ≡ Some e → end_within n (k + j) s ≡ Some e)
+    → end_after x (end_within n k) ≡ Some e → end_after x (end_within n (k + j)) ≡ Some e
 more_after n k j e (Ends cost end) go h = h
 more_after n k j e (Continues cost s) go h = by_rest (end_within n k s) refl h
   where
@@ -66,7 +74,8 @@ record CostFits (n : ℕ) (x : Step) (e : Ended) : Type 0 where
   cost : e.cost ≡ suc rest
   ends : end_after x (end_within n rest) ≡ Some e
 
-cost_step : (n k : ℕ) (e : Ended) (x : Step) → 1 ≤ step_cost x → ((s : State) (e : Ended) → end_within n k s ≡ Some e → end_within n e.cost s ≡ Some e) → end_after x (end_within n k) ≡ Some e → CostFits n x e
+cost_step : (n k : ℕ) (e : Ended) (x : Step) → 1 ≤ step_cost x → ((s : State) (e : Ended) → end_within n k s ≡ Some e → end_within n e.cost s ≡ Some e)
+    → end_after x (end_within n k) ≡ Some e → CostFits n x e
 cost_step n k e (Ends cost end) pos go h =
     let same : record { end = end; cost = cost } ≡ e = cc in
     let costs : cost ≡ e.cost = ap (λ (x : Ended). x.cost) same in
@@ -101,7 +110,8 @@ afford : (budget : ℕ) (o : Option Ended) (end : End) → end_within_cost budge
 afford budget None end h = absurd (let x : ⊥ = cc in x)
 afford budget (Some e) end h = by_test (nat_le e.cost budget) refl h
   where
-    by_test : (b : Bool) → nat_le e.cost budget ≡ b → cond b (Some e.end) None ≡ Some end → (e' : Ended) × (Some e ≡ Some e') × (e'.end ≡ end) × (e'.cost ≤ budget)
+    by_test : (b : Bool) → nat_le e.cost budget ≡ b → cond b (Some e.end) None ≡ Some end → (e' : Ended) × (Some e ≡ Some e') × (e'.end ≡ end)
+        × (e'.cost ≤ budget)
     by_test true t h = (e, refl, cc, leb-true e.cost budget t)
     by_test false t h = absurd (let x : ⊥ = cc in x)
 

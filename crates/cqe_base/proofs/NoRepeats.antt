@@ -3,7 +3,8 @@ use Rattle.std.proofs.Common.{◌≡◌, ℕ, zero, suc, ◌<◌, false, eqb, Li
 use Rattle.std.proofs.lemmas.Bool.{or_from, or_parts, cond_both}
 use Rattle.std.proofs.lemmas.Bool.Decides.{nat_tests}
 use Rattle.std.proofs.lemmas.List.Folds.{list_any-append}
-use Rattle.cqe_base.specs.Ground.{Ground, Grounds, ground_true, ground_false, ground_atom, ground_not, ground_all, ground_some, ground_implies, ground_iff, no_grounds, more_grounds}
+use Rattle.cqe_base.specs.Ground.{Ground, Grounds, ground_true, ground_false, ground_atom, ground_not, ground_all, ground_some, ground_implies, ground_iff}
+use Rattle.cqe_base.specs.Ground.{no_grounds, more_grounds}
 use Rattle.cqe_base.specs.Literal.{Literal, Positive, Negative, opposite, same_literal, has_literal, HasNoRepeat, HaveNoRepeat, union, distinct_literals}
 use Rattle.cqe_base.specs.ClauseForm.{Numbering, numbering_after, literal_of, literals_of, and_clauses, or_clauses, iff_clauses, clauses_of, clauses_of_parts}
 
@@ -50,10 +51,14 @@ edges_no_repeat f [] = tt
 edges_no_repeat f (l ∷ ls) = (distinct_no_repeat (f l), edges_no_repeat f ls)
 
 and_no_repeat : (v : ℕ) (ls : List Literal) → HaveNoRepeat (and_clauses v ls)
-and_no_repeat v ls = HaveNoRepeat-append (map (λ l. distinct_literals (Negative v ∷ l ∷ [])) ls) _ (edges_no_repeat (λ l. Negative v ∷ l ∷ []) ls) (distinct_no_repeat (Positive v ∷ map opposite ls), tt)
+and_no_repeat v ls =
+    HaveNoRepeat-append (map (λ l. distinct_literals (Negative v ∷ l ∷ [])) ls) _ (edges_no_repeat (λ l. Negative v ∷ l ∷ []) ls)
+    (distinct_no_repeat (Positive v ∷ map opposite ls), tt)
 
 or_no_repeat : (v : ℕ) (ls : List Literal) → HaveNoRepeat (or_clauses v ls)
-or_no_repeat v ls = HaveNoRepeat-append (map (λ l. distinct_literals (Positive v ∷ opposite l ∷ [])) ls) _ (edges_no_repeat (λ l. Positive v ∷ opposite l ∷ []) ls) (distinct_no_repeat (Negative v ∷ ls), tt)
+or_no_repeat v ls =
+    HaveNoRepeat-append (map (λ l. distinct_literals (Positive v ∷ opposite l ∷ [])) ls) _ (edges_no_repeat (λ l. Positive v ∷ opposite l ∷ []) ls)
+    (distinct_no_repeat (Negative v ∷ ls), tt)
 
 iff_no_repeat : (v : ℕ) (a b : Literal) → HaveNoRepeat (iff_clauses v a b)
 iff_no_repeat v a b = (
@@ -74,8 +79,10 @@ mutual
   clauses-no_repeat ground_false n = tt
   clauses-no_repeat (ground_atom f) n = tt
   clauses-no_repeat (ground_not a) n = clauses-no_repeat a n
-  clauses-no_repeat (ground_all parts) n = HaveNoRepeat-append (clauses_of_parts parts n) _ (clauses-no_repeat_parts parts n) (and_no_repeat _ (literals_of parts n))
-  clauses-no_repeat (ground_some parts) n = HaveNoRepeat-append (clauses_of_parts parts n) _ (clauses-no_repeat_parts parts n) (or_no_repeat _ (literals_of parts n))
+  clauses-no_repeat (ground_all parts) n =
+      HaveNoRepeat-append (clauses_of_parts parts n) _ (clauses-no_repeat_parts parts n) (and_no_repeat _ (literals_of parts n))
+  clauses-no_repeat (ground_some parts) n =
+      HaveNoRepeat-append (clauses_of_parts parts n) _ (clauses-no_repeat_parts parts n) (or_no_repeat _ (literals_of parts n))
   clauses-no_repeat (ground_implies a b) n =
       HaveNoRepeat-append (clauses_of a n ++ clauses_of b (numbering_after a n)) _
       (HaveNoRepeat-append (clauses_of a n) (clauses_of b (numbering_after a n)) (clauses-no_repeat a n) (clauses-no_repeat b (numbering_after a n)))
@@ -87,4 +94,5 @@ mutual
 
   pub clauses-no_repeat_parts : (parts : Grounds) (n : Numbering) → HaveNoRepeat (clauses_of_parts parts n)
   clauses-no_repeat_parts no_grounds n = tt
-  clauses-no_repeat_parts (more_grounds a rest) n = HaveNoRepeat-append (clauses_of a n) _ (clauses-no_repeat a n) (clauses-no_repeat_parts rest (numbering_after a n))
+  clauses-no_repeat_parts (more_grounds a rest) n =
+      HaveNoRepeat-append (clauses_of a n) _ (clauses-no_repeat a n) (clauses-no_repeat_parts rest (numbering_after a n))

@@ -5,9 +5,12 @@ use Rattle.std.proofs.lemmas.Bool.{or_left, or_parts, or_from, both_ways, cond_b
 use Rattle.std.proofs.lemmas.List.Folds.{list_any-append}
 use Rattle.cqe_base.specs.declared.world.Fact.{Fact}
 use Rattle.cqe_base.specs.ClauseForm.{same_fact}
-use Rattle.cqe_base.specs.Ground.{Ground, Grounds, ground_true, ground_false, ground_atom, ground_not, ground_all, ground_some, ground_implies, ground_iff, no_grounds, more_grounds}
+use Rattle.cqe_base.specs.Ground.{Ground, Grounds, ground_true, ground_false, ground_atom, ground_not, ground_all, ground_some, ground_implies, ground_iff}
+use Rattle.cqe_base.specs.Ground.{no_grounds, more_grounds}
 use Rattle.cqe_base.specs.Literal.{Literal, Positive, Negative, variable_of, opposite, has_literal, union, distinct_literals, ClauseBelow, ClausesBelow}
-use Rattle.cqe_base.specs.ClauseForm.{NumbersRise, NumberedOnce, IsProper, NumberedFact, Numbering, is_numbered, number_of, with_fact, with_node, numbering_after, numbering_after_parts, literal_of, literals_of, and_clauses, or_clauses, iff_clauses, clauses_of, clauses_of_parts}
+use Rattle.cqe_base.specs.ClauseForm.{NumbersRise, NumberedOnce, IsProper, NumberedFact, Numbering, is_numbered, number_of, with_fact, with_node}
+use Rattle.cqe_base.specs.ClauseForm.{numbering_after, numbering_after_parts, literal_of, literals_of, and_clauses, or_clauses, iff_clauses, clauses_of}
+use Rattle.cqe_base.specs.ClauseForm.{clauses_of_parts}
 use Rattle.cqe_base.proofs.ClauseTruth.{variable_of-opposite}
 use Rattle.cqe_base.proofs.SameFact.{same_fact-apart}
 
@@ -23,7 +26,11 @@ rising-more : (facts : List NumberedFact) (low high more : ℕ) → high ≤ mor
 rising-more [] low high more le h = omega arith
 rising-more (e ∷ facts) low high more le h = (h.0, rising-more facts (e.number + 1) high more le h.1)
 
-rising-push : (facts : List NumberedFact) (f : Fact) (low high : ℕ) → NumbersRise low facts high → NumbersRise low (facts ++ record { fact = f; number = high } ∷ []) (high + 1)
+rising-push : (facts : List NumberedFact) (f : Fact) (low high : ℕ) → NumbersRise low facts high → NumbersRise low (facts ++ record {
+  fact =
+      f;
+  number = high;
+} ∷ []) (high + 1)
 rising-push [] f low high h = (h, omega arith)
 rising-push (e ∷ facts) f low high h = (h.0, rising-push facts f (e.number + 1) high h.1)
 
@@ -36,8 +43,11 @@ pub proper_below : (n : Numbering) → IsProper n → AllByRecursion (λ e. e.nu
 proper_below n p = rising-below n.facts 1 n.variables p.rising
 
 -- what holds after a fact was numbered, in both cases
-pub with_fact_cases : (n : Numbering) (f : Fact) (P : Numbering → Type 0) → (is_numbered n.facts f ≡ true → P n) → (is_numbered n.facts f ≡ false → P (record { variables = n.variables + 1; facts = n.facts ++ record { fact = f; number = n.variables } ∷ [] })) → P (with_fact n f)
-with_fact_cases n f P known new = cond_both (is_numbered n.facts f) n (record { variables = n.variables + 1; facts = n.facts ++ record { fact = f; number = n.variables } ∷ [] }) P known new
+pub with_fact_cases : (n : Numbering) (f : Fact) (P : Numbering → Type 0) → (is_numbered n.facts f ≡ true → P n)
+    → (is_numbered n.facts f ≡ false → P (record { variables = n.variables + 1; facts = n.facts ++ record { fact = f; number = n.variables } ∷ [] }))
+    → P (with_fact n f)
+with_fact_cases n f P known new =
+    cond_both (is_numbered n.facts f) n (record { variables = n.variables + 1; facts = n.facts ++ record { fact = f; number = n.variables } ∷ [] }) P known new
 
 mutual
   -- a walk only takes variables
@@ -59,12 +69,20 @@ pub proper_node : (n : Numbering) → IsProper n → IsProper (with_node n)
 proper_node n p = record { rising = rising-more n.facts 1 n.variables (n.variables + 1) (omega arith) p.rising; once = p.once }
 
 -- the other facts aren't a fact that is new
-not_numbered-push : (es : List NumberedFact) (f g : Fact) (v : ℕ) → is_numbered es g ≡ false → same_fact g f ≡ false → is_numbered (es ++ record { fact = f; number = v } ∷ []) g ≡ false
+not_numbered-push : (es : List NumberedFact) (f g : Fact) (v : ℕ) → is_numbered es g ≡ false → same_fact g f ≡ false → is_numbered (es ++ record {
+  fact =
+      f;
+  number = v;
+} ∷ []) g ≡ false
 not_numbered-push es f g v unknown apart =
     list_any-append (λ e. same_fact g e.fact) es (record { fact = f; number = v } ∷ []) ∙ or_from _ _ unknown (or_from _ _ apart refl)
 
 -- a new fact is numbered once
-pub NumberedOnce-push : (es : List NumberedFact) (f : Fact) (v : ℕ) → NumberedOnce es → is_numbered es f ≡ false → NumberedOnce (es ++ record { fact = f; number = v } ∷ [])
+pub NumberedOnce-push : (es : List NumberedFact) (f : Fact) (v : ℕ) → NumberedOnce es → is_numbered es f ≡ false → NumberedOnce (es ++ record {
+  fact =
+      f;
+  number = v;
+} ∷ [])
 NumberedOnce-push [] f v once new = (refl, tt)
 NumberedOnce-push (e ∷ es) f v once new =
     let parts : (same_fact f e.fact ≡ false) × (is_numbered es f ≡ false) = or_parts _ _ new in
@@ -171,11 +189,13 @@ or_edges_below k v (l ∷ ls) hv h = (distinct_below k (Positive v ∷ opposite 
 -- the clauses of a node use its variable and its children's
 pub and_clauses-below : (k v : ℕ) (ls : List Literal) → v < k → ClauseBelow k ls → ClausesBelow k (and_clauses v ls)
 and_clauses-below k v ls hv h =
-    ClausesBelow-append k (map (λ l. distinct_literals (Negative v ∷ l ∷ [])) ls) (distinct_literals (Positive v ∷ map opposite ls) ∷ []) (and_edges_below k v ls hv h) (distinct_below k (Positive v ∷ map opposite ls) (hv, opposites_below k ls h), tt)
+    ClausesBelow-append k (map (λ l. distinct_literals (Negative v ∷ l ∷ [])) ls) (distinct_literals (Positive v ∷ map opposite ls) ∷ [])
+    (and_edges_below k v ls hv h) (distinct_below k (Positive v ∷ map opposite ls) (hv, opposites_below k ls h), tt)
 
 pub or_clauses-below : (k v : ℕ) (ls : List Literal) → v < k → ClauseBelow k ls → ClausesBelow k (or_clauses v ls)
 or_clauses-below k v ls hv h =
-    ClausesBelow-append k (map (λ l. distinct_literals (Positive v ∷ opposite l ∷ [])) ls) (distinct_literals (Negative v ∷ ls) ∷ []) (or_edges_below k v ls hv h) (distinct_below k (Negative v ∷ ls) (hv, h), tt)
+    ClausesBelow-append k (map (λ l. distinct_literals (Positive v ∷ opposite l ∷ [])) ls) (distinct_literals (Negative v ∷ ls) ∷ [])
+    (or_edges_below k v ls hv h) (distinct_below k (Negative v ∷ ls) (hv, h), tt)
 
 pub iff_clauses-below : (k v : ℕ) (a b : Literal) → v < k → variable_of a < k → variable_of b < k → ClausesBelow k (iff_clauses v a b)
 iff_clauses-below k v a b hv ha hb =
@@ -231,7 +251,8 @@ mutual
       (ClausesBelow-append _ (clauses_of a n) (clauses_of b na)
       (ClausesBelow-more _ _ _ ka (clauses-below a n p))
       (ClausesBelow-more _ _ _ kb (clauses-below b na pa)))
-      (or_clauses-below (m.variables + 1) m.variables (opposite (literal_of a n) ∷ literal_of b na ∷ []) (omega arith) (opposite_below (m.variables + 1) (literal_of a n) (omega arith), (omega arith, tt)))
+      (or_clauses-below (m.variables + 1) m.variables (opposite (literal_of a n) ∷ literal_of b na ∷ []) (omega arith)
+      (opposite_below (m.variables + 1) (literal_of a n) (omega arith), (omega arith, tt)))
   clauses-below (ground_iff a b) n p =
       let na = numbering_after a n in
       let m = numbering_after b na in
@@ -268,7 +289,8 @@ mutual
   facts-grow (ground_implies a b) n f h = facts-grow b _ f (facts-grow a n f h)
   facts-grow (ground_iff a b) n f h = facts-grow b _ f (facts-grow a n f h)
 
-  pub facts-grow_parts : (parts : Grounds) (n : Numbering) (f : Fact) → is_numbered n.facts f ≡ true → is_numbered (numbering_after_parts parts n).facts f ≡ true
+  pub facts-grow_parts : (parts : Grounds) (n : Numbering) (f : Fact) → is_numbered n.facts f ≡ true
+      → is_numbered (numbering_after_parts parts n).facts f ≡ true
   facts-grow_parts no_grounds n f h = h
   facts-grow_parts (more_grounds a rest) n f h = facts-grow_parts rest _ f (facts-grow a n f h)
 

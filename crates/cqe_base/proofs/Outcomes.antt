@@ -17,7 +17,8 @@ use Rattle.cqe_base.specs.Literal.{Literal, sign_at}
 use Rattle.cqe_base.specs.ClauseForm.{same_fact, NumberedFact, clause_form, numbering_of, first_numbering, world_of}
 use Rattle.cqe_base.specs.Refutation.{RefutationLine, is_refutation, is_model}
 use Rattle.cqe_base.specs.Machine.{End, Model, Refuted, end_within_budget}
-use Rattle.cqe_base.specs.Outcome.{Follows, Open, Spent, outcome_of_end, probe_list, grounded_signed, grounded_probe, ground_outcome, outcome, OpenHasCountermodel, FollowsEntails}
+use Rattle.cqe_base.specs.Outcome.{Follows, Open, Spent, outcome_of_end, probe_list, grounded_signed, grounded_probe, ground_outcome, outcome}
+use Rattle.cqe_base.specs.Outcome.{OpenHasCountermodel, FollowsEntails}
 use Rattle.cqe_base.specs.MachineLaws.{GroundEntails, GroundFollowsEntails, GroundOpenIsOpen, RefutationEntails, ModelIsCountermodel, NumberedFactsAreOfSchema}
 use Rattle.cqe_base.proofs.Grounding.{grounding_keeps_truth}
 use Rattle.cqe_base.proofs.SameFact.{same_fact-true}
@@ -28,7 +29,8 @@ use Rattle.cqe_base.proofs.Occurrences.{EachNumbered, each_append, each_listed, 
 
 -- ---- what the end of a search shows
 
-judged_follows : (clauses : List (List Literal)) (o : Option End) → outcome_of_end clauses o ≡ Follows → (lines : List RefutationLine) × (is_refutation clauses lines ≡ true)
+judged_follows : (clauses : List (List Literal)) (o : Option End) → outcome_of_end clauses o ≡ Follows → (lines : List RefutationLine)
+    × (is_refutation clauses lines ≡ true)
 judged_follows clauses None h = cc
 judged_follows clauses (Some (Refuted lines)) h = (lines, from_cond (is_refutation clauses lines) h)
   where
@@ -65,7 +67,8 @@ negated_false false true h = refl
 negated_false truth false h = ap not h
 
 -- a right refutation of a probe shows that its premises entail its goal
-pub refuted_entails : (premises : List SignedGround) (goal : SignedGround) (lines : List RefutationLine) → is_refutation (clause_form (probe_list premises goal)) lines ≡ true → GroundEntails premises goal
+pub refuted_entails : (premises : List SignedGround) (goal : SignedGround) (lines : List RefutationLine)
+    → is_refutation (clause_form (probe_list premises goal)) lines ≡ true → GroundEntails premises goal
 refuted_entails premises goal lines right facts t = by_truth (true_signed facts goal) refl
   where
     by_truth : (b : Bool) → true_signed facts goal ≡ b → b ≡ true
@@ -78,7 +81,8 @@ refuted_entails premises goal lines right facts t = by_truth (true_signed facts 
 
 -- the world of a right model of a probe has its premises true and its goal false
 pub model_opens : (premises : List SignedGround) (goal : SignedGround) (signs : List Bool) → is_model (clause_form (probe_list premises goal)) signs ≡ true
-    → let facts = set.contains (world_of (numbering_of (probe_list premises goal)).facts (sign_at signs)) in (all_signed_true facts premises ≡ true) × (true_signed facts goal ≡ false)
+    → let facts = set.contains (world_of (numbering_of (probe_list premises goal)).facts (sign_at signs)) in
+    (all_signed_true facts premises ≡ true) × (true_signed facts goal ≡ false)
 model_opens premises goal signs right =
     let facts = set.contains (world_of (numbering_of (probe_list premises goal)).facts (sign_at signs)) in
     let all = model_gives_world (probe_list premises goal) (sign_at signs) (and_parts _ _ right).1 in
@@ -107,12 +111,14 @@ grounded_true : (schema : DatabaseSchema) (world : FactSet) (s : Signed) → tru
 unfolding true_in
 grounded_true schema world s = ap (same_truth s.1) (grounding_keeps_truth schema (set.contains world) [] s.0)
 
-all_grounded_true : (schema : DatabaseSchema) (world : FactSet) (premises : List Signed) → all_signed_true (set.contains world) (map (grounded_signed schema) premises) ≡ all_hold_in schema world premises
+all_grounded_true : (schema : DatabaseSchema) (world : FactSet) (premises : List Signed)
+    → all_signed_true (set.contains world) (map (grounded_signed schema) premises) ≡ all_hold_in schema world premises
 unfolding all_hold_in
 all_grounded_true schema world [] = refl
 all_grounded_true schema world (s ∷ premises) = λ i. grounded_true schema world s i && all_grounded_true schema world premises i
 
-grounded_entails : (schema : DatabaseSchema) (premises : List Signed) (goal : Signed) → GroundEntails (map (grounded_signed schema) premises) (grounded_signed schema goal) → Entails schema premises goal
+grounded_entails : (schema : DatabaseSchema) (premises : List Signed) (goal : Signed)
+    → GroundEntails (map (grounded_signed schema) premises) (grounded_signed schema goal) → Entails schema premises goal
 grounded_entails schema premises goal all world is holds =
     sym (grounded_true schema world goal) ∙ all (set.contains world) (all_grounded_true schema world premises ∙ holds)
 
@@ -140,16 +146,19 @@ numbered_facts_are_of_schema schema sentences valid all =
     passing_each (λ e. is_fact_of schema e.fact) (numbering_of (map (grounded_signed schema) sentences)).facts (numbered_of_schema schema sentences valid all)
 
 -- what a probe adds are the grounded premises and the grounded negation of the goal
-probe_grounded : (schema : DatabaseSchema) (premises : List Signed) (goal : Signed) → map (grounded_signed schema) (premises ++ (goal.0, not goal.1) ∷ []) ≡ grounded_probe schema premises goal
+probe_grounded : (schema : DatabaseSchema) (premises : List Signed) (goal : Signed)
+    → map (grounded_signed schema) (premises ++ (goal.0, not goal.1) ∷ []) ≡ grounded_probe schema premises goal
 probe_grounded schema [] goal = refl
 probe_grounded schema (s ∷ premises) goal = ap (λ list. grounded_signed schema s ∷ list) (probe_grounded schema premises goal)
 
-probe_sentences : (schema : DatabaseSchema) (premises : List Signed) (goal : Signed) → are_sentences_of schema premises ≡ true → is_sentence_of schema goal.0 ≡ true → are_sentences_of schema (premises ++ (goal.0, not goal.1) ∷ []) ≡ true
+probe_sentences : (schema : DatabaseSchema) (premises : List Signed) (goal : Signed) → are_sentences_of schema premises ≡ true
+    → is_sentence_of schema goal.0 ≡ true → are_sentences_of schema (premises ++ (goal.0, not goal.1) ∷ []) ≡ true
 probe_sentences schema premises goal all well =
     list_all-append (λ (s : Signed). is_sentence_of schema s.0) premises ((goal.0, not goal.1) ∷ []) ∙ and_from _ _ all (and_from _ _ well refl)
 
 -- a fact with a true sign is one that has a number
-signed_of_schema : (P : Fact → Type 0) (facts : List NumberedFact) (signs : ℕ → Bool) (f : Fact) → EachNumbered P facts → sign_of_fact facts signs f ≡ true → P f
+signed_of_schema : (P : Fact → Type 0) (facts : List NumberedFact) (signs : ℕ → Bool) (f : Fact) → EachNumbered P facts → sign_of_fact facts signs f ≡ true
+    → P f
 signed_of_schema P [] signs f h e = absurd (both_ways false refl e)
 signed_of_schema P (d ∷ facts) signs f h e = by (same_fact f d.fact) refl e (λ k. signed_of_schema P facts signs f h.1 k)
   where

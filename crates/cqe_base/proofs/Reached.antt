@@ -1,11 +1,13 @@
 -- What holds of every state that the machine reaches.
-use Rattle.std.proofs.Common.{◌≡◌, ℕ, suc, ◌+◌, ◌<◌, ◌≤◌, Bool, true, false, cond, not, ◌||◌, eqb, List, [], ◌∷◌, Option, Some, None, refl, ap, ◌∙◌, inl, inr, ⊎_elim, ◌⊎◌, arith, length}
+use Rattle.std.proofs.Common.{◌≡◌, ℕ, suc, ◌+◌, ◌<◌, ◌≤◌, Bool, true, false, cond, not, ◌||◌, eqb, List, [], ◌∷◌, Option, Some, None, refl, ap, ◌∙◌, inl, inr}
+use Rattle.std.proofs.Common.{⊎_elim, ◌⊎◌, arith, length}
 use Rattle.std.specs.Prelude.{slice_index_or}
 use Rattle.std.specs.List.{list_any, list_all, filter, position_from, AllByRecursion}
 use Rattle.std.proofs.lemmas.List.Sums.{length-filter}
 use Rattle.std.proofs.lemmas.Bool.{false_from_ne_true, or_cases, or_left, or_right, and_parts, both_ways, eq-eqb, not-true}
 use Rattle.cqe_base.specs.Literal.{Literal, Positive, Negative, variable_of, opposite, same_literal}
-use Rattle.cqe_base.specs.Machine.{Assigned, Decided, Because, assigned_literal, is_true, is_false, level, is_current, current_count, unit_literal, first_unit, unit_or}
+use Rattle.cqe_base.specs.Machine.{Assigned, Decided, Because, assigned_literal, is_true, is_false, level, is_current, current_count, unit_literal, first_unit}
+use Rattle.cqe_base.specs.Machine.{unit_or}
 use Rattle.cqe_base.specs.MachineStates.{is_assigned, IsDistinct, Reasons, NotForced, AllFalse}
 use Rattle.cqe_base.proofs.Trails.{base, not_both, false_is_assigned, level_of-current}
 use Rattle.cqe_base.proofs.Analysis.{each_weaker}
@@ -40,7 +42,8 @@ assigned_cases (a ∷ t) l h =
     same_var (Negative v) (Positive w) e = inr e
     same_var (Negative v) (Negative w) e = inl e
 
-    head_cases : (l m : Literal) → eqb (variable_of l) (variable_of m) ≡ true → ((same_literal l m || is_true t l) ≡ true) ⊎ ((same_literal (opposite l) m || is_true t (opposite l)) ≡ true)
+    head_cases : (l m : Literal) → eqb (variable_of l) (variable_of m) ≡ true → ((same_literal l m || is_true t l) ≡ true)
+        ⊎ ((same_literal (opposite l) m || is_true t (opposite l)) ≡ true)
     head_cases l m e = ⊎_elim (λ u. inl (or_left _ _ u)) (λ u. inr (or_left _ _ u)) (same_var l m e)
 
 -- a false literal that wasn't false before the last decision is of the current level
@@ -54,13 +57,15 @@ count_weaker : (p q : Literal → Bool) (c : List Literal) → AllByRecursion (�
 count_weaker p q [] h = omega arith
 count_weaker p q (l ∷ c) h = step (p l) (q l) refl refl (count_weaker p q c h.1)
   where
-    step : (a b : Bool) → p l ≡ a → q l ≡ b → length (filter p c) ≤ length (filter q c) → length (cond a (l ∷ filter p c) (filter p c)) ≤ length (cond b (l ∷ filter q c) (filter q c))
+    step : (a b : Bool) → p l ≡ a → q l ≡ b → length (filter p c) ≤ length (filter q c)
+        → length (cond a (l ∷ filter p c) (filter p c)) ≤ length (cond b (l ∷ filter q c) (filter q c))
     step true true ea eb le = omega arith
     step true false ea eb le = absurd (both_ways _ eb (h.0 ea))
     step false true ea eb le = omega arith
     step false false ea eb le = le
 
-any_false : (n : ℕ) (t u : List Assigned) (c : List Literal) → IsDistinct n t → ((l : Literal) → is_true u l ≡ true → is_true t l ≡ true) → AllFalse t c → list_any (is_true u) c ≡ true → ⊥
+any_false : (n : ℕ) (t u : List Assigned) (c : List Literal) → IsDistinct n t → ((l : Literal) → is_true u l ≡ true → is_true t l ≡ true) → AllFalse t c
+    → list_any (is_true u) c ≡ true → ⊥
 any_false n t u [] d w f h = both_ways false refl h
 any_false n t u (l ∷ c) d w f h = ⊎_elim (λ e. not_both n t l d (w l e) f.0) (λ e. any_false n t u c d w f.1 e) (or_cases _ _ h)
 
@@ -69,7 +74,8 @@ pub two_current : (n : ℕ) (t : List Assigned) (c : List Literal) → IsDistinc
 two_current n t c d f unforced =
     ⊎_elim (λ h. absurd (any_false n t (base t) c d (base_true t) f h))
     (λ two.
-    let more = count_weaker (λ l. not (is_false (base t) l)) (is_current t) c (each_weaker (λ l. is_false t l ≡ true) (λ l. not (is_false (base t) l) ≡ true → is_current t l ≡ true) (λ l fl o. false_since n t l d fl o) c f) in
+    let more = count_weaker (λ l. not (is_false (base t) l)) (is_current t) c
+    (each_weaker (λ l. is_false t l ≡ true) (λ l. not (is_false (base t) l) ≡ true → is_current t l ≡ true) (λ l fl o. false_since n t l d fl o) c f) in
     let e = length-filter (is_current t) c in
     omega arith)
     unforced
@@ -85,7 +91,8 @@ pub record PassesAt (p : List Literal → Bool) (cs : List (List Literal)) (k i 
   pub within : place < length cs
   pub passes : p (slice_index_or cs place []) ≡ true
 
-position_step : (p : List Literal → Bool) (c : List Literal) (cs : List (List Literal)) (k i : ℕ) (b : Bool) → p c ≡ b → (position_from p (k + 1) cs ≡ Some i → PassesAt p cs (k + 1) i) → cond b (Some k) (position_from p (k + 1) cs) ≡ Some i → PassesAt p (c ∷ cs) k i
+position_step : (p : List Literal → Bool) (c : List Literal) (cs : List (List Literal)) (k i : ℕ) (b : Bool) → p c ≡ b
+    → (position_from p (k + 1) cs ≡ Some i → PassesAt p cs (k + 1) i) → cond b (Some k) (position_from p (k + 1) cs) ≡ Some i → PassesAt p (c ∷ cs) k i
 position_step p c cs k i true e go h = let same : k ≡ i = cc in record { place = 0; number = omega arith; within = omega arith; passes = e }
 position_step p c cs k i false e go h =
     let later = go h in
@@ -98,7 +105,8 @@ pub position_passes : (p : List Literal → Bool) (cs : List (List Literal)) (k 
 position_passes p [] k i h = absurd (let x : ⊥ = cc in x)
 position_passes p (c ∷ cs) k i h = position_step p c cs k i (p c) refl (λ e. position_passes p cs (k + 1) i e) h
 
-position_none_step : (p : List Literal → Bool) (c : List Literal) (cs : List (List Literal)) (k : ℕ) (b : Bool) → p c ≡ b → cond b (Some k) (position_from p (k + 1) cs) ≡ None → (p c ≡ false) × (position_from p (k + 1) cs ≡ None)
+position_none_step : (p : List Literal → Bool) (c : List Literal) (cs : List (List Literal)) (k : ℕ) (b : Bool) → p c ≡ b
+    → cond b (Some k) (position_from p (k + 1) cs) ≡ None → (p c ≡ false) × (position_from p (k + 1) cs ≡ None)
 position_none_step p c cs k true e h = absurd (let x : ⊥ = cc in x)
 position_none_step p c cs k false e h = (e, h)
 
@@ -114,7 +122,8 @@ pub record UnitAt (t : List Assigned) (cs : List (List Literal)) (k : ℕ) (u : 
   pub within : place < length cs
   pub unit : unit_literal t (slice_index_or cs place []) ≡ Some u.1
 
-unit_step : (t : List Assigned) (c : List Literal) (cs : List (List Literal)) (k : ℕ) (u : ℕ × Literal) (o : Option Literal) → unit_literal t c ≡ o → (first_unit t (k + 1) cs ≡ Some u → UnitAt t cs (k + 1) u) → unit_or k o (first_unit t (k + 1) cs) ≡ Some u → UnitAt t (c ∷ cs) k u
+unit_step : (t : List Assigned) (c : List Literal) (cs : List (List Literal)) (k : ℕ) (u : ℕ × Literal) (o : Option Literal) → unit_literal t c ≡ o
+    → (first_unit t (k + 1) cs ≡ Some u → UnitAt t cs (k + 1) u) → unit_or k o (first_unit t (k + 1) cs) ≡ Some u → UnitAt t (c ∷ cs) k u
 unit_step t c cs k u (Some l) e go h =
     let same : (k, l) ≡ u = cc in
     let number : k ≡ u.0 = ap (λ (x : ℕ × Literal). x.0) same in
@@ -129,7 +138,8 @@ pub unit_at : (t : List Assigned) (cs : List (List Literal)) (k : ℕ) (u : ℕ 
 unit_at t [] k u h = absurd (let x : ⊥ = cc in x)
 unit_at t (c ∷ cs) k u h = unit_step t c cs k u (unit_literal t c) refl (λ e. unit_at t cs (k + 1) u e) h
 
-unit_none_step : (t : List Assigned) (c : List Literal) (cs : List (List Literal)) (k : ℕ) (o : Option Literal) → unit_literal t c ≡ o → unit_or k o (first_unit t (k + 1) cs) ≡ None → (unit_literal t c ≡ None) × (first_unit t (k + 1) cs ≡ None)
+unit_none_step : (t : List Assigned) (c : List Literal) (cs : List (List Literal)) (k : ℕ) (o : Option Literal) → unit_literal t c ≡ o
+    → unit_or k o (first_unit t (k + 1) cs) ≡ None → (unit_literal t c ≡ None) × (first_unit t (k + 1) cs ≡ None)
 unit_none_step t c cs k (Some l) e h = absurd (let x : ⊥ = cc in x)
 unit_none_step t c cs k None e h = (e, h)
 

@@ -24,7 +24,8 @@ not_spent clauses (Model signs) r h = by_test (is_model clauses signs) r h
     by_test true r h = cc
     by_test false r h = cc
 
-spent_past : (clauses : List (List Literal)) (n budget : ℕ) (e : Ended) → MachineEnds clauses n e → budget < e.cost → (o : Option End) → end_within_budget clauses n budget ≡ o → outcome_of_end clauses o ≡ Spent
+spent_past : (clauses : List (List Literal)) (n budget : ℕ) (e : Ended) → MachineEnds clauses n e → budget < e.cost → (o : Option End)
+    → end_within_budget clauses n budget ≡ o → outcome_of_end clauses o ≡ Spent
 spent_past clauses n budget e m lt None eq = refl
 spent_past clauses n budget e m lt (Some end) eq =
     let found = (budget_is_whole_cost clauses n budget end).0 eq in

@@ -58,12 +58,15 @@ base [] = []
 base (Decided l ∷ t) = t
 base (Because i l ∷ t) = base t
 
-assigned_here : (a : Assigned) (t : List Assigned) (l : Literal) (k : ℕ) (b : Bool) → eqb (variable_of l) (variable_of (assigned_literal a)) ≡ b → is_assigned (a ∷ t) (variable_of l) ≡ true → (is_assigned t (variable_of l) ≡ true → level_of t l ≡ k) → level (a ∷ t) ≡ k → cond b (level (a ∷ t)) (level_of t l) ≡ k
+assigned_here : (a : Assigned) (t : List Assigned) (l : Literal) (k : ℕ) (b : Bool) → eqb (variable_of l) (variable_of (assigned_literal a)) ≡ b
+    → is_assigned (a ∷ t) (variable_of l) ≡ true → (is_assigned t (variable_of l) ≡ true → level_of t l ≡ k) → level (a ∷ t) ≡ k
+    → cond b (level (a ∷ t)) (level_of t l) ≡ k
 assigned_here a t l k true e h go top = top
 assigned_here a t l k false e h go top = go (⊎_elim (λ u. absurd (both_ways _ e u)) (λ u. u) (or_cases _ _ h))
 
 -- a literal that was assigned since the last decision is of the current level
-pub level_of-current : (t : List Assigned) (l : Literal) → is_assigned t (variable_of l) ≡ true → is_assigned (base t) (variable_of l) ≡ false → level_of t l ≡ level t
+pub level_of-current : (t : List Assigned) (l : Literal) → is_assigned t (variable_of l) ≡ true → is_assigned (base t) (variable_of l) ≡ false
+    → level_of t l ≡ level t
 level_of-current [] l h k = refl
 level_of-current (Decided d ∷ t) l h k =
     assigned_here (Decided d) t l (suc (level t)) _ refl h (λ u. absurd (both_ways _ k u)) refl
@@ -74,7 +77,8 @@ level_of-current (Because i d ∷ t) l h k =
 abbrev pub Suffix : List Assigned → List Assigned → Type 0
 Suffix whole rest = (l : Literal) → is_assigned rest (variable_of l) ≡ true → level_of whole l ≡ level_of rest l
 
-pub other_variable : (a : Assigned) (t : List Assigned) (v : ℕ) → is_assigned t (variable_of (assigned_literal a)) ≡ false → is_assigned t v ≡ true → eqb v (variable_of (assigned_literal a)) ≡ false
+pub other_variable : (a : Assigned) (t : List Assigned) (v : ℕ) → is_assigned t (variable_of (assigned_literal a)) ≡ false → is_assigned t v ≡ true
+    → eqb v (variable_of (assigned_literal a)) ≡ false
 other_variable a t v free there = ne_eqb _ _ (λ e. both_ways _ free (subst (λ x. is_assigned t x ≡ true) e there))
 
 pub Suffix-tail : (n : ℕ) (whole : List Assigned) (a : Assigned) (t : List Assigned) → IsDistinct n (a ∷ t) → Suffix whole (a ∷ t) → Suffix whole t

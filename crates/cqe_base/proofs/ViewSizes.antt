@@ -8,11 +8,14 @@ use Rattle.cqe_base.specs.Entailment.{Signed}
 use Rattle.cqe_base.specs.History.{UserProfile, known, signed_nodes, view_size}
 use Rattle.cqe_base.proofs.Logs.{log-nil}
 
-size-known : (schema : DatabaseSchema) (sentences : List Formula) → sum_by (λ (s : Signed). signed_nodes schema s.0 s.1) (map (λ (s : Formula). (s, true)) sentences) ≡ sum_by (nodes schema) sentences
+size-known : (schema : DatabaseSchema) (sentences : List Formula)
+    → sum_by (λ (s : Signed). signed_nodes schema s.0 s.1) (map (λ (s : Formula). (s, true)) sentences) ≡ sum_by (nodes schema) sentences
 size-known schema [] = refl
 size-known schema (s ∷ sentences) = grind (arith, common_steps, size-known schema sentences)
 
-pub view_size-empty : (schema : DatabaseSchema) (user : UserProfile) → view_size schema user [] ≡ sum_by (nodes schema) user.know + sum_by (λ s. 1 + nodes schema s) user.secrets
+pub view_size-empty : (schema : DatabaseSchema) (user : UserProfile)
+    → view_size schema user [] ≡ sum_by (nodes schema) user.know + sum_by (λ s. 1 + nodes schema s) user.secrets
 unfolding view_size known
 view_size-empty schema user =
-    ap (λ n. n + sum_by (λ s. 1 + nodes schema s) user.secrets) (ap (λ (signed : List Signed). sum_by (λ (s : Signed). signed_nodes schema s.0 s.1) signed) (log-nil user) ∙ size-known schema user.know)
+    ap (λ n. n + sum_by (λ s. 1 + nodes schema s) user.secrets)
+    (ap (λ (signed : List Signed). sum_by (λ (s : Signed). signed_nodes schema s.0 s.1) signed) (log-nil user) ∙ size-known schema user.know)

@@ -1,10 +1,13 @@
 -- The clause form of a list of signed ground formulas: numbered clauses over numbered variables.
-use Rattle.std.specs.Prelude.{◌≡◌, ⊤, ℕ, ◌≤◌, ◌+◌, Bool, true, false, ◌&&◌, ◌==◌, if◌then◌else◌, List, [], ◌∷◌, ◌++◌, map, filter, bytes_eq}
+use Rattle.std.specs.Prelude.{◌≡◌, ⊤, ℕ, ◌≤◌, ◌+◌, Bool, true, false, ◌&&◌, ◌==◌, if◌then◌else◌}
+use Rattle.std.specs.Prelude.{List, [], ◌∷◌, ◌++◌, map, filter, bytes_eq}
 use Rattle.std.specs.List.{list_any}
 use Rattle.std.specs.FinSet as set
 use Rattle.cqe_base.specs.declared.world.Fact.{Fact}
 use Rattle.cqe_base.specs.Facts.{FactSet}
-use Rattle.cqe_base.specs.Ground.{Ground, Grounds, ground_true, ground_false, ground_atom, ground_not, ground_all, ground_some, ground_implies, ground_iff, no_grounds, more_grounds}
+use Rattle.cqe_base.specs.Ground.{Ground, Grounds, ground_true, ground_false, ground_atom}
+use Rattle.cqe_base.specs.Ground.{ground_not, ground_all, ground_some, ground_implies, ground_iff}
+use Rattle.cqe_base.specs.Ground.{no_grounds, more_grounds}
 use Rattle.cqe_base.specs.SignedGround.{SignedGround}
 use Rattle.cqe_base.specs.Literal.{Literal, Positive, Negative, opposite, distinct_literals}
 
@@ -33,7 +36,8 @@ is_numbered facts fact = list_any (λ e. same_fact fact e.fact) facts
 -- the number of a fact, or else the next free one
 abbrev pub number_of : List NumberedFact → Fact → ℕ → ℕ
 number_of [] fact next = next
-number_of (e ∷ facts) fact next = if same_fact fact e.fact then e.number else number_of facts fact next
+number_of (e ∷ facts) fact next =
+    if same_fact fact e.fact then e.number else number_of facts fact next
 
 -- the numbers of facts rise, from `low` on and below `high`
 abbrev pub NumbersRise : ℕ → List NumberedFact → ℕ → Type 0
@@ -45,7 +49,8 @@ abbrev pub NumberedOnce : List NumberedFact → Type 0
 NumberedOnce [] = ⊤
 NumberedOnce (e ∷ facts) = (is_numbered facts e.fact ≡ false) × NumberedOnce facts
 
--- each fact is numbered once, and each number is used once: it isn't that of the constant, and below the next free one
+-- each fact is numbered once, and each number is used once: it isn't that of the constant, and
+-- below the next free one
 pub record IsProper (n : Numbering) : Type 0 where
   pub rising : NumbersRise 1 n.facts n.variables
   pub once : NumberedOnce n.facts
@@ -99,12 +104,14 @@ literals_of (more_grounds a rest) n = literal_of a n ∷ literals_of rest (numbe
 -- variable v is true exactly where all literals are
 abbrev pub and_clauses : ℕ → List Literal → List (List Literal)
 and_clauses v literals =
-    map (λ l. distinct_literals (Negative v ∷ l ∷ [])) literals ++ distinct_literals (Positive v ∷ map opposite literals) ∷ []
+    map (λ l. distinct_literals (Negative v ∷ l ∷ [])) literals
+    ++ distinct_literals (Positive v ∷ map opposite literals) ∷ []
 
 -- variable v is true exactly where some literal is
 abbrev pub or_clauses : ℕ → List Literal → List (List Literal)
 or_clauses v literals =
-    map (λ l. distinct_literals (Positive v ∷ opposite l ∷ [])) literals ++ distinct_literals (Negative v ∷ literals) ∷ []
+    map (λ l. distinct_literals (Positive v ∷ opposite l ∷ [])) literals
+    ++ distinct_literals (Negative v ∷ literals) ∷ []
 
 -- variable v is true exactly where the two literals are both true or both false
 abbrev pub iff_clauses : ℕ → Literal → Literal → List (List Literal)
@@ -116,27 +123,35 @@ iff_clauses v a b =
     ∷ []
 
 abbrev mutual
-  -- the clauses that the walk of a formula appends: those of its children, then those of its own node
+  -- the clauses that the walk of a formula appends: those of its children, then those of its own
+  -- node
   pub clauses_of : Ground → Numbering → List (List Literal)
   clauses_of ground_true n = []
   clauses_of ground_false n = []
   clauses_of (ground_atom fact) n = []
   clauses_of (ground_not a) n = clauses_of a n
-  clauses_of (ground_all parts) n = clauses_of_parts parts n ++ and_clauses (numbering_after_parts parts n).variables (literals_of parts n)
-  clauses_of (ground_some parts) n = clauses_of_parts parts n ++ or_clauses (numbering_after_parts parts n).variables (literals_of parts n)
+  clauses_of (ground_all parts) n =
+      clauses_of_parts parts n
+      ++ and_clauses (numbering_after_parts parts n).variables (literals_of parts n)
+  clauses_of (ground_some parts) n =
+      clauses_of_parts parts n
+      ++ or_clauses (numbering_after_parts parts n).variables (literals_of parts n)
   clauses_of (ground_implies a b) n =
       clauses_of a n
       ++ clauses_of b (numbering_after a n)
-      ++ or_clauses (numbering_after b (numbering_after a n)).variables (opposite (literal_of a n) ∷ literal_of b (numbering_after a n) ∷ [])
+      ++ or_clauses (numbering_after b (numbering_after a n)).variables
+      (opposite (literal_of a n) ∷ literal_of b (numbering_after a n) ∷ [])
   clauses_of (ground_iff a b) n =
       clauses_of a n
       ++ clauses_of b (numbering_after a n)
-      ++ iff_clauses (numbering_after b (numbering_after a n)).variables (literal_of a n) (literal_of b (numbering_after a n))
+      ++ iff_clauses (numbering_after b (numbering_after a n)).variables (literal_of a n)
+      (literal_of b (numbering_after a n))
 
   -- the same for formulas from left to right
   pub clauses_of_parts : Grounds → Numbering → List (List Literal)
   clauses_of_parts no_grounds n = []
-  clauses_of_parts (more_grounds a rest) n = clauses_of a n ++ clauses_of_parts rest (numbering_after a n)
+  clauses_of_parts (more_grounds a rest) n =
+      clauses_of a n ++ clauses_of_parts rest (numbering_after a n)
 
 -- the literal that makes a signed formula true
 abbrev pub signed_literal : SignedGround → Numbering → Literal

@@ -19,6 +19,8 @@ abbrev pub fact_read : Result Formula Refusal → Option Fact
 fact_read (Ok sentence) = fact_in sentence
 fact_read (Err refusal) = None
 
--- the fact that a text states: it is a sentence that is a relation of constants, and has no parentheses around it
+-- the fact that a text states: it is a sentence that is a relation of constants, and has no
+-- parentheses around it
 unfoldable pub stated_fact : DatabaseSchema → Text → Option Fact
-stated_fact schema text = if is_next Open (tokens text) then None else fact_read (reading schema text)
+stated_fact schema text =
+    if is_next Open (tokens text) then None else fact_read (reading schema text)

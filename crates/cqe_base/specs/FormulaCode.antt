@@ -1,11 +1,14 @@
--- A code of formulas, for the checker alone: with it a list of formulas has a known equality. No clause rests on it, and nobody has to believe it.
+-- A code of formulas, for the checker alone: with it a list of formulas has a known equality. No
+-- clause rests on it, and nobody has to believe it.
 -- A formula is stored as the list of its parts, children before their parent.
 use Rattle.std.specs.Prelude.{◌≡◌, ℕ, zero, suc, List, [], ◌∷◌, ◌++◌, refl}
 use Rattle.std.specs.Coded.{Coded, Coded-set, code_by, coded_ℕ, coded_list, coded×}
 use Rattle.std.proofs.Common.{ap, ◌∙◌}
 use Rattle.cqe_base.specs.declared.sentence.Term.{Term}
 use Rattle.cqe_base.specs.declared.sentence.Term.TheVariants.{Constant as constant, Place}
-use Rattle.cqe_base.specs.Formula.{Formula, verum, falsum, atom, equality, inequality, negation, conjunction, disjunction, implication, biconditional, universal, existential}
+use Rattle.cqe_base.specs.Formula.{Formula, verum, falsum, atom, equality, inequality, negation}
+use Rattle.cqe_base.specs.Formula.{conjunction, disjunction, implication, biconditional, universal}
+use Rattle.cqe_base.specs.Formula.{existential}
 
 -- a term as three numbers
 abbrev CodedTerm : Type 0
@@ -85,17 +88,22 @@ step (suc (suc (suc (suc zero)))) number terms stack = of_two inequality terms s
 step (suc (suc (suc (suc (suc zero))))) number terms stack = on_one negation stack
 step (suc (suc (suc (suc (suc (suc zero)))))) number terms stack = on_two conjunction stack
 step (suc (suc (suc (suc (suc (suc (suc zero))))))) number terms stack = on_two disjunction stack
-step (suc (suc (suc (suc (suc (suc (suc (suc zero)))))))) number terms stack = on_two implication stack
-step (suc (suc (suc (suc (suc (suc (suc (suc (suc zero))))))))) number terms stack = on_two biconditional stack
-step (suc (suc (suc (suc (suc (suc (suc (suc (suc (suc zero)))))))))) number terms stack = on_one (universal number) stack
-step (suc (suc (suc (suc (suc (suc (suc (suc (suc (suc (suc zero))))))))))) number terms stack = on_one (existential number) stack
+step (suc (suc (suc (suc (suc (suc (suc (suc zero)))))))) number terms stack =
+    on_two implication stack
+step (suc (suc (suc (suc (suc (suc (suc (suc (suc zero))))))))) number terms stack =
+    on_two biconditional stack
+step (suc (suc (suc (suc (suc (suc (suc (suc (suc (suc zero)))))))))) number terms stack =
+    on_one (universal number) stack
+step (suc (suc (suc (suc (suc (suc (suc (suc (suc (suc (suc zero))))))))))) number terms stack =
+    on_one (existential number) stack
 step _ number terms stack = stack
 
 abbrev run : List Part → List Formula → List Formula
 run [] stack = stack
 run (p ∷ parts) stack = run parts (step p.0 p.1.0 p.1.1 stack)
 
-pub run-append : (first second : List Part) (stack : List Formula) → run (first ++ second) stack ≡ run second (run first stack)
+pub run-append : (first second : List Part) (stack : List Formula)
+    → run (first ++ second) stack ≡ run second (run first stack)
 run-append [] second stack = refl
 run-append (p ∷ first) second stack = run-append first second (step p.0 p.1.0 p.1.1 stack)
 
@@ -105,21 +113,33 @@ run-stored falsum stack = refl
 run-stored (atom r terms) stack = ap (λ ts. atom r ts ∷ stack) (terms_found-stored terms)
 run-stored (equality s t) stack = rw (term_found-stored s, term_found-stored t)
 run-stored (inequality s t) stack = rw (term_found-stored s, term_found-stored t)
-run-stored (negation a) stack = run-append (stored a) (part 5 0 [] ∷ []) stack ∙ ap (on_one negation) (run-stored a stack)
+run-stored (negation a) stack =
+    run-append (stored a) (part 5 0 [] ∷ []) stack ∙ ap (on_one negation) (run-stored a stack)
 run-stored (conjunction a b) stack =
-    run-append (stored a) (stored b ++ part 6 0 [] ∷ []) stack ∙ run-append (stored b) (part 6 0 [] ∷ []) (run (stored a) stack)
-    ∙ ap (λ s. on_two conjunction (run (stored b) s)) (run-stored a stack) ∙ ap (on_two conjunction) (run-stored b (a ∷ stack))
+    run-append (stored a) (stored b ++ part 6 0 [] ∷ []) stack
+    ∙ run-append (stored b) (part 6 0 [] ∷ []) (run (stored a) stack)
+    ∙ ap (λ s. on_two conjunction (run (stored b) s)) (run-stored a stack)
+    ∙ ap (on_two conjunction) (run-stored b (a ∷ stack))
 run-stored (disjunction a b) stack =
-    run-append (stored a) (stored b ++ part 7 0 [] ∷ []) stack ∙ run-append (stored b) (part 7 0 [] ∷ []) (run (stored a) stack)
-    ∙ ap (λ s. on_two disjunction (run (stored b) s)) (run-stored a stack) ∙ ap (on_two disjunction) (run-stored b (a ∷ stack))
+    run-append (stored a) (stored b ++ part 7 0 [] ∷ []) stack
+    ∙ run-append (stored b) (part 7 0 [] ∷ []) (run (stored a) stack)
+    ∙ ap (λ s. on_two disjunction (run (stored b) s)) (run-stored a stack)
+    ∙ ap (on_two disjunction) (run-stored b (a ∷ stack))
 run-stored (implication a b) stack =
-    run-append (stored a) (stored b ++ part 8 0 [] ∷ []) stack ∙ run-append (stored b) (part 8 0 [] ∷ []) (run (stored a) stack)
-    ∙ ap (λ s. on_two implication (run (stored b) s)) (run-stored a stack) ∙ ap (on_two implication) (run-stored b (a ∷ stack))
+    run-append (stored a) (stored b ++ part 8 0 [] ∷ []) stack
+    ∙ run-append (stored b) (part 8 0 [] ∷ []) (run (stored a) stack)
+    ∙ ap (λ s. on_two implication (run (stored b) s)) (run-stored a stack)
+    ∙ ap (on_two implication) (run-stored b (a ∷ stack))
 run-stored (biconditional a b) stack =
-    run-append (stored a) (stored b ++ part 9 0 [] ∷ []) stack ∙ run-append (stored b) (part 9 0 [] ∷ []) (run (stored a) stack)
-    ∙ ap (λ s. on_two biconditional (run (stored b) s)) (run-stored a stack) ∙ ap (on_two biconditional) (run-stored b (a ∷ stack))
-run-stored (universal d a) stack = run-append (stored a) (part 10 d [] ∷ []) stack ∙ ap (on_one (universal d)) (run-stored a stack)
-run-stored (existential d a) stack = run-append (stored a) (part 11 d [] ∷ []) stack ∙ ap (on_one (existential d)) (run-stored a stack)
+    run-append (stored a) (stored b ++ part 9 0 [] ∷ []) stack
+    ∙ run-append (stored b) (part 9 0 [] ∷ []) (run (stored a) stack)
+    ∙ ap (λ s. on_two biconditional (run (stored b) s)) (run-stored a stack)
+    ∙ ap (on_two biconditional) (run-stored b (a ∷ stack))
+run-stored (universal d a) stack =
+    run-append (stored a) (part 10 d [] ∷ []) stack ∙ ap (on_one (universal d)) (run-stored a stack)
+run-stored (existential d a) stack =
+    run-append (stored a) (part 11 d [] ∷ []) stack
+    ∙ ap (on_one (existential d)) (run-stored a stack)
 
 abbrev top_of : List Formula → Formula
 top_of [] = verum

@@ -2,7 +2,9 @@
 use Rattle.std.specs.Prelude.{ℕ, List, [], ◌∷◌, ◌++◌, sum_by}
 use Rattle.std.specs.List.{flat_map}
 use Rattle.cqe_base.specs.declared.world.Fact.{Fact}
-use Rattle.cqe_base.specs.Ground.{Ground, Grounds, ground_true, ground_false, ground_atom, ground_not, ground_all, ground_some, ground_implies, ground_iff, no_grounds, more_grounds, ground_nodes}
+use Rattle.cqe_base.specs.Ground.{Ground, Grounds, ground_true, ground_false, ground_atom}
+use Rattle.cqe_base.specs.Ground.{ground_not, ground_all, ground_some, ground_implies, ground_iff}
+use Rattle.cqe_base.specs.Ground.{no_grounds, more_grounds, ground_nodes}
 use Rattle.cqe_base.specs.SignedGround.{SignedGround}
 
 -- the nodes of signed ground formulas

@@ -1,10 +1,12 @@
 -- The limits within which users are served.
-use Rattle.std.specs.Prelude.{◌≡◌, ◌≤◌, ◌+◌, Bool, true, false, nat_le, [], ◌∷◌, ◌++◌, length, sum_by}
+use Rattle.std.specs.Prelude.{◌≡◌, ◌≤◌, ◌+◌, Bool, true, false, nat_le, [], ◌∷◌, ◌++◌, length}
+use Rattle.std.specs.Prelude.{sum_by}
 use Rattle.std.specs.List.{list_all}
 use Rattle.cqe_base.specs.Schema.{DatabaseSchema}
 use Rattle.cqe_base.specs.Formula.{Formula, nodes, is_sentence_of}
 use Rattle.cqe_base.specs.Entailment.{are_sentences_of}
-use Rattle.cqe_base.specs.History.{UserProfile, AnsweredQuery, History, known, log, signed_nodes, view_size, is_user_of}
+use Rattle.cqe_base.specs.History.{UserProfile, AnsweredQuery, History, known, log, signed_nodes}
+use Rattle.cqe_base.specs.History.{view_size, is_user_of}
 use Rattle.cqe_base.specs.Censor.{guarded}
 use Rattle.cqe_base.specs.Run.{is_full, is_too_large}
 
@@ -12,7 +14,8 @@ use Rattle.cqe_base.specs.Run.{is_full, is_too_large}
 abbrev pub is_small : DatabaseSchema → Formula → Bool
 is_small schema sentence = nat_le (nodes schema sentence) 20000
 
--- a user keeps the limits: what he knows and his secrets are sentences of the schema of at most 20,000 nodes; they are at most 256 and 1 to 16;
+-- a user keeps the limits: what he knows and his secrets are sentences of the schema of at most
+-- 20,000 nodes; they are at most 256 and 1 to 16;
 -- his view without entries has at most 40,000 nodes; and his budget is 1 to 4,000,000
 pub record KeepsLimits (schema : DatabaseSchema) (user : UserProfile) : Type 0 where
   pub sentences : is_user_of schema user ≡ true
@@ -25,8 +28,10 @@ pub record KeepsLimits (schema : DatabaseSchema) (user : UserProfile) : Type 0 w
   pub some_budget : 1 ≤ user.budget
   pub budget : user.budget ≤ 4000000
 
--- an entry was added within the limits: its query is a sentence of the schema, and when it was asked the history wasn't full and the view not too large for it
-pub record KeepsSizesAt (schema : DatabaseSchema) (user : UserProfile) (before : History) (entry : AnsweredQuery) : Type 0 where
+-- an entry was added within the limits: its query is a sentence of the schema, and when it was
+-- asked the history wasn't full and the view not too large for it
+pub record KeepsSizesAt (schema : DatabaseSchema) (user : UserProfile) (before : History)
+    (entry : AnsweredQuery) : Type 0 where
   pub sentence : is_sentence_of schema entry.query ≡ true
   pub room : is_full before entry.length ≡ false
   pub small : is_too_large schema user before entry.query ≡ false
@@ -34,7 +39,8 @@ pub record KeepsSizesAt (schema : DatabaseSchema) (user : UserProfile) (before :
 -- each entry was
 abbrev pub KeepsSizes : DatabaseSchema → UserProfile → History → Type 0
 KeepsSizes schema user entries =
-    (before : History) (entry : AnsweredQuery) (after : History) → entries ≡ before ++ entry ∷ after → KeepsSizesAt schema user before entry
+    (before : History) (entry : AnsweredQuery) (after : History) → entries ≡ before ++ entry ∷ after
+    → KeepsSizesAt schema user before entry
 
 -- what a user knows, his secrets and what is guarded from him are small enough for his probes
 pub record FitsProbes (schema : DatabaseSchema) (user : UserProfile) : Type 0 where
@@ -48,15 +54,21 @@ pub record FitsProbes (schema : DatabaseSchema) (user : UserProfile) : Type 0 wh
 
 -- a user who keeps the limits fits his probes
 abbrev pub LimitsFitProbes : Type 0
-LimitsFitProbes = (schema : DatabaseSchema) (user : UserProfile) → KeepsLimits schema user → FitsProbes schema user
+LimitsFitProbes = (schema : DatabaseSchema) (user : UserProfile) → KeepsLimits schema user
+    → FitsProbes schema user
 
--- where the view isn't too large for a query, the query has at most 20,000 nodes, and the log with it or with its negation at most 60,000
-pub record FitsLog (schema : DatabaseSchema) (user : UserProfile) (entries : History) (query : Formula) : Type 0 where
+-- where the view isn't too large for a query, the query has at most 20,000 nodes, and the log with
+-- it or with its negation at most 60,000
+pub record FitsLog (schema : DatabaseSchema) (user : UserProfile) (entries : History)
+    (query : Formula) : Type 0 where
   pub query_nodes : nodes schema query ≤ 20000
-  pub log_nodes : (yes : Bool) → sum_by (λ signed. signed_nodes schema signed.0 signed.1) (log user entries) + signed_nodes schema query yes ≤ 60000
+  pub log_nodes : (yes : Bool)
+      → sum_by (λ signed. signed_nodes schema signed.0 signed.1) (log user entries)
+      + signed_nodes schema query yes ≤ 60000
 
 -- the log of a user who keeps the limits fits a query that isn't too large
 abbrev pub SmallQueriesFit : Type 0
 SmallQueriesFit =
     (schema : DatabaseSchema) (user : UserProfile) (entries : History) (query : Formula)
-    → KeepsLimits schema user → is_too_large schema user entries query ≡ false → FitsLog schema user entries query
+    → KeepsLimits schema user → is_too_large schema user entries query ≡ false
+    → FitsLog schema user entries query

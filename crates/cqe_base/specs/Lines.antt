@@ -1,5 +1,7 @@
--- The lines of bytes. A line ends with a line feed, and a carriage return just before that is dropped; a rest without a line feed is a line too, unless it is empty.
-use Rattle.std.specs.Prelude.{◌==◌, ℕ, Bool, true, false, nat_lt, List, [], ◌∷◌, ◌++◌, length, if◌then◌else◌}
+-- The lines of bytes. A line ends with a line feed, and a carriage return just before that is
+-- dropped; a rest without a line feed is a line too, unless it is empty.
+use Rattle.std.specs.Prelude.{◌==◌, ℕ, Bool, true, false, nat_lt, List, [], ◌∷◌, ◌++◌, length}
+use Rattle.std.specs.Prelude.{if◌then◌else◌}
 
 -- a line as it stands in the bytes: without its line feed, and whether it had one
 pub record TextLine : Type 0 where
@@ -11,7 +13,8 @@ abbrev pub lines_after : List ℕ → List ℕ → List TextLine
 lines_after [] [] = []
 lines_after (b ∷ line) [] = record { bytes = b ∷ line; ended = false } ∷ []
 lines_after line (b ∷ rest) =
-    if b == 10 then record { bytes = line; ended = true } ∷ lines_after [] rest else lines_after (line ++ b ∷ []) rest
+    if b == 10 then record { bytes = line; ended = true } ∷ lines_after [] rest
+    else lines_after (line ++ b ∷ []) rest
 
 -- the lines of bytes
 unfoldable pub text_lines : List ℕ → List TextLine

@@ -1,7 +1,11 @@
 -- The search machine: its state, its four rules in order, their costs, and its end.
-use Rattle.std.specs.Prelude.{ℕ, zero, suc, ◌+◌, ◌≡◌, Bool, not, ◌&&◌, if◌then◌else◌, nat_lt, nat_le, ◌==◌, max, List, [], ◌∷◌, ◌++◌, length, map, Option, Some, None, slice_index_or}
-use Rattle.std.specs.List.{filter, find, list_any, list_all, position_from, range_with_len, count_by}
-use Rattle.cqe_base.specs.Literal.{Literal, Positive, Negative, variable_of, opposite, same_literal, has_literal}
+use Rattle.std.specs.Prelude.{ℕ, zero, suc, ◌+◌, ◌≡◌, Bool, not, ◌&&◌, if◌then◌else◌, nat_lt}
+use Rattle.std.specs.Prelude.{nat_le, ◌==◌, max, List, [], ◌∷◌, ◌++◌, length, map, Option, Some}
+use Rattle.std.specs.Prelude.{None, slice_index_or}
+use Rattle.std.specs.List.{filter, find, list_any, list_all, position_from, range_with_len}
+use Rattle.std.specs.List.{count_by}
+use Rattle.cqe_base.specs.Literal.{Literal, Positive, Negative, variable_of, opposite, same_literal}
+use Rattle.cqe_base.specs.Literal.{has_literal}
 use Rattle.cqe_base.specs.Refutation.{RefutationLine, resolvent}
 
 -- a literal of the trail: decided, or true because of the clause of this number
@@ -14,7 +18,8 @@ abbrev pub assigned_literal : Assigned → Literal
 assigned_literal (Decided l) = l
 assigned_literal (Because i l) = l
 
--- the given and then the learnt clauses, the trail with its latest literal first, and a line for each learnt clause
+-- the given and then the learnt clauses, the trail with its latest literal first, and a line for
+-- each learnt clause
 pub record State : Type 0 where
   pub clauses : List (List Literal)
   pub trail : List Assigned
@@ -42,7 +47,8 @@ level (Because i l ∷ trail) = level trail
 abbrev pub level_of : List Assigned → Literal → ℕ
 level_of [] l = 0
 level_of (a ∷ trail) l =
-    if variable_of l == variable_of (assigned_literal a) then level (a ∷ trail) else level_of trail l
+    if variable_of l == variable_of (assigned_literal a) then level (a ∷ trail)
+    else level_of trail l
 
 -- a literal of the current level
 abbrev pub is_current : List Assigned → Literal → Bool
@@ -70,24 +76,31 @@ resolved_with clauses None line = line
 resolved_with clauses (Some (Decided l)) line = line
 resolved_with clauses (Some (Because i l)) line = resolved_line clauses i l line
 
--- while more than `keep` literals of the clause are of the current level, the one whose opposite stands latest on the trail is resolved away with that opposite's cause; at most so many times
-abbrev pub analysis : List (List Literal) → List Assigned → (keep times : ℕ) → RefutationLine → RefutationLine
+-- while more than `keep` literals of the clause are of the current level, the one whose opposite
+-- stands latest on the trail is resolved away with that opposite's cause; at most so many times
+abbrev pub analysis : List (List Literal) → List Assigned → (keep times : ℕ) → RefutationLine
+    → RefutationLine
 analysis clauses trail keep zero line = line
 analysis clauses trail keep (suc times) line =
-    if nat_lt keep (current_count trail line.clause) then analysis clauses trail keep times (resolved_with clauses (latest_against trail line.clause) line)
+    if nat_lt keep (current_count trail line.clause)
+    then analysis clauses trail keep times
+    (resolved_with clauses (latest_against trail line.clause) line)
     else line
 
--- how many literals of the current level a conflict's clause keeps: one, or none where nothing was decided
+-- how many literals of the current level a conflict's clause keeps: one, or none where nothing was
+-- decided
 abbrev pub kept_count : List Assigned → ℕ
 kept_count trail = if level trail == 0 then 0 else 1
 
--- the line that a conflict gives; each resolution goes back along the trail, so its length bounds their number
+-- the line that a conflict gives; each resolution goes back along the trail, so its length bounds
+-- their number
 abbrev pub conflict_line : State → ℕ → RefutationLine
 conflict_line s i =
     analysis s.clauses s.trail (kept_count s.trail) (length s.trail)
     record { clause = slice_index_or s.clauses i []; chain = i ∷ [] }
 
--- a conflict costs one, one for each resolution and one for each literal of the line's clause; the chain has the number of the conflict's clause and one for each resolution
+-- a conflict costs one, one for each resolution and one for each literal of the line's clause; the
+-- chain has the number of the conflict's clause and one for each resolution
 abbrev pub conflict_cost : RefutationLine → ℕ
 conflict_cost line = length line.chain + length line.clause
 
@@ -106,14 +119,16 @@ abbrev pub with_asserted : ℕ → Option Literal → List Assigned → List Ass
 with_asserted i None trail = trail
 with_asserted i (Some l) trail = Because i l ∷ trail
 
--- the line's clause is learnt, the trail is cut to the highest level of its other literals, and its literal of the current level joins the trail
+-- the line's clause is learnt, the trail is cut to the highest level of its other literals, and its
+-- literal of the current level joins the trail
 abbrev pub state_after_conflict : State → RefutationLine → State
 state_after_conflict s line =
     record {
       clauses = s.clauses ++ line.clause ∷ [];
       trail =
           with_asserted (length s.clauses) (find (is_current s.trail) line.clause)
-          (cut (highest_level s.trail (filter (λ l. not (is_current s.trail l)) line.clause)) s.trail);
+          (cut (highest_level s.trail (filter (λ l. not (is_current s.trail l)) line.clause))
+          s.trail);
       lines = s.lines ++ line ∷ [];
     }
 
@@ -152,18 +167,21 @@ unit_or i (Some l) later = Some (i, l)
 -- the first clause that has such a literal, with its number, where the clauses are numbered from i
 abbrev pub first_unit : List Assigned → ℕ → List (List Literal) → Option (ℕ × Literal)
 first_unit trail i [] = None
-first_unit trail i (clause ∷ rest) = unit_or i (unit_literal trail clause) (first_unit trail (i + 1) rest)
+first_unit trail i (clause ∷ rest) =
+    unit_or i (unit_literal trail clause) (first_unit trail (i + 1) rest)
 
 -- the lowest variable below n that isn't assigned
 abbrev pub first_unassigned : List Assigned → ℕ → Option ℕ
 first_unassigned trail n =
-    find (λ v. not (is_true trail (Positive v)) && not (is_true trail (Negative v))) (range_with_len 0 n)
+    find (λ v. not (is_true trail (Positive v))
+    && not (is_true trail (Negative v))) (range_with_len 0 n)
 
 -- the signs of the variables below n
 abbrev pub signs_of : List Assigned → ℕ → List Bool
 signs_of trail n = map (λ v. is_true trail (Positive v)) (range_with_len 0 n)
 
--- the third rule decides the lowest variable that isn't assigned, as false; the fourth ends with the model
+-- the third rule decides the lowest variable that isn't assigned, as false; the fourth ends with
+-- the model
 abbrev pub decide_step : ℕ → State → Option ℕ → Step
 decide_step n s None = Ends 1 (Model (signs_of s.trail n))
 decide_step n s (Some v) = Continues 1 (record s { trail = Decided (Negative v) ∷ s.trail })
@@ -211,6 +229,7 @@ abbrev pub end_within_cost : ℕ → Option Ended → Option End
 end_within_cost budget None = None
 end_within_cost budget (Some e) = if nat_le e.cost budget then Some e.end else None
 
--- the machine's end, or none where its whole cost is above the budget; a step costs at least 1, so no more steps than the budget are looked at
+-- the machine's end, or none where its whole cost is above the budget; a step costs at least 1, so
+-- no more steps than the budget are looked at
 abbrev pub end_within_budget : List (List Literal) → ℕ → ℕ → Option End
 end_within_budget clauses n budget = end_within_cost budget (end_within n budget (start clauses))

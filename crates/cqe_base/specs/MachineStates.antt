@@ -1,8 +1,12 @@
--- What holds of each state that the search machine reaches, and of the clause of a conflict once it was analysed.
-use Rattle.std.specs.Prelude.{◌≡◌, ◌⊎◌, ℕ, ◌<◌, ◌≤◌, Bool, true, false, not, eqb, List, [], ◌∷◌, length, slice_index_or}
+-- What holds of each state that the search machine reaches, and of the clause of a conflict once it
+-- was analysed.
+use Rattle.std.specs.Prelude.{◌≡◌, ◌⊎◌, ℕ, ◌<◌, ◌≤◌, Bool, true, false, not, eqb, List, [], ◌∷◌}
+use Rattle.std.specs.Prelude.{length, slice_index_or}
 use Rattle.std.specs.List.{list_any, filter, AllByRecursion}
-use Rattle.cqe_base.specs.Literal.{Literal, variable_of, has_literal, ClauseBelow, ClausesBelow, HasNoRepeat, HaveNoRepeat}
-use Rattle.cqe_base.specs.Machine.{Assigned, Decided, Because, assigned_literal, State, is_true, is_false, current_count}
+use Rattle.cqe_base.specs.Literal.{Literal, variable_of, has_literal, ClauseBelow, ClausesBelow}
+use Rattle.cqe_base.specs.Literal.{HasNoRepeat, HaveNoRepeat}
+use Rattle.cqe_base.specs.Machine.{Assigned, Decided, Because, assigned_literal, State, is_true}
+use Rattle.cqe_base.specs.Machine.{is_false, current_count}
 
 -- whether a variable is on the trail
 abbrev pub is_assigned : List Assigned → ℕ → Bool
@@ -11,7 +15,8 @@ is_assigned t v = list_any (λ a. eqb v (variable_of (assigned_literal a))) t
 -- the trail's variables are below n, and each is there once
 abbrev pub IsDistinct : ℕ → List Assigned → Type 0
 IsDistinct n [] = Unit {0}
-IsDistinct n (a ∷ t) = (variable_of (assigned_literal a) < n) × (is_assigned t (variable_of (assigned_literal a)) ≡ false) × IsDistinct n t
+IsDistinct n (a ∷ t) = (variable_of (assigned_literal a) < n)
+    × (is_assigned t (variable_of (assigned_literal a)) ≡ false) × IsDistinct n t
 
 -- the literals are false
 abbrev pub AllFalse : List Assigned → List Literal → Type 0

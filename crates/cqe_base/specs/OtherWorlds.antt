@@ -15,7 +15,8 @@ use Rattle.cqe_base.specs.Hiding.{RepliesAlike, IsAlike}
 abbrev pub secret_at : UserProfile → ℕ → Formula
 secret_at user k = slice_index_or user.secrets k falsum
 
--- what is guarded in the place of a secret: for lying the disjunction of the secrets, and else the secret
+-- what is guarded in the place of a secret: for lying the disjunction of the secrets, and else the
+-- secret
 abbrev pub guard_by : Method → List Formula → Formula → Formula
 guard_by Lying secrets secret = disjunction_of secrets
 guard_by Refusal secrets secret = secret
@@ -26,7 +27,8 @@ abbrev pub guard_at : UserProfile → ℕ → Formula
 guard_at user k = guard_by user.method user.secrets (secret_at user k)
 
 -- the entries are legal for some world in which the user is admitted
-pub record IsLegalSomewhere (schema : DatabaseSchema) (user : UserProfile) (entries : History) : Type 0 where
+pub record IsLegalSomewhere (schema : DatabaseSchema) (user : UserProfile) (entries : History) :
+    Type 0 where
   pub world : FactSet
   pub admits : admitted schema world user ≡ true
   pub legal : IsLegal schema world user entries
@@ -38,15 +40,18 @@ LogsKeepSecrets =
     → IsAdmissible schema world user → IsLegal schema world user entries
     → entails_some schema (log user entries) (guarded user) ≡ false
 
--- each world in which the log of a legal history of an admitted user is true and a guarded sentence false is alike
+-- each world in which the log of a legal history of an admitted user is true and a guarded sentence
+-- false is alike
 abbrev pub CountermodelsAreAlike : Type 0
 CountermodelsAreAlike =
-    (schema : DatabaseSchema) (world : FactSet) (user : UserProfile) (entries : History) (goal : Formula) (other : FactSet)
+    (schema : DatabaseSchema) (world : FactSet) (user : UserProfile) (entries : History)
+    (goal : Formula) (other : FactSet)
     → admitted schema world user ≡ true → IsLegal schema world user entries
     → Contains (guarded user) goal → IsCountermodel schema (log user entries) (goal, true) other
     → IsAlike schema user entries world other
 
--- where a history is legal in a world that admits the user as another does, each run that ends with it in the other world gets the same replies there
+-- where a history is legal in a world that admits the user as another does, each run that ends with
+-- it in the other world gets the same replies there
 abbrev pub LegalEntriesReplyAlike : Type 0
 LegalEntriesReplyAlike =
     (schema : DatabaseSchema) (user : UserProfile) (entries : History) (world other : FactSet)
@@ -56,5 +61,6 @@ LegalEntriesReplyAlike =
 -- where a disjunction is false, each of its sentences is
 abbrev pub FalseDisjunctions : Type 0
 FalseDisjunctions =
-    (schema : DatabaseSchema) (world : FactSet) (sentences : List Formula) → true_in schema world (disjunction_of sentences) ≡ false
+    (schema : DatabaseSchema) (world : FactSet) (sentences : List Formula)
+    → true_in schema world (disjunction_of sentences) ≡ false
     → (sentence : Formula) → Contains sentences sentence → true_in schema world sentence ≡ false

@@ -1,11 +1,15 @@
 -- The tokens of a text.
-use Rattle.std.specs.Prelude.{◌≡◌, ◌⊎◌, ℕ, zero, suc, ◌+◌, ◌-◌, ◌==◌, Bool, true, ◌&&◌, ◌||◌, not, List, [], ◌∷◌, length, take, if◌then◌else◌, codes, nat_eq, bytes_eq, slice_index, ◌<◌, ◌≤◌}
+use Rattle.std.specs.Prelude.{◌≡◌, ◌⊎◌, ℕ, zero, suc, ◌+◌, ◌-◌, ◌==◌, Bool, true, ◌&&◌, ◌||◌, not}
+use Rattle.std.specs.Prelude.{List, [], ◌∷◌, length, take, if◌then◌else◌, codes, nat_eq, bytes_eq}
+use Rattle.std.specs.Prelude.{slice_index, ◌<◌, ◌≤◌}
 use Rattle.std.specs.List.{starts_with, prefix_len}
 use Rattle.std.specs.Char.{is_ascii_alphabetic}
 use Prim.Native.String.{String}
 use Rattle.cqe_base.specs.Schema.{is_name_byte, is_identifier}
 use Rattle.cqe_base.specs.declared.text.Symbol.{Symbol}
-use Rattle.cqe_base.specs.declared.text.Symbol.TheVariants.{Name, Not, And, Or, True, False, Forall, Exists, Open, Close, Comma, Colon, Dot, Equal, Differs, Arrow, DoubleArrow}
+use Rattle.cqe_base.specs.declared.text.Symbol.TheVariants.{Name, Not, And, Or, True, False, Forall}
+use Rattle.cqe_base.specs.declared.text.Symbol.TheVariants.{Exists, Open, Close, Comma, Colon, Dot}
+use Rattle.cqe_base.specs.declared.text.Symbol.TheVariants.{Equal, Differs, Arrow, DoubleArrow}
 
 -- a token: its bytes, and the place of the first of them in the text
 pub record Token : Type 0 where
@@ -25,19 +29,22 @@ unfoldable pub mark_length : List ℕ → ℕ
 mark_length text =
     if begins "<->" text then 3
     else if begins "->" text || begins "!=" text then 2
-    else if begins "(" text || begins ")" text || begins "," text || begins ":" text || begins "." text || begins "=" text then 1
+    else if begins "(" text || begins ")" text || begins "," text || begins ":" text
+    || begins "." text || begins "=" text then 1
     else 0
 
 -- how many bytes the longest token at the front of the text has, or 0 where none begins there
 unfoldable pub token_length : List ℕ → ℕ
 token_length [] = 0
-token_length (b ∷ text) = if is_ascii_alphabetic b then 1 + prefix_len is_name_byte text else mark_length (b ∷ text)
+token_length (b ∷ text) =
+    if is_ascii_alphabetic b then 1 + prefix_len is_name_byte text else mark_length (b ∷ text)
 
 -- the first n bytes are there, and are ASCII
 abbrev pub IsAsciiUpTo : ℕ → List ℕ → Type 0
 IsAsciiUpTo n text = (n ≤ length text) × ((k : ℕ) → k < n → slice_index text k < 128)
 
--- the tokens of the text that begins at a place, after so many bytes that belong to the token before them
+-- the tokens of the text that begins at a place, after so many bytes that belong to the token
+-- before them
 unfoldable pub tokens_from : ℕ → ℕ → List ℕ → List Token
 tokens_from place inside [] = []
 tokens_from place (suc inside) (b ∷ text) = tokens_from (place + 1) inside text
@@ -48,7 +55,8 @@ tokens_from place zero (b ∷ text) =
     else if n == 0 then []
     else record { text = take n (b ∷ text); start = place } ∷ others
 
--- where these tokens end: the end of the text, or the first byte that begins no token and isn't a blank
+-- where these tokens end: the end of the text, or the first byte that begins no token and isn't a
+-- blank
 unfoldable pub end_from : ℕ → ℕ → List ℕ → ℕ
 end_from place inside [] = place
 end_from place (suc inside) (b ∷ text) = end_from (place + 1) inside text
@@ -116,7 +124,8 @@ same_symbol a b = number_of a == number_of b
 
 -- the tokens that aren't words
 abbrev pub marks : List (List ℕ)
-marks = codes "(" ∷ codes ")" ∷ codes "," ∷ codes ":" ∷ codes "." ∷ codes "=" ∷ codes "!=" ∷ codes "->" ∷ codes "<->" ∷ []
+marks = codes "(" ∷ codes ")" ∷ codes "," ∷ codes ":" ∷ codes "." ∷ codes "=" ∷ codes "!="
+    ∷ codes "->" ∷ codes "<->" ∷ []
 
 -- bytes are one of these lists
 abbrev pub IsOneOf : List ℕ → List (List ℕ) → Type 0

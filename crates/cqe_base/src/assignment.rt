@@ -6,7 +6,8 @@ ghost use Rattle.cqe_base.specs.Facts.{fact_of};
 use crate::sentence::{Constant, Term};
 use crate::world::Fact;
 
-/// The constant that a term is where the variables, from the outermost quantifier's on, have these constants.
+/// The constant that a term is where the variables, from the outermost quantifier's on, have these
+/// constants.
 /// A variable beyond them is the first constant of the first domain.
 pub fn value_of(places: &[Constant], term: &Term) -> Constant
     ensures { result ≡ value_of places.now term.now }

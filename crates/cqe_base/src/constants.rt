@@ -1,6 +1,8 @@
 //! The constants of all domains by their names.
 
-ghost use Rattle.std.specs.Prelude.{◌≡◌, ◌≤◌, ◌+◌, List, ℕ, Some, None, true, IfOk, OnOk, length, nat_le, position, option_map, bytes_eq, string_bytes, if◌then◌else◌};
+ghost use Rattle.std.specs.Prelude.{◌≡◌, ◌≤◌, ◌+◌, List, ℕ, Some, None, true, IfOk, OnOk, length};
+ghost use Rattle.std.specs.Prelude.{nat_le, position, option_map, bytes_eq, string_bytes};
+ghost use Rattle.std.specs.Prelude.{if◌then◌else◌};
 ghost use Rattle.std.specs.List.{list_all};
 ghost use Rattle.std.specs.Option.{option_or};
 ghost use Rattle.std.specs.HashMap.{get_by_text};
@@ -19,7 +21,8 @@ fn add_constant(
     constant: Constant,
 ) -> Result<(), AllocError>
     ensures { OnOk result ((text : List ℕ) → get_by_text by_name.new text ≡
-        option_or (get_by_text by_name.old text) (if bytes_eq name.now text then Some constant else None)) }
+        option_or (get_by_text by_name.old text)
+        (if bytes_eq name.now text then Some constant else None)) }
 {
     if !by_name.contains_key(name) {
         by_name.insert(String::from_str(alloc, name)?, constant)?;
@@ -36,7 +39,9 @@ fn add_constants(
 ) -> Result<(), AllocError>
     requires { length names.now ≤ 1024 }
     ensures { OnOk result ((text : List ℕ) → get_by_text by_name.new text ≡
-        option_or (get_by_text by_name.old text) (option_map (λ i. record { domain = domain; index = i }) (position (λ n. bytes_eq (string_bytes n) text) names.now))) }
+        option_or (get_by_text by_name.old text)
+        (option_map (λ i. record { domain = domain; index = i })
+        (position (λ n. bytes_eq (string_bytes n) text) names.now))) }
 {
     for (place, name) in names.iter().enumerate() {
         let constant = Constant {

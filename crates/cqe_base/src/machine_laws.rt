@@ -1,5 +1,16 @@
-//! Laws of clause forms, refutations and the search machine. Each function computes nothing: its clause is the law.
-ghost use Rattle.cqe_base.specs.MachineLaws.{ResolutionIsSound, RefutationIsSound, ModelsAreWorlds, ModelGivesWorld, ClauseFormIsPrefix, NumberingGoesOn, NumberingsAreProper, NumberedFactsStay, NumberedFactsAreOfSchema, ClauseFormUsesItsVariables, ClauseFormHasNoRepeat, VariablesAreFew, NumberedFactsAreFew, NumberedFactsOccur, GroundedFactsAreOfSchema, MachineHasOneEnd, BudgetIsWholeCost, MachineEndsWithinBound, MachineEndsAreRight, GroundFollowsEntails, GroundOpenIsOpen, RefutationEntails, ModelIsCountermodel, SpentIsCost, EnoughIsNeverSpent};
+//! Laws of clause forms, refutations and the search machine. Each function computes nothing: its
+//! clause is the law.
+ghost use Rattle.cqe_base.specs.MachineLaws.{ResolutionIsSound, RefutationIsSound, ModelsAreWorlds};
+ghost use Rattle.cqe_base.specs.MachineLaws.{ModelGivesWorld, ClauseFormIsPrefix, NumberingGoesOn};
+ghost use Rattle.cqe_base.specs.MachineLaws.{NumberingsAreProper, NumberedFactsStay};
+ghost use Rattle.cqe_base.specs.MachineLaws.{NumberedFactsAreOfSchema, ClauseFormUsesItsVariables};
+ghost use Rattle.cqe_base.specs.MachineLaws.{ClauseFormHasNoRepeat, VariablesAreFew};
+ghost use Rattle.cqe_base.specs.MachineLaws.{NumberedFactsAreFew, NumberedFactsOccur};
+ghost use Rattle.cqe_base.specs.MachineLaws.{GroundedFactsAreOfSchema, MachineHasOneEnd};
+ghost use Rattle.cqe_base.specs.MachineLaws.{BudgetIsWholeCost, MachineEndsWithinBound};
+ghost use Rattle.cqe_base.specs.MachineLaws.{MachineEndsAreRight, GroundFollowsEntails};
+ghost use Rattle.cqe_base.specs.MachineLaws.{GroundOpenIsOpen, RefutationEntails};
+ghost use Rattle.cqe_base.specs.MachineLaws.{ModelIsCountermodel, SpentIsCost, EnoughIsNeverSpent};
 ghost use Rattle.cqe_base.specs.Trace.{WorkedTrace};
 
 /// The resolvent of two true clauses is true.
@@ -17,7 +28,8 @@ pub fn law_models_are_worlds()
     ensures { ModelsAreWorlds }
 {}
 
-/// The numbered facts that a model of a clause form makes true are a world in which the list is true.
+/// The numbered facts that a model of a clause form makes true are a world in which the list is
+/// true.
 pub fn law_model_gives_world()
     ensures { ModelGivesWorld }
 {}
@@ -92,12 +104,14 @@ pub fn law_ground_open_is_open()
     ensures { GroundOpenIsOpen }
 {}
 
-/// A right refutation of a probe's clause form shows, without a search, that the premises entail the goal.
+/// A right refutation of a probe's clause form shows, without a search, that the premises entail
+/// the goal.
 pub fn law_refutation_entails()
     ensures { RefutationEntails }
 {}
 
-/// The world of a right model of a probe's clause form is one of the schema, with the premises true and the goal false.
+/// The world of a right model of a probe's clause form is one of the schema, with the premises true
+/// and the goal false.
 pub fn law_model_is_countermodel()
     ensures { ModelIsCountermodel }
 {}

@@ -1,13 +1,16 @@
 //! Which sentences are sentences of a schema.
 ghost use Rattle.std.specs.Prelude.{◌≡◌, true, ◌+◌, ◌≤◌, ◌<◌, [], ◌∷◌, ◌++◌, ◌&&◌, length, take};
 ghost use Rattle.cqe_base.specs.Schema.{columns_of};
-ghost use Rattle.cqe_base.specs.Formula.{formula_of, term_domain, is_domain, have_one_domain, have_domains, fit_relation, may_quantify, is_well_formed, is_sentence_of};
+ghost use Rattle.cqe_base.specs.Formula.{formula_of, term_domain, is_domain, have_one_domain};
+ghost use Rattle.cqe_base.specs.Formula.{have_domains, fit_relation, may_quantify, is_well_formed};
+ghost use Rattle.cqe_base.specs.Formula.{is_sentence_of};
 
 use crate::schema::Schema;
 use crate::sentence::{Sentence, Term};
 
-/// Whether it is a closed sentence of the schema: each variable is bound by one of the enclosing quantifiers, of which at
-/// most eight are nested, and each term has the domain that its column or the other side of its equation asks for.
+/// Whether it is a closed sentence of the schema: each variable is bound by one of the enclosing
+/// quantifiers, of which at most eight are nested, and each term has the domain that its column or
+/// the other side of its equation asks for.
 pub fn is_sentence_of(schema: &Schema, sentence: &Sentence) -> bool
     ensures { result ≡ is_sentence_of schema.now (formula_of sentence.now) }
 {
@@ -56,7 +59,9 @@ fn is_quantified(
     body: &Sentence,
 ) -> bool
     requires { depth ≤ 8 }
-    ensures { result ≡ (may_quantify schema.now (take depth scope) domain && is_well_formed schema.now (take depth scope ++ domain ∷ []) (formula_of body.now)) }
+    ensures { result
+        ≡ (may_quantify schema.now (take depth scope) domain
+        && is_well_formed schema.now (take depth scope ++ domain ∷ []) (formula_of body.now)) }
 {
     if depth >= 8 || (domain as usize) >= schema.domains().len() {
         return false;
@@ -91,7 +96,9 @@ fn is_domain(found: Option<u32>, domain: u32) -> bool
 
 /// Whether both terms have a domain, and the same.
 fn have_one_domain(schema: &Schema, scope: &[u32], s: &Term, t: &Term) -> bool
-    ensures { result ≡ have_one_domain (term_domain schema.now scope.now s.now) (term_domain schema.now scope.now t.now) }
+    ensures { result
+        ≡ have_one_domain (term_domain schema.now scope.now s.now)
+        (term_domain schema.now scope.now t.now) }
 {
     match term_domain(schema, scope, s) {
         Some(domain) => is_domain(term_domain(schema, scope, t), domain),
@@ -101,7 +108,8 @@ fn have_one_domain(schema: &Schema, scope: &[u32], s: &Term, t: &Term) -> bool
 
 /// Whether terms fit a relation.
 fn fit_relation(schema: &Schema, scope: &[u32], terms: &[Term], relation: u32) -> bool
-    ensures { result ≡ fit_relation schema.now scope.now terms.now (columns_of schema.now relation) }
+    ensures { result
+        ≡ fit_relation schema.now scope.now terms.now (columns_of schema.now relation) }
 {
     match schema.relations().get(relation as usize) {
         Some(found) => have_domains(schema, scope, terms, &found.columns),

@@ -1,11 +1,13 @@
-//! The journals and the batch of the ward over real files: the program's `init` and then its `batch`, with the words of
-//! the example and the journals in the folder in which it runs.
+//! The journals and the batch of the ward over real files: the program's `init` and then its
+//! `batch`, with the words of the example and the journals in the folder in which it runs.
 //!
-//! It is here for its stored run: a program is run with one list of words, and this one shows that journals which were made
-//! by one call of `top` are opened by the next, over real files, and that a `* restart` finds what was told. It promises
-//! what `top` of `cqe_top` promises of each call; the second is made only where the first ended with 0.
+//! It is here for its stored run: a program is run with one list of words, and this one shows that
+//! journals which were made by one call of `top` are opened by the next, over real files, and that
+//! a `* restart` finds what was told. It promises what `top` of `cqe_top` promises of each call;
+//! the second is made only where the first ended with 0.
 //!
-//! `data` has the policy and the facts, `stdin` the script, `stdout` what has to be written. Read `main`.
+//! `data` has the policy and the facts, `stdin` the script, `stdout` what has to be written. Read
+//! `main`.
 #![tactic(auto)]
 
 use cqe_top::top;

@@ -80,8 +80,10 @@ module _ (s : Scene) where
   answers_cause users refusals false true is disk = subst (λ b. CauseOf (if b then report.Journals users refusals else report.DiskFault)) (sym is) (disk refl)
   answers_cause users refusals false false is disk = subst (λ b. CauseOf (if b then report.Journals users refusals else report.Done)) (sym is) tt
 
-  pub batch_cause : (users : Vec User Global) (end : BatchEnd) → (end ≡ batch_end.ReadFault → HasRisen s.input.faults) → (end ≡ batch_end.WriteFault → HasRisen s.output.faults)
-      → (end ≡ batch_end.ShelfFault → HasRisen s.shelf.faults) → (batch.IsBroken end → SomeRose s.shelf.disk_faults s.shelf.disk_faults') → HasCause s (ends.Batch users end)
+  pub batch_cause : (users : Vec User Global) (end : BatchEnd) → (end ≡ batch_end.ReadFault → HasRisen s.input.faults)
+      → (end ≡ batch_end.WriteFault → HasRisen s.output.faults)
+      → (end ≡ batch_end.ShelfFault → HasRisen s.shelf.faults) → (batch.IsBroken end → SomeRose s.shelf.disk_faults s.shelf.disk_faults')
+      → HasCause s (ends.Batch users end)
   batch_cause users (batch_end.Done refusals is_broken) read write shelf disk =
       has_cause _ (answers_cause users refusals (has_refusal refusals.items) is_broken refl disk)
   batch_cause users (batch_end.Script refusal) read write shelf disk = has_cause _ tt
@@ -90,7 +92,8 @@ module _ (s : Scene) where
   batch_cause users batch_end.ShelfFault read write shelf disk = has_cause _ (shelf refl)
   batch_cause users batch_end.Memory read write shelf disk = has_cause _ tt
 
-  pub audit_cause : (name : Bor (List ℕ)) (end : AuditEnd) → (end ≡ audit_end.WriteFault → HasRisen s.output.faults) → (end ≡ audit_end.ShelfFault → HasRisen s.shelf.faults)
+  pub audit_cause : (name : Bor (List ℕ)) (end : AuditEnd) → (end ≡ audit_end.WriteFault → HasRisen s.output.faults)
+      → (end ≡ audit_end.ShelfFault → HasRisen s.shelf.faults)
       → HasCause s (ends.Audit name end)
   audit_cause name audit_end.Done write shelf = has_cause _ tt
   audit_cause name (audit_end.Refused why) write shelf = has_cause _ tt
@@ -103,7 +106,8 @@ module _ (s : Scene) where
   selfrun_cause selfrun_end.WriteFault write = has_cause _ (write refl)
   selfrun_cause selfrun_end.Memory write = has_cause _ tt
 
-  pub serve_cause : (users : Vec User Global) (end : ServeEnd) → (end ≡ serve_end.LinksFault → HasRisen s.links.faults) → (end ≡ serve_end.ShelfFault → HasRisen s.shelf.faults)
+  pub serve_cause : (users : Vec User Global) (end : ServeEnd) → (end ≡ serve_end.LinksFault → HasRisen s.links.faults)
+      → (end ≡ serve_end.ShelfFault → HasRisen s.shelf.faults)
       → (serving.IsBroken end → SomeRose s.shelf.disk_faults s.shelf.disk_faults') → HasCause s (ends.Serve users end)
   serve_cause users (serve_end.Done refusals is_broken) links shelf disk =
       has_cause _ (answers_cause users refusals (has_refusal refusals.items) is_broken refl disk)

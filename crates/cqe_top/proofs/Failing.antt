@@ -1,5 +1,6 @@
 -- Without a rise of a disk's count no journal is refused that can be opened, and no line says that an append failed.
-use Rattle.std.proofs.Common.{◌≡◌, inl, inr, ℕ, ◌+◌, ◌≤◌, Bool, true, false, ◌||◌, List, [], ◌∷◌, ◌++◌, length, Option, None, Some, Result, Ok, Err, refl, sym, ap, ◌∙◌, arith}
+use Rattle.std.proofs.Common.{◌≡◌, inl, inr, ℕ, ◌+◌, ◌≤◌, Bool, true, false, ◌||◌, List, [], ◌∷◌, ◌++◌, length, Option, None, Some, Result, Ok, Err, refl, sym}
+use Rattle.std.proofs.Common.{ap, ◌∙◌, arith}
 use Rattle.std.specs.Prelude.{find, bytes_eq, if◌then◌else◌}
 use Rattle.std.specs.List.{list_any, AllByRecursion}
 use Rattle.std.proofs.lemmas.Slice.Eq.{bytes_eq-Decides}
@@ -12,8 +13,11 @@ use Rattle.cqe_base.specs.Reading.{Refusal, reading}
 use Rattle.cqe_base.specs.History.{UserProfile, History, log}
 use Rattle.cqe_base.specs.Censor.{rule}
 use Rattle.cqe_base.specs.Run
-use Rattle.cqe_base.specs.Run.{Reply, marked, no_sentence, history_full, too_large, user_closed, desk_sealed, desk_broken, no_memory, standing_open, standing_closed, standing_sealed, Event, ask, stop, restart, want, kept, failed, UserState, reply_by, is_full, is_too_large, after_event, replies_from, replies, opening}
-use Rattle.cqe_base.specs.Transcript.{NamedUser, ScriptEvent, script_ask, script_stop, script_restart, script_opening, Line, reply_line, restart_line, own_events, own_reply, own_replies, told_after, lines_after, transcript}
+use Rattle.cqe_base.specs.Run.{Reply, marked, no_sentence, history_full, too_large, user_closed, desk_sealed, desk_broken, no_memory, standing_open}
+use Rattle.cqe_base.specs.Run.{standing_closed, standing_sealed, Event, ask, stop, restart, want, kept, failed, UserState, reply_by, is_full, is_too_large}
+use Rattle.cqe_base.specs.Run.{after_event, replies_from, replies, opening}
+use Rattle.cqe_base.specs.Transcript.{NamedUser, ScriptEvent, script_ask, script_stop, script_restart, script_opening, Line, reply_line, restart_line}
+use Rattle.cqe_base.specs.Transcript.{own_events, own_reply, own_replies, told_after, lines_after, transcript}
 use Rattle.cqe_base.proofs.Lists.{one_found}
 use Rattle.user_desk.specs.Causes.{Opens}
 use Rattle.user_desk.specs.declared.standing.DeskError.{DeskError}
@@ -44,39 +48,47 @@ failures-cons event events = refl
 
 refused_fails : (events : List Event) → list_any is_refused events ≡ true → 1 ≤ failures events
 refused_fails [] says = let clash : false ≡ true = says in absurd cc
-refused_fails (ask text want ∷ events) says = let later = refused_fails events says in let sum = failures-cons (ask text want) events in omega (arith, later, sum)
-refused_fails (ask text kept ∷ events) says = let later = refused_fails events says in let sum = failures-cons (ask text kept) events in omega (arith, later, sum)
+refused_fails (ask text want ∷ events) says =
+    let later = refused_fails events says in let sum = failures-cons (ask text want) events in omega (arith, later, sum)
+refused_fails (ask text kept ∷ events) says =
+    let later = refused_fails events says in let sum = failures-cons (ask text kept) events in omega (arith, later, sum)
 refused_fails (ask text failed ∷ events) says = let sum = failures-cons (ask text failed) events in omega (arith, sum)
 refused_fails (stop text ∷ events) says = let later = refused_fails events says in let sum = failures-cons (stop text) events in omega (arith, later, sum)
-refused_fails (restart found true ∷ events) says = let later = refused_fails events says in let sum = failures-cons (restart found true) events in omega (arith, later, sum)
+refused_fails (restart found true ∷ events) says =
+    let later = refused_fails events says in let sum = failures-cons (restart found true) events in omega (arith, later, sum)
 refused_fails (restart found false ∷ events) says = let sum = failures-cons (restart found false) events in omega (arith, sum)
 
 module _ (schema : DatabaseSchema) (world : FactSet) (user : UserProfile) where
   -- before an append failed, no rule gives a reply that one did
-  unbroken : (entries : History) (standing : Run.Standing) (text : Text) (read : Result Formula Refusal) → is_broken (reply_by schema world user entries standing false text read) ≡ false
+  unbroken : (entries : History) (standing : Run.Standing) (text : Text) (read : Result Formula Refusal)
+      → is_broken (reply_by schema world user entries standing false text read) ≡ false
   unbroken entries standing_sealed text read = refl
   unbroken entries standing_closed text read = refl
   unbroken entries standing_open text (Err refusal) = refl
   unbroken entries standing_open text (Ok query) = by (is_full entries (length text)) (is_too_large schema user entries query)
     where
-      by : (full large : Bool) → is_broken (if full then history_full else if large then too_large else marked (rule schema world user (log user entries) query)) ≡ false
+      by : (full large : Bool)
+          → is_broken (if full then history_full else if large then too_large else marked (rule schema world user (log user entries) query)) ≡ false
       by true large = refl
       by false true = refl
       by false false = refl
 
-  broken_fails : (state : UserState) (events : List Event) → state.broken ≡ false → AreCaused schema world user state events → list_any is_broken (replies_from schema world user state events) ≡ true
+  broken_fails : (state : UserState) (events : List Event) → state.broken ≡ false → AreCaused schema world user state events
+      → list_any is_broken (replies_from schema world user state events) ≡ true
       → 1 ≤ failures events
   broken_fails state [] whole caused says = let clash : false ≡ true = says in absurd cc
   broken_fails state (ask text want ∷ events) whole caused says =
       let later = broken_fails state events whole caused.1 says in let sum = failures-cons (ask text want) events in omega (arith, later, sum)
   broken_fails state (ask text kept ∷ events) whole caused says =
-      let unsaid = ap (λ b. is_broken (reply_by schema world user state.entries state.standing b text (reading schema text))) whole ∙ unbroken state.entries state.standing text (reading schema text) in
+      let unsaid = ap (λ b. is_broken (reply_by schema world user state.entries state.standing b text (reading schema text))) whole
+      ∙ unbroken state.entries state.standing text (reading schema text) in
       let later = broken_fails (after_event schema world user state (ask text kept)) events whole caused.1 (other _ _ unsaid says) in
       let sum = failures-cons (ask text kept) events in omega (arith, later, sum)
   broken_fails state (ask text failed ∷ events) whole caused says = let sum = failures-cons (ask text failed) events in omega (arith, sum)
   broken_fails state (stop text ∷ events) whole caused says = absurd caused.0
   broken_fails state (restart found true ∷ events) whole caused says =
-      let later = broken_fails (after_event schema world user state (restart found true)) events refl caused.1 says in let sum = failures-cons (restart found true) events in omega (arith, later, sum)
+      let later = broken_fails (after_event schema world user state (restart found true)) events refl caused.1 says in
+      let sum = failures-cons (restart found true) events in omega (arith, later, sum)
   broken_fails state (restart found false ∷ events) whole caused says = let sum = failures-cons (restart found false) events in omega (arith, sum)
 
 -- ---- the lines of a script
@@ -99,18 +111,22 @@ pub record IsTold (users : List NamedUser) (lines : List Line) : Type 0 where
   pub told : list_any is_broken (own_replies name lines) ≡ true
 
 behind : (users : List NamedUser) (line : Line) (lines : List Line) → IsTold users lines → IsTold users (line ∷ lines)
-behind users line lines one = record { name = one.name; user = one.user; is = one.is; told = any_behind is_broken (own_reply one.name line) (own_replies one.name lines) one.told }
+behind users line lines one =
+    record { name = one.name; user = one.user; is = one.is; told = any_behind is_broken (own_reply one.name line) (own_replies one.name lines) one.told }
 
-here : (users : List NamedUser) (name : Text) (session : ℕ) (told_reply : Reply) (user : NamedUser) (lines : List Line) → find (λ u. bytes_eq u.name name) users ≡ Some user → is_broken told_reply ≡ true
+here : (users : List NamedUser) (name : Text) (session : ℕ) (told_reply : Reply) (user : NamedUser) (lines : List Line)
+    → find (λ u. bytes_eq u.name name) users ≡ Some user → is_broken told_reply ≡ true
     → IsTold users (reply_line name session (Some told_reply) ∷ lines)
 here users name session told_reply user lines is broken =
     record { name = name; user = user; is = is; told = own ∙ ap (λ b. b || list_any is_broken (own_replies name lines)) broken }
   where
-    own : list_any is_broken ((if bytes_eq name name then told_reply ∷ [] else []) ++ own_replies name lines) ≡ (is_broken told_reply || list_any is_broken (own_replies name lines))
+    own : list_any is_broken ((if bytes_eq name name then told_reply ∷ [] else []) ++ own_replies name lines)
+        ≡ (is_broken told_reply || list_any is_broken (own_replies name lines))
     own = ap (λ b. list_any is_broken ((if b then told_reply ∷ [] else []) ++ own_replies name lines)) ((bytes_eq-Decides name name).1 refl)
 
 module _ (schema : DatabaseSchema) (world : FactSet) (users : List NamedUser) where
-  told_so : (earlier events : List ScriptEvent) → list_any is_broken_line (lines_after schema world users earlier events) ≡ true → IsTold users (lines_after schema world users earlier events)
+  told_so : (earlier events : List ScriptEvent) → list_any is_broken_line (lines_after schema world users earlier events) ≡ true
+      → IsTold users (lines_after schema world users earlier events)
   told_so earlier [] says = let clash : false ≡ true = says in absurd cc
   told_so earlier (script_stop name text ∷ events) says = told_so (earlier ++ script_stop name text ∷ []) events says
   told_so earlier (script_opening found opened ∷ events) says = told_so (earlier ++ script_opening found opened ∷ []) events says
@@ -118,7 +134,8 @@ module _ (schema : DatabaseSchema) (world : FactSet) (users : List NamedUser) wh
   told_so earlier (script_ask name session text ending ∷ events) says =
       by (find (λ u. bytes_eq u.name name) users) refl (told_so (earlier ++ script_ask name session text ending ∷ []) events) says
     where
-      told_by : (user : NamedUser) (told_reply : Reply) (lines : List Line) (b : Bool) → is_broken told_reply ≡ b → find (λ u. bytes_eq u.name name) users ≡ Some user
+      told_by : (user : NamedUser) (told_reply : Reply) (lines : List Line) (b : Bool) → is_broken told_reply ≡ b
+          → find (λ u. bytes_eq u.name name) users ≡ Some user
           → (list_any is_broken_line lines ≡ true → IsTold users lines)
           → (is_broken_line (reply_line name session (Some told_reply)) || list_any is_broken_line lines) ≡ true
           → IsTold users (reply_line name session (Some told_reply) ∷ lines)
@@ -132,7 +149,8 @@ module _ (schema : DatabaseSchema) (world : FactSet) (users : List NamedUser) wh
       by None is further says = behind users _ _ (further says)
       by (Some user) is further says = told_by user _ _ (is_broken _) refl is further says
 
-  whole_script : (events : List ScriptEvent) → list_any is_broken_line (transcript schema world users events) ≡ true → IsTold users (transcript schema world users events)
+  whole_script : (events : List ScriptEvent) → list_any is_broken_line (transcript schema world users events) ≡ true
+      → IsTold users (transcript schema world users events)
   unfolding transcript
   whole_script events says = told_so [] events says
 
@@ -141,13 +159,15 @@ module _ (schema : DatabaseSchema) (world : FactSet) (users : List NamedUser) wh
 module _ (schema : DatabaseSchema) (world : FactSet) (header : List ℕ) (journals : Journals) where
   -- a user's journal can be opened, and the count of its disk didn't rise
   abbrev pub CanOpen : NamedUser → Type 0
-  CanOpen user = ((entries : History) × Opens schema world user.profile header entries (journals.bytes user.name)) × (Rose (journals.before user.name) (journals.now user.name) → ⊥)
+  CanOpen user = ((entries : History) × Opens schema world user.profile header entries (journals.bytes user.name))
+      × (Rose (journals.before user.name) (journals.now user.name) → ⊥)
 
   module _ (users : List NamedUser) (events : List ScriptEvent) where
     none_failed : (user : NamedUser) → Serves schema world header journals users events user → CanOpen user → 1 ≤ failures (own_events user.name events) → ⊥
     none_failed user serves can some = by serves.opening_is
       where
-        rose : RoseBy (failures (own_events user.name events)) (journals.before user.name) (journals.now user.name) → Rose (journals.before user.name) (journals.now user.name)
+        rose : RoseBy (failures (own_events user.name events)) (journals.before user.name) (journals.now user.name)
+            → Rose (journals.before user.name) (journals.now user.name)
         rose (inl risen) = inl (omega (arith, risen, some))
         rose (inr full) = inr full
 
@@ -155,22 +175,27 @@ module _ (schema : DatabaseSchema) (world : FactSet) (header : List ℕ) (journa
         by (inl opens) = can.1 (rose (serves.counted opens))
         by (inr none) = none.0 can.0.0 can.0.1
 
-    pub none_refused : (some : List NamedUser) (refusals : List (Option DeskError)) → AllByRecursion (Serves schema world header journals users events) some → AllByRecursion CanOpen some
+    pub none_refused : (some : List NamedUser) (refusals : List (Option DeskError)) → AllByRecursion (Serves schema world header journals users events) some
+        → AllByRecursion CanOpen some
         → AreRefusals schema world header journals events some refusals → has_refusal refusals ≡ true → ⊥
     none_refused [] [] serve can refused says = let clash : false ≡ true = says in cc
     none_refused (user ∷ some) (None ∷ refusals) serve can refused says = none_refused some refusals serve.1 can.1 refused.1 says
-    none_refused (user ∷ some) (Some why ∷ refusals) serve can refused says = none_failed user serve.0 can.0 (refused_fails (own_events user.name events) refused.0.0)
+    none_refused (user ∷ some) (Some why ∷ refusals) serve can refused says =
+        none_failed user serve.0 can.0 (refused_fails (own_events user.name events) refused.0.0)
     none_refused [] (refusal ∷ refusals) serve can refused says = refused
     none_refused (user ∷ some) [] serve can refused says = refused
 
-    pub none_broken : AllByRecursion (Serves schema world header journals users events) users → AllByRecursion CanOpen users → list_any is_broken_line (transcript schema world users events) ≡ true → ⊥
+    pub none_broken : AllByRecursion (Serves schema world header journals users events) users → AllByRecursion CanOpen users
+        → list_any is_broken_line (transcript schema world users events) ≡ true → ⊥
     unfolding replies
     none_broken serve can says =
         let one = whole_script schema world users events says in
         let serves = one_found (Serves schema world header journals users events) (λ u. bytes_eq u.name one.name) users one.user serve one.is in
         let opens = one_found CanOpen (λ u. bytes_eq u.name one.name) users one.user can one.is in
         let named : one.user.name ≡ one.name = (bytes_eq-Decides one.user.name one.name).0 opens.1 in
-        let told : list_any is_broken (own_replies one.user.name (transcript schema world users events)) ≡ true = ap (λ name. list_any is_broken (own_replies name (transcript schema world users events))) named ∙ one.told in
+        let told : list_any is_broken (own_replies one.user.name (transcript schema world users events)) ≡ true =
+        ap (λ name. list_any is_broken (own_replies name (transcript schema world users events))) named ∙ one.told in
         none_failed one.user serves.0 opens.0
-        (broken_fails schema world one.user.profile (opening schema world one.user.profile one.user.opened) (own_events one.user.name events) refl serves.0.caused
+        (broken_fails schema world one.user.profile (opening schema world one.user.profile one.user.opened)
+        (own_events one.user.name events) refl serves.0.caused
         (sym (ap (list_any is_broken) serves.0.private) ∙ told))

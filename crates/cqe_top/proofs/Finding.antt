@@ -43,7 +43,8 @@ module _ {X : Type 0} (p : X → Bool) where
           later : (t : Bool) → nat_lt (before xs) (length xs) ≡ t → before (x ∷ xs) ≡ 1 + before xs → nat_lt (before xs) (length xs) ≡ false
           later false is first = is
           later true is first =
-              absurd (false≢true (sym none ∙ lt-ltb (before (x ∷ xs)) (length (x ∷ xs)) (let low : before xs < length xs = grind (arith, is) in omega (arith, first, low))))
+              absurd (false≢true (sym none ∙ lt-ltb (before (x ∷ xs)) (length (x ∷ xs)) (let low : before xs < length xs = grind (arith, is) in
+              omega (arith, first, low))))
 
 -- whether a user in memory has the name
 abbrev pub is_named : Text → User → Bool
@@ -54,15 +55,18 @@ named_among name [] = refl
 named_among name (user ∷ users) = by (is_named name user) (named_among name users)
   where
     by : (b : Bool) → user_named name (map policy_user_of users) ≡ option_map policy_user_of (find (is_named name) users)
-        → cond b (Some (policy_user_of user)) (user_named name (map policy_user_of users)) ≡ option_map policy_user_of (cond b (Some user) (find (is_named name) users))
+        → cond b (Some (policy_user_of user)) (user_named name (map policy_user_of users))
+        ≡ option_map policy_user_of (cond b (Some user) (find (is_named name) users))
     by true is = refl
     by false is = is
 
 -- the user at the place of a name is the one who has it
-pub one_named : (name : Text) (users : List User) (place : ℕ) (user d : User) → Some place ≡ position (is_named name) users → user ≡ get_or users place d → place < length users
+pub one_named : (name : Text) (users : List User) (place : ℕ) (user d : User) → Some place ≡ position (is_named name) users → user ≡ get_or users place d
+    → place < length users
     → user_named name (map policy_user_of users) ≡ Some (policy_user_of user)
 one_named name users place user d found is low =
-    named_among name users ∙ ap (option_map policy_user_of) (first_at (is_named name) users place d (at (nat_lt (before (is_named name) users) (length users)) found) low)
+    named_among name users
+    ∙ ap (option_map policy_user_of) (first_at (is_named name) users place d (at (nat_lt (before (is_named name) users) (length users)) found) low)
     ∙ ap (λ u. Some (policy_user_of u)) (sym is)
   where
     at : (b : Bool) → Some place ≡ cond b (Some (before (is_named name) users)) None → before (is_named name) users ≡ place
@@ -72,7 +76,8 @@ one_named name users place user d found is low =
 -- without a place nobody has the name
 pub nobody_named : (name : Text) (users : List User) → None ≡ position (is_named name) users → user_named name (map policy_user_of users) ≡ None
 nobody_named name users none =
-    named_among name users ∙ ap (option_map policy_user_of) (none_before (is_named name) users (past (nat_lt (before (is_named name) users) (length users)) none))
+    named_among name users
+    ∙ ap (option_map policy_user_of) (none_before (is_named name) users (past (nat_lt (before (is_named name) users) (length users)) none))
   where
     past : (b : Bool) → None ≡ cond b (Some (before (is_named name) users)) None → b ≡ false
     past true same = let clash : None ≡ Some (before (is_named name) users) = same in absurd cc
@@ -83,10 +88,12 @@ pub has_name : (name : Text) (users : List PolicyUser) (user : PolicyUser) → u
 has_name name [] user found = let clash : None ≡ Some user = found in absurd cc
 has_name name (one ∷ users) user found = by (bytes_eq one.name name) refl (has_name name users user) found
   where
-    by : (b : Bool) → bytes_eq one.name name ≡ b → (user_named name users ≡ Some user → user.name ≡ name) → cond b (Some one) (user_named name users) ≡ Some user → user.name ≡ name
+    by : (b : Bool) → bytes_eq one.name name ≡ b → (user_named name users ≡ Some user → user.name ≡ name)
+        → cond b (Some one) (user_named name users) ≡ Some user → user.name ≡ name
     by true is later same = let here : one ≡ user = cc in ap (λ u. u.name) (sym here) ∙ (bytes_eq-Decides one.name name).0 is
     by false is later further = later further
 
 -- he who stands at the place of a name has it
-pub named_at : (name : Text) (users : List User) (place : ℕ) (user : User) → Some place ≡ position (is_named name) users → place < length users → user ≡ get_or users place user → string_bytes user.name ≡ name
+pub named_at : (name : Text) (users : List User) (place : ℕ) (user : User) → Some place ≡ position (is_named name) users → place < length users
+    → user ≡ get_or users place user → string_bytes user.name ≡ name
 named_at name users place user found low is = has_name name (map policy_user_of users) (policy_user_of user) (one_named name users place user user found is low)

@@ -57,7 +57,8 @@ when_both P (both policy world header) = P policy world header
 when_both P said = Unit {0}
 
 -- files that say two things say one
-pub agree : (P Q : PolicyValue → FactSet → List ℕ → Type 0) (said : FilesSay) → Say said P → Say said Q → Say said (λ policy world header. P policy world header × Q policy world header)
+pub agree : (P Q : PolicyValue → FactSet → List ℕ → Type 0) (said : FilesSay) → Say said P → Say said Q
+    → Say said (λ policy world header. P policy world header × Q policy world header)
 agree P Q said (policy, world, header, says, p) (policy', world', header', says', q) =
     (policy, world, header, says, (p, subst (when_both Q) (sym says' ∙ says) q))
 
@@ -79,7 +80,8 @@ module _ (s : Scene) (files : FileNames) where
 -- ---- answers to the end
 
 -- where no journal was refused and no append failed, all is done
-pub answers_done : (users : Vec User Global) (refusals : Vec (Option DeskError) Global) (is_broken : Bool) → (has_refusal refusals.items ≡ true → ⊥) → (is_broken ≡ true → ⊥)
+pub answers_done : (users : Vec User Global) (refusals : Vec (Option DeskError) Global) (is_broken : Bool) → (has_refusal refusals.items ≡ true → ⊥)
+    → (is_broken ≡ true → ⊥)
     → answers_report users refusals is_broken ≡ report.Done
 answers_done users refusals is_broken unrefused unbroken = by (has_refusal refusals.items) is_broken unrefused unbroken
   where
@@ -107,8 +109,10 @@ selfrun_succeeds s selfrun_end.Memory cause write = inr refl
 
 -- ---- a batch
 
-all_open : (policy : PolicyValue) (world : FactSet) (header : List ℕ) (journals : Journals) (users : List NamedUser) (known : List PolicyUser) → map unopened users ≡ map new_user known
-    → AllByRecursion (λ user. CanOpen policy.schema world header journals (new_user user)) known → AllByRecursion (CanOpen policy.schema world header journals) users
+all_open : (policy : PolicyValue) (world : FactSet) (header : List ℕ) (journals : Journals) (users : List NamedUser) (known : List PolicyUser)
+    → map unopened users ≡ map new_user known
+    → AllByRecursion (λ user. CanOpen policy.schema world header journals (new_user user)) known
+    → AllByRecursion (CanOpen policy.schema world header journals) users
 all_open policy world header journals [] known are can = tt
 all_open policy world header journals (user ∷ users) [] are can = let clash : unopened user ∷ map unopened users ≡ [] = are in absurd cc
 all_open policy world header journals (user ∷ users) (one ∷ known) are can =
@@ -120,7 +124,8 @@ module _ (s : Scene) (files : FileNames) where
   pub batch_succeeds : (users : Vec User Global) (end : BatchEnd) → RunsBatch s.shelf s.input s.output files users end → HasCause s (ends.Batch users end)
       → BatchSucceeds s.shelf s.input s.output files (ends.Batch users end)
   batch_succeeds users (batch_end.Done refusals is_broken) ran cause told in_told out_told script says shelf read write =
-      by (agree (Answers s.shelf s.input s.output files users (batch_end.Done refusals is_broken)) (CanBeOpened (journals_of s.shelf files)) (said_on s.shelf files) (ran.over_files told) says)
+      by (agree (Answers s.shelf s.input s.output files users (batch_end.Done refusals is_broken)) (CanBeOpened (journals_of s.shelf files))
+      (said_on s.shelf files) (ran.over_files told) says)
     where
       by : SayOn s.shelf files (λ policy world header. Answers s.shelf s.input s.output files users (batch_end.Done refusals is_broken) policy world header
           × CanBeOpened (journals_of s.shelf files) policy world header) → IsDoneUnlessMemory (ends.Batch users (batch_end.Done refusals is_broken))
@@ -130,7 +135,8 @@ module _ (s : Scene) (files : FileNames) where
           let events = with_opening all.answers.found all.answers.opened all.answers.events in
           let open_all = all_open policy world header journals all.answers.users policy.users all.answers.of_policy can in
           inl (answers_done users refusals is_broken
-          (none_refused policy.schema world header journals all.answers.users events all.answers.users refusals.items all.answers.each_user open_all all.refused)
+          (none_refused policy.schema world header journals all.answers.users events all.answers.users refusals.items all.answers.each_user open_all
+          all.refused)
           (λ broken. none_broken policy.schema world header journals all.answers.users events all.answers.each_user open_all (sym all.broken ∙ broken)))
   batch_succeeds users (batch_end.Script refusal) ran cause told in_told out_told script says shelf read write =
       let clash : false ≡ true = subst IsOk ((ran.over_files told).4.answers in_told out_told).0 script in absurd cc
@@ -142,14 +148,16 @@ module _ (s : Scene) (files : FileNames) where
 -- ---- the making of journals
 
 -- what all have, the one of a number has
-at_number : (P : PolicyUser → Type 0) (users : List PolicyUser) (number : ℕ) (name : Text) → AllByRecursion P users → slice_get (names_of users) number ≡ Some name
+at_number : (P : PolicyUser → Type 0) (users : List PolicyUser) (number : ℕ) (name : Text) → AllByRecursion P users
+    → slice_get (names_of users) number ≡ Some name
     → (user : PolicyUser) × P user × (user.name ≡ name)
 at_number P [] number name all at = let clash : None ≡ Some name = at in absurd cc
 at_number P (user ∷ users) zero name all at = let same : user.name ≡ name = cc in (user, all.0, same)
 at_number P (user ∷ users) (suc number) name all at = at_number P users number name all.1 at
 
 -- a user's disk that is empty or shows no reason to be refused isn't refused without a rise of its count
-not_stopped : (told : Type 0) (header bytes : List ℕ) (count count' : ℕ) (why : OpenError) → told → (bytes ≡ []) ⊎ ((why : OpenError) → Refuses header bytes why → ⊥) → (Rose count count' → ⊥)
+not_stopped : (told : Type 0) (header bytes : List ℕ) (count count' : ℕ) (why : OpenError) → told → (bytes ≡ [])
+    ⊎ ((why : OpenError) → Refuses header bytes why → ⊥) → (Rose count count' → ⊥)
     → (told → bytes ≢ []) × (why ≢ Memory) × IsRefused told header bytes count count' why → ⊥
 not_stopped told header bytes count count' why is (inl empty) whole reason = reason.0 is empty
 not_stopped told header bytes count count' NotAJournal is (inr shows) whole reason = shows NotAJournal (reason.2 is)
@@ -166,12 +174,15 @@ module _ (s : Scene) (files : FileNames) where
       ⊎ ((why : OpenError) → Refuses header (bytes_on s.shelf.Disk.reads (s.shelf.disk (journal_name files.journals name))) why → ⊥))
       × (Rose (s.shelf.disk_faults (journal_name files.journals name)) (s.shelf.disk_faults' (journal_name files.journals name)) → ⊥)
 
-  pub init_succeeds : (users : Vec User Global) (end : InitEnd) → RunsInit s.shelf files users end → HasCause s (ends.Init users end) → InitSucceeds s.shelf files (ends.Init users end)
+  pub init_succeeds : (users : Vec User Global) (end : InitEnd) → RunsInit s.shelf files users end → HasCause s (ends.Init users end)
+      → InitSucceeds s.shelf files (ends.Init users end)
   init_succeeds users init_end.Done ran cause told says shelf = inl refl
   init_succeeds users (init_end.Refused user why) ran cause told says shelf =
-      by (agree (Makes s.shelf files users (init_end.Refused user why)) (CanBeMade (journals_of s.shelf files)) (said_on s.shelf files) (ran.over_files told) says)
+      by (agree (Makes s.shelf files users (init_end.Refused user why)) (CanBeMade (journals_of s.shelf files)) (said_on s.shelf files)
+      (ran.over_files told) says)
     where
-      by : SayOn s.shelf files (λ policy world header. Makes s.shelf files users (init_end.Refused user why) policy world header × CanBeMade (journals_of s.shelf files) policy world header)
+      by : SayOn s.shelf files (λ policy world header. Makes s.shelf files users (init_end.Refused user why) policy world header
+          × CanBeMade (journals_of s.shelf files) policy world header)
           → IsDoneUnlessMemory (ends.Init users (init_end.Refused user why))
       by (policy, world, header, said, (over, can)) =
           let stops = over.makes in
@@ -181,7 +192,8 @@ module _ (s : Scene) (files : FileNames) where
   init_succeeds users init_end.DiskFault ran cause told says shelf =
       by (agree (Makes s.shelf files users init_end.DiskFault) (CanBeMade (journals_of s.shelf files)) (said_on s.shelf files) (ran.over_files told) says)
     where
-      by : SayOn s.shelf files (λ policy world header. Makes s.shelf files users init_end.DiskFault policy world header × CanBeMade (journals_of s.shelf files) policy world header)
+      by : SayOn s.shelf files (λ policy world header. Makes s.shelf files users init_end.DiskFault policy world header
+          × CanBeMade (journals_of s.shelf files) policy world header)
           → IsDoneUnlessMemory (ends.Init users init_end.DiskFault)
       by (policy, world, header, said, (over, can)) =
           let stops = over.makes.1 in
@@ -204,7 +216,8 @@ module _ (s : Scene) (files : FileNames) (user : Text) (json : Bool) where
       → AuditSucceeds s.shelf s.output files user json (ends.Audit name end)
   audit_succeeds name audit_end.Done ran cause told out_told says shelf write = inl refl
   audit_succeeds name (audit_end.Refused why) ran cause told out_told says shelf write =
-      by (agree (Audits s.shelf s.output files user json (audit_end.Refused why)) (CanBeAudited (journals_of s.shelf files) user) (said_on s.shelf files) (ran.over_files told) says)
+      by (agree (Audits s.shelf s.output files user json (audit_end.Refused why)) (CanBeAudited (journals_of s.shelf files) user) (said_on s.shelf files)
+      (ran.over_files told) says)
     where
       by : SayOn s.shelf files (λ policy world header. Audits s.shelf s.output files user json (audit_end.Refused why) policy world header
           × CanBeAudited (journals_of s.shelf files) user policy world header) → IsDoneUnlessMemory (ends.Audit name (audit_end.Refused why))
@@ -223,13 +236,15 @@ module _ (s : Scene) (files : FileNames) (user : Text) (json : Bool) where
   nobody_succeeds ran told out_told says shelf write =
       by (agree (NamesNobody user) (CanBeAudited (journals_of s.shelf files) user) (said_on s.shelf files) (ran.over_files told) says)
     where
-      by : SayOn s.shelf files (λ policy world header. NamesNobody user policy world header × CanBeAudited (journals_of s.shelf files) user policy world header) → IsDoneUnlessMemory ends.Nobody
+      by : SayOn s.shelf files (λ policy world header. NamesNobody user policy world header × CanBeAudited (journals_of s.shelf files) user policy world header)
+          → IsDoneUnlessMemory ends.Nobody
       by (policy, world, header, said, (nobody, (one, found, opened, whole))) = let clash : None ≡ Some one = sym nobody ∙ found in absurd cc
 
 -- ---- files that weren't read
 
 -- whatever was to be done over them
-pub unread : (s : Scene) (files : FileNames) (task : Task) (end : FilesEnd) → IsUnread s.shelf files end → HasCause s (ends.Files end) → SameInput s.input → SameOutput s.output → SameLinks s.links
+pub unread : (s : Scene) (files : FileNames) (task : Task) (end : FilesEnd) → IsUnread s.shelf files end → HasCause s (ends.Files end) → SameInput s.input
+    → SameOutput s.output → SameLinks s.links
     → OfReading s (Some (reading_over files task)) (ends.Files end)
 unread s files task.Init end is cause input output links = record {
   ends = is;
@@ -240,7 +255,8 @@ unread s files task.Init end is cause input output links = record {
 }
 unread s files task.Batch end is cause input output links = record {
   ends = (is, input, output);
-  succeeds = λ told in_told out_told script says shelf read write. read_succeeds s files (CanBeOpened (journals_of s.shelf files)) end (is.refused told) cause says shelf;
+  succeeds = λ told in_told out_told script says shelf read write.
+      read_succeeds s files (CanBeOpened (journals_of s.shelf files)) end (is.refused told) cause says shelf;
   listens_nowhere = links;
 }
 unread s files (task.Audit name json) end is cause input output links = record {
@@ -272,4 +288,10 @@ nothing_begun s same (Some (runs_audit files user json)) =
     record { ends = (same.shelf, same.output); succeeds = λ told out_told says shelf write. inr refl; reads_nothing = same.input; listens_nowhere = same.links }
 nothing_begun s same (Some (runs_selfrun seed users asks)) = record { ends = same; succeeds = λ write. inr refl }
 nothing_begun s same (Some (runs_serve files address workers sessions)) =
-    record { ends = (same.shelf, same.links); succeeds = λ told links_told says shelf links. inr refl; reads_nothing = same.input; writes_nothing = same.output }
+    record {
+      ends =
+          (same.shelf, same.links);
+      succeeds = λ told links_told says shelf links. inr refl;
+      reads_nothing = same.input;
+      writes_nothing = same.output;
+    }

@@ -7,7 +7,9 @@ use Rattle.command_words.specs.Uses.{Use, uses_of}
 use Rattle.command_words.specs.Numbers.{within, number_from, number_or}
 use Rattle.line_protocol.specs.Words.{number_in}
 use Rattle.cqe_top.specs.Tasks.{ServesBounds}
-use Rattle.command_words.specs.Readings.{Reading, FileNames, runs_init, runs_batch, runs_selfrun, runs_serve, reading_of, reading_with, reading_by, do_fit, CommandRow, case_row, init_row, batch_row, audit_row, selfrun_row, serve_row, files_of, audit_said, selfrun_said, serve_said, value_of, is_used}
+use Rattle.command_words.specs.Readings.{Reading, FileNames, runs_init, runs_batch, runs_selfrun, runs_serve, reading_of, reading_with, reading_by, do_fit}
+use Rattle.command_words.specs.Readings.{CommandRow, case_row, init_row, batch_row, audit_row, selfrun_row, serve_row, files_of, audit_said, selfrun_said}
+use Rattle.command_words.specs.Readings.{serve_said, value_of, is_used}
 
 -- a number between two, or one of them
 abbrev IsWithin : ℕ → ℕ → ℕ → Type 0
@@ -30,7 +32,8 @@ bounds least most (Some text) = by (number_in text)
     by (Some m) = tested m (nat_le least m && nat_le m most) refl
 
 -- so does one that may be left out, where the usual one does
-usual_bounds : (usual least most limit : ℕ) (value : Option (List ℕ)) → IsWithin least limit usual → most ≤ limit → IfSome (number_or usual least most value) (IsWithin least limit)
+usual_bounds : (usual least most limit : ℕ) (value : Option (List ℕ)) → IsWithin least limit usual → most ≤ limit
+    → IfSome (number_or usual least most value) (IsWithin least limit)
 usual_bounds usual least most limit None lies more = lies
 usual_bounds usual least most limit (Some text) lies more = wider (number_from least most (Some text)) (bounds least most (Some text))
   where
@@ -60,13 +63,17 @@ of_run one two three = by (number_from 0 4294967295 one) (number_from 1 256 two)
     by (Some a) None c second third = tt
     by (Some a) (Some b) None second third = tt
 
-of_server : (files : Option FileNames) (address one two : Option (List ℕ)) → IfSome (serve_said files address (number_or 4 1 64 one) (number_or 1073741824 1 1000000 two)) Keeps
+of_server : (files : Option FileNames) (address one two : Option (List ℕ))
+    → IfSome (serve_said files address (number_or 4 1 64 one) (number_or 1073741824 1 1000000 two)) Keeps
 of_server files address one two =
     by files address (number_or 4 1 64 one) (number_or 1073741824 1 1000000 two)
-    (usual_bounds 4 1 64 64 one (omega arith, omega arith) (omega arith)) (usual_bounds 1073741824 1 1000000 1073741824 two (omega arith, omega arith) (omega arith))
+    (usual_bounds 4 1 64 64 one (omega arith, omega arith) (omega arith))
+    (usual_bounds 1073741824 1 1000000 1073741824 two (omega arith, omega arith) (omega arith))
   where
-    by : (f : Option FileNames) (a : Option (List ℕ)) (w s : Option ℕ) → IfSome w (IsWithin 1 64) → IfSome s (IsWithin 1 1073741824) → IfSome (serve_said f a w s) Keeps
-    by (Some f) (Some a) (Some w) (Some s) first second = record { some_worker = first.0; few_workers = first.1; some_session = second.0; few_sessions = second.1 }
+    by : (f : Option FileNames) (a : Option (List ℕ)) (w s : Option ℕ) → IfSome w (IsWithin 1 64) → IfSome s (IsWithin 1 1073741824)
+        → IfSome (serve_said f a w s) Keeps
+    by (Some f) (Some a) (Some w) (Some s) first second =
+        record { some_worker = first.0; few_workers = first.1; some_session = second.0; few_sessions = second.1 }
     by None a w s first second = tt
     by (Some f) None w s first second = tt
     by (Some f) (Some a) None s first second = tt
@@ -98,17 +105,25 @@ in_bounds : (words : List (List ℕ)) → IfSome (reading_of words) Keeps
 unfolding reading_of
 in_bounds [] = tt
 in_bounds (command ∷ words) =
-    by (bytes_eq (codes "case") command) (bytes_eq (codes "init") command) (bytes_eq (codes "batch") command) (bytes_eq (codes "audit") command) (bytes_eq (codes "selfrun") command) (bytes_eq (codes "serve") command)
+    by (bytes_eq (codes "case") command) (bytes_eq (codes "init") command) (bytes_eq (codes "batch") command) (bytes_eq (codes "audit") command)
+    (bytes_eq (codes "selfrun") command) (bytes_eq (codes "serve") command)
   where
     by : (a b c d e f : Bool)
-        → IfSome (reading_with (cond a (Some case_row) (cond b (Some init_row) (cond c (Some batch_row) (cond d (Some audit_row) (cond e (Some selfrun_row) (cond f (Some serve_row) None)))))) words) Keeps
+        → IfSome (reading_with
+        (cond a (Some case_row)
+        (cond b (Some init_row) (cond c (Some batch_row) (cond d (Some audit_row) (cond e (Some selfrun_row) (cond f (Some serve_row) None)))))) words)
+        Keeps
     by true b c d e f = by_uses case_row (uses_of case_row.options words) (λ uses. tt)
     by false true c d e f = by_uses init_row (uses_of init_row.options words) (λ uses. no_init (files_of uses))
     by false false true d e f = by_uses batch_row (uses_of batch_row.options words) (λ uses. no_batch (files_of uses))
-    by false false false true e f = by_uses audit_row (uses_of audit_row.options words) (λ uses. no_audit (files_of uses) (value_of uses (codes "user")) (is_used uses (codes "json")))
-    by false false false false true f = by_uses selfrun_row (uses_of selfrun_row.options words) (λ uses. of_run (value_of uses (codes "seed")) (value_of uses (codes "users")) (value_of uses (codes "asks")))
+    by false false false true e f =
+        by_uses audit_row (uses_of audit_row.options words) (λ uses. no_audit (files_of uses) (value_of uses (codes "user")) (is_used uses (codes "json")))
+    by false false false false true f =
+        by_uses selfrun_row (uses_of selfrun_row.options words) (λ uses.
+        of_run (value_of uses (codes "seed")) (value_of uses (codes "users")) (value_of uses (codes "asks")))
     by false false false false false true =
-        by_uses serve_row (uses_of serve_row.options words) (λ uses. of_server (files_of uses) (value_of uses (codes "listen")) (value_of uses (codes "workers")) (value_of uses (codes "sessions")))
+        by_uses serve_row (uses_of serve_row.options words) (λ uses.
+        of_server (files_of uses) (value_of uses (codes "listen")) (value_of uses (codes "workers")) (value_of uses (codes "sessions")))
     by false false false false false false = tt
 
 -- what words say has its limits

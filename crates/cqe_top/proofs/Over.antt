@@ -43,7 +43,8 @@ module _ {F D : Type 0} (Shelf : ShelfGhosts F D) (Disk : DiskGhosts D) (old mid
   module _ (files : FileNames) where
     -- the journals are the same
     pub same_journals : journals_of (shelf_of Shelf Disk mid new) files ≡ journals_of (shelf_of Shelf Disk old new) files
-    same_journals = λ i. journals_on Disk.reads Disk.image files.journals (λ name. disks name i) (Shelf.disk new) (λ name. counts name i) (Shelf.disk_faults new)
+    same_journals =
+        λ i. journals_on Disk.reads Disk.image files.journals (λ name. disks name i) (Shelf.disk new) (λ name. counts name i) (Shelf.disk_faults new)
 
     -- no disk but the journals of the policy's users was touched
     pub touches_over : (policy : Policy) (users : List User) → users ≡ policy.users.items
@@ -69,22 +70,31 @@ module _ {F D : Type 0} (Shelf : ShelfGhosts F D) (Disk : DiskGhosts D) (old mid
           now = Shelf.disk_faults new;
           shelf_before = Shelf.faults mid;
           shelf_now = Shelf.faults new;
-        }) (subst (λ names. IsEnd Shelf.tells Disk.reads Disk.image header files.journals names (change_on (shelf_of Shelf Disk mid new)) made) (ap init.user_names are ∙ names_are policy.users.items) ended))
+        }) (subst (λ names. IsEnd Shelf.tells Disk.reads Disk.image header files.journals names (change_on (shelf_of Shelf Disk mid new)) made)
+        (ap init.user_names are ∙ names_are policy.users.items) ended))
       where
         rose : Rose (Shelf.faults mid) (Shelf.faults new) → Rose (Shelf.faults old) (Shelf.faults new)
         rose = rose_since (Shelf.faults old) (Shelf.faults mid) (Shelf.faults new) later
 
-        earlier : (made : InitEnd) → Ended header policy (record (change_on (shelf_of Shelf Disk old new)) { shelf_before = Shelf.faults mid }) made → Ended header policy (change_on (shelf_of Shelf Disk old new)) made
+        earlier : (made : InitEnd) → Ended header policy (record (change_on (shelf_of Shelf Disk old new)) {
+          shelf_before =
+              Shelf.faults mid;
+        }) made → Ended header policy (change_on (shelf_of Shelf Disk old new)) made
         earlier init_end.Done ended = ended
         earlier (init_end.Refused user why) ended = record { name = ended.name; is = ended.is; reason = ended.reason; kept = ended.kept; ready = ended.ready }
-        earlier init_end.DiskFault (user, ended) = (user, record { name = ended.name; is = ended.is; reason = ended.reason; kept = ended.kept; ready = ended.ready })
-        earlier init_end.ShelfFault (user, ended) = (user, record { name = ended.name; is = ended.is; reason = rose ended.reason; kept = ended.kept; ready = ended.ready })
-        earlier init_end.Memory (user, ended) = (user, record { name = ended.name; is = ended.is; reason = ended.reason; kept = ended.kept; ready = ended.ready })
+        earlier init_end.DiskFault (user, ended) =
+            (user, record { name = ended.name; is = ended.is; reason = ended.reason; kept = ended.kept; ready = ended.ready })
+        earlier init_end.ShelfFault (user, ended) =
+            (user, record { name = ended.name; is = ended.is; reason = rose ended.reason; kept = ended.kept; ready = ended.ready })
+        earlier init_end.Memory (user, ended) =
+            (user, record { name = ended.name; is = ended.is; reason = ended.reason; kept = ended.kept; ready = ended.ready })
 
   -- ---- the look at one disk
 
-  pub others_over : (directory name owner : Text) → owner ≡ name → SameOthers (journal_name directory owner) (Shelf.disk mid) (Shelf.disk new) → SameOthers (journal_name directory name) (Shelf.disk old) (Shelf.disk new)
-  others_over directory name owner same others other apart = subst (λ n. SameOthers (journal_name directory n) (Shelf.disk mid) (Shelf.disk new)) same others other apart ∙ disks other
+  pub others_over : (directory name owner : Text) → owner ≡ name → SameOthers (journal_name directory owner) (Shelf.disk mid) (Shelf.disk new)
+      → SameOthers (journal_name directory name) (Shelf.disk old) (Shelf.disk new)
+  others_over directory name owner same others other apart =
+      subst (λ n. SameOthers (journal_name directory n) (Shelf.disk mid) (Shelf.disk new)) same others other apart ∙ disks other
 
   pub bytes_over : SameBytes Disk.reads (Shelf.disk mid) (Shelf.disk new) → SameBytes Disk.reads (Shelf.disk old) (Shelf.disk new)
   bytes_over bytes other = bytes other ∙ ap (bytes_on Disk.reads) (disks other)
@@ -93,12 +103,14 @@ module _ {F D : Type 0} (Shelf : ShelfGhosts F D) (Disk : DiskGhosts D) (old mid
   images_over images other c left = subst (λ d. image_on Disk.image d c) (disks other) (images other c left)
 
 -- the end of a batch over other journals that are the same, and over the users of the policy
-pub batch_over : (policy : Policy) (world : FactSet) (header : List ℕ) (users : List User) (journals journals' : Journals) (end : BatchEnd) (before after old new : List ℕ)
+pub batch_over : (policy : Policy) (world : FactSet) (header : List ℕ) (users : List User) (journals journals' : Journals) (end : BatchEnd)
+    (before after old new : List ℕ)
     → journals ≡ journals' → users ≡ policy.users.items → batch.Ends policy.schema world header journals (map named_user users) end before after old new
     → batch.Ends policy.schema world header journals' (new_users (policy_value_of policy)) end before after old new
 batch_over policy world header users journals journals' end before after old new same are ended =
     subst (λ (j : Journals). batch.Ends policy.schema world header j (new_users (policy_value_of policy)) end before after old new) same
-    (subst (λ us. batch.Ends policy.schema world header journals us end before after old new) (sym (new_users_are policy ∙ ap (map named_user) (sym are))) ended)
+    (subst (λ us. batch.Ends policy.schema world header journals us end before after old new)
+    (sym (new_users_are policy ∙ ap (map named_user) (sym are))) ended)
 
 -- so does what it leaves of them
 pub batch_left : (policy : Policy) (world : FactSet) (header : List ℕ) (users : List User) (journals journals' : Journals) (end : BatchEnd)
@@ -109,7 +121,8 @@ batch_left policy world header users journals journals' end same are left =
     (subst (λ us. batch.LeavesJournals policy.schema world header journals us end) (sym (new_users_are policy ∙ ap (map named_user) (sym are))) left)
 
 -- so does that of a serving
-pub serve_over : (policy : Policy) (world : FactSet) (header : List ℕ) (users : List User) (journals journals' : Journals) (end : ServeEnd) (given given' : ℕ) (back back' : List Visit)
+pub serve_over : (policy : Policy) (world : FactSet) (header : List ℕ) (users : List User) (journals journals' : Journals) (end : ServeEnd) (given given' : ℕ)
+    (back back' : List Visit)
     → journals ≡ journals' → users ≡ policy.users.items → serving.Ends policy.schema world header journals users given given' back back' end
     → serving.Ends policy.schema world header journals' policy.users.items given given' back back' end
 serve_over policy world header users journals journals' end given given' back back' same are ended =
@@ -129,16 +142,19 @@ is_within [] number name at = let clash : None ≡ Some name = at in absurd cc
 is_within (user ∷ users) zero name at = omega arith
 is_within (user ∷ users) (suc number) name at = let less : number < length users = is_within users number name at in omega (arith, less)
 
-pub one_of : {D : Type 0} (told : Type 0) (reads : D → List ℕ) (image : D → List ℕ → Type 0) (header directory : List ℕ) (users others : List User) (change : Change D) (made : InitEnd)
+pub one_of : {D : Type 0} (told : Type 0) (reads : D → List ℕ) (image : D → List ℕ → Type 0) (header directory : List ℕ) (users others : List User)
+    (change : Change D) (made : InitEnd)
     → users ≡ others → IsEnd told reads image header directory (init.user_names users) change made → IsOneOf others made
-one_of told reads image header directory users others change (init_end.Refused user why) are ended = subst (λ us. user < length us) are (is_within users user ended.name ended.is)
+one_of told reads image header directory users others change (init_end.Refused user why) are ended =
+    subst (λ us. user < length us) are (is_within users user ended.name ended.is)
 one_of told reads image header directory users others change init_end.Done are ended = tt
 one_of told reads image header directory users others change init_end.DiskFault are ended = tt
 one_of told reads image header directory users others change init_end.ShelfFault are ended = tt
 one_of told reads image header directory users others change init_end.Memory are ended = tt
 
 -- the making of journals stops for a fault only where the count rose
-pub init_caused : {D : Type 0} (told : Type 0) (reads : D → List ℕ) (image : D → List ℕ → Type 0) (header directory : List ℕ) (names : List Text) (change : Change D) (made : InitEnd)
+pub init_caused : {D : Type 0} (told : Type 0) (reads : D → List ℕ) (image : D → List ℕ → Type 0) (header directory : List ℕ) (names : List Text)
+    (change : Change D) (made : InitEnd)
     → IsEnd told reads image header directory names change made
     → (made ≡ init_end.ShelfFault → Rose change.shelf_before change.shelf_now) × (made ≡ init_end.DiskFault → SomeRose change.before change.now)
 init_caused told reads image header directory names change made ended = (

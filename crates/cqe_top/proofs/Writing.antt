@@ -12,7 +12,8 @@ six_parts n u k i c e =
     ∙ sym (append_assoc n (((u ++ k) ++ i) ++ c) e)
 
 -- the same of parts that are these texts
-pub place_parts : {n u k i c n' u' k' i' c' : List ℕ} (e : List ℕ) → n ≡ n' → u ≡ u' → k ≡ k' → i ≡ i' → c ≡ c' → n ++ (u ++ (k ++ (i ++ (c ++ (e ++ []))))) ≡ (n' ++ (((u' ++ k') ++ i') ++ c')) ++ e
+pub place_parts : {n u k i c n' u' k' i' c' : List ℕ} (e : List ℕ) → n ≡ n' → u ≡ u' → k ≡ k' → i ≡ i' → c ≡ c'
+    → n ++ (u ++ (k ++ (i ++ (c ++ (e ++ []))))) ≡ (n' ++ (((u' ++ k') ++ i') ++ c')) ++ e
 place_parts {n} {u} {k} {i} {c} e a b d f h = six_parts n u k i c e ∙ (λ j. (a j ++ (((b j ++ d j) ++ f j) ++ h j)) ++ e)
 
 -- the parts of the complaint about a missing file
@@ -36,6 +37,7 @@ appends_behind front part old before after is (n, less, new) = (
 )
 
 -- the same under a refusal
-pub behind_refusal : {T E : Type 0} (result : Result T E) (front part old before after : List ℕ) → before ≡ old ++ front → OnErr result (AppendsPart before after part) → OnErr result (AppendsPart old after (front ++ part))
+pub behind_refusal : {T E : Type 0} (result : Result T E) (front part old before after : List ℕ) → before ≡ old ++ front
+    → OnErr result (AppendsPart before after part) → OnErr result (AppendsPart old after (front ++ part))
 behind_refusal (Ok value) front part old before after is appended = appended
 behind_refusal (Err why) front part old before after is appended = appends_behind front part old before after is appended

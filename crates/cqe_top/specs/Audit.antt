@@ -46,13 +46,14 @@ module _ (shelf : ShelfScene) (output : Output) (files : FileNames) (user : Text
         IsEnd policy.schema world header one.name one.profile (journals.bytes one.name)
         (journals.before one.name) (journals.now one.name) json end output.written output.written')
 
-    -- It ran over files that were read. His disk alone was looked at: the others are untouched, and
-    -- all have their bytes and no image that they hadn't before.
+    -- It ran over files that were read. It looks at his journal alone: the other disks are
+    -- untouched, and all have the bytes that they had and may be left by a crash only as before.
     pub record RunsAudit (name : Text) (end : AuditEnd) : Type 0 where
       pub name_is : name ≡ user
       pub over_files : shelf.tells → SayOn shelf files (Audits end)
       pub looks : shelf.tells → LooksAtBoth shelf files
-      pub others : shelf.tells → SameOthers (journal_name files.journals user) shelf.disk shelf.disk'
+      pub others : shelf.tells
+          → SameOthers (journal_name files.journals user) shelf.disk shelf.disk'
       pub bytes : shelf.tells → SameBytes shelf.Disk.reads shelf.disk shelf.disk'
       pub images : shelf.tells → NoNewImages shelf.Disk.image shelf.disk shelf.disk'
 

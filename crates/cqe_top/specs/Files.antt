@@ -60,7 +60,8 @@ abbrev pub files_say : Option (List ℕ) → Option (List ℕ) → FilesSay
 files_say None facts = no_policy
 files_say (Some bytes) facts = with_policy bytes (policy_in bytes) facts
 
--- the files say a policy, a world and a header of which this holds
+-- The files say a policy, a world and a header of which this holds. Whatever names of these three
+-- a command's clause takes last are given here.
 abbrev pub Say : FilesSay → (PolicyValue → FactSet → List ℕ → Type 0) → Type 0
 Say said P =
     (policy : PolicyValue) × (world : FactSet) × (header : List ℕ)
@@ -135,8 +136,9 @@ module _ (shelf : ShelfScene) (files : FileNames) where
   abbrev pub LooksAt : Type 0
   LooksAt = Looks files.policy shelf.looked shelf.looked' ⊎ LooksAtBoth
 
-  -- why they weren't read: the first of them that isn't there, is refused, or at which the shelf
-  -- failed
+  -- Why they weren't read: the first of them that isn't there, is refused, or at which the shelf
+  -- failed. Where it failed at the policy, the facts weren't looked at; where it failed at the
+  -- facts, the policy is there and isn't refused; and memory may always be wanting.
   abbrev pub Refuses : FilesEnd → Type 0
   Refuses (Missing name) = IsMissing said_on files name.now
   Refuses (ShelfFault kind.Policy) = Looks files.policy shelf.looked shelf.looked'

@@ -35,7 +35,8 @@ OfReading s (Some (runs_selfrun seed users asks)) end = OfSelfrun s seed users a
 OfReading s (Some (runs_serve files address workers sessions)) end =
     OfServe s files address workers sessions end
 
--- of a shelf, whatever comes: its files are what they were, all its disks are back, and no count fell
+-- of a shelf, whatever comes: its files are what they were, all its disks are back, and no count
+-- fell
 pub record KeepsShelf (shelf : ShelfScene) : Type 0 where
   pub files : SameNames shelf.file shelf.file'
   pub inside : NoneOut shelf.is_out'

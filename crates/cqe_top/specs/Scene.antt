@@ -19,7 +19,9 @@ pub record Count : Type 0 where
   pub now : ℕ
 
 -- The source of the input: the bytes that are left in it, and all that it holds. Where it tells its
--- content, clauses may speak of it; so it is with each object.
+-- content, clauses may speak of it; so it is with each object. Whether it tells is said by the type
+-- of the object: those in memory tell all, and those of the system tell nothing that is proved, so
+-- of them each such clause is what holds as far as the system does what the object in memory does.
 pub record Input : Type 1 where
   pub tells : Type 0
   pub left : List ℕ
@@ -90,6 +92,7 @@ pub record Scene : Type 1 where
 
 -- ---- the same of a bound's members, and of an object before and behind a call
 
+-- of a source
 abbrev pub input_of : {S : Type 0} → SourceGhosts S → S → S → Input
 input_of {S} Source old new = record {
   tells = Source.tells;
@@ -103,6 +106,7 @@ input_of {S} Source old new = record {
   object' = new;
 }
 
+-- of a sink
 abbrev pub output_of : {K : Type 0} → SinkGhosts K → K → K → Output
 output_of {K} Sink old new = record {
   tells = Sink.tells;
@@ -114,6 +118,7 @@ output_of {K} Sink old new = record {
   object' = new;
 }
 
+-- of a shelf, with its disks
 abbrev pub shelf_of : {F D : Type 0} → ShelfGhosts F D → DiskGhosts D → F → F → ShelfScene
 shelf_of {F} {D} Shelf Disk old new = record {
   tells = Shelf.tells;
@@ -134,6 +139,7 @@ shelf_of {F} {D} Shelf Disk old new = record {
   object' = new;
 }
 
+-- of links, with their doors and ends
 abbrev pub links_of : {L D S K : Type 0} → LinksGhosts L D S K → L → L → LinksScene
 links_of {L} Links old new = record {
   tells = Links.tells;
@@ -154,6 +160,7 @@ links_of {L} Links old new = record {
   object' = new;
 }
 
+-- all of them together
 abbrev pub scene_of : ShelfScene → Input → Output → LinksScene → Scene
 scene_of shelf input output links =
     record { shelf = shelf; input = input; output = output; links = links }
@@ -172,12 +179,15 @@ IsLater count = count.before ≤ count.now
 abbrev pub SameInput : Input → Type 0
 SameInput input = input.object' ≡ input.object
 
+-- so is a sink
 abbrev pub SameOutput : Output → Type 0
 SameOutput output = output.object' ≡ output.object
 
+-- so is a shelf, with its disks
 abbrev pub SameShelf : ShelfScene → Type 0
 SameShelf shelf = shelf.object' ≡ shelf.object
 
+-- so are links
 abbrev pub SameLinks : LinksScene → Type 0
 SameLinks links = links.object' ≡ links.object
 

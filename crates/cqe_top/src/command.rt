@@ -1,4 +1,5 @@
-//! The call that does all: words to a command, the command to its end, the end to a complaint and a status.
+//! The call that does all: words to a command, the command to its end, the end to a complaint and a
+//! status.
 ghost use Rattle.std.specs.Prelude.{◌≡◌, Option, map, string_bytes};
 ghost use Rattle.command_words.specs.Readings.{Reading, reading_of};
 ghost use Rattle.desk_crew.specs.Shelved.{NoneOut};
@@ -19,16 +20,20 @@ use std::alloc::{AllocError, Global};
 use std::sync::Wait;
 use std::thread::Threads;
 
-/// Does all that the program does, and answers the status with which it ends: 0 done, 2 usage, 3 policy, 4 facts,
-/// 5 script, 6 read, 7 write, 8 missing file, 9 shelf, 10 journal, 11 disk, 12 links, 13 memory.
+/// Does all that the program does, and answers the status with which it ends: 0 done, 2 usage, 3
+/// policy, 4 facts, 5 script, 6 read, 7 write, 8 missing file, 9 shelf, 10 journal, 11 disk, 12
+/// links, 13 memory.
 ///
-/// The command `case` reads a script with one user from the source and writes one line for each ask to the sink. `init`
-/// reads a policy and facts from the shelf and makes an empty journal on the disk of each user, where that is empty.
-/// `batch` reads the same files and a script of many users from the source, over their journals; a user whose journal is
-/// refused doesn't stop the others, and each ask passes the gate. `audit` reads the same files and prints what the journal
-/// of one of the users holds. `selfrun` makes a workload, runs it over objects in memory, and prints how often each reply
-/// came. `serve` reads the same files as `batch` and serves the connections that the links give at an address, side by
-/// side, until the links end or so many connections were served. It may wait, for a client, at the desks and at the gate.
+/// The command `case` reads a script with one user from the source and writes one line for each ask
+/// to the sink. `init` reads a policy and facts from the shelf and makes an empty journal on the
+/// disk of each user, where that is empty.
+/// `batch` reads the same files and a script of many users from the source, over their journals; a
+/// user whose journal is refused doesn't stop the others, and each ask passes the gate. `audit`
+/// reads the same files and prints what the journal of one of the users holds. `selfrun` makes a
+/// workload, runs it over objects in memory, and prints how often each reply came. `serve` reads
+/// the same files as `batch` and serves the connections that the links give at an address, side by
+/// side, until the links end or so many connections were served. It may wait, for a client, at the
+/// desks and at the gate.
 /// What can't be done is said to the complaints; where they fail too, nothing else changes.
 pub fn top<
     R: Threads + Wait + Sync,

@@ -114,7 +114,8 @@ where
 
 /// The place of the user who has this name.
 fn place_of(users: &[User], name: &str) -> Option<usize>
-    ensures place { result ≡ position (λ user. bytes_eq (string_bytes user.name) name.now) users.now }
+    ensures place { result
+        ≡ position (λ user. bytes_eq (string_bytes user.name) name.now) users.now }
     ensures within { IfSome result (λ place. place < length users.now) }
 {
     users.iter().position(|user| user.name.as_str() == name)

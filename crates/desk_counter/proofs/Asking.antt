@@ -20,7 +20,8 @@ use Rattle.desk_counter.specs.declared.item.Item.TheVariants.{Kept, Broke}
 use Rattle.desk_counter.specs.declared.item.Fixed.{Fixed}
 use Rattle.desk_counter.specs.Items.{history_of, kept_pair, kept_pairs, flying, has_broke}
 use Rattle.desk_counter.specs.Desks.{state_shown}
-use Rattle.desk_counter.specs.Asks.{entry_for, NoMark, Adds, answered, broke, coded, wanted, IsServed, Answers, Asked, all_but_last, pairs_behind, IsReply, Tells, TellsMark, AddsNone}
+use Rattle.desk_counter.specs.Asks.{entry_for, NoMark, Adds, answered, broke, coded, wanted, IsServed, Answers, Asked, all_but_last, pairs_behind, IsReply}
+use Rattle.desk_counter.specs.Asks.{Tells, TellsMark, AddsNone}
 
 -- ---- pairs with one more
 
@@ -62,21 +63,27 @@ module _ {D : Type 0} (fixed : Fixed D) where
   broke_replies found text ticket entry served =
       let after = found ++ (ticket, Broke entry) ∷ [] in
       ap (λ s. reply_by fixed.schema fixed.world fixed.user (history_of after) s (has_broke after) text (reading fixed.schema text)) served.0
-      ∙ ap (λ (o : Option AnsweredQuery). reply_by fixed.schema fixed.world fixed.user (history_of after) standing_open (is_some o) text (reading fixed.schema text)) (flying_broke found ticket entry served.1)
+      ∙ ap (λ (o : Option AnsweredQuery).
+      reply_by fixed.schema fixed.world fixed.user (history_of after) standing_open (is_some o) text (reading fixed.schema text))
+      (flying_broke found ticket entry served.1)
 
   pub served_replies : (found : Entries Item) (text : Text) (query : Formula) (mark : base.Mark) → IsServed fixed found → Answers fixed found text query mark
       → reply_at fixed.schema fixed.world fixed.user (state_shown fixed found) text ≡ marked mark
   served_replies found text query mark served answer =
       ap (λ s. reply_by fixed.schema fixed.world fixed.user (history_of found) s (has_broke found) text (reading fixed.schema text)) served.0
-      ∙ ap (λ (o : Option AnsweredQuery). reply_by fixed.schema fixed.world fixed.user (history_of found) standing_open (is_some o) text (reading fixed.schema text)) served.1 ∙ answer.answer
+      ∙ ap (λ (o : Option AnsweredQuery).
+      reply_by fixed.schema fixed.world fixed.user (history_of found) standing_open (is_some o) text (reading fixed.schema text)) served.1 ∙ answer.answer
 
   -- the reply is that of the rule
-  pub adds_reply : {ticket : ℕ} {text : Text} {found after : Entries Item} {reply : Reply} → Adds fixed ticket text found after reply → IsReply fixed text after reply
+  pub adds_reply : {ticket : ℕ} {text : Text} {found after : Entries Item} {reply : Reply} → Adds fixed ticket text found after reply
+      → IsReply fixed text after reply
   adds_reply {ticket = ticket} {text = text} {found = found} (answered {query = query} {mark = mark} served answer added) =
-      inr (sym (ap (λ ps. reply_at fixed.schema fixed.world fixed.user (state_shown fixed ps) text) (ap (all_but_last fixed) added ∙ without_last fixed found (ticket, Kept (entry_for query mark text)))
+      inr (sym (ap (λ ps. reply_at fixed.schema fixed.world fixed.user (state_shown fixed ps) text) (ap (all_but_last fixed) added
+      ∙ without_last fixed found (ticket, Kept (entry_for query mark text)))
       ∙ served_replies found text query mark served answer))
   adds_reply {ticket = ticket} {text = text} {found = found} (broke {query = query} {mark = mark} served answer added) =
-      inr (sym (ap (λ ps. reply_at fixed.schema fixed.world fixed.user (state_shown fixed ps) text) added ∙ broke_replies found text ticket (entry_for query mark text) served))
+      inr (sym (ap (λ ps. reply_at fixed.schema fixed.world fixed.user (state_shown fixed ps) text) added
+      ∙ broke_replies found text ticket (entry_for query mark text) served))
   adds_reply {text = text} {found = found} {after = after} {reply = reply} (coded none replied same) =
       inr (sym (ap (λ ps. reply_at fixed.schema fixed.world fixed.user (state_shown fixed ps) text) (behind_code reply after none ∙ same) ∙ replied))
   adds_reply (wanted same) = inl refl
@@ -127,8 +134,10 @@ module _ {D : Type 0} (fixed : Fixed D) where
 
   -- the pairs that were added stand behind those that were found
   adds_prefix : {ticket : ℕ} {text : Text} {found after : Entries Item} {reply : Reply} → Adds fixed ticket text found after reply → IsPrefix found after
-  adds_prefix {ticket = ticket} {text = text} (answered {query = query} {mark = mark} served answer added) = ((ticket, Kept (entry_for query mark text)) ∷ [], added)
-  adds_prefix {ticket = ticket} {text = text} (broke {query = query} {mark = mark} served answer added) = ((ticket, Broke (entry_for query mark text)) ∷ [], added)
+  adds_prefix {ticket =
+      ticket} {text = text} (answered {query = query} {mark = mark} served answer added) = ((ticket, Kept (entry_for query mark text)) ∷ [], added)
+  adds_prefix {ticket =
+      ticket} {text = text} (broke {query = query} {mark = mark} served answer added) = ((ticket, Broke (entry_for query mark text)) ∷ [], added)
   adds_prefix {found = found} (coded none replied same) = ([], same ∙ sym (append-nil found))
   adds_prefix {found = found} (wanted same) = ([], same ∙ sym (append-nil found))
 
@@ -142,10 +151,14 @@ module _ {D : Type 0} (fixed : Fixed D) where
   -- ---- a turn
 
   -- what a turn did with a pass
-  pub asked_in_turn : {old new : Pass Item (Fixed D)} {text : Text} {reply : Reply} {inside : View Item (Fixed D)} (ticket : ℕ) (found after own_before : Entries Item)
-      → inside ≡ turn_view (view_of old) ticket found → IsPrefix (seen old) found → (shares old ≡ 65 → found ≡ seen old) → ((x : ℕ) → ticket ≤ x → count_of x (tickets old) ≡ 0) → own_before ≡ mine old
-      → view_of new ≡ outside_view inside after → AddsAlike inside.seen after own_before (mine new) → Adds fixed ticket text found after reply → Asked fixed old new text reply
-  asked_in_turn {old = old} {new = new} {text = text} {reply = reply} {inside = inside} ticket found after own_before entered later whole fresh own left alike adds =
+  pub asked_in_turn : {old new : Pass Item (Fixed D)} {text : Text} {reply : Reply} {inside : View Item (Fixed D)} (ticket : ℕ)
+      (found after own_before : Entries Item)
+      → inside ≡ turn_view (view_of old) ticket found → IsPrefix (seen old) found → (shares old ≡ 65 → found ≡ seen old)
+      → ((x : ℕ) → ticket ≤ x → count_of x (tickets old) ≡ 0) → own_before ≡ mine old
+      → view_of new ≡ outside_view inside after → AddsAlike inside.seen after own_before (mine new) → Adds fixed ticket text found after reply
+      → Asked fixed old new text reply
+  asked_in_turn {old =
+      old} {new = new} {text = text} {reply = reply} {inside = inside} ticket found after own_before entered later whole fresh own left alike adds =
       let saw : seen new ≡ after = ap (λ (v : View Item (Fixed D)). v.seen) left in
       let began : inside.seen ≡ found = ap (λ (v : View Item (Fixed D)). v.seen) entered in
       record {
@@ -155,15 +168,18 @@ module _ {D : Type 0} (fixed : Fixed D) where
         whole = whole;
         fresh = fresh;
         adds = subst (λ ps. Adds fixed ticket text found ps reply) (sym saw) adds;
-        own = subst (λ ps. AddsAlike found ps (mine old) (mine new)) (sym saw) (subst (λ ps. AddsAlike found after ps (mine new)) own (subst (λ ps. AddsAlike ps after own_before (mine new)) began alike));
+        own = subst (λ ps. AddsAlike found ps (mine old) (mine new)) (sym saw)
+            (subst (λ ps. AddsAlike found after ps (mine new)) own (subst (λ ps. AddsAlike ps after own_before (mine new)) began alike));
         drew = ap (λ (v : View Item (Fixed D)). v.drawn) left ∙ ap (λ (v : View Item (Fixed D)). v.drawn) entered;
       }
 
   -- what a turn adds is at most one pair with its ticket
-  pub adds_at_most_one : {ticket ticket' : ℕ} {text : Text} {found after : Entries Item} {reply : Reply} (inside : View Item (Fixed D)) (old : View Item (Fixed D)) → ticket ≡ ticket' → inside ≡ turn_view old ticket' found
+  pub adds_at_most_one : {ticket ticket' : ℕ} {text : Text} {found after : Entries Item} {reply : Reply} (inside : View Item (Fixed D))
+      (old : View Item (Fixed D)) → ticket ≡ ticket' → inside ≡ turn_view old ticket' found
       → Adds fixed ticket text found after reply → AddsAtMostOne ticket' inside.seen after
   adds_at_most_one {ticket = ticket} {ticket' = ticket'} {text = text} {found = found} {after = after} {reply = reply} inside old same entered adds =
-      subst (λ ps. AddsAtMostOne ticket' ps after) (sym (ap (λ (v : View Item (Fixed D)). v.seen) entered)) (subst (λ t. AddsAtMostOne t found after) same (of_adds adds))
+      subst (λ ps. AddsAtMostOne ticket' ps after) (sym (ap (λ (v : View Item (Fixed D)). v.seen) entered))
+      (subst (λ t. AddsAtMostOne t found after) same (of_adds adds))
     where
       of_adds : {code : Reply} → Adds fixed ticket text found after code → AddsAtMostOne ticket found after
       of_adds (answered {query = query} {mark = mark} served answer added) = inr (Kept (entry_for query mark text), added)

@@ -13,7 +13,8 @@ use Rattle.user_log.specs.declared.reply.Reply.{Reply}
 use Rattle.user_log.specs.declared.reply.Reply.TheVariants.{Mark, Broken}
 use Rattle.user_desk.specs.Standings.{standing_of, is_open}
 use Rattle.user_desk.specs.Lives.{shown, IsState, Settles}
-use Rattle.user_desk.specs.Desks.{desk_schema, desk_world, desk_user, desk_standing, desk_history, entry_in_flight, is_broken_desk, IsIn, IsOfSame, IsOfOneOpening}
+use Rattle.user_desk.specs.Desks.{desk_schema, desk_world, desk_user, desk_standing, desk_history, entry_in_flight, is_broken_desk, IsIn, IsOfSame}
+use Rattle.user_desk.specs.Desks.{IsOfOneOpening}
 use Rattle.user_desk.specs.declared.desk.Desk.{Desk}
 use Rattle.user_desk.specs.declared.standing.Standing.{Standing}
 use Rattle.user_desk.specs.declared.standing.Standing.TheVariants as standings
@@ -30,13 +31,15 @@ use Rattle.desk_counter.proofs.Settling as settling
 use Rattle.desk_counter.proofs.Pairs.{history_pairs, flying_pairs, adds_mark, adds_broke, adds_none}
 
 -- a desk is in the state that it shows
-in_itself : (standing : Standing) (entries : History) (in_flight : Option AnsweredQuery) → IsState standing (shown entries (standing_of standing) in_flight) (shown entries (standing_of standing) in_flight)
+in_itself : (standing : Standing) (entries : History) (in_flight : Option AnsweredQuery)
+    → IsState standing (shown entries (standing_of standing) in_flight) (shown entries (standing_of standing) in_flight)
 in_itself standings.Open entries in_flight = refl
 in_itself (standings.Closed admission) entries in_flight = refl
 in_itself (standings.Sealed why) entries in_flight = refl
 
 -- an append failed, as the pairs show it
-pub broke_pairs : (tickets : List ℕ) (entries : History) (broke : ℕ) (in_flight : Option AnsweredQuery) → has_broke (pairs_of tickets entries broke in_flight) ≡ is_some in_flight
+pub broke_pairs : (tickets : List ℕ) (entries : History) (broke : ℕ) (in_flight : Option AnsweredQuery)
+    → has_broke (pairs_of tickets entries broke in_flight) ≡ is_some in_flight
 broke_pairs tickets entries broke in_flight = ap (λ (o : Option AnsweredQuery). is_some o) (flying_pairs tickets entries broke in_flight)
 
 -- the entries of a desk with tickets are those of the journal among its pairs
@@ -58,7 +61,8 @@ opening_pairs count entries in_flight = of_zeros count entries
     of_zeros : (count : ℕ) (entries : History) → IsOpening (pairs_of (replicate count 0) entries 0 in_flight)
     of_zeros zero entries = alone in_flight
     of_zeros (suc count) [] = alone in_flight
-    of_zeros (suc count) (x ∷ entries) = All-cons (λ (e : ℕ × Item). e.0 ≡ 0) (0, Kept x) (pairs_of (replicate count 0) entries 0 in_flight) refl (of_zeros count entries)
+    of_zeros (suc count) (x ∷ entries) =
+        All-cons (λ (e : ℕ × Item). e.0 ≡ 0) (0, Kept x) (pairs_of (replicate count 0) entries 0 in_flight) refl (of_zeros count entries)
 
 served_of : (standing : Standing) → (is_open standing ≡ false → ⊥) → standing_of standing ≡ standing_open
 served_of standings.Open never = refl
@@ -66,12 +70,14 @@ served_of (standings.Closed admission) never = absurd (never refl)
 served_of (standings.Sealed why) never = absurd (never refl)
 
 -- a desk with an entry in flight answers so
-pub broken_adds : {D : Type 0} {g : _} (value : TicketedDesk D g) (ticket : ℕ) (text : Text) → is_broken_desk value.desk ≡ true → (is_open (desk_standing value.desk) ≡ false → is_broken_desk value.desk ≡ false)
+pub broken_adds : {D : Type 0} {g : _} (value : TicketedDesk D g) (ticket : ℕ) (text : Text) → is_broken_desk value.desk ≡ true
+    → (is_open (desk_standing value.desk) ≡ false → is_broken_desk value.desk ≡ false)
     → Adds (fixed_of value.desk) ticket text (pairs_in value) (pairs_in value) Broken
 broken_adds value ticket text broken idle =
     let fixed = fixed_of value.desk in
     let pairs = pairs_in value in
-    let opened : standing_of fixed.standing ≡ standing_open = served_of (desk_standing value.desk) (λ closed. let e : true ≡ false = sym broken ∙ idle closed in cc) in
+    let opened : standing_of fixed.standing ≡ standing_open =
+    served_of (desk_standing value.desk) (λ closed. let e : true ≡ false = sym broken ∙ idle closed in cc) in
     let flies : has_broke pairs ≡ true = ap (λ (o : Option AnsweredQuery). is_some o) (flying_in value) ∙ broken in
     asks.coded tt
     (ap (λ s. reply_by fixed.schema fixed.world fixed.user (history_of pairs) s (has_broke pairs) text (reading fixed.schema text)) opened
@@ -96,46 +102,65 @@ module _ {D : Type 0} {g : _} (old new : Desk D g) where
       → ((state : UserState) → IsIn old state → Settles (desk_schema old) (desk_world old) (desk_user old) (IsIn new) state text (reply_of reply) before now)
       → (is_open (desk_standing old) ≡ false → desk_history old ≡ []) → (is_open (desk_standing new) ≡ false → desk_history new ≡ [])
       → is_broken_desk old ≡ false → (is_open (desk_standing new) ≡ false → is_broken_desk new ≡ false)
-      → Changes (desk_schema old) (desk_world old) (desk_user old) (standing_of (desk_standing old)) text (desk_history old) None (desk_history new) (entry_in_flight new) reply
+      → Changes (desk_schema old) (desk_world old) (desk_user old) (standing_of (desk_standing old)) text (desk_history old) None (desk_history new)
+      (entry_in_flight new) reply
   desk_changes text reply before now same settles none_old none_new whole idle_new =
       let whole_old : entry_in_flight old ≡ None = none_flies (entry_in_flight old) whole in
-      let settled = settles (shown (desk_history old) (standing_of (desk_standing old)) (entry_in_flight old)) (in_itself (desk_standing old) (desk_history old) (entry_in_flight old)) in
-      let of_new : Settles (desk_schema old) (desk_world old) (desk_user old) (IsState (desk_standing old) (shown (desk_history new) (standing_of (desk_standing old)) (entry_in_flight new)))
+      let settled = settles (shown (desk_history old) (standing_of (desk_standing old)) (entry_in_flight old))
+      (in_itself (desk_standing old) (desk_history old) (entry_in_flight old)) in
+      let of_new : Settles (desk_schema old) (desk_world old) (desk_user old)
+      (IsState (desk_standing old) (shown (desk_history new) (standing_of (desk_standing old)) (entry_in_flight new)))
       (shown (desk_history old) (standing_of (desk_standing old)) (entry_in_flight old)) text (reply_of reply) before now =
-      subst (λ s. Settles (desk_schema old) (desk_world old) (desk_user old) (IsState s (shown (desk_history new) (standing_of s) (entry_in_flight new))) (shown (desk_history old) (standing_of (desk_standing old)) (entry_in_flight old)) text (reply_of reply) before now) same.standing settled in
-      subst (λ o. Changes (desk_schema old) (desk_world old) (desk_user old) (standing_of (desk_standing old)) text (desk_history old) o (desk_history new) (entry_in_flight new) reply) whole_old
-      (settled_changes (desk_schema old) (desk_world old) (desk_user old) (desk_standing old) text (desk_history old) (entry_in_flight old) (desk_history new) (entry_in_flight new) reply
-      (λ closed. (none_old closed, none_new (ap is_open same.standing ∙ closed), whole_old, none_flies (entry_in_flight new) (idle_new (ap is_open same.standing ∙ closed)))) before now of_new)
+      subst (λ s. Settles (desk_schema old) (desk_world old) (desk_user old) (IsState s (shown (desk_history new) (standing_of s) (entry_in_flight new)))
+      (shown (desk_history old) (standing_of (desk_standing old)) (entry_in_flight old)) text (reply_of reply) before now) same.standing settled in
+      subst (λ o. Changes (desk_schema old) (desk_world old) (desk_user old) (standing_of (desk_standing old)) text (desk_history old) o (desk_history new)
+      (entry_in_flight new) reply) whole_old
+      (settled_changes (desk_schema old) (desk_world old) (desk_user old) (desk_standing old) text (desk_history old) (entry_in_flight old) (desk_history new)
+      (entry_in_flight new) reply
+      (λ closed. (
+        none_old closed,
+        none_new (ap is_open same.standing ∙ closed),
+        whole_old,
+        none_flies (entry_in_flight new) (idle_new (ap is_open same.standing ∙ closed)),
+      )) before now of_new)
 
   module _ (tickets : List ℕ) (broke ticket : ℕ) (text : Text) (counted : length tickets ≡ length (desk_history old)) (whole : is_broken_desk old ≡ false) where
     abbrev Changed : Reply → Type 0
-    Changed reply = Changes (desk_schema old) (desk_world old) (desk_user old) (standing_of (desk_standing old)) text (desk_history old) None (desk_history new) (entry_in_flight new) reply
+    Changed reply = Changes (desk_schema old) (desk_world old) (desk_user old) (standing_of (desk_standing old)) text (desk_history old) None (desk_history new)
+        (entry_in_flight new) reply
 
     none : entry_in_flight old ≡ None
     none = none_flies (entry_in_flight old) whole
 
     pub desk_adds_mark : {mark : base.Mark} → Changed (Mark mark)
-        → Adds (fixed_of old) ticket text (pairs_of tickets (desk_history old) broke (entry_in_flight old)) (pairs_of (tickets ++ ticket ∷ []) (desk_history new) broke (entry_in_flight new)) (Mark mark)
+        → Adds (fixed_of old) ticket text (pairs_of tickets (desk_history old) broke (entry_in_flight old))
+        (pairs_of (tickets ++ ticket ∷ []) (desk_history new) broke (entry_in_flight new)) (Mark mark)
     desk_adds_mark {mark = mark} changed =
-        subst (λ o. Adds (fixed_of old) ticket text (pairs_of tickets (desk_history old) broke o) (pairs_of (tickets ++ ticket ∷ []) (desk_history new) broke (entry_in_flight new)) (Mark mark)) (sym none)
+        subst (λ o. Adds (fixed_of old) ticket text (pairs_of tickets (desk_history old) broke o)
+        (pairs_of (tickets ++ ticket ∷ []) (desk_history new) broke (entry_in_flight new)) (Mark mark)) (sym none)
         (adds_mark (fixed_of old) text tickets (desk_history old) broke counted ticket changed)
 
     pub desk_adds_broke : is_broken_desk new ≡ true → Changed Broken
-        → Adds (fixed_of old) ticket text (pairs_of tickets (desk_history old) broke (entry_in_flight old)) (pairs_of tickets (desk_history new) ticket (entry_in_flight new)) Broken
+        → Adds (fixed_of old) ticket text (pairs_of tickets (desk_history old) broke (entry_in_flight old))
+        (pairs_of tickets (desk_history new) ticket (entry_in_flight new)) Broken
     desk_adds_broke flies changed =
-        subst (λ o. Adds (fixed_of old) ticket text (pairs_of tickets (desk_history old) broke o) (pairs_of tickets (desk_history new) ticket (entry_in_flight new)) Broken) (sym none)
+        subst (λ o. Adds (fixed_of old) ticket text (pairs_of tickets (desk_history old) broke o)
+        (pairs_of tickets (desk_history new) ticket (entry_in_flight new)) Broken) (sym none)
         (adds_broke (fixed_of old) text tickets (desk_history old) broke counted ticket flies changed)
 
     pub desk_adds_none : {reply : Reply} → NoMark reply → (reply ≡ Broken → ⊥) → Changed reply
-        → Adds (fixed_of old) ticket text (pairs_of tickets (desk_history old) broke (entry_in_flight old)) (pairs_of tickets (desk_history new) broke (entry_in_flight new)) reply
+        → Adds (fixed_of old) ticket text (pairs_of tickets (desk_history old) broke (entry_in_flight old))
+        (pairs_of tickets (desk_history new) broke (entry_in_flight new)) reply
     desk_adds_none {reply = reply} no_mark not_broken changed =
-        subst (λ o. Adds (fixed_of old) ticket text (pairs_of tickets (desk_history old) broke o) (pairs_of tickets (desk_history new) broke (entry_in_flight new)) reply) (sym none)
+        subst (λ o. Adds (fixed_of old) ticket text (pairs_of tickets (desk_history old) broke o)
+        (pairs_of tickets (desk_history new) broke (entry_in_flight new)) reply) (sym none)
         (adds_none (fixed_of old) text tickets (desk_history old) broke counted ticket no_mark not_broken changed)
 
     -- as many tickets as entries
     pub counted_mark : {mark : base.Mark} → Changed (Mark mark) → length (tickets ++ ticket ∷ []) ≡ length (desk_history new)
     counted_mark (settling.added {query = query} {mark = mark} opened idle answer grown still) =
-        length-append tickets (ticket ∷ []) ∙ ap (λ n. n + 1) counted ∙ sym (length-append (desk_history old) (entry_for query mark text ∷ [])) ∙ sym (ap length grown)
+        length-append tickets (ticket ∷ []) ∙ ap (λ n. n + 1) counted ∙ sym (length-append (desk_history old) (entry_for query mark text ∷ []))
+        ∙ sym (ap length grown)
     counted_mark (settling.coded never replied same still) = absurd never
 
     pub counted_broke : Changed Broken → length tickets ≡ length (desk_history new)

@@ -8,7 +8,8 @@ use Rattle.cqe_base.specs.Formula.{Formula}
 use Rattle.cqe_base.specs.Reading.{Refusal, reading}
 use Rattle.cqe_base.specs.History.{AnsweredQuery, History}
 use Rattle.cqe_base.specs.Run as run
-use Rattle.cqe_base.specs.Run.{UserState, want, kept, failed, ask, after_event, after_failure, reply_at, reply_at_failure, entry_at, entry_added, standing_open, marked}
+use Rattle.cqe_base.specs.Run.{UserState, want, kept, failed, ask, after_event, after_failure, reply_at, reply_at_failure, entry_at, entry_added, standing_open}
+use Rattle.cqe_base.specs.Run.{marked}
 use Rattle.turnstile.specs.History.{Entries}
 use Rattle.user_log.specs.Replies.{reply_of}
 use Rattle.user_log.specs.declared.reply.Reply.{Reply}
@@ -28,7 +29,9 @@ use Rattle.desk_counter.proofs.Asking.{kept_more, kept_broke, flying_broke, serv
 
 -- one entry more
 history_more : (pairs : Entries Item) (ticket : ℕ) (entry : AnsweredQuery) → history_of (pairs ++ (ticket, Kept entry) ∷ []) ≡ history_of pairs ++ entry ∷ []
-history_more pairs ticket entry = ap (map (λ (p : ℕ × AnsweredQuery). p.1)) (kept_more pairs (ticket, Kept entry)) ∙ map-append (λ (p : ℕ × AnsweredQuery). p.1) (kept_pairs pairs) ((ticket, entry) ∷ [])
+history_more pairs ticket entry =
+    ap (map (λ (p : ℕ × AnsweredQuery). p.1)) (kept_more pairs (ticket, Kept entry))
+    ∙ map-append (λ (p : ℕ × AnsweredQuery). p.1) (kept_pairs pairs) ((ticket, entry) ∷ [])
 
 flying_kept : (pairs : Entries Item) (ticket : ℕ) (entry : AnsweredQuery) → flying (pairs ++ (ticket, Kept entry) ∷ []) ≡ flying pairs
 flying_kept [] ticket entry = refl
@@ -60,8 +63,10 @@ to_open (standings.Sealed why) desk_state state opened is = absurd cc
 
 module _ {D : Type 0} (fixed : Fixed D) (text : Text) where
   -- a desk's reply is that in each state in which it is
-  same_reply : (standing : Standing) (entries : History) (in_flight : Option AnsweredQuery) (state : UserState) → IsState standing (shown entries (standing_of standing) in_flight) state
-      → reply_at fixed.schema fixed.world fixed.user state text ≡ reply_at fixed.schema fixed.world fixed.user (shown entries (standing_of standing) in_flight) text
+  same_reply : (standing : Standing) (entries : History) (in_flight : Option AnsweredQuery) (state : UserState)
+      → IsState standing (shown entries (standing_of standing) in_flight) state
+      → reply_at fixed.schema fixed.world fixed.user state text
+      ≡ reply_at fixed.schema fixed.world fixed.user (shown entries (standing_of standing) in_flight) text
   same_reply standings.Open entries in_flight state is = ap (λ s. reply_at fixed.schema fixed.world fixed.user s text) is
   same_reply (standings.Closed admission) entries in_flight state is = ap (λ s. reply_at fixed.schema fixed.world fixed.user s text) is
   same_reply (standings.Sealed why) entries in_flight state is = ap (λ s. run.reply fixed.schema fixed.world fixed.user state.entries s state.broken text) is
@@ -96,7 +101,8 @@ module _ {D : Type 0} (fixed : Fixed D) (text : Text) where
                 (ap (λ o. record state { entries = state.entries ++ option_to_list o }) adds
                 ∙ ap (λ (s : UserState). record s { entries = s.entries ++ entry ∷ [] }) shows
                 ∙ ap (λ (h : History). shown h (standing_of fixed.standing) (flying found)) (sym (history_more found ticket entry))
-                ∙ ap (λ (o : Option AnsweredQuery). shown (history_of (found ++ (ticket, Kept entry) ∷ [])) (standing_of fixed.standing) o) (sym (flying_kept found ticket entry))
+                ∙ ap (λ (o : Option AnsweredQuery). shown (history_of (found ++ (ticket, Kept entry) ∷ [])) (standing_of fixed.standing) o)
+                (sym (flying_kept found ticket entry))
                 ∙ ap (state_shown fixed) (sym added));
             reply = sym replied;
           }
@@ -110,18 +116,24 @@ module _ {D : Type 0} (fixed : Fixed D) (text : Text) where
                 (ap (after_failure fixed.schema fixed.world fixed.user state) adds
                 ∙ ap (λ (s : UserState). record s { broken = true; pending = Some entry }) shows
                 ∙ ap (λ (ps : Entries AnsweredQuery). shown (map (λ p. p.1) ps) (standing_of fixed.standing) (Some entry)) (sym (kept_broke found ticket entry))
-                ∙ ap (λ (o : Option AnsweredQuery). shown (history_of (found ++ (ticket, Broke entry) ∷ [])) (standing_of fixed.standing) o) (sym (flying_broke found ticket entry served.1))
+                ∙ ap (λ (o : Option AnsweredQuery). shown (history_of (found ++ (ticket, Broke entry) ∷ [])) (standing_of fixed.standing) o)
+                (sym (flying_broke found ticket entry served.1))
                 ∙ ap (state_shown fixed) (sym added));
             reply = sym (ap (reply_at_failure fixed.schema fixed.world fixed.user (reply_at fixed.schema fixed.world fixed.user state text)) adds);
           }
 
-    told_code : (code : Reply) → NoMark code → reply_at fixed.schema fixed.world fixed.user (state_shown fixed found) text ≡ reply_of code → after ≡ found → IsTold code
+    told_code : (code : Reply) → NoMark code → reply_at fixed.schema fixed.world fixed.user (state_shown fixed found) text ≡ reply_of code → after ≡ found
+        → IsTold code
     told_code code none replied same =
-        let same_told : reply_at fixed.schema fixed.world fixed.user state text ≡ reply_of code = same_reply fixed.standing (history_of found) (flying found) state is ∙ replied in
-        let nothing : entry_at fixed.schema fixed.world fixed.user state text ≡ None = ap (λ r. entry_added text (reading fixed.schema text) r) same_told ∙ code_adds_none text (reading fixed.schema text) code none in
+        let same_told : reply_at fixed.schema fixed.world fixed.user state text ≡ reply_of code =
+        same_reply fixed.standing (history_of found) (flying found) state is ∙ replied in
+        let nothing : entry_at fixed.schema fixed.world fixed.user state text ≡ None =
+        ap (λ r. entry_added text (reading fixed.schema text) r) same_told ∙ code_adds_none text (reading fixed.schema text) code none in
         record {
           ending = kept;
-          after = subst IsNow (sym (ap (λ o. record state { entries = state.entries ++ option_to_list o }) nothing ∙ ap (λ (h : History). record state { entries = h }) (append-nil state.entries))) (still same);
+          after = subst IsNow
+              (sym (ap (λ o. record state { entries = state.entries ++ option_to_list o }) nothing
+              ∙ ap (λ (h : History). record state { entries = h }) (append-nil state.entries))) (still same);
           reply = sym same_told;
         }
 

@@ -35,7 +35,8 @@ pub history_all : (xs ys : Entries Item) → history_of (xs ++ ys) ≡ history_o
 history_all xs ys = ap (λ ps. map (λ (p : ℕ × AnsweredQuery). p.1) ps) (kept_all xs ys) ∙ second_all (kept_pairs xs) (kept_pairs ys)
 
 -- the entries of the journal among the pairs
-pub history_pairs : (tickets : List ℕ) (entries : History) (ticket : ℕ) (in_flight : Option AnsweredQuery) → length tickets ≡ length entries → history_of (pairs_of tickets entries ticket in_flight) ≡ entries
+pub history_pairs : (tickets : List ℕ) (entries : History) (ticket : ℕ) (in_flight : Option AnsweredQuery) → length tickets ≡ length entries
+    → history_of (pairs_of tickets entries ticket in_flight) ≡ entries
 history_pairs [] [] ticket None e = refl
 history_pairs [] [] ticket (Some entry) e = refl
 history_pairs [] (x ∷ entries) ticket in_flight e = absurd (omega (arith, e))
@@ -43,7 +44,8 @@ history_pairs (t ∷ tickets) [] ticket in_flight e = absurd (omega (arith, e))
 history_pairs (t ∷ tickets) (x ∷ entries) ticket in_flight e = ap (λ h. x ∷ h) (history_pairs tickets entries ticket in_flight (omega (arith, e)))
 
 -- the entry in flight among the pairs
-pub flying_pairs : (tickets : List ℕ) (entries : History) (ticket : ℕ) (in_flight : Option AnsweredQuery) → flying (pairs_of tickets entries ticket in_flight) ≡ in_flight
+pub flying_pairs : (tickets : List ℕ) (entries : History) (ticket : ℕ) (in_flight : Option AnsweredQuery)
+    → flying (pairs_of tickets entries ticket in_flight) ≡ in_flight
 flying_pairs [] entries ticket None = refl
 flying_pairs [] entries ticket (Some entry) = refl
 flying_pairs (t ∷ tickets) [] ticket None = refl
@@ -56,24 +58,29 @@ pub pairs_added : (tickets : List ℕ) (entries : History) (ticket old_broke : �
 pairs_added [] [] ticket old_broke entry e = refl
 pairs_added [] (x ∷ entries) ticket old_broke entry e = absurd (omega (arith, e))
 pairs_added (t ∷ tickets) [] ticket old_broke entry e = absurd (omega (arith, e))
-pairs_added (t ∷ tickets) (x ∷ entries) ticket old_broke entry e = ap (λ ps. (t, Kept x) ∷ ps) (pairs_added tickets entries ticket old_broke entry (omega (arith, e)))
+pairs_added (t ∷ tickets) (x ∷ entries) ticket old_broke entry e =
+    ap (λ ps. (t, Kept x) ∷ ps) (pairs_added tickets entries ticket old_broke entry (omega (arith, e)))
 
 -- the entry in flight
-pub pairs_flew : (tickets : List ℕ) (entries : History) (ticket old_broke : ℕ) (entry : AnsweredQuery) → pairs_of tickets entries ticket (Some entry) ≡ pairs_of tickets entries old_broke None ++ (ticket, Broke entry) ∷ []
+pub pairs_flew : (tickets : List ℕ) (entries : History) (ticket old_broke : ℕ) (entry : AnsweredQuery)
+    → pairs_of tickets entries ticket (Some entry) ≡ pairs_of tickets entries old_broke None ++ (ticket, Broke entry) ∷ []
 pairs_flew tickets entries ticket old_broke entry = ap (λ ps. ps ++ (ticket, Broke entry) ∷ []) (sym (append-nil (zip tickets (map Kept entries))))
 
 -- an entry in flight is the last pair
-pub pairs_last : (tickets : List ℕ) (entries : History) (ticket : ℕ) (in_flight : Option AnsweredQuery) → BrokeIsLast (pairs_of tickets entries ticket in_flight)
+pub pairs_last : (tickets : List ℕ) (entries : History) (ticket : ℕ) (in_flight : Option AnsweredQuery)
+    → BrokeIsLast (pairs_of tickets entries ticket in_flight)
 pairs_last tickets entries ticket in_flight before after other entry e = of_zip tickets entries before e
   where
-    alone : (in_flight : Option AnsweredQuery) (before : Entries Item) → map (λ x. (ticket, Broke x)) (option_to_list in_flight) ≡ before ++ (other, Broke entry) ∷ after → after ≡ []
+    alone : (in_flight : Option AnsweredQuery) (before : Entries Item)
+        → map (λ x. (ticket, Broke x)) (option_to_list in_flight) ≡ before ++ (other, Broke entry) ∷ after → after ≡ []
     alone None [] e = absurd cc
     alone None (p ∷ before) e = absurd cc
     alone (Some x) [] e = let rest : [] ≡ after = cc in sym rest
     alone (Some x) (p ∷ []) e = absurd cc
     alone (Some x) (p ∷ q ∷ before) e = absurd cc
 
-    of_zip : (tickets : List ℕ) (entries : History) (before : Entries Item) → pairs_of tickets entries ticket in_flight ≡ before ++ (other, Broke entry) ∷ after → after ≡ []
+    of_zip : (tickets : List ℕ) (entries : History) (before : Entries Item) → pairs_of tickets entries ticket in_flight ≡ before ++ (other, Broke entry) ∷ after
+        → after ≡ []
     of_zip [] entries before e = alone in_flight before e
     of_zip (t ∷ tickets) [] before e = alone in_flight before e
     of_zip (t ∷ tickets) (x ∷ entries) [] e = absurd (kept_broke (let same : (t, Kept x) ≡ (other, Broke entry) = cc in same))
@@ -94,7 +101,8 @@ module _ {D : Type 0} (fixed : Fixed D) (text : Text) (tickets : List ℕ) (old 
   served is = (is, flying_pairs tickets old mark_of_broke None)
 
   answers : {query : Formula} {mark : base.Mark} → IsAnswer fixed.schema fixed.world fixed.user old text query mark → Answers fixed found text query mark
-  answers {query = query} {mark = mark} is = subst (λ h. IsAnswer fixed.schema fixed.world fixed.user h text query mark) (sym (history_pairs tickets old mark_of_broke None counted)) is
+  answers {query = query} {mark = mark} is =
+      subst (λ h. IsAnswer fixed.schema fixed.world fixed.user h text query mark) (sym (history_pairs tickets old mark_of_broke None counted)) is
 
   same_state : state_shown fixed found ≡ shown old (standing_of fixed.standing) None
   same_state =
@@ -102,22 +110,32 @@ module _ {D : Type 0} (fixed : Fixed D) (text : Text) (tickets : List ℕ) (old 
       ∙ ap (λ (o : Option AnsweredQuery). shown old (standing_of fixed.standing) o) (flying_pairs tickets old mark_of_broke None)
 
   -- a mark adds its entry
-  pub adds_mark : {new : History} {new_flying : Option AnsweredQuery} {mark : base.Mark} → (ticket : ℕ) → Changed new new_flying (Mark mark) → Adds fixed ticket text found (pairs_of (tickets ++ ticket ∷ []) new mark_of_broke new_flying) (Mark mark)
-  adds_mark {new = new} {new_flying = new_flying} ticket (settling.added {query = query} {mark = mark} opened whole answer grown none) = answered (served opened) (answers answer)
-      (ap (λ h. pairs_of (tickets ++ ticket ∷ []) h mark_of_broke new_flying) grown ∙ ap (λ o. pairs_of (tickets ++ ticket ∷ []) (old ++ entry_for query mark text ∷ []) mark_of_broke o) none
+  pub adds_mark : {new : History} {new_flying : Option AnsweredQuery} {mark : base.Mark} → (ticket : ℕ) → Changed new new_flying (Mark mark)
+      → Adds fixed ticket text found (pairs_of (tickets ++ ticket ∷ []) new mark_of_broke new_flying) (Mark mark)
+  adds_mark {new = new} {new_flying = new_flying} ticket (settling.added {query = query} {mark = mark} opened whole answer grown none) =
+      answered (served opened) (answers answer)
+      (ap (λ h. pairs_of (tickets ++ ticket ∷ []) h mark_of_broke new_flying) grown
+      ∙ ap (λ o. pairs_of (tickets ++ ticket ∷ []) (old ++ entry_for query mark text ∷ []) mark_of_broke o) none
       ∙ pairs_added tickets old ticket mark_of_broke (entry_for query mark text) counted)
   adds_mark ticket (settling.coded never replied same still) = absurd never
 
   -- an append that fails leaves its entry in flight
-  pub adds_broke : {new : History} {new_flying : Option AnsweredQuery} → (ticket : ℕ) → is_some new_flying ≡ true → Changed new new_flying Broken → Adds fixed ticket text found (pairs_of tickets new ticket new_flying) Broken
-  adds_broke {new_flying = new_flying} ticket flies (settling.flew {query = query} {mark = mark} opened whole answer same flew) = broke (served opened) (answers answer)
-      (ap (λ h. pairs_of tickets h ticket new_flying) same ∙ ap (λ o. pairs_of tickets old ticket o) flew ∙ pairs_flew tickets old ticket mark_of_broke (entry_for query mark text))
-  adds_broke ticket flies (settling.coded none replied same still) = let e : true ≡ false = sym flies ∙ ap (λ (o : Option AnsweredQuery). is_some o) still in absurd cc
+  pub adds_broke : {new : History} {new_flying : Option AnsweredQuery} → (ticket : ℕ) → is_some new_flying ≡ true → Changed new new_flying Broken
+      → Adds fixed ticket text found (pairs_of tickets new ticket new_flying) Broken
+  adds_broke {new_flying =
+      new_flying} ticket flies (settling.flew {query = query} {mark = mark} opened whole answer same flew) = broke (served opened) (answers answer)
+      (ap (λ h. pairs_of tickets h ticket new_flying) same ∙ ap (λ o. pairs_of tickets old ticket o) flew
+      ∙ pairs_flew tickets old ticket mark_of_broke (entry_for query mark text))
+  adds_broke ticket flies (settling.coded none replied same still) =
+      let e : true ≡ false = sym flies ∙ ap (λ (o : Option AnsweredQuery). is_some o) still in absurd cc
 
   -- a code and want of memory add nothing
-  pub adds_none : {new : History} {new_flying : Option AnsweredQuery} {reply : Reply} → (ticket : ℕ) → NoMark reply → (reply ≡ Broken → ⊥) → Changed new new_flying reply → Adds fixed ticket text found (pairs_of tickets new mark_of_broke new_flying) reply
+  pub adds_none : {new : History} {new_flying : Option AnsweredQuery} {reply : Reply} → (ticket : ℕ) → NoMark reply → (reply ≡ Broken → ⊥)
+      → Changed new new_flying reply → Adds fixed ticket text found (pairs_of tickets new mark_of_broke new_flying) reply
   adds_none ticket none whole (settling.added opened idle answer grown still) = absurd none
   adds_none ticket none whole (settling.flew opened idle answer same flew) = absurd (whole refl)
-  adds_none {new_flying = new_flying} ticket none whole (settling.coded never replied same still) = coded never (ap (λ s. reply_at fixed.schema fixed.world fixed.user s text) same_state ∙ replied)
+  adds_none {new_flying = new_flying} ticket none whole (settling.coded never replied same still) =
+      coded never (ap (λ s. reply_at fixed.schema fixed.world fixed.user s text) same_state ∙ replied)
       (ap (λ h. pairs_of tickets h mark_of_broke new_flying) same ∙ ap (λ o. pairs_of tickets old mark_of_broke o) still)
-  adds_none {new_flying = new_flying} ticket none whole (settling.wanted same still) = wanted (ap (λ h. pairs_of tickets h mark_of_broke new_flying) same ∙ ap (λ o. pairs_of tickets old mark_of_broke o) still)
+  adds_none {new_flying = new_flying} ticket none whole (settling.wanted same still) =
+      wanted (ap (λ h. pairs_of tickets h mark_of_broke new_flying) same ∙ ap (λ o. pairs_of tickets old mark_of_broke o) still)

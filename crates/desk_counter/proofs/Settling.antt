@@ -10,7 +10,9 @@ use Rattle.cqe_base.specs.Reading.{Refusal, reading}
 use Rattle.cqe_base.specs.History.{UserProfile, AnsweredQuery, History, log}
 use Rattle.cqe_base.specs.Censor.{rule}
 use Rattle.cqe_base.specs.Run as run
-use Rattle.cqe_base.specs.Run.{UserState, Ending, want, kept, failed, ask, after_event, after_failure, reply_at, entry_at, reply_to_ask, reply_at_failure, reply_by, entry_added, is_full, is_too_large, standing_open, standing_closed, standing_sealed, marked, history_full, too_large, desk_broken, no_memory}
+use Rattle.cqe_base.specs.Run.{UserState, Ending, want, kept, failed, ask, after_event, after_failure, reply_at, entry_at, reply_to_ask, reply_at_failure}
+use Rattle.cqe_base.specs.Run.{reply_by, entry_added, is_full, is_too_large, standing_open, standing_closed, standing_sealed, marked, history_full, too_large}
+use Rattle.cqe_base.specs.Run.{desk_broken, no_memory}
 use Rattle.user_log.specs.Asked.{IsAnswer}
 use Rattle.user_log.specs.Replies.{reply_of}
 use Rattle.user_log.specs.declared.reply.Reply.{Reply}
@@ -72,7 +74,8 @@ module _ (schema : DatabaseSchema) (world : FactSet) (user : UserProfile) where
 
   sized : (query : Formula) (text : Text) (full large : Bool) (mark : base.Mark)
       → ((if full then history_full else if large then too_large else marked mark) ≡ marked mark)
-      ⊎ ((entry_added text (Ok query) (if full then history_full else if large then too_large else marked mark) ≡ None) × ((other : base.Mark) → (if full then history_full else if large then too_large else marked mark) ≡ marked other → ⊥))
+      ⊎ ((entry_added text (Ok query) (if full then history_full else if large then too_large else marked mark) ≡ None)
+      × ((other : base.Mark) → (if full then history_full else if large then too_large else marked mark) ≡ marked other → ⊥))
   sized query text true large mark = inr (refl, λ other e. cc)
   sized query text false true mark = inr (refl, λ other e. cc)
   sized query text false false mark = inl refl
@@ -91,7 +94,8 @@ module _ (schema : DatabaseSchema) (world : FactSet) (user : UserProfile) where
     none : entry_added text read (reply_by schema world user entries standing broken text read) ≡ None
     never : (mark : base.Mark) → reply_by schema world user entries standing broken text read ≡ marked mark → ⊥
 
-  weighed : (entries : History) (standing : run.Standing) (broken : Bool) (text : Text) (read : Result Formula Refusal) → IsMarked entries standing broken text read ⊎ IsCoded entries standing broken text read
+  weighed : (entries : History) (standing : run.Standing) (broken : Bool) (text : Text) (read : Result Formula Refusal)
+      → IsMarked entries standing broken text read ⊎ IsCoded entries standing broken text read
   weighed entries standing_sealed broken text (Ok query) = inr (record { none = refl; never = λ mark e. cc })
   weighed entries standing_sealed broken text (Err why) = inr (record { none = refl; never = λ mark e. cc })
   weighed entries standing_closed broken text (Ok query) = inr (record { none = refl; never = λ mark e. cc })
@@ -108,16 +112,21 @@ module _ (schema : DatabaseSchema) (world : FactSet) (user : UserProfile) where
 
   -- The entries and the one in flight after a text was settled: a mark adds its entry; an append that fails leaves that
   -- entry in flight; and else nothing changes.
-  pub data Changes (standing : run.Standing) (text : Text) (old : History) (old_flying : Option AnsweredQuery) (new : History) (new_flying : Option AnsweredQuery) : Reply → Type 0 where
-    added : {query : Formula} {mark : base.Mark} → standing ≡ standing_open → old_flying ≡ None → IsAnswer schema world user old text query mark → new ≡ old ++ entry_for query mark text ∷ [] → new_flying ≡ None
+  pub data Changes (standing : run.Standing) (text : Text) (old : History) (old_flying : Option AnsweredQuery) (new : History)
+      (new_flying : Option AnsweredQuery) : Reply → Type 0 where
+    added : {query : Formula} {mark : base.Mark} → standing ≡ standing_open → old_flying ≡ None → IsAnswer schema world user old text query mark
+        → new ≡ old ++ entry_for query mark text ∷ [] → new_flying ≡ None
         → Changes standing text old old_flying new new_flying (Mark mark)
-    flew : {query : Formula} {mark : base.Mark} → standing ≡ standing_open → old_flying ≡ None → IsAnswer schema world user old text query mark → new ≡ old → new_flying ≡ Some (entry_for query mark text)
+    flew : {query : Formula} {mark : base.Mark} → standing ≡ standing_open → old_flying ≡ None → IsAnswer schema world user old text query mark → new ≡ old
+        → new_flying ≡ Some (entry_for query mark text)
         → Changes standing text old old_flying new new_flying Broken
-    coded : {code : Reply} → NoMark code → reply_at schema world user (shown old standing old_flying) text ≡ reply_of code → new ≡ old → new_flying ≡ old_flying → Changes standing text old old_flying new new_flying code
+    coded : {code : Reply} → NoMark code → reply_at schema world user (shown old standing old_flying) text ≡ reply_of code → new ≡ old → new_flying ≡ old_flying
+        → Changes standing text old old_flying new new_flying code
     wanted : new ≡ old → new_flying ≡ old_flying → Changes standing text old old_flying new new_flying Memory
 
   -- what a desk shows is the state that it is in
-  now_is : (standing : Standing) (desk_state state : UserState) → IsState standing desk_state state → (is_open standing ≡ false → (desk_state.entries ≡ state.entries) × (desk_state.pending ≡ state.pending))
+  now_is : (standing : Standing) (desk_state state : UserState) → IsState standing desk_state state
+      → (is_open standing ≡ false → (desk_state.entries ≡ state.entries) × (desk_state.pending ≡ state.pending))
       → (desk_state.entries ≡ state.entries) × (desk_state.pending ≡ state.pending)
   now_is standings.Open desk_state state is idle = (ap (λ (s : UserState). s.entries) (sym is), ap (λ (s : UserState). s.pending) (sym is))
   now_is (standings.Closed admission) desk_state state is idle = (ap (λ (s : UserState). s.entries) (sym is), ap (λ (s : UserState). s.pending) (sym is))
@@ -128,7 +137,8 @@ module _ (schema : DatabaseSchema) (world : FactSet) (user : UserProfile) where
   not_closed (standings.Closed admission) is closed = cc
   not_closed (standings.Sealed why) is closed = cc
 
-  module _ (standing : Standing) (text : Text) (old : History) (old_flying : Option AnsweredQuery) (new : History) (new_flying : Option AnsweredQuery) (told : Reply)
+  module _ (standing : Standing) (text : Text) (old : History) (old_flying : Option AnsweredQuery) (new : History) (new_flying : Option AnsweredQuery)
+      (told : Reply)
       (idle : is_open standing ≡ false → (old ≡ []) × (new ≡ []) × (old_flying ≡ None) × (new_flying ≡ None)) where
     abbrev before : UserState
     before = shown old (standing_of standing) old_flying
@@ -138,7 +148,8 @@ module _ (schema : DatabaseSchema) (world : FactSet) (user : UserProfile) where
 
     unchanged : (state : UserState) → Is state → state.entries ≡ old → state.pending ≡ old_flying → (new ≡ old) × (new_flying ≡ old_flying)
     unchanged state is same still =
-        let n = now_is standing (shown new (standing_of standing) new_flying) state is (λ closed. let i = idle closed in (i.1 ∙ sym i.0 ∙ sym same, i.3 ∙ sym i.2 ∙ sym still)) in
+        let n = now_is standing (shown new (standing_of standing) new_flying) state is (λ closed. let i = idle closed in
+        (i.1 ∙ sym i.0 ∙ sym same, i.3 ∙ sym i.2 ∙ sym still)) in
         (n.0 ∙ same, n.1 ∙ still)
 
     opened : (state : UserState) → Is state → standing_of standing ≡ standing_open → (new ≡ state.entries) × (new_flying ≡ state.pending)
@@ -154,11 +165,13 @@ module _ (schema : DatabaseSchema) (world : FactSet) (user : UserProfile) where
           ∙ ap (λ b. reply_by schema world user old (standing_of standing) b text (reading schema text)) (sym m.whole) ∙ m.told;
     }
 
-    entry : (m : IsMarked old (standing_of standing) (is_some old_flying) text (reading schema text)) → entry_at schema world user before text ≡ Some (entry_for m.query m.mark text)
+    entry : (m : IsMarked old (standing_of standing) (is_some old_flying) text (reading schema text))
+        → entry_at schema world user before text ≡ Some (entry_for m.query m.mark text)
     entry m = ap (λ r. entry_added text (reading schema text) r) m.told ∙ ap (λ r. entry_added text r (marked m.mark)) m.reads
 
     after_kept : Is (after_event schema world user before (ask text kept)) → reply_of told ≡ reply_at schema world user before text
-        → IsMarked old (standing_of standing) (is_some old_flying) text (reading schema text) ⊎ IsCoded old (standing_of standing) (is_some old_flying) text (reading schema text) → Changed told
+        → IsMarked old (standing_of standing) (is_some old_flying) text (reading schema text)
+        ⊎ IsCoded old (standing_of standing) (is_some old_flying) text (reading schema text) → Changed told
     after_kept is replied (inl m) =
         let n = opened (after_event schema world user before (ask text kept)) is m.opened in
         subst Changed (sym (mark_back told m.mark (replied ∙ m.told)))
@@ -168,7 +181,8 @@ module _ (schema : DatabaseSchema) (world : FactSet) (user : UserProfile) where
         coded (no_mark told (λ mark e. c.never mark (sym replied ∙ e))) (sym replied) n.0 n.1
 
     after_failed : Is (after_event schema world user before (ask text failed)) → reply_of told ≡ reply_to_ask schema world user before text failed
-        → IsMarked old (standing_of standing) (is_some old_flying) text (reading schema text) ⊎ IsCoded old (standing_of standing) (is_some old_flying) text (reading schema text) → Changed told
+        → IsMarked old (standing_of standing) (is_some old_flying) text (reading schema text)
+        ⊎ IsCoded old (standing_of standing) (is_some old_flying) text (reading schema text) → Changed told
     after_failed is replied (inl m) =
         let flies = subst (λ o. Is (after_failure schema world user before o)) (entry m) is in
         let n = opened (after_failure schema world user before (Some (entry_for m.query m.mark text))) flies m.opened in
@@ -180,7 +194,8 @@ module _ (schema : DatabaseSchema) (world : FactSet) (user : UserProfile) where
         let same = replied ∙ ap (λ o. reply_at_failure schema world user (reply_at schema world user before text) o) c.none in
         coded (no_mark told (λ mark e. c.never mark (sym same ∙ e))) (sym same) n.0 n.1
 
-    by_ending : (ending : Ending) → Is (after_event schema world user before (ask text ending)) → reply_of told ≡ reply_to_ask schema world user before text ending → Changed told
+    by_ending : (ending : Ending) → Is (after_event schema world user before (ask text ending))
+        → reply_of told ≡ reply_to_ask schema world user before text ending → Changed told
     by_ending want is replied =
         let n = unchanged before is refl refl in
         subst Changed (sym (memory_back told replied)) (wanted n.0 n.1)
@@ -188,7 +203,8 @@ module _ (schema : DatabaseSchema) (world : FactSet) (user : UserProfile) where
     by_ending failed is replied = after_failed is replied (weighed old (standing_of standing) (is_some old_flying) text (reading schema text))
 
     -- a text that was settled changes the entries so
-    pub settled_changes : (earlier now : ℕ) → Settles schema world user (IsState standing (shown new (standing_of standing) new_flying)) before text (reply_of told) earlier now → Changed told
+    pub settled_changes : (earlier now : ℕ)
+        → Settles schema world user (IsState standing (shown new (standing_of standing) new_flying)) before text (reply_of told) earlier now → Changed told
     settled_changes earlier now settled = by_ending settled.ending settled.after settled.reply
 
 -- a reply that isn't a mark is none

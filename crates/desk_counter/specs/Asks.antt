@@ -36,18 +36,26 @@ module _ {D : Type 0} (fixed : Fixed D) where
 
   -- this query and this mark answer the text behind these pairs
   abbrev pub Answers : Entries Item → Text → Formula → base.Mark → Type 0
-  Answers pairs text query mark = IsAnswer fixed.schema fixed.world fixed.user (history_of pairs) text query mark
+  Answers pairs text query mark =
+      IsAnswer fixed.schema fixed.world fixed.user (history_of pairs) text query mark
 
-  -- What an ask adds to the pairs that it found: a mark adds its entry, once; an append that fails adds that entry as one
-  -- in flight; a code and want of memory add nothing.
+  -- What an ask adds to the pairs that it found: a mark adds its entry, once; an append that fails
+  -- adds that entry as one in flight; a code and want of memory add nothing.
   pub data Adds (ticket : ℕ) (text : Text) (found after : Entries Item) : Reply → Type 0 where
-    answered : {query : Formula} {mark : base.Mark} → IsServed found → Answers found text query mark → after ≡ found ++ (ticket, Kept (entry_for query mark text)) ∷ [] → Adds ticket text found after (Mark mark)
-    broke : {query : Formula} {mark : base.Mark} → IsServed found → Answers found text query mark → after ≡ found ++ (ticket, Broke (entry_for query mark text)) ∷ [] → Adds ticket text found after Broken
-    coded : {code : Reply} → NoMark code → reply_at fixed.schema fixed.world fixed.user (state_shown fixed found) text ≡ reply_of code → after ≡ found → Adds ticket text found after code
+    answered : {query : Formula} {mark : base.Mark} → IsServed found → Answers found text query mark
+        → after ≡ found ++ (ticket, Kept (entry_for query mark text)) ∷ []
+        → Adds ticket text found after (Mark mark)
+    broke : {query : Formula} {mark : base.Mark} → IsServed found → Answers found text query mark
+        → after ≡ found ++ (ticket, Broke (entry_for query mark text)) ∷ []
+        → Adds ticket text found after Broken
+    coded : {code : Reply} → NoMark code
+        → reply_at fixed.schema fixed.world fixed.user (state_shown fixed found) text
+        ≡ reply_of code → after ≡ found → Adds ticket text found after code
     wanted : after ≡ found → Adds ticket text found after Memory
 
-  -- What an ask does with a pass: it found pairs that begin with all that the pass had seen, and are all of that where the
-  -- pass has all shares; what it added, with a ticket that is new to the pass, was then seen, and is the pass's own.
+  -- What an ask does with a pass: it found pairs that begin with all that the pass had seen, and
+  -- are all of that where the pass has all shares; what it added, with a ticket that is new to the
+  -- pass, was then seen, and is the pass's own.
   pub record Asked (old new : Pass Item (Fixed D)) (text : Text) (reply : Reply) : Type 0 where
     pub ticket : ℕ
     pub found : Entries Item
@@ -71,10 +79,13 @@ module _ {D : Type 0} (fixed : Fixed D) where
 
   -- the reply is that of the rule for these pairs, or want of memory
   abbrev pub IsReply : Text → Entries Item → Reply → Type 0
-  IsReply text pairs reply = (reply ≡ Memory) ⊎ (reply_of reply ≡ reply_at fixed.schema fixed.world fixed.user (state_shown fixed (pairs_behind reply pairs)) text)
+  IsReply text pairs reply = (reply ≡ Memory)
+      ⊎ (reply_of reply
+      ≡ reply_at fixed.schema fixed.world fixed.user
+      (state_shown fixed (pairs_behind reply pairs)) text)
 
-  -- A mark was told: its entry, with its text's query and length, is the last pair that was seen and the one that the pass
-  -- has more of its own.
+  -- A mark was told: its entry, with its text's query and length, is the last pair that was seen
+  -- and the one that the pass has more of its own.
   pub record Tells (old new : Pass Item (Fixed D)) (text : Text) (mark : base.Mark) : Type 0 where
     pub ticket : ℕ
     pub entry : AnsweredQuery
@@ -92,7 +103,8 @@ module _ {D : Type 0} (fixed : Fixed D) where
   TellsMark old new text (Mark mark) = Tells old new text mark
   TellsMark old new text _ = Unit {0}
 
-  -- No entry of the journal was added: the pass has no more of its own, and where it has all shares it has seen no more.
+  -- No entry of the journal was added: the pass has no more of its own, and where it has all shares
+  -- it has seen no more.
   pub record AddsNone (old new : Pass Item (Fixed D)) : Type 0 where
     pub own : kept_pairs (mine new) ≡ kept_pairs (mine old)
     pub whole : shares old ≡ 65 → kept_pairs (seen new) ≡ kept_pairs (seen old)

@@ -56,16 +56,22 @@ answered query length mark = record { query = query; mark = mark; length = lengt
 -- an answered query is stored as its query, its mark and its length
 abbrev pub answered_code : Coded AnsweredQuery
 answered_code =
-    code_by (Formula × (ℕ × ℕ)) (coded× formula_code (coded× coded_ℕ coded_ℕ)) (λ a. (a.query, (mark_stored a.mark, a.length))) (λ p. answered p.0 p.1.1 (mark_found p.1.0))
+    code_by (Formula × (ℕ × ℕ)) (coded× formula_code (coded× coded_ℕ coded_ℕ))
+    (λ a. (a.query, (mark_stored a.mark, a.length)))
+    (λ p. answered p.0 p.1.1 (mark_found p.1.0))
     (λ a. ap (answered a.query a.length) (mark_found-stored a.mark))
 
 -- a user of his parts
 abbrev profile : List Formula → List Formula → ℕ → Method → UserProfile
-profile know secrets budget method = record { method = method; know = know; secrets = secrets; budget = budget }
+profile know secrets budget method =
+    record { method = method; know = know; secrets = secrets; budget = budget }
 
 -- a user is stored as his method, what he knows, his secrets and his budget
 abbrev pub profile_code : Coded UserProfile
 profile_code =
-    code_by (ℕ × (List Formula × (List Formula × ℕ))) (coded× coded_ℕ (coded× (coded_list formula_code) (coded× (coded_list formula_code) coded_ℕ)))
-    (λ u. (method_stored u.method, (u.know, (u.secrets, u.budget)))) (λ p. profile p.1.0 p.1.1.0 p.1.1.1 (method_found p.0))
+    code_by (ℕ × (List Formula × (List Formula × ℕ)))
+    (coded× coded_ℕ (coded× (coded_list formula_code)
+    (coded× (coded_list formula_code) coded_ℕ)))
+    (λ u. (method_stored u.method, (u.know, (u.secrets, u.budget))))
+    (λ p. profile p.1.0 p.1.1.0 p.1.1.1 (method_found p.0))
     (λ u. ap (profile u.know u.secrets u.budget) (method_found-stored u.method))

@@ -11,15 +11,18 @@ use Rattle.desk_counter.specs.Items.{history_of}
 use Rattle.desk_counter.specs.Tickets.{fixed_in, pairs_in}
 
 -- what no turn changes of the counter's desk
-abbrev pub kept_by : {D : Type 0} {g h : _} → CounterOf (TicketedDesk D g) Item (Fixed D) h → Fixed D
+abbrev pub kept_by : {D : Type 0} {g h : _} → CounterOf (TicketedDesk D g) Item (Fixed D) h
+    → Fixed D
 kept_by counter = fixed_in (first_value counter.turnstile)
 
 -- the entries with which the counter's desk was put under it
-abbrev pub first_history : {D : Type 0} {g h : _} → CounterOf (TicketedDesk D g) Item (Fixed D) h → History
+abbrev pub first_history : {D : Type 0} {g h : _} → CounterOf (TicketedDesk D g) Item (Fixed D) h
+    → History
 first_history counter = history_of (pairs_in (first_value counter.turnstile))
 
 -- the pass is of this counter, and isn't in a turn
-pub record IsPassOf {D : Type 0} {g h : _} (pass : Pass Item (Fixed D)) (counter : CounterOf (TicketedDesk D g) Item (Fixed D) h) : Type 0 where
+pub record IsPassOf {D : Type 0} {g h : _} (pass : Pass Item (Fixed D))
+    (counter : CounterOf (TicketedDesk D g) Item (Fixed D) h) : Type 0 where
   pub place : IsOf pass counter.turnstile
   pub ready : IsReady pass
   pub kept : fixed pass ≡ Some (kept_by counter)

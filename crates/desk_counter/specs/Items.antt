@@ -1,5 +1,7 @@
--- The pairs of a desk under a turnstile: its entries with their tickets, and then the entry in flight, if there is one.
-use Rattle.std.specs.Prelude.{◌≡◌, ℕ, Bool, List, [], ◌∷◌, ◌++◌, map, zip, Option, Some, None, is_some, option_to_list}
+-- The pairs of a desk under a turnstile: its entries with their tickets, and then the entry in
+-- flight, if there is one.
+use Rattle.std.specs.Prelude.{◌≡◌, ℕ, Bool, List, [], ◌∷◌, ◌++◌, map, zip, Option, Some, None}
+use Rattle.std.specs.Prelude.{is_some, option_to_list}
 use Rattle.cqe_base.specs.History.{AnsweredQuery, History}
 use Rattle.turnstile.specs.History.{Entries}
 use Rattle.desk_counter.specs.declared.item.Item.{Item}
@@ -35,8 +37,10 @@ has_broke pairs = is_some (flying pairs)
 
 -- entries with these tickets, and then the entry in flight with that one
 abbrev pub pairs_of : List ℕ → History → ℕ → Option AnsweredQuery → Entries Item
-pairs_of tickets entries broke in_flight = zip tickets (map Kept entries) ++ map (λ entry. (broke, Broke entry)) (option_to_list in_flight)
+pairs_of tickets entries broke in_flight =
+    zip tickets (map Kept entries) ++ map (λ entry. (broke, Broke entry)) (option_to_list in_flight)
 
 -- an entry in flight stands last
 abbrev pub BrokeIsLast : Entries Item → Type 0
-BrokeIsLast pairs = (before after : Entries Item) (ticket : ℕ) (entry : AnsweredQuery) → pairs ≡ before ++ (ticket, Broke entry) ∷ after → after ≡ []
+BrokeIsLast pairs = (before after : Entries Item) (ticket : ℕ) (entry : AnsweredQuery)
+    → pairs ≡ before ++ (ticket, Broke entry) ∷ after → after ≡ []

@@ -15,11 +15,13 @@ use Rattle.desk_counter.specs.Desks.{state_shown}
 use Rattle.desk_counter.specs.Counters.{kept_by}
 
 -- its counter
-abbrev pub counter_in : {D : Type 0} {g h : _} → SoleOf (TicketedDesk D g) Item (Fixed D) h → CounterOf (TicketedDesk D g) Item (Fixed D) h
+abbrev pub counter_in : {D : Type 0} {g h : _} → SoleOf (TicketedDesk D g) Item (Fixed D) h
+    → CounterOf (TicketedDesk D g) Item (Fixed D) h
 counter_in sole = sole.counter
 
 -- its pass
-abbrev pub pass_in : {D : Type 0} {g h : _} → SoleOf (TicketedDesk D g) Item (Fixed D) h → Pass Item (Fixed D)
+abbrev pub pass_in : {D : Type 0} {g h : _} → SoleOf (TicketedDesk D g) Item (Fixed D) h
+    → Pass Item (Fixed D)
 pass_in sole = sole.pass
 
 -- what no turn changes of its desk
@@ -27,15 +29,18 @@ abbrev pub kept_in : {D : Type 0} {g h : _} → SoleOf (TicketedDesk D g) Item (
 kept_in sole = kept_by sole.counter
 
 -- the pairs that its pass has seen, which are all
-abbrev pub pairs_of_sole : {D : Type 0} {g h : _} → SoleOf (TicketedDesk D g) Item (Fixed D) h → Entries Item
+abbrev pub pairs_of_sole : {D : Type 0} {g h : _} → SoleOf (TicketedDesk D g) Item (Fixed D) h
+    → Entries Item
 pairs_of_sole sole = seen sole.pass
 
 -- its user's state
-abbrev pub sole_state : {D : Type 0} {g h : _} → SoleOf (TicketedDesk D g) Item (Fixed D) h → UserState
+abbrev pub sole_state : {D : Type 0} {g h : _} → SoleOf (TicketedDesk D g) Item (Fixed D) h
+    → UserState
 sole_state sole = state_shown (kept_in sole) (pairs_of_sole sole)
 
 -- its desk is in this state; of a desk whose journal was refused the standing alone counts
-abbrev pub IsSoleIn : {D : Type 0} {g h : _} → SoleOf (TicketedDesk D g) Item (Fixed D) h → UserState → Type 0
+abbrev pub IsSoleIn : {D : Type 0} {g h : _} → SoleOf (TicketedDesk D g) Item (Fixed D) h
+    → UserState → Type 0
 IsSoleIn sole state = IsState (kept_in sole).standing (sole_state sole) state
 
 -- nothing was appended since the desk's opening

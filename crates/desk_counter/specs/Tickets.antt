@@ -14,7 +14,8 @@ desk_of value = value.desk
 
 -- its pairs
 abbrev pub pairs_in : {D : Type 0} {g : _} → TicketedDesk D g → Entries Item
-pairs_in value = pairs_of value.tickets.items (desk_history value.desk) value.broke (entry_in_flight value.desk)
+pairs_in value =
+    pairs_of value.tickets.items (desk_history value.desk) value.broke (entry_in_flight value.desk)
 
 -- what no turn changes of it
 abbrev pub fixed_in : {D : Type 0} {g : _} → TicketedDesk D g → Fixed D

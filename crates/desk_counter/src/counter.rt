@@ -15,13 +15,14 @@ use turnstile::{Pass, PassError, Turnstile};
 use user_desk::Desk;
 use user_log::Reply;
 
-/// A value that threads share, with the user whose it is. It stands for a `Counter` wherever a thread is to take it,
-/// since it says nothing of the value's type.
+/// A value that threads share, with the user whose it is. It stands for a `Counter` wherever a
+/// thread is to take it, since it says nothing of the value's type.
 #[derive(Drop)]
 pub struct CounterOf<'w, V: Owned> {
     turnstile: Turnstile<V>,
     user: &'w User,
-    ghost owned: { profile_of user.now ≡ V.owner (first_value turnstile) } by { Coded-set profile_code _ _ },
+    ghost owned: { profile_of user.now
+        ≡ V.owner (first_value turnstile) } by { Coded-set profile_code _ _ },
 }
 
 /// A user's desk that threads share.
@@ -31,14 +32,18 @@ pub type Counter<'w, D> = CounterOf<'w, TicketedDesk<'w, D>>;
 pub type DeskPass<D> = Pass<Item, Fixed<D>>;
 
 impl<'w, D: Disk> CounterOf<'w, TicketedDesk<'w, D>> {
-    ghost use Rattle.std.specs.Prelude.{◌⊎◌, ℕ, ◌^◌, ◌+◌, ◌*◌, ◌≤◌, ◌<◌, ◌↔◌, IsTrue, true, false, List, [], ◌++◌, length, option_to_list, None, IfOk, IfErr, OnOk};
+    ghost use Rattle.std.specs.Prelude.{◌⊎◌, ℕ, ◌^◌, ◌+◌, ◌*◌, ◌≤◌, ◌<◌, ◌↔◌, IsTrue, true, false};
+    ghost use Rattle.std.specs.Prelude.{List, [], ◌++◌, length, option_to_list, None, IfOk, IfErr};
+    ghost use Rattle.std.specs.Prelude.{OnOk};
     ghost use Rattle.outside.specs.Disk.{Elapses};
     ghost use Rattle.outside.specs.Faults.{Rose};
     ghost use Rattle.cqe_base.specs.Censor.{IsLegal};
     ghost use Rattle.cqe_base.specs.Limits.{KeepsSizes};
     ghost use Rattle.turnstile.specs.declared.pass.PassError.TheVariants.{TooMany};
-    ghost use Rattle.turnstile.specs.History.{IsPrefix, IsOpening, Interleaves, IsRising, entries_with, turn_entries, count_of};
-    ghost use Rattle.turnstile.specs.Views.{remaining_view, split_off_view, view_of_both, DrewEachOnce};
+    ghost use Rattle.turnstile.specs.History.{IsPrefix, IsOpening, Interleaves, IsRising};
+    ghost use Rattle.turnstile.specs.History.{entries_with, turn_entries, count_of};
+    ghost use Rattle.turnstile.specs.Views.{remaining_view, split_off_view, view_of_both};
+    ghost use Rattle.turnstile.specs.Views.{DrewEachOnce};
     ghost use Rattle.turnstile.specs.Passes.{view_of, seen, tickets, mine, shares, turns};
     ghost use Rattle.user_desk.specs.Entries.{StandsFor, StandsWithin};
     ghost use Rattle.user_desk.specs.Lives.{Holds};
@@ -49,8 +54,8 @@ impl<'w, D: Disk> CounterOf<'w, TicketedDesk<'w, D>> {
     ghost use Rattle.desk_counter.specs.Asks.{NoMark, Asked, IsReply, TellsMark, AddsNone};
     ghost use Rattle.desk_counter.specs.Counters.{kept_by, first_history, IsPassOf};
 
-    /// Puts a desk under a counter. The pass has all 65 shares and 65 * 2^57 turns, and has seen the desk's entries,
-    /// with ticket 0. For want of memory the desk comes back.
+    /// Puts a desk under a counter. The pass has all 65 shares and 65 * 2^57 turns, and has seen
+    /// the desk's entries, with ticket 0. For want of memory the desk comes back.
     pub fn new(
         alloc: Global,
         desk: Desk<'w, D>,
@@ -86,7 +91,8 @@ impl<'w, D: Disk> CounterOf<'w, TicketedDesk<'w, D>> {
         requires room { (shares pass.old ≡ 1) ⊎ (2 ^ 57 ≤ turns pass.old) }
         ensures pass { IsPassOf pass.new self.now }
         ensures rest { OnOk result (view_of pass.new ≡ remaining_view (view_of pass.old)) }
-        ensures part { IfOk result (λ p. IsPassOf p self.now × (view_of p ≡ split_off_view (view_of pass.old))) }
+        ensures part { IfOk result (λ p. IsPassOf p self.now
+            × (view_of p ≡ split_off_view (view_of pass.old))) }
         ensures mine { IfOk result (λ p. mine p ≡ []) }
         ensures ok { OnOk result (1 < shares pass.old) }
         ensures err { IfErr result (λ e. (e ≡ TooMany) × (shares pass.old ≡ 1)
@@ -95,7 +101,8 @@ impl<'w, D: Disk> CounterOf<'w, TicketedDesk<'w, D>> {
         self.turnstile.split(pass)
     }
 
-    /// Joins another pass to this one: the shares and the turns add up, and the longer of both lists has been seen.
+    /// Joins another pass to this one: the shares and the turns add up, and the longer of both
+    /// lists has been seen.
     pub fn meet(&self, pass: &mut DeskPass<D>, other: DeskPass<D>)
         requires this { IsPassOf pass.old self.now }
         requires that { IsPassOf other self.now }
@@ -108,7 +115,8 @@ impl<'w, D: Disk> CounterOf<'w, TicketedDesk<'w, D>> {
         ensures that { IsPrefix (seen other) (seen pass.new)
             × (entries_with (tickets other) (seen pass.new) ≡ mine other) }
 
-        // The pairs of both are put together in the order of their tickets, and no ticket was drawn twice.
+        // The pairs of both are put together in the order of their tickets, and no ticket was drawn
+        // twice.
         ensures mine { Interleaves (mine pass.old) (mine other) (mine pass.new) }
         ensures order { (n : ℕ) × IsRising 0 n (seen pass.new) }
         ensures apart { (x : ℕ) → count_of x (tickets pass.new) ≤ 1 }
@@ -116,8 +124,9 @@ impl<'w, D: Disk> CounterOf<'w, TicketedDesk<'w, D>> {
         self.turnstile.meet(pass, other);
     }
 
-    /// Asks a text, in one turn: waits for it, settles the text by the entries of all asks before, and leaves. The gate
-    /// is passed once the text was examined, still in the turn, and once the turn has ended.
+    /// Asks a text, in one turn: waits for it, settles the text by the entries of all asks before,
+    /// and leaves. The gate is passed once the text was examined, still in the turn, and once the
+    /// turn has ended.
     pub fn ask<R: Wait, G: Gate>(
         &self,
         rt: &R,
@@ -135,21 +144,23 @@ impl<'w, D: Disk> CounterOf<'w, TicketedDesk<'w, D>> {
         // What the ask found, what it added, and what it answered.
         ensures asked { Asked (kept_by self.now) pass.old pass.new text.now result }
 
-        // The reply is that of the rule for what was seen, without the last pair where it is a mark; Broken is answered
-        // exactly where an append failed.
+        // The reply is that of the rule for what was seen, without the last pair where it is a
+        // mark; Broken is answered exactly where an append failed.
         ensures reply { IsReply (kept_by self.now) text.now (seen pass.new) result }
         ensures broken { (result ≡ Reply.Broken) ↔ IsTrue (has_broke (seen pass.new)) }
 
-        // A mark's entry is the last that was seen and the one that the pass has more of its own; without a mark there
-        // is none.
+        // A mark's entry is the last that was seen and the one that the pass has more of its own;
+        // without a mark there is none.
         ensures mark { TellsMark (kept_by self.now) pass.old pass.new text.now result }
         ensures none { NoMark result → AddsNone (kept_by self.now) pass.old pass.new }
         ensures later { IsPrefix (seen pass.old) (seen pass.new) }
 
         // The history is legal and within the limits, and an entry in flight stands last.
-        ensures legal { IsLegal (kept_by self.now).schema (kept_by self.now).world (kept_by self.now).user
+        ensures legal { IsLegal (kept_by self.now).schema (kept_by self.now).world
+            (kept_by self.now).user
             (history_of (seen pass.new)) }
-        ensures sizes { KeepsSizes (kept_by self.now).schema (kept_by self.now).user (history_of (seen pass.new)) }
+        ensures sizes { KeepsSizes (kept_by self.now).schema (kept_by self.now).user
+            (history_of (seen pass.new)) }
         ensures last { BrokeIsLast (seen pass.new) }
     {
         let mut turn = self.turnstile.enter(rt, pass);
@@ -162,8 +173,8 @@ impl<'w, D: Disk> CounterOf<'w, TicketedDesk<'w, D>> {
         reply
     }
 
-    /// Takes the desk out, with the pass that has all shares. Its entries have no tickets any more, so that it can be
-    /// put under a counter again.
+    /// Takes the desk out, with the pass that has all shares. Its entries have no tickets any more,
+    /// so that it can be put under a counter again.
     pub fn close(self, pass: DeskPass<D>) -> Desk<'w, D>
         requires pass { IsPassOf pass self }
         requires all { shares pass ≡ 65 }
@@ -171,20 +182,25 @@ impl<'w, D: Disk> CounterOf<'w, TicketedDesk<'w, D>> {
         ensures history { desk_history result ≡ history_of (seen pass) }
         ensures in_flight { entry_in_flight result ≡ flying (seen pass) }
         ensures mine { turn_entries (seen pass) ≡ mine pass }
-        ensures added { history_of (seen pass) ≡ first_history self.entry ++ history_of (mine pass) }
+        ensures added { history_of (seen pass)
+            ≡ first_history self.entry ++ history_of (mine pass) }
         ensures drew { DrewEachOnce (view_of pass) }
 
-        // What was seen is a legal history within the limits, and each crash leaves just that; where an append failed,
-        // that or one entry more, and the disk's count of faults rose since the desk's opening. Only a user who is
-        // served has any.
-        ensures legal { IsLegal (kept_by self.entry).schema (kept_by self.entry).world (kept_by self.entry).user
+        // What was seen is a legal history within the limits, and each crash leaves just that;
+        // where an append failed, that or one entry more, and the disk's count of faults rose since
+        // the desk's opening. Only a user who is served has any.
+        ensures legal { IsLegal (kept_by self.entry).schema (kept_by self.entry).world
+            (kept_by self.entry).user
             (history_of (seen pass)) }
-        ensures sizes { KeepsSizes (kept_by self.entry).schema (kept_by self.entry).user (history_of (seen pass)) }
+        ensures sizes { KeepsSizes (kept_by self.entry).schema (kept_by self.entry).user
+            (history_of (seen pass)) }
         ensures idle { is_open (kept_by self.entry).standing ≡ false
             → (history_of (seen pass) ≡ []) × (flying (seen pass) ≡ None) }
-        ensures whole { D.tells → is_sealed (kept_by self.entry).standing ≡ false → has_broke (seen pass) ≡ false
+        ensures whole { D.tells → is_sealed (kept_by self.entry).standing ≡ false
+            → has_broke (seen pass) ≡ false
             → (c : List ℕ) → D.image (desk_disk result) c
-            → StandsFor (kept_by self.entry).schema (kept_by self.entry).header (history_of (seen pass)) c }
+            → StandsFor (kept_by self.entry).schema (kept_by self.entry).header
+            (history_of (seen pass)) c }
         ensures images { D.tells → is_sealed (kept_by self.entry).standing ≡ false → (c : List ℕ)
             → D.image (desk_disk result) c
             → Holds (kept_by self.entry).schema (kept_by self.entry).world (kept_by self.entry).user
@@ -193,11 +209,13 @@ impl<'w, D: Disk> CounterOf<'w, TicketedDesk<'w, D>> {
             → Rose (D.faults (kept_by self.entry).disk) (D.faults (desk_disk result)) }
         ensures count { D.faults (kept_by self.entry).disk ≤ D.faults (desk_disk result) }
 
-        // Since the opening each image stood for a beginning of it that has all entries at the opening; and where the
-        // journal was refused, or nothing was appended, the disk is as it was.
+        // Since the opening each image stood for a beginning of it that has all entries at the
+        // opening; and where the journal was refused, or nothing was appended, the disk is as it
+        // was.
         ensures since { D.tells → is_sealed (kept_by self.entry).standing ≡ false → (c : List ℕ)
             → D.image_since (desk_disk result) (D.moment (kept_by self.entry).disk) c
-            → StandsWithin (kept_by self.entry).schema (kept_by self.entry).header (length (kept_by self.entry).opening)
+            → StandsWithin (kept_by self.entry).schema (kept_by self.entry).header
+            (length (kept_by self.entry).opening)
             (history_of (seen pass) ++ option_to_list (flying (seen pass))) c }
         ensures refused { is_sealed (kept_by self.entry).standing ≡ true
             → desk_disk result ≡ (kept_by self.entry).disk }

@@ -1,4 +1,5 @@
-//! What passes and turns know of a desk. The proofs speak of these types, and no value of them is made.
+//! What passes and turns know of a desk. The proofs speak of these types, and no value of them is
+//! made.
 use cqe_base::schema::Schema;
 use cqe_base::user::{Entry, User};
 use cqe_base::world::World;

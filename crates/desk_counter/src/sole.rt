@@ -14,7 +14,8 @@ use user_log::Reply;
 /// So many asks are made at most; with a nanosecond each they take a hundred years.
 const MOST_ASKS: u64 = 1 << 62;
 
-/// A desk under a counter, with the pass that has all shares: one thread asks by it as many threads ask at a counter.
+/// A desk under a counter, with the pass that has all shares: one thread asks by it as many threads
+/// ask at a counter.
 #[derive(Drop)]
 pub struct SoleOf<'w, V: Owned> {
     counter: CounterOf<'w, V>,
@@ -43,14 +44,18 @@ impl<'w, D: Disk> SoleOf<'w, TicketedDesk<'w, D>> {
     ghost use Rattle.desk_counter.specs.Desks.{fixed_of};
     ghost use Rattle.desk_counter.specs.Lives.{IsAskOf};
     ghost use Rattle.desk_counter.specs.Counters.{first_history, IsPassOf};
-    ghost use Rattle.desk_counter.specs.Sole.{counter_in, pass_in, kept_in, pairs_of_sole, sole_state, IsSoleIn, IsAsOpened};
+    ghost use Rattle.desk_counter.specs.Sole.{counter_in, pass_in, kept_in, pairs_of_sole};
+    ghost use Rattle.desk_counter.specs.Sole.{sole_state, IsSoleIn, IsAsOpened};
 
     /// Puts a desk under a counter. For want of memory the desk comes back.
     pub fn new(alloc: Global, desk: Desk<'w, D>) -> Result<SoleCounter<'w, D>, Desk<'w, D>>
         ensures kept { IfOk result (λ sole. kept_in sole ≡ fixed_of desk.entry) }
-        ensures first { IfOk result (λ sole. first_history (counter_in sole) ≡ desk_history desk.entry) }
-        ensures history { IfOk result (λ sole. history_of (pairs_of_sole sole) ≡ desk_history desk.entry) }
-        ensures in_flight { IfOk result (λ sole. flying (pairs_of_sole sole) ≡ entry_in_flight desk.entry) }
+        ensures first { IfOk result
+            (λ sole. first_history (counter_in sole) ≡ desk_history desk.entry) }
+        ensures history { IfOk result
+            (λ sole. history_of (pairs_of_sole sole) ≡ desk_history desk.entry) }
+        ensures in_flight { IfOk result
+            (λ sole. flying (pairs_of_sole sole) ≡ entry_in_flight desk.entry) }
         ensures mine { IfOk result (λ sole. mine (pass_in sole) ≡ []) }
         ensures turns { IfOk result (λ sole. turns (pass_in sole) ≡ 65 * 2 ^ 57) }
         ensures err { IfErr result (λ same. same ≡ desk.entry) }
@@ -95,7 +100,8 @@ impl<'w, D: Disk> SoleOf<'w, TicketedDesk<'w, D>> {
         (counter, pass)
     }
 
-    /// Puts a counter and the pass that has all shares together, to be closed: no ask is left to it.
+    /// Puts a counter and the pass that has all shares together, to be closed: no ask is left to
+    /// it.
     pub fn from_parts(counter: Counter<'w, D>, pass: DeskPass<D>) -> SoleCounter<'w, D>
         requires place { IsPassOf pass counter }
         requires all { shares pass ≡ 65 }
@@ -115,15 +121,19 @@ impl<'w, D: Disk> SoleOf<'w, TicketedDesk<'w, D>> {
         ensures history { desk_history result ≡ history_of (pairs_of_sole self.entry) }
         ensures in_flight { entry_in_flight result ≡ flying (pairs_of_sole self.entry) }
 
-        // Its history is what it was put under the counter with, and then what its pass has of its own.
+        // Its history is what it was put under the counter with, and then what its pass has of its
+        // own.
         ensures added { history_of (pairs_of_sole self.entry)
             ≡ first_history (counter_in self.entry) ++ history_of (mine (pass_in self.entry)) }
 
-        // Its history is legal, and only a user who is served has any; and what became of its disk since the opening.
-        ensures legal { IsLegal (kept_in self.entry).schema (kept_in self.entry).world (kept_in self.entry).user
+        // Its history is legal, and only a user who is served has any; and what became of its disk
+        // since the opening.
+        ensures legal { IsLegal (kept_in self.entry).schema (kept_in self.entry).world
+            (kept_in self.entry).user
             (history_of (pairs_of_sole self.entry)) }
         ensures idle { is_open (kept_in self.entry).standing ≡ false
-            → (history_of (pairs_of_sole self.entry) ≡ []) × (flying (pairs_of_sole self.entry) ≡ None) }
+            → (history_of (pairs_of_sole self.entry) ≡ [])
+            × (flying (pairs_of_sole self.entry) ≡ None) }
         ensures images { D.tells → is_sealed (kept_in self.entry).standing ≡ false → (c : List ℕ)
             → D.image (desk_disk result) c
             → Holds (kept_in self.entry).schema (kept_in self.entry).world (kept_in self.entry).user

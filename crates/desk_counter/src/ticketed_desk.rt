@@ -20,8 +20,8 @@ pub trait Owned: Recorded {
     ghost kept: { Self → Self.Fixed };
 }
 
-/// A desk under a turnstile. Each of its entries has the ticket of the turn that added it, or 0 where it was there
-/// before, and so has the entry whose append failed.
+/// A desk under a turnstile. Each of its entries has the ticket of the turn that added it, or 0
+/// where it was there before, and so has the entry whose append failed.
 #[derive(Drop)]
 pub struct TicketedDesk<'w, D: Disk> {
     desk: Desk<'w, D>,
@@ -35,7 +35,8 @@ impl<'w, D: Disk> Recorded for TicketedDesk<'w, D> {
 
     type Fixed = Fixed<D>;
 
-    ghost entries = { λ d. pairs_of d.tickets.items (desk_history d.desk) d.broke (entry_in_flight d.desk) };
+    ghost entries = { λ d.
+        pairs_of d.tickets.items (desk_history d.desk) d.broke (entry_in_flight d.desk) };
 
     ghost fixed = { λ d. fixed_of d.desk };
 }
@@ -91,9 +92,11 @@ impl<'w, D: Disk> TicketedDesk<'w, D> {
         self.desk.user()
     }
 
-    /// What is known of the pairs: their entries are legal and within the limits, and an entry in flight stands last.
+    /// What is known of the pairs: their entries are legal and within the limits, and an entry in
+    /// flight stands last.
     pub(crate) fn known(&self)
-        ensures legal { IsLegal (fixed_in self.now).schema (fixed_in self.now).world (fixed_in self.now).user
+        ensures legal { IsLegal (fixed_in self.now).schema (fixed_in self.now).world
+            (fixed_in self.now).user
             (history_of (pairs_in self.now)) }
         ensures sizes { KeepsSizes (fixed_in self.now).schema (fixed_in self.now).user
             (history_of (pairs_in self.now)) }
@@ -106,7 +109,8 @@ impl<'w, D: Disk> TicketedDesk<'w, D> {
     pub(crate) fn settle(&mut self, alloc: Global, ticket: u64, text: &str) -> Reply
         requires { length text.now ≤ 4096 }
         ensures fixed { fixed_in self.new ≡ fixed_in self.old }
-        ensures adds { Adds (fixed_in self.old) ticket text.now (pairs_in self.old) (pairs_in self.new) result }
+        ensures adds { Adds (fixed_in self.old) ticket text.now (pairs_in self.old)
+            (pairs_in self.new) result }
         ensures broken { (result ≡ Reply.Broken) ↔ IsTrue (has_broke (pairs_in self.new)) }
     {
         self.desk.known();

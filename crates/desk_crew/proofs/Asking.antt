@@ -15,7 +15,8 @@ use Rattle.desk_crew.specs.Seats.{DeskSeat}
 
 module _ {D : Type 0} {g h : _} where
   -- what was settled at a desk was told at its seat
-  pub told_of : (old new : DeskSeat D g h) (text : Text) (reply : Run.Reply) → seat_user new ≡ seat_user old → seat_journal new ≡ seat_journal old → new.refusal ≡ old.refusal → seat_kept new ≡ seat_kept old → (seat_kept old).user ≡ profile_of (seat_user old)
+  pub told_of : (old new : DeskSeat D g h) (text : Text) (reply : Run.Reply) → seat_user new ≡ seat_user old → seat_journal new ≡ seat_journal old
+      → new.refusal ≡ old.refusal → seat_kept new ≡ seat_kept old → (seat_kept old).user ≡ profile_of (seat_user old)
       → ((state : UserState) → IsSeatIn old state → IsAskOf (seat_kept old).schema (seat_kept old).world (seat_kept old).user (IsSeatIn new) state text reply)
       → IsToldAt (seat_kept old).schema (seat_kept old).world text reply old new
   told_of old new text reply user_is journal_is refusal_is kept_is is settled = record {
@@ -27,7 +28,8 @@ module _ {D : Type 0} {g h : _} where
   }
 
   -- the same of the schema and the world of a seat that is served
-  pub told_served : (schema : DatabaseSchema) (world : FactSet) (header : List ℕ) (old new : DeskSeat D g h) (text : Text) (reply : Run.Reply) → IsServed schema world header old
+  pub told_served : (schema : DatabaseSchema) (world : FactSet) (header : List ℕ) (old new : DeskSeat D g h) (text : Text) (reply : Run.Reply)
+      → IsServed schema world header old
       → IsToldAt (seat_kept old).schema (seat_kept old).world text reply old new → IsToldAt schema world text reply old new
   told_served schema world header old new text reply served is =
       subst (λ s. IsToldAt s world text reply old new) served.schema_is (subst (λ w. IsToldAt (seat_kept old).schema w text reply old new) served.world_is is)
@@ -46,7 +48,8 @@ module _ {X : Type 0} (p : X → Bool) where
 
   tail_false : (x : X) (xs : List X) → nat_lt (position_or_len p (x ∷ xs)) (length (x ∷ xs)) ≡ false → nat_lt (position_or_len p xs) (length xs) ≡ false
   tail_false x xs none =
-      let here : nat_lt (1 + position_or_len p xs) (length (x ∷ xs)) ≡ false = ap (λ b. nat_lt (cond (not b) (1 + position_or_len p xs) 0) (length (x ∷ xs))) (sym (head_false x xs none)) ∙ none in
+      let here : nat_lt (1 + position_or_len p xs) (length (x ∷ xs)) ≡ false =
+      ap (λ b. nat_lt (cond (not b) (1 + position_or_len p xs) 0) (length (x ∷ xs))) (sym (head_false x xs none)) ∙ none in
       grind (arith, here)
 
   none_passes : (xs : List X) → nat_lt (position_or_len p xs) (length xs) ≡ false → (k : ℕ) (d : X) → k < length xs → p (get_or xs k d) ≡ false
@@ -71,14 +74,16 @@ all_second P xs x ys all is holds = by xs (subst (AllByRecursion P) is holds)
     by (z ∷ zs) holds = by zs holds.1
 
 module _ {D : Type 0} {g h : _} (schema : DatabaseSchema) (world : FactSet) (name text : Text) where
-  nobody_named : (seats : List (DeskSeat D g h)) → ((k : ℕ) (d : DeskSeat D g h) → k < length seats → is_named name (get_or seats k d) ≡ false) → Tells schema world name text seats seats None
+  nobody_named : (seats : List (DeskSeat D g h)) → ((k : ℕ) (d : DeskSeat D g h) → k < length seats → is_named name (get_or seats k d) ≡ false)
+      → Tells schema world name text seats seats None
   nobody_named [] none = nobody
   nobody_named (s ∷ seats) none = further (none 0 s (omega arith)) (nobody_named seats (λ k d low. none (suc k) d (omega (arith, low))))
 
   pub told_nobody : (seats : List (DeskSeat D g h)) → position (is_named name) seats ≡ None → Tells schema world name text seats seats None
   told_nobody seats none = nobody_named seats (position-None (is_named name) seats none)
 
-  told_place : (seats : List (DeskSeat D g h)) (place : ℕ) (d new : DeskSeat D g h) (reply : Run.Reply) → place < length seats → is_named name (get_or seats place d) ≡ true → ((k : ℕ) → k < place → is_named name (get_or seats k d) ≡ false)
+  told_place : (seats : List (DeskSeat D g h)) (place : ℕ) (d new : DeskSeat D g h) (reply : Run.Reply) → place < length seats
+      → is_named name (get_or seats place d) ≡ true → ((k : ℕ) → k < place → is_named name (get_or seats k d) ≡ false)
       → IsToldAt schema world text reply (get_or seats place d) new → Tells schema world name text seats (slice_set seats place new) (Some reply)
   told_place [] place d new reply low is before answer = absurd (omega (arith, low))
   told_place (s ∷ seats) zero d new reply low is before answer = here is answer
@@ -86,21 +91,26 @@ module _ {D : Type 0} {g h : _} (schema : DatabaseSchema) (world : FactSet) (nam
       further (before 0 (omega arith)) (told_place seats place d new reply (omega (arith, low)) is (λ k small. before (suc k) (omega (arith, small))) answer)
 
   -- the seat at the place of the name is told
-  pub told_seat : (header : List ℕ) (seats : List (DeskSeat D g h)) (place : ℕ) (seat new : DeskSeat D g h) (reply : Run.Reply) → position (is_named name) seats ≡ Some place → seat ≡ get_or seats place seat → AllByRecursion (IsServed schema world header) seats
-      → IsToldAt (seat_kept seat).schema (seat_kept seat).world text reply seat new → Tells schema world name text seats (slice_set seats place new) (Some reply)
+  pub told_seat : (header : List ℕ) (seats : List (DeskSeat D g h)) (place : ℕ) (seat new : DeskSeat D g h) (reply : Run.Reply)
+      → position (is_named name) seats ≡ Some place → seat ≡ get_or seats place seat → AllByRecursion (IsServed schema world header) seats
+      → IsToldAt (seat_kept seat).schema (seat_kept seat).world text reply seat new
+      → Tells schema world name text seats (slice_set seats place new) (Some reply)
   told_seat header seats place seat new reply found at served answer =
       let is = position-Some (is_named name) seats place seat found in
-      let here_served : IsServed schema world header seat = subst (IsServed schema world header) (sym at) (all_at (IsServed schema world header) seats place seat is.0 served) in
+      let here_served : IsServed schema world header seat =
+      subst (IsServed schema world header) (sym at) (all_at (IsServed schema world header) seats place seat is.0 served) in
       told_place seats place seat new reply is.0 is.1 is.2
       (subst (λ s. IsToldAt schema world text reply s new) at (told_served schema world header seat new text reply here_served answer))
 
   -- the same of an ask in memory, whose name and text are shown by slices
-  pub told_here : (old new : List (DeskSeat D g h)) (reply : Option Run.Reply) {name' text' : Text} → name ≡ name' → text ≡ text' → Tells schema world name text old new reply → Tells schema world name' text' old new reply
+  pub told_here : (old new : List (DeskSeat D g h)) (reply : Option Run.Reply) {name' text' : Text} → name ≡ name' → text ≡ text'
+      → Tells schema world name text old new reply → Tells schema world name' text' old new reply
   told_here old new reply {name'} {text'} a b tells =
       subst (λ n. Tells schema world n text' old new reply) a (subst (λ t. Tells schema world name t old new reply) b tells)
 
 -- the desks of seats that are served are of their users
-pub served_users : {D : Type 0} {g h : _} (schema : DatabaseSchema) (world : FactSet) (header : List ℕ) (seats : List (DeskSeat D g h)) → AllByRecursion (IsServed schema world header) seats
+pub served_users : {D : Type 0} {g h : _} (schema : DatabaseSchema) (world : FactSet) (header : List ℕ) (seats : List (DeskSeat D g h))
+    → AllByRecursion (IsServed schema world header) seats
     → AllByRecursion (λ (s : DeskSeat D g h). (seat_kept s).user ≡ profile_of (seat_user s)) seats
 served_users schema world header [] served = tt
 served_users schema world header (s ∷ seats) served = (served.0.user_is, served_users schema world header seats served.1)

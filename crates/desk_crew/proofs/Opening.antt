@@ -1,5 +1,6 @@
 -- The journals of all users, taken and opened one after the other.
-use Rattle.std.proofs.Common.{◌≡◌, ℕ, suc, ◌≤◌, ◌<◌, ◌+◌, Bool, true, false, List, [], ◌∷◌, ◌++◌, length, take, drop, get_or, map, refl, sym, ap, subst, ◌∙◌, arith}
+use Rattle.std.proofs.Common.{◌≡◌, ℕ, suc, ◌≤◌, ◌<◌, ◌+◌, Bool, true, false, List, [], ◌∷◌, ◌++◌, length, take, drop, get_or, map, refl, sym, ap, subst, ◌∙◌}
+use Rattle.std.proofs.Common.{arith}
 use Rattle.std.specs.Prelude.{Option, ◌||◌, bytes_eq, string_bytes}
 use Rattle.std.specs.List.{AllByRecursion}
 use Rattle.std.specs.Cmp.Lexicographic.{same_text}
@@ -27,14 +28,17 @@ names-append [] ys = refl
 names-append (x ∷ xs) ys = ap (λ l. string_bytes x.name ∷ l) (names-append xs ys)
 
 -- the names of users are those of the first, of the next and of the rest
-names_split : (users : List User) (i : ℕ) (user : User) → i < length users → user ≡ get_or users i user → names users ≡ (names (take i users) ++ string_bytes user.name ∷ []) ++ names (drop (i + 1) users)
+names_split : (users : List User) (i : ℕ) (user : User) → i < length users → user ≡ get_or users i user
+    → names users ≡ (names (take i users) ++ string_bytes user.name ∷ []) ++ names (drop (i + 1) users)
 names_split users i user low is =
     let whole : users ≡ take (i + 1) users ++ drop (i + 1) users = sym (take-append-drop (i + 1) users) in
     let more : take (i + 1) users ≡ take i users ++ user ∷ [] = take_more users i user low ∙ ap (λ u. take i users ++ u ∷ []) (sym is) in
-    ap names (whole ∙ ap (λ l. l ++ drop (i + 1) users) more) ∙ names-append (take i users ++ user ∷ []) (drop (i + 1) users) ∙ ap (λ l. l ++ names (drop (i + 1) users)) (names-append (take i users) (user ∷ []))
+    ap names (whole ∙ ap (λ l. l ++ drop (i + 1) users) more) ∙ names-append (take i users ++ user ∷ []) (drop (i + 1) users)
+    ∙ ap (λ l. l ++ names (drop (i + 1) users)) (names-append (take i users) (user ∷ []))
 
 -- a name of the first users isn't that of the next
-next_apart : (users : List User) (i : ℕ) (user : User) → i < length users → user ≡ get_or users i user → has_duplicate (names users) ≡ false → is_among (names (take i users)) (string_bytes user.name) ≡ false
+next_apart : (users : List User) (i : ℕ) (user : User) → i < length users → user ≡ get_or users i user → has_duplicate (names users) ≡ false
+    → is_among (names (take i users)) (string_bytes user.name) ≡ false
 next_apart users i user low is distinct =
     let all = names_split users i user low is in
     let first : Parts (names (take i users) ++ string_bytes user.name ∷ []) (names (drop (i + 1) users)) = parts _ _ (ap has_duplicate (sym all) ∙ distinct) in
@@ -43,7 +47,8 @@ next_apart users i user low is distinct =
 
 pub first_distinct : (users : List User) (i : ℕ) → has_duplicate (names users) ≡ false → has_duplicate (names (take i users)) ≡ false
 first_distinct users i distinct =
-    let all : names users ≡ names (take i users) ++ names (drop i users) = ap names (sym (take-append-drop i users)) ∙ names-append (take i users) (drop i users) in
+    let all : names users ≡ names (take i users) ++ names (drop i users) =
+    ap names (sym (take-append-drop i users)) ∙ names-append (take i users) (drop i users) in
     (parts (names (take i users)) (names (drop i users)) (ap has_duplicate (sym all) ∙ distinct)).first
 
 -- as many names as seats
@@ -53,18 +58,23 @@ length-journals (s ∷ seats) = ap (λ n. suc n) (length-journals seats)
 
 -- what stands under a name reads as before, and no crash leaves anything new of it
 abbrev pub Same : {D : Type 0} → (D → List ℕ) → (D → List ℕ → Type 0) → (Text → Option D) → (Text → Option D) → Text → Type 0
-Same reads image old new name = (bytes_on reads (new name) ≡ bytes_on reads (old name)) × ((c : List ℕ) → image_on image (new name) c → image_on image (old name) c)
+Same reads image old new name =
+    (bytes_on reads (new name) ≡ bytes_on reads (old name)) × ((c : List ℕ) → image_on image (new name) c → image_on image (old name) c)
 
 module _ (directory : Text) where
   journal_among : JournalsDiffer → (ns : List Text) (name : Text) → is_among (map (journal_name directory) ns) (journal_name directory name) ≡ is_among ns name
   journal_among differ [] name = refl
-  journal_among differ (n ∷ ns) name = ap (λ b. b || is_among (map (journal_name directory) ns) (journal_name directory name)) (differ directory name n) ∙ ap (λ b. bytes_eq name n || b) (journal_among differ ns name)
+  journal_among differ (n ∷ ns) name =
+      ap (λ b. b || is_among (map (journal_name directory) ns) (journal_name directory name)) (differ directory name n)
+      ∙ ap (λ b. bytes_eq name n || b) (journal_among differ ns name)
 
   journals_distinct : JournalsDiffer → (ns : List Text) → has_duplicate (map (journal_name directory) ns) ≡ has_duplicate ns
   journals_distinct differ [] = refl
-  journals_distinct differ (n ∷ ns) = ap (λ b. b || has_duplicate (map (journal_name directory) ns)) (journal_among differ ns n) ∙ ap (λ b. is_among ns n || b) (journals_distinct differ ns)
+  journals_distinct differ (n ∷ ns) =
+      ap (λ b. b || has_duplicate (map (journal_name directory) ns)) (journal_among differ ns n) ∙ ap (λ b. is_among ns n || b) (journals_distinct differ ns)
 
-  module _ (schema : DatabaseSchema) (world : FactSet) (header : List ℕ) {D : Type 0} {g h : _} (told disk_told : Type 0) (reads : D → List ℕ) (image : D → List ℕ → Type 0) (faults : D → ℕ) (disk0 : Text → Option D) (count0 : Text → ℕ) where
+  module _ (schema : DatabaseSchema) (world : FactSet) (header : List ℕ) {D : Type 0} {g h : _} (told disk_told : Type 0) (reads : D → List ℕ)
+      (image : D → List ℕ → Type 0) (faults : D → ℕ) (disk0 : Text → Option D) (count0 : Text → ℕ) where
     abbrev Seats : List User → List (DeskSeat D g h) → Type 0
     Seats users seats = AreSeatsOf told reads image faults disk_told schema world header directory disk0 count0 users seats
 
@@ -73,12 +83,15 @@ module _ (directory : Text) where
     seat_journals [] [] are = refl
     seat_journals [] (s ∷ seats) are = absurd are
     seat_journals (u ∷ users) [] are = absurd are
-    seat_journals (u ∷ users) (s ∷ seats) are = ap (λ j. j ∷ journals seats) are.0.journal_is ∙ ap (λ js. journal_name directory (string_bytes u.name) ∷ js) (seat_journals users seats are.1)
+    seat_journals (u ∷ users) (s ∷ seats) are =
+        ap (λ j. j ∷ journals seats) are.0.journal_is ∙ ap (λ js. journal_name directory (string_bytes u.name) ∷ js) (seat_journals users seats are.1)
 
-    pub seats_distinct : JournalsDiffer → (users : List User) (seats : List (DeskSeat D g h)) → Seats users seats → has_duplicate (names users) ≡ false → has_duplicate (journals seats) ≡ false
+    pub seats_distinct : JournalsDiffer → (users : List User) (seats : List (DeskSeat D g h)) → Seats users seats → has_duplicate (names users) ≡ false
+        → has_duplicate (journals seats) ≡ false
     seats_distinct differ users seats are distinct = ap has_duplicate (seat_journals users seats are) ∙ journals_distinct differ (names users) ∙ distinct
 
-    pub seats_later : (count : Text → ℕ) (users : List User) (seats : List (DeskSeat D g h)) → SameNames count0 count → Seats users seats → AreLater faults count seats
+    pub seats_later : (count : Text → ℕ) (users : List User) (seats : List (DeskSeat D g h)) → SameNames count0 count → Seats users seats
+        → AreLater faults count seats
     seats_later count [] [] same are = tt
     seats_later count [] (s ∷ seats) same are = absurd are
     seats_later count (u ∷ users) [] same are = absurd are
@@ -94,11 +107,14 @@ module _ (directory : Text) where
     seats_served (u ∷ users) [] are = absurd are
     seats_served (u ∷ users) (s ∷ seats) are = (are.0.opened.served, seats_served users seats are.1)
 
-    pub seats_limits : (users : List User) (seats : List (DeskSeat D g h)) → Seats users seats → AllByRecursion (λ (u : User). KeepsLimits schema (profile_of u)) users → AllByRecursion (λ (s : DeskSeat D g h). KeepsLimits schema (profile_of (seat_user s))) seats
+    pub seats_limits : (users : List User) (seats : List (DeskSeat D g h)) → Seats users seats
+        → AllByRecursion (λ (u : User). KeepsLimits schema (profile_of u)) users
+        → AllByRecursion (λ (s : DeskSeat D g h). KeepsLimits schema (profile_of (seat_user s))) seats
     seats_limits [] [] are limits = tt
     seats_limits [] (s ∷ seats) are limits = absurd are
     seats_limits (u ∷ users) [] are limits = absurd are
-    seats_limits (u ∷ users) (s ∷ seats) are limits = (subst (λ v. KeepsLimits schema (profile_of v)) (sym are.0.user_is) limits.0, seats_limits users seats are.1 limits.1)
+    seats_limits (u ∷ users) (s ∷ seats) are limits =
+        (subst (λ v. KeepsLimits schema (profile_of v)) (sym are.0.user_is) limits.0, seats_limits users seats are.1 limits.1)
 
     pub same_length : (users : List User) (seats : List (DeskSeat D g h)) → Seats users seats → length seats ≡ length users
     same_length [] [] are = refl
@@ -106,7 +122,8 @@ module _ (directory : Text) where
     same_length (u ∷ users) [] are = absurd are
     same_length (u ∷ users) (s ∷ seats) are = ap (λ n. suc n) (same_length users seats are.1)
 
-    seats-push : (users : List User) (seats : List (DeskSeat D g h)) (user : User) (seat : DeskSeat D g h) → Seats users seats → IsSeatOf told reads image faults disk_told schema world header directory disk0 count0 user seat → Seats (users ++ user ∷ []) (seats ++ seat ∷ [])
+    seats-push : (users : List User) (seats : List (DeskSeat D g h)) (user : User) (seat : DeskSeat D g h) → Seats users seats
+        → IsSeatOf told reads image faults disk_told schema world header directory disk0 count0 user seat → Seats (users ++ user ∷ []) (seats ++ seat ∷ [])
     seats-push [] [] user seat are is = (is, tt)
     seats-push [] (s ∷ seats) user seat are is = absurd are
     seats-push (u ∷ users) [] user seat are is = absurd are
@@ -115,13 +132,15 @@ module _ (directory : Text) where
     -- ---- one user after the other
 
     -- the journals of the first users are open
-    pub record Opened (users : List User) (i : ℕ) (seats : List (DeskSeat D g h)) (disk : Text → Option D) (is_out : Text → Bool) (count : Text → ℕ) : Type 0 where
+    pub record Opened (users : List User) (i : ℕ) (seats : List (DeskSeat D g h)) (disk : Text → Option D) (is_out : Text → Bool) (count : Text → ℕ) :
+        Type 0 where
       pub are : Seats (take i users) seats
       pub out : AreOut (journals seats) is_out
       pub disks : SameBeside (journals seats) disk0 disk
       pub counts : SameNames count0 count
 
-    pub opened_none : (users : List User) (seats : List (DeskSeat D g h)) (is_out : Text → Bool) → seats ≡ [] → NoneOut is_out → Opened users 0 seats disk0 is_out count0
+    pub opened_none : (users : List User) (seats : List (DeskSeat D g h)) (is_out : Text → Bool) → seats ≡ [] → NoneOut is_out
+        → Opened users 0 seats disk0 is_out count0
     opened_none users seats is_out none inside = record {
       are = subst (Seats (take 0 users)) (sym none) (first users);
       out = λ name. inside name ∙ ap (λ s. is_among (journals s) name) (sym none);
@@ -133,50 +152,63 @@ module _ (directory : Text) where
         first [] = tt
         first (u ∷ us) = tt
 
-    module _ (differ : JournalsDiffer) (users : List User) (distinct : has_duplicate (names users) ≡ false) (i : ℕ) (user : User) (low : i < length users) (is : user ≡ get_or users i user) (seats : List (DeskSeat D g h))
+    module _ (differ : JournalsDiffer) (users : List User) (distinct : has_duplicate (names users) ≡ false) (i : ℕ) (user : User) (low : i < length users)
+        (is : user ≡ get_or users i user) (seats : List (DeskSeat D g h))
         (disk : Text → Option D) (is_out : Text → Bool) (count : Text → ℕ) (so_far : Opened users i seats disk is_out count) where
       abbrev one : Text
       one = journal_name directory (string_bytes user.name)
 
       -- the next journal isn't out
       pub next_none : is_among (journals seats) one ≡ false
-      next_none = ap (λ ns. is_among ns one) (seat_journals (take i users) seats so_far.are) ∙ journal_among differ (names (take i users)) (string_bytes user.name) ∙ next_apart users i user low is distinct
+      next_none = ap (λ ns. is_among ns one) (seat_journals (take i users) seats so_far.are)
+          ∙ journal_among differ (names (take i users)) (string_bytes user.name) ∙ next_apart users i user low is distinct
 
       -- a name that is no user's journal is none of those that are open, and not the next
-      pub no_journal : (name : Text) → is_among (map (journal_name directory) (names users)) name ≡ false → (is_among (journals seats) name ≡ false) × (bytes_eq name one ≡ false)
+      pub no_journal : (name : Text) → is_among (map (journal_name directory) (names users)) name ≡ false → (is_among (journals seats) name ≡ false)
+          × (bytes_eq name one ≡ false)
       no_journal name none =
-          let split = ap (map (journal_name directory)) (names_split users i user low is) ∙ map-append (journal_name directory) (names (take i users) ++ string_bytes user.name ∷ []) (names (drop (i + 1) users))
-          ∙ ap (λ l. l ++ map (journal_name directory) (names (drop (i + 1) users))) (map-append (journal_name directory) (names (take i users)) (string_bytes user.name ∷ [])) in
-          let both = among_none_first (map (journal_name directory) (names (take i users)) ++ one ∷ []) (map (journal_name directory) (names (drop (i + 1) users))) name (sym (ap (λ ns. is_among ns name) split) ∙ none) in (
-            ap (λ ns. is_among ns name) (seat_journals (take i users) seats so_far.are) ∙ among_none_first (map (journal_name directory) (names (take i users))) (one ∷ []) name both,
+          let split = ap (map (journal_name directory)) (names_split users i user low is)
+          ∙ map-append (journal_name directory) (names (take i users) ++ string_bytes user.name ∷ []) (names (drop (i + 1) users))
+          ∙ ap (λ l. l ++ map (journal_name directory) (names (drop (i + 1) users)))
+          (map-append (journal_name directory) (names (take i users)) (string_bytes user.name ∷ [])) in
+          let both = among_none_first (map (journal_name directory) (names (take i users)) ++ one ∷ [])
+          (map (journal_name directory) (names (drop (i + 1) users))) name (sym (ap (λ ns. is_among ns name) split) ∙ none) in (
+            ap (λ ns. is_among ns name) (seat_journals (take i users) seats so_far.are)
+                ∙ among_none_first (map (journal_name directory) (names (take i users))) (one ∷ []) name both,
             or_first (bytes_eq name one) false (among_none_second (map (journal_name directory) (names (take i users))) (one ∷ []) name both),
           )
 
       pub next_in : is_out one ≡ false
       next_in = so_far.out one ∙ next_none
 
-      seat_here : (seat : DeskSeat D g h) → IsSeatOf told reads image faults disk_told schema world header directory disk count user seat → IsSeatOf told reads image faults disk_told schema world header directory disk0 count0 user seat
+      seat_here : (seat : DeskSeat D g h) → IsSeatOf told reads image faults disk_told schema world header directory disk count user seat
+          → IsSeatOf told reads image faults disk_told schema world header directory disk0 count0 user seat
       seat_here seat at = record {
         user_is = at.user_is;
         journal_is = at.journal_is;
         taken = at.taken;
-        from = λ t. subst (λ o. IsTaken reads image o at.taken) (so_far.disks (seat_journal seat) (ap (is_among (journals seats)) at.journal_is ∙ next_none)) (at.from t);
+        from = λ t. subst (λ o. IsTaken reads image o at.taken) (so_far.disks (seat_journal seat) (ap (is_among (journals seats)) at.journal_is ∙ next_none))
+            (at.from t);
         counted = at.counted ∙ so_far.counts (seat_journal seat);
         opened = at.opened;
         left = at.left;
       }
 
-      pub opened_more : (seat : DeskSeat D g h) (disk' : Text → Option D) (is_out' : Text → Bool) (count' : Text → ℕ) → IsSeatOf told reads image faults disk_told schema world header directory disk count user seat
-          → is_out' one ≡ true → SameOthers one is_out is_out' → SameOthers one disk disk' → SameNames count count' → Opened users (i + 1) (seats ++ seat ∷ []) disk' is_out' count'
+      pub opened_more : (seat : DeskSeat D g h) (disk' : Text → Option D) (is_out' : Text → Bool) (count' : Text → ℕ)
+          → IsSeatOf told reads image faults disk_told schema world header directory disk count user seat
+          → is_out' one ≡ true → SameOthers one is_out is_out' → SameOthers one disk disk' → SameNames count count'
+          → Opened users (i + 1) (seats ++ seat ∷ []) disk' is_out' count'
       opened_more seat disk' is_out' count' at out outs disks counts =
           let more : take (i + 1) users ≡ take i users ++ user ∷ [] = take_more users i user low ∙ ap (λ u. take i users ++ u ∷ []) (sym is) in
-          let names_are : journals (seats ++ seat ∷ []) ≡ journals seats ++ one ∷ [] = journals-append seats (seat ∷ []) ∙ ap (λ j. journals seats ++ j ∷ []) at.journal_is in
+          let names_are : journals (seats ++ seat ∷ []) ≡ journals seats ++ one ∷ [] =
+          journals-append seats (seat ∷ []) ∙ ap (λ j. journals seats ++ j ∷ []) at.journal_is in
           record {
             are = subst (λ us. Seats us (seats ++ seat ∷ [])) (sym more) (seats-push (take i users) seats user seat so_far.are (seat_here seat at));
             out = λ name. by_out name (bytes_eq name one) refl ∙ sym (ap (λ ns. is_among ns name) names_are ∙ among-append (journals seats) (one ∷ []) name);
             disks = λ name none.
                 let apart = sym (among-append (journals seats) (one ∷ []) name) ∙ sym (ap (λ ns. is_among ns name) names_are) ∙ none in
-                disks name (or_first _ _ (or_second (is_among (journals seats) name) (bytes_eq name one || false) apart)) ∙ so_far.disks name (or_first (is_among (journals seats) name) (bytes_eq name one || false) apart);
+                disks name (or_first _ _ (or_second (is_among (journals seats) name) (bytes_eq name one || false) apart))
+                ∙ so_far.disks name (or_first (is_among (journals seats) name) (bytes_eq name one || false) apart);
             counts = λ name. counts name ∙ so_far.counts name;
           }
         where
@@ -189,8 +221,12 @@ module _ (directory : Text) where
           or_none false = refl
 
           by_out : (name : Text) (b : Bool) → bytes_eq name one ≡ b → is_out' name ≡ (is_among (journals seats) name || (bytes_eq name one || false))
-          by_out name true same = ap is_out' (same_text name one (sym same)) ∙ out ∙ sym (ap (λ b. is_among (journals seats) name || (b || false)) same ∙ or_end (is_among (journals seats) name))
-          by_out name false differs = outs name differs ∙ so_far.out name ∙ sym (ap (λ b. is_among (journals seats) name || (b || false)) differs ∙ or_none (is_among (journals seats) name))
+          by_out name true same =
+              ap is_out' (same_text name one (sym same)) ∙ out
+              ∙ sym (ap (λ b. is_among (journals seats) name || (b || false)) same ∙ or_end (is_among (journals seats) name))
+          by_out name false differs =
+              outs name differs ∙ so_far.out name
+              ∙ sym (ap (λ b. is_among (journals seats) name || (b || false)) differs ∙ or_none (is_among (journals seats) name))
 
     -- ---- one was refused, and the disks of those before are given back
 
@@ -198,14 +234,16 @@ module _ (directory : Text) where
     all_out seats is_out are name among = are name ∙ among
 
     -- none is out once all are back
-    pub none_out : (seats : List (DeskSeat D g h)) (is_out is_out' : Text → Bool) → AreOut (journals seats) is_out → AllIn (journals seats) is_out' → SameBeside (journals seats) is_out is_out' → NoneOut is_out'
+    pub none_out : (seats : List (DeskSeat D g h)) (is_out is_out' : Text → Bool) → AreOut (journals seats) is_out → AllIn (journals seats) is_out'
+        → SameBeside (journals seats) is_out is_out' → NoneOut is_out'
     none_out seats is_out is_out' are inside others name = by (is_among (journals seats) name) refl
       where
         by : (b : Bool) → is_among (journals seats) name ≡ b → is_out' name ≡ false
         by true among = inside name among
         by false none = others name none ∙ are name ∙ none
 
-    by_later : (count count' : Text → ℕ) (disk' : Text → Option D) (name : Text) (s : DeskSeat D g h) → count (seat_journal s) ≤ faults (seat_disk s) → IsBack told reads image faults disk' count' s → (b : Bool) → bytes_eq name (seat_journal s) ≡ b
+    by_later : (count count' : Text → ℕ) (disk' : Text → Option D) (name : Text) (s : DeskSeat D g h) → count (seat_journal s) ≤ faults (seat_disk s)
+        → IsBack told reads image faults disk' count' s → (b : Bool) → bytes_eq name (seat_journal s) ≡ b
         → (bytes_eq name (seat_journal s) ≡ false → count name ≤ count' name) → count name ≤ count' name
     by_later count count' disk' name s first back true same more =
         let at : name ≡ seat_journal s = same_text name (seat_journal s) (sym same) in
@@ -215,14 +253,16 @@ module _ (directory : Text) where
         subst (λ n. count n ≤ count' n) (sym at) (omega (arith, first, closed, on, counted))
     by_later count count' disk' name s first back false differs more = more differs
 
-    among_later : (count count' : Text → ℕ) (disk' : Text → Option D) (name : Text) (ss : List (DeskSeat D g h)) → AreLater faults count ss → AreBack told reads image faults disk' count' ss → is_among (journals ss) name ≡ true → count name ≤ count' name
+    among_later : (count count' : Text → ℕ) (disk' : Text → Option D) (name : Text) (ss : List (DeskSeat D g h)) → AreLater faults count ss
+        → AreBack told reads image faults disk' count' ss → is_among (journals ss) name ≡ true → count name ≤ count' name
     among_later count count' disk' name [] later back among = absurd cc
     among_later count count' disk' name (s ∷ ss) later back among =
         by_later count count' disk' name s later.0 back.0 (bytes_eq name (seat_journal s)) refl
         (λ differs. among_later count count' disk' name ss later.1 back.1 (sym (ap (λ b. b || is_among (journals ss) name) differs) ∙ among))
 
     -- no count fell
-    pub none_fell : (count count' : Text → ℕ) (seats : List (DeskSeat D g h)) → AreLater faults count seats → (disk' : Text → Option D) → AreBack told reads image faults disk' count' seats → SameBeside (journals seats) count count'
+    pub none_fell : (count count' : Text → ℕ) (seats : List (DeskSeat D g h)) → AreLater faults count seats → (disk' : Text → Option D)
+        → AreBack told reads image faults disk' count' seats → SameBeside (journals seats) count count'
         → NoneFell count count'
     none_fell count count' seats later disk' back others name = by (is_among (journals seats) name) refl
       where
@@ -230,8 +270,10 @@ module _ (directory : Text) where
         by true among = among_later count count' disk' name seats later back among
         by false none = subst (λ n. count name ≤ n) (sym (others name none)) (omega arith)
 
-    by_same : told → (disk' : Text → Option D) (count' : Text → ℕ) (name : Text) (u : User) (s : DeskSeat D g h) → IsSeatOf told reads image faults disk_told schema world header directory disk0 count0 u s → IsBack told reads image faults disk' count' s
-        → (b : Bool) → bytes_eq name (seat_journal s) ≡ b → (bytes_eq name (seat_journal s) ≡ false → Same reads image disk0 disk' name) → Same reads image disk0 disk' name
+    by_same : told → (disk' : Text → Option D) (count' : Text → ℕ) (name : Text) (u : User) (s : DeskSeat D g h)
+        → IsSeatOf told reads image faults disk_told schema world header directory disk0 count0 u s → IsBack told reads image faults disk' count' s
+        → (b : Bool) → bytes_eq name (seat_journal s) ≡ b → (bytes_eq name (seat_journal s) ≡ false → Same reads image disk0 disk' name)
+        → Same reads image disk0 disk' name
     by_same t disk' count' name u s are back true same more =
         let at : name ≡ seat_journal s = same_text name (seat_journal s) (sym same) in
         subst (Same reads image disk0 disk') (sym at) (reads_same, images)
@@ -240,7 +282,8 @@ module _ (directory : Text) where
         still = back.left.is_closed.still are.opened.fresh
 
         reads_same : bytes_on reads (disk' (seat_journal s)) ≡ bytes_on reads (disk0 (seat_journal s))
-        reads_same = ap (bytes_on reads) (back.held t) ∙ back.left.left.reads_same ∙ ap reads still ∙ are.left.reads_same ∙ taken_reads reads image (disk0 (seat_journal s)) are.taken (are.from t)
+        reads_same = ap (bytes_on reads) (back.held t) ∙ back.left.left.reads_same ∙ ap reads still ∙ are.left.reads_same
+            ∙ taken_reads reads image (disk0 (seat_journal s)) are.taken (are.from t)
 
         images : (c : List ℕ) → image_on image (disk' (seat_journal s)) c → image_on image (disk0 (seat_journal s)) c
         images c left =
@@ -248,7 +291,8 @@ module _ (directory : Text) where
             taken_images reads image (disk0 (seat_journal s)) are.taken c (are.from t) (are.left.images c (subst (λ d. image d c) still closed))
     by_same t disk' count' name u s are back false differs more = more differs
 
-    among_same : told → (disk' : Text → Option D) (count' : Text → ℕ) (name : Text) (us : List User) (ss : List (DeskSeat D g h)) → Seats us ss → AreBack told reads image faults disk' count' ss → is_among (journals ss) name ≡ true → Same reads image disk0 disk' name
+    among_same : told → (disk' : Text → Option D) (count' : Text → ℕ) (name : Text) (us : List User) (ss : List (DeskSeat D g h)) → Seats us ss
+        → AreBack told reads image faults disk' count' ss → is_among (journals ss) name ≡ true → Same reads image disk0 disk' name
     among_same t disk' count' name [] [] are back among = absurd cc
     among_same t disk' count' name [] (s ∷ ss) are back among = absurd are
     among_same t disk' count' name (u ∷ us) [] are back among = absurd cc
@@ -257,7 +301,8 @@ module _ (directory : Text) where
         (λ differs. among_same t disk' count' name us ss are.1 back.1 (sym (ap (λ b. b || is_among (journals ss) name) differs) ∙ among))
 
     -- all disks are as at the beginning, where those under other names are
-    pub all_same : told → (users : List User) (seats : List (DeskSeat D g h)) → Seats users seats → (disk' : Text → Option D) (count' : Text → ℕ) → AreBack told reads image faults disk' count' seats
+    pub all_same : told → (users : List User) (seats : List (DeskSeat D g h)) → Seats users seats → (disk' : Text → Option D) (count' : Text → ℕ)
+        → AreBack told reads image faults disk' count' seats
         → ((name : Text) → is_among (journals seats) name ≡ false → Same reads image disk0 disk' name) → (name : Text) → Same reads image disk0 disk' name
     all_same t users seats are disk' count' back others name = by (is_among (journals seats) name) refl
       where

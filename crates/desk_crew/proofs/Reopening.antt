@@ -10,9 +10,11 @@ use Rattle.desk_crew.specs.Crew.{seat_journal, seat_disk, IsLeft, IsLeftBy, IsCl
 use Rattle.desk_crew.specs.Shelved.{is_among, journals, SameBeside, AllOut, AllIn, AreBack, AreLater}
 use Rattle.desk_crew.specs.Seats.{DeskSeat}
 use Rattle.cqe_base.proofs.Lists.{text_is}
-use Rattle.desk_crew.proofs.Shelving.{Parts, parts, among-append, journals-append, back-append, back_on, later-first, later-second, later_on, left_on, among_first, among_second, among_none_first, among_none_second, beside_one}
+use Rattle.desk_crew.proofs.Shelving.{Parts, parts, among-append, journals-append, back-append, back_on, later-first, later-second, later_on, left_on}
+use Rattle.desk_crew.proofs.Shelving.{among_first, among_second, among_none_first, among_none_second, beside_one}
 
-module _ (schema : DatabaseSchema) (world : FactSet) (header : List ℕ) {D : Type 0} {g h : _} (told shelf_told : Type 0) (reads : D → List ℕ) (image : D → List ℕ → Type 0) (faults : D → ℕ) where
+module _ (schema : DatabaseSchema) (world : FactSet) (header : List ℕ) {D : Type 0} {g h : _} (told shelf_told : Type 0) (reads : D → List ℕ)
+    (image : D → List ℕ → Type 0) (faults : D → ℕ) where
   -- these seats were closed and opened again, and those are still to be
   pub record Halfway (all seats reopened : List (DeskSeat D g h)) : Type 0 where
     pub done : List (DeskSeat D g h)
@@ -22,23 +24,27 @@ module _ (schema : DatabaseSchema) (world : FactSet) (header : List ℕ) {D : Ty
   pub halfway_first : (all reopened : List (DeskSeat D g h)) → reopened ≡ [] → Halfway all all reopened
   halfway_first all reopened none = record { done = []; split = refl; are = subst (AreReopened schema world header told reads image faults []) (sym none) tt }
 
-  reopened-push : (done news : List (DeskSeat D g h)) (old new : DeskSeat D g h) → AreReopened schema world header told reads image faults done news → IsReopened schema world header told reads image faults old new
+  reopened-push : (done news : List (DeskSeat D g h)) (old new : DeskSeat D g h) → AreReopened schema world header told reads image faults done news
+      → IsReopened schema world header told reads image faults old new
       → AreReopened schema world header told reads image faults (done ++ old ∷ []) (news ++ new ∷ [])
   reopened-push [] [] old new are is = (is, tt)
   reopened-push [] (n ∷ news) old new are is = absurd are
   reopened-push (d ∷ done) [] old new are is = absurd are
   reopened-push (d ∷ done) (n ∷ news) old new are is = (are.0, reopened-push done news old new are.1 is)
 
-  pub halfway_more : (all seats rest reopened : List (DeskSeat D g h)) (old new : DeskSeat D g h) → seats ≡ old ∷ rest → Halfway all seats reopened → IsReopened schema world header told reads image faults old new → Halfway all rest (reopened ++ new ∷ [])
+  pub halfway_more : (all seats rest reopened : List (DeskSeat D g h)) (old new : DeskSeat D g h) → seats ≡ old ∷ rest → Halfway all seats reopened
+      → IsReopened schema world header told reads image faults old new → Halfway all rest (reopened ++ new ∷ [])
   halfway_more all seats rest reopened old new is half again = record {
     done = half.done ++ old ∷ [];
     split = half.split ∙ ap (λ l. half.done ++ l) is ∙ sym (append_assoc half.done (old ∷ []) rest);
     are = reopened-push half.done reopened old new half.are again;
   }
 
-  pub halfway_all : (all seats reopened : List (DeskSeat D g h)) → seats ≡ [] → Halfway all seats reopened → AreReopened schema world header told reads image faults all reopened
+  pub halfway_all : (all seats reopened : List (DeskSeat D g h)) → seats ≡ [] → Halfway all seats reopened
+      → AreReopened schema world header told reads image faults all reopened
   halfway_all all seats reopened none half =
-      subst (λ l. AreReopened schema world header told reads image faults l reopened) (sym (half.split ∙ ap (λ l. half.done ++ l) none ∙ append-nil half.done)) half.are
+      subst (λ l. AreReopened schema world header told reads image faults l reopened)
+      (sym (half.split ∙ ap (λ l. half.done ++ l) none ∙ append-nil half.done)) half.are
 
   -- a seat's names go on
   pub same_journals : (olds news : List (DeskSeat D g h)) → AreReopened schema world header told reads image faults olds news → journals news ≡ journals olds
@@ -47,7 +53,8 @@ module _ (schema : DatabaseSchema) (world : FactSet) (header : List ℕ) {D : Ty
   same_journals (o ∷ olds) [] are = absurd are
   same_journals (o ∷ olds) (n ∷ news) are = ap (λ j. j ∷ journals news) are.0.journal_is ∙ ap (λ js. seat_journal o ∷ js) (same_journals olds news are.1)
 
-  pub later_reopened : (count : Text → ℕ) (olds news : List (DeskSeat D g h)) → AreReopened schema world header told reads image faults olds news → AreLater faults count olds → AreLater faults count news
+  pub later_reopened : (count : Text → ℕ) (olds news : List (DeskSeat D g h)) → AreReopened schema world header told reads image faults olds news
+      → AreLater faults count olds → AreLater faults count news
   later_reopened count [] [] are later = tt
   later_reopened count [] (n ∷ news) are later = absurd are
   later_reopened count (o ∷ olds) [] are later = absurd are
@@ -58,11 +65,25 @@ module _ (schema : DatabaseSchema) (world : FactSet) (header : List ℕ) {D : Ty
       (subst (λ j. count j ≤ faults (seat_disk n)) (sym are.0.journal_is) (omega (arith, first, closed, on)), later_reopened count olds news are.1 later.1)
 
   -- what a closed desk shows where the shelf tells its disks
-  closed_told : (shelf_told → told) → (seat : DeskSeat D g h) (disk : D) → IsClosed told image faults seat.desk disk → IsClosed shelf_told image faults seat.desk disk
-  closed_told tells seat disk closed = record { holds = λ t. closed.holds (tells t); legal = closed.legal; added = closed.added; idle = closed.idle; later = closed.later; cause = closed.cause; shut = closed.shut; still = closed.still }
+  closed_told : (shelf_told → told) → (seat : DeskSeat D g h) (disk : D) → IsClosed told image faults seat.desk disk
+      → IsClosed shelf_told image faults seat.desk disk
+  closed_told tells seat disk closed =
+      record {
+        holds = λ t. closed.holds (tells t);
+        legal = closed.legal;
+        added = closed.added;
+        idle = closed.idle;
+        later = closed.later;
+        cause =
+            closed.cause;
+        shut = closed.shut;
+        still = closed.still;
+      }
 
   -- where the disks of reopened seats are back, those of the seats before are
-  back_before : (shelf_told → told) → (disk : Text → Option D) (count : Text → ℕ) (olds news : List (DeskSeat D g h)) → AreReopened schema world header told reads image faults olds news → AreBack shelf_told reads image faults disk count news → AreBack shelf_told reads image faults disk count olds
+  back_before : (shelf_told → told) → (disk : Text → Option D) (count : Text → ℕ) (olds news : List (DeskSeat D g h))
+      → AreReopened schema world header told reads image faults olds news → AreBack shelf_told reads image faults disk count news
+      → AreBack shelf_told reads image faults disk count olds
   back_before tells disk count [] [] are back = tt
   back_before tells disk count [] (n ∷ news) are back = absurd are
   back_before tells disk count (o ∷ olds) [] are back = absurd are
@@ -72,7 +93,8 @@ module _ (schema : DatabaseSchema) (world : FactSet) (header : List ℕ) {D : Ty
       left = record {
         closed = are.0.closed;
         is_closed = closed_told tells o are.0.closed are.0.is_closed;
-        left = left_on reads image faults are.0.closed (seat_disk n) back.0.now are.0.left (subst (λ d. IsLeft reads image faults d back.0.now) (back.0.left.is_closed.still are.0.opened.fresh) back.0.left.left);
+        left = left_on reads image faults are.0.closed (seat_disk n) back.0.now are.0.left
+            (subst (λ d. IsLeft reads image faults d back.0.now) (back.0.left.is_closed.still are.0.opened.fresh) back.0.left.left);
       };
       held = λ t. ap disk (sym are.0.journal_is) ∙ back.0.held t;
       counted = ap count (sym are.0.journal_is) ∙ back.0.counted;
@@ -83,7 +105,8 @@ module _ (schema : DatabaseSchema) (world : FactSet) (header : List ℕ) {D : Ty
   -- ---- memory was wanting at one seat
 
   module _ (all seats rest reopened : List (DeskSeat D g h)) (seat : DeskSeat D g h) (is : seats ≡ seat ∷ rest) (half : Halfway all seats reopened)
-      (disk0 : Text → Option D) (out0 : Text → Bool) (count0 : Text → ℕ) (distinct : has_duplicate (journals all) ≡ false) (out : AllOut (journals all) out0) (later : AreLater faults count0 all) where
+      (disk0 : Text → Option D) (out0 : Text → Bool) (count0 : Text → ℕ) (distinct : has_duplicate (journals all) ≡ false) (out : AllOut (journals all) out0)
+      (later : AreLater faults count0 all) where
     abbrev here : Text
     here = seat_journal seat
 
@@ -114,8 +137,10 @@ module _ (schema : DatabaseSchema) (world : FactSet) (header : List ℕ) {D : Ty
     here_apart : is_among (journals rest) here ≡ false
     here_apart = or_first _ _ two.second
 
-    module _ (returned : D) (disk1 : Text → Option D) (out1 : Text → Bool) (count1 : Text → ℕ) (one : Text) (named : one ≡ here) (tells : shelf_told → told) (left : IsLeftBy told reads image faults seat.desk returned)
-        (held1 : shelf_told → disk1 one ≡ Some returned) (disks1 : SameOthers one disk0 disk1) (in1 : out1 one ≡ false) (outs1 : SameOthers one out0 out1) (counted1 : count1 one ≡ faults returned) (counts1 : SameOthers one count0 count1) where
+    module _ (returned : D) (disk1 : Text → Option D) (out1 : Text → Bool) (count1 : Text → ℕ) (one : Text) (named : one ≡ here) (tells : shelf_told → told)
+        (left : IsLeftBy told reads image faults seat.desk returned)
+        (held1 : shelf_told → disk1 one ≡ Some returned) (disks1 : SameOthers one disk0 disk1) (in1 : out1 one ≡ false) (outs1 : SameOthers one out0 out1)
+        (counted1 : count1 one ≡ faults returned) (counts1 : SameOthers one count0 count1) where
       one_apart : is_among (journals rest) one ≡ false
       one_apart = ap (is_among (journals rest)) named ∙ here_apart
 
@@ -123,20 +148,26 @@ module _ (schema : DatabaseSchema) (world : FactSet) (header : List ℕ) {D : Ty
       rest_distinct = or_second _ _ two.second
 
       pub rest_out : AllOut (journals rest) out1
-      rest_out name among = beside_one one (journals rest) out0 out1 one_apart outs1 name among ∙ out name (among_all name (among_second (journals half.done) (here ∷ journals rest) name (among_rest name among)))
+      rest_out name among =
+          beside_one one (journals rest) out0 out1 one_apart outs1 name among
+          ∙ out name (among_all name (among_second (journals half.done) (here ∷ journals rest) name (among_rest name among)))
 
       pub rest_later : AreLater faults count1 rest
-      rest_later = later_on shelf_told reads image faults count0 count1 rest (beside_one one (journals rest) count0 count1 one_apart counts1) (later-second shelf_told reads image faults count0 half.done (seat ∷ rest) all_later).1
+      rest_later = later_on shelf_told reads image faults count0 count1 rest (beside_one one (journals rest) count0 count1 one_apart counts1)
+          (later-second shelf_told reads image faults count0 half.done (seat ∷ rest) all_later).1
 
-      module _ (disk2 : Text → Option D) (out2 : Text → Bool) (count2 : Text → ℕ) (back2 : AreBack shelf_told reads image faults disk2 count2 rest) (in2 : AllIn (journals rest) out2)
-          (outs2 : SameBeside (journals rest) out1 out2) (disks2 : SameBeside (journals rest) disk1 disk2) (counts2 : SameBeside (journals rest) count1 count2) where
+      module _ (disk2 : Text → Option D) (out2 : Text → Bool) (count2 : Text → ℕ) (back2 : AreBack shelf_told reads image faults disk2 count2 rest)
+          (in2 : AllIn (journals rest) out2)
+          (outs2 : SameBeside (journals rest) out1 out2) (disks2 : SameBeside (journals rest) disk1 disk2)
+          (counts2 : SameBeside (journals rest) count1 count2) where
         done_apart : is_among (journals half.done) one ≡ false
         done_apart = ap (is_among (journals half.done)) named ∙ two.apart_back here among_here
 
         done_rest : (name : Text) → is_among (journals half.done) name ≡ true → is_among (journals rest) name ≡ false
         done_rest name among = or_second _ _ (two.apart name among)
 
-        done_same : {A : Type 0} (f0 f1 f2 : Text → A) → SameOthers one f0 f1 → SameBeside (journals rest) f1 f2 → (name : Text) → is_among (journals half.done) name ≡ true → f2 name ≡ f0 name
+        done_same : {A : Type 0} (f0 f1 f2 : Text → A) → SameOthers one f0 f1 → SameBeside (journals rest) f1 f2 → (name : Text)
+            → is_among (journals half.done) name ≡ true → f2 name ≡ f0 name
         done_same f0 f1 f2 first second name among = second name (done_rest name among) ∙ beside_one one (journals half.done) f0 f1 done_apart first name among
 
         pub done_distinct : has_duplicate (journals reopened) ≡ false
@@ -149,20 +180,25 @@ module _ (schema : DatabaseSchema) (world : FactSet) (header : List ℕ) {D : Ty
 
         pub done_later : AreLater faults count2 reopened
         done_later = later_reopened count2 half.done reopened half.are
-            (later_on shelf_told reads image faults count0 count2 half.done (done_same count0 count1 count2 counts1 counts2) (later-first shelf_told reads image faults count0 half.done (seat ∷ rest) all_later))
+            (later_on shelf_told reads image faults count0 count2 half.done (done_same count0 count1 count2 counts1 counts2)
+            (later-first shelf_told reads image faults count0 half.done (seat ∷ rest) all_later))
 
-        module _ (disk3 : Text → Option D) (out3 : Text → Bool) (count3 : Text → ℕ) (back3 : AreBack shelf_told reads image faults disk3 count3 reopened) (in3 : AllIn (journals reopened) out3)
-            (outs3 : SameBeside (journals reopened) out2 out3) (disks3 : SameBeside (journals reopened) disk2 disk3) (counts3 : SameBeside (journals reopened) count2 count3) where
+        module _ (disk3 : Text → Option D) (out3 : Text → Bool) (count3 : Text → ℕ) (back3 : AreBack shelf_told reads image faults disk3 count3 reopened)
+            (in3 : AllIn (journals reopened) out3)
+            (outs3 : SameBeside (journals reopened) out2 out3) (disks3 : SameBeside (journals reopened) disk2 disk3)
+            (counts3 : SameBeside (journals reopened) count2 count3) where
           beside_done : {A : Type 0} (f2 f3 : Text → A) → SameBeside (journals reopened) f2 f3 → SameBeside (journals half.done) f2 f3
           beside_done f2 f3 same = subst (λ ns. SameBeside ns f2 f3) (same_journals half.done reopened half.are) same
 
-          rest_same : {A : Type 0} (f2 f3 : Text → A) → SameBeside (journals reopened) f2 f3 → (name : Text) → is_among (journals rest) name ≡ true → f3 name ≡ f2 name
+          rest_same : {A : Type 0} (f2 f3 : Text → A) → SameBeside (journals reopened) f2 f3 → (name : Text) → is_among (journals rest) name ≡ true
+              → f3 name ≡ f2 name
           rest_same f2 f3 same name among = beside_done f2 f3 same name (two.apart_back name (among_rest name among))
 
           here_same : {A : Type 0} (f1 f2 f3 : Text → A) → SameBeside (journals rest) f1 f2 → SameBeside (journals reopened) f2 f3 → f3 here ≡ f1 here
           here_same f1 f2 f3 first second = beside_done f2 f3 second here (two.apart_back here among_here) ∙ first here here_apart
 
-          beside_all : {A : Type 0} (f0 f1 f2 f3 : Text → A) → SameOthers one f0 f1 → SameBeside (journals rest) f1 f2 → SameBeside (journals reopened) f2 f3 → SameBeside (journals all) f0 f3
+          beside_all : {A : Type 0} (f0 f1 f2 f3 : Text → A) → SameOthers one f0 f1 → SameBeside (journals rest) f1 f2 → SameBeside (journals reopened) f2 f3
+              → SameBeside (journals all) f0 f3
           beside_all f0 f1 f2 f3 first second third name none =
               let none_all : is_among (journals half.done ++ (here ∷ journals rest)) name ≡ false = ap (λ ns. is_among ns name) (sym names) ∙ none in
               let none_tail = among_none_second (journals half.done) (here ∷ journals rest) name none_all in
@@ -186,7 +222,9 @@ module _ (schema : DatabaseSchema) (world : FactSet) (header : List ℕ) {D : Ty
                   let at : name ≡ here = same_text name here (sym same) in
                   ap out3 at ∙ here_same out1 out2 out3 outs2 outs3 ∙ ap out1 (sym named) ∙ in1
               by_here false differ none =
-                  let tail : is_among (here ∷ journals rest) name ≡ true = sym (ap (λ b. b || is_among (here ∷ journals rest) name) none) ∙ sym (among-append (journals half.done) (here ∷ journals rest) name) ∙ among in
+                  let tail : is_among (here ∷ journals rest) name ≡ true =
+                  sym (ap (λ b. b || is_among (here ∷ journals rest) name) none) ∙ sym (among-append (journals half.done) (here ∷ journals rest) name)
+                  ∙ among in
                   let inner : is_among (journals rest) name ≡ true = sym (ap (λ b. b || is_among (journals rest) name) differ) ∙ tail in
                   rest_same out2 out3 outs3 name inner ∙ in2 name inner
 
@@ -197,7 +235,8 @@ module _ (schema : DatabaseSchema) (world : FactSet) (header : List ℕ) {D : Ty
           pub failed : Failed
           failed = record {
             back = subst (AreBack shelf_told reads image faults disk3 count3) (sym (half.split ∙ ap (λ l. half.done ++ l) is))
-                (back-append shelf_told reads image faults disk3 count3 half.done (seat ∷ rest) (back_before tells disk3 count3 half.done reopened half.are back3) (
+                (back-append shelf_told reads image faults disk3 count3 half.done (seat ∷ rest)
+                (back_before tells disk3 count3 half.done reopened half.are back3) (
                   record {
                     now = returned;
                     left = record { closed = left.closed; is_closed = closed_told tells seat left.closed left.is_closed; left = left.left };

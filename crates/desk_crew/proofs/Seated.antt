@@ -9,7 +9,8 @@ use Rattle.cqe_base.specs.Run.{UserState}
 use Rattle.user_desk.specs.Causes.{IsStanding}
 use Rattle.user_desk.specs.Standings.{is_sealed, standing_of}
 use Rattle.user_desk.specs.Lives.{Holds, Restarts, IsState, shown}
-use Rattle.user_desk.specs.Desks.{desk_schema, desk_world, desk_user, desk_header, desk_standing, desk_history, desk_disk, entry_in_flight, is_broken_desk, opening_history, opening_disk, state_of, IsIn}
+use Rattle.user_desk.specs.Desks.{desk_schema, desk_world, desk_user, desk_header, desk_standing, desk_history, desk_disk, entry_in_flight, is_broken_desk}
+use Rattle.user_desk.specs.Desks.{opening_history, opening_disk, state_of, IsIn}
 use Rattle.user_desk.specs.declared.desk.Desk.{Desk}
 use Rattle.user_desk.specs.declared.standing.DeskError.{DeskError}
 use Rattle.user_desk.specs.declared.standing.Standing.{Standing}
@@ -23,8 +24,11 @@ use Rattle.desk_counter.specs.Sole.{counter_in, pass_in, pairs_of_sole}
 use Rattle.desk_crew.specs.Crew.{first_refusal, seat_user, seat_kept, seat_standing, seat_history, seat_state, seat_disk, IsOpenedFrom}
 use Rattle.desk_crew.specs.Seats.{DeskSeat}
 
-module _ {D : Type 0} {g h : _} (schema : DatabaseSchema) (world : FactSet) (header : List ℕ) (told : Type 0) (reads : D → List ℕ) (image : D → List ℕ → Type 0) (faults : D → ℕ) (desk : Desk D g) (seat : DeskSeat D g h)
-    (kept : seat_kept seat ≡ fixed_of desk) (entries : seat_history seat ≡ desk_history desk) (flies : flying (pairs_of_sole seat.desk) ≡ entry_in_flight desk) (first : first_history (counter_in seat.desk) ≡ desk_history desk) (none_own : mine (pass_in seat.desk) ≡ []) (all_turns : turns (pass_in seat.desk) ≡ 65 * 2 ^ 57) where
+module _ {D : Type 0} {g h : _} (schema : DatabaseSchema) (world : FactSet) (header : List ℕ) (told : Type 0) (reads : D → List ℕ) (image : D → List ℕ → Type 0)
+    (faults : D → ℕ) (desk : Desk D g) (seat : DeskSeat D g h)
+    (kept : seat_kept seat ≡ fixed_of desk) (entries : seat_history seat ≡ desk_history desk) (flies : flying (pairs_of_sole seat.desk) ≡ entry_in_flight desk)
+    (first : first_history (counter_in seat.desk) ≡ desk_history desk) (none_own : mine (pass_in seat.desk) ≡ [])
+    (all_turns : turns (pass_in seat.desk) ≡ 65 * 2 ^ 57) where
   standing_is : seat_standing seat ≡ desk_standing desk
   standing_is = ap (λ (f : Fixed D). f.standing) kept
 
@@ -35,12 +39,18 @@ module _ {D : Type 0} {g h : _} (schema : DatabaseSchema) (world : FactSet) (hea
       ∙ ap (λ (o : Option AnsweredQuery). shown (desk_history desk) (standing_of (desk_standing desk)) o) flies
 
   -- it is a seat that was opened from its disk
-  pub opened_seat : (disk : D) (before : Option DeskError) → desk_schema desk ≡ schema → desk_world desk ≡ world → desk_user desk ≡ profile_of (seat_user seat) → desk_header desk ≡ header
-      → IsStanding schema world (profile_of (seat_user seat)) told header (reads disk) (desk_history desk) (faults disk) (faults (desk_disk desk)) (desk_standing desk)
-      → (told → (state : UserState) → Holds schema world (profile_of (seat_user seat)) header state (reads disk) → Restarts schema world (profile_of (seat_user seat)) (IsIn desk) state (faults disk) (faults (desk_disk desk)))
-      → is_broken_desk desk ≡ false → opening_history desk ≡ desk_history desk → opening_disk desk ≡ desk_disk desk → seat.refusal ≡ first_refusal before (desk_standing desk)
-      → (told → is_sealed (desk_standing desk) ≡ false → (c : List ℕ) → image (desk_disk desk) c → Holds (desk_schema desk) (desk_world desk) (desk_user desk) (desk_header desk) (state_of desk) c)
-      → IsLegal (desk_schema desk) (desk_world desk) (desk_user desk) (desk_history desk) → IsOpenedFrom schema world header told reads image faults disk before seat
+  pub opened_seat : (disk : D) (before : Option DeskError) → desk_schema desk ≡ schema → desk_world desk ≡ world → desk_user desk ≡ profile_of (seat_user seat)
+      → desk_header desk ≡ header
+      → IsStanding schema world (profile_of (seat_user seat)) told header (reads disk) (desk_history desk) (faults disk) (faults (desk_disk desk))
+      (desk_standing desk)
+      → (told → (state : UserState) → Holds schema world (profile_of (seat_user seat)) header state (reads disk)
+      → Restarts schema world (profile_of (seat_user seat)) (IsIn desk) state (faults disk) (faults (desk_disk desk)))
+      → is_broken_desk desk ≡ false → opening_history desk ≡ desk_history desk → opening_disk desk ≡ desk_disk desk
+      → seat.refusal ≡ first_refusal before (desk_standing desk)
+      → (told → is_sealed (desk_standing desk) ≡ false → (c : List ℕ) → image (desk_disk desk) c
+      → Holds (desk_schema desk) (desk_world desk) (desk_user desk) (desk_header desk) (state_of desk) c)
+      → IsLegal (desk_schema desk) (desk_world desk) (desk_user desk) (desk_history desk)
+      → IsOpenedFrom schema world header told reads image faults disk before seat
   opened_seat disk before schema_is world_is user_is header_is standing restarted whole opening opened refusal images legal =
       let disk_is : seat_disk seat ≡ desk_disk desk = ap (λ (f : Fixed D). f.disk) kept ∙ opened in
       record {
@@ -50,13 +60,23 @@ module _ {D : Type 0} {g h : _} (schema : DatabaseSchema) (world : FactSet) (hea
           header_is = ap (λ (f : Fixed D). f.header) kept ∙ header_is;
           user_is = ap (λ (f : Fixed D). f.user) kept ∙ user_is;
         };
-        standing = subst (λ (s : Standing). IsStanding schema world (profile_of (seat_user seat)) told header (reads disk) (seat_history seat) (faults disk) (faults (seat_disk seat)) s) (sym standing_is)
-            (subst (λ d. IsStanding schema world (profile_of (seat_user seat)) told header (reads disk) (seat_history seat) (faults disk) (faults d) (desk_standing desk)) (sym disk_is)
-            (subst (λ (e : History). IsStanding schema world (profile_of (seat_user seat)) told header (reads disk) e (faults disk) (faults (desk_disk desk)) (desk_standing desk)) (sym entries) standing));
+        standing = subst (λ (s : Standing).
+            IsStanding schema world (profile_of (seat_user seat)) told header (reads disk) (seat_history seat) (faults disk) (faults (seat_disk seat)) s)
+            (sym standing_is)
+            (subst (λ d. IsStanding schema world (profile_of (seat_user seat)) told header (reads disk) (seat_history seat) (faults disk) (faults d)
+            (desk_standing desk)) (sym disk_is)
+            (subst (λ (e : History).
+            IsStanding schema world (profile_of (seat_user seat)) told header (reads disk) e (faults disk) (faults (desk_disk desk)) (desk_standing desk))
+            (sym entries) standing));
         restarted = λ t state holds.
-            subst (λ (s : Standing). Restarts schema world (profile_of (seat_user seat)) (IsState s (seat_state seat)) state (faults disk) (faults (seat_disk seat))) (sym standing_is)
-            (subst (λ (u : UserState). Restarts schema world (profile_of (seat_user seat)) (IsState (desk_standing desk) u) state (faults disk) (faults (seat_disk seat))) (sym state_is)
-            (subst (λ d. Restarts schema world (profile_of (seat_user seat)) (IsIn desk) state (faults disk) (faults d)) (sym disk_is) (restarted t state holds)));
+            subst (λ (s : Standing).
+            Restarts schema world (profile_of (seat_user seat)) (IsState s (seat_state seat)) state (faults disk) (faults (seat_disk seat)))
+            (sym standing_is)
+            (subst (λ (u : UserState).
+            Restarts schema world (profile_of (seat_user seat)) (IsState (desk_standing desk) u) state (faults disk) (faults (seat_disk seat)))
+            (sym state_is)
+            (subst (λ d. Restarts schema world (profile_of (seat_user seat)) (IsIn desk) state (faults disk) (faults d)) (sym disk_is)
+            (restarted t state holds)));
         refusal = refusal ∙ ap (first_refusal before) (sym standing_is);
         fresh = record {
           count = ap length entries ∙ sym (ap length (ap (λ (f : Fixed D). f.opening) kept ∙ opening));

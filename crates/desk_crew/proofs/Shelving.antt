@@ -19,7 +19,8 @@ use Rattle.desk_crew.specs.Seats.{DeskSeat}
 
 pub among-append : (xs ys : List Text) (name : Text) → is_among (xs ++ ys) name ≡ (is_among xs name || is_among ys name)
 among-append [] ys name = refl
-among-append (x ∷ xs) ys name = ap (λ b. bytes_eq name x || b) (among-append xs ys name) ∙ sym (or_assoc (bytes_eq name x) (is_among xs name) (is_among ys name))
+among-append (x ∷ xs) ys name =
+    ap (λ b. bytes_eq name x || b) (among-append xs ys name) ∙ sym (or_assoc (bytes_eq name x) (is_among xs name) (is_among ys name))
 
 -- a name of the first part is among the whole
 pub among_first : (xs ys : List Text) (name : Text) → is_among xs name ≡ true → is_among (xs ++ ys) name ≡ true
@@ -35,7 +36,8 @@ pub among_none_second : (xs ys : List Text) (name : Text) → is_among (xs ++ ys
 among_none_second xs ys name none = or_second _ _ (sym (among-append xs ys name) ∙ none)
 
 -- the first of a list that isn't empty, which is removed
-pub first_removed : {X : Type 0} (xs : List X) (x : X) (rest : List X) → x ≡ slice_index_or xs 0 x → rest ≡ remove xs 0 → (length xs == 0) ≡ false → xs ≡ x ∷ rest
+pub first_removed : {X : Type 0} (xs : List X) (x : X) (rest : List X) → x ≡ slice_index_or xs 0 x → rest ≡ remove xs 0 → (length xs == 0) ≡ false
+    → xs ≡ x ∷ rest
 first_removed [] x rest is removed some = absurd cc
 first_removed (y ∷ ys) x rest is removed some = ap (λ z. z ∷ ys) (sym is) ∙ ap (λ l. x ∷ l) (sym removed)
 
@@ -76,7 +78,8 @@ parts (x ∷ xs) ys distinct =
     let apart = apart_cons x xs ys (among_none_second xs ys x none) rest.apart in
     record { first = or_from _ _ (among_none_first xs ys x none) rest.first; second = rest.second; apart = apart; apart_back = apart_turned (x ∷ xs) ys apart }
 
-pub beside_one : {A : Type 0} (one : Text) (names : List Text) (old new : Text → A) → is_among names one ≡ false → SameOthers one old new → (name : Text) → is_among names name ≡ true → new name ≡ old name
+pub beside_one : {A : Type 0} (one : Text) (names : List Text) (old new : Text → A) → is_among names one ≡ false → SameOthers one old new → (name : Text)
+    → is_among names name ≡ true → new name ≡ old name
 beside_one one names old new none others name is = others name (by (bytes_eq name one) refl)
   where
     by : (b : Bool) → bytes_eq name one ≡ b → b ≡ false
@@ -84,10 +87,12 @@ beside_one one names old new none others name is = others name (by (bytes_eq nam
     by true same = let e : true ≡ false = sym is ∙ ap (is_among names) (same_text name one (sym same)) ∙ none in absurd cc
 
 -- what is the same beside names is the same beside more of them
-pub beside_more : {A : Type 0} (one : Text) (names : List Text) (first old new : Text → A) → SameBeside names first old → SameOthers one old new → SameBeside (one ∷ names) first new
+pub beside_more : {A : Type 0} (one : Text) (names : List Text) (first old new : Text → A) → SameBeside names first old → SameOthers one old new
+    → SameBeside (one ∷ names) first new
 beside_more one names first old new before now name none = now name (or_first _ _ none) ∙ before name (or_second _ _ none)
 
-pub beside_joined : {A : Type 0} (xs ys : List Text) (first old new : Text → A) → SameBeside xs first old → SameBeside ys old new → SameBeside (xs ++ ys) first new
+pub beside_joined : {A : Type 0} (xs ys : List Text) (first old new : Text → A) → SameBeside xs first old → SameBeside ys old new
+    → SameBeside (xs ++ ys) first new
 beside_joined xs ys first old new before now name none = now name (among_none_second xs ys name none) ∙ before name (among_none_first xs ys name none)
 
 -- whether an append failed at one of the seats, by those that are left and by those that were closed
@@ -106,7 +111,8 @@ module _ {D : Type 0} {g h : _} where
   broke_all [] total so_far none known = sym known
   broke_all (seat ∷ seats) total so_far none known = absurd (omega (arith, none))
 
-  pub broke_more : (front : List (DeskSeat D g h)) (seat : DeskSeat D g h) (before : List (DeskSeat D g h)) (total broke so_far : Bool) → before ≡ front ++ seat ∷ []
+  pub broke_more : (front : List (DeskSeat D g h)) (seat : DeskSeat D g h) (before : List (DeskSeat D g h)) (total broke so_far : Bool)
+      → before ≡ front ++ seat ∷ []
       → total ≡ (list_any seat_broke before || so_far) → broke ≡ seat_broke seat → total ≡ (list_any seat_broke front || (so_far || broke))
   broke_more front seat before total broke so_far is known here =
       known ∙ ap (λ b. b || so_far) (ap (list_any seat_broke) is ∙ list_any-append seat_broke front (seat ∷ []))
@@ -128,7 +134,8 @@ module _ {D : Type 0} {g h : _} where
   journals-append xs ys = map-append seat_journal xs ys
 
   module _ (told : Type 0) (reads : D → List ℕ) (image : D → List ℕ → Type 0) (faults : D → ℕ) where
-    pub back-append : (disk : Text → Option D) (count : Text → ℕ) (xs ys : List (DeskSeat D g h)) → AreBack told reads image faults disk count xs → AreBack told reads image faults disk count ys
+    pub back-append : (disk : Text → Option D) (count : Text → ℕ) (xs ys : List (DeskSeat D g h)) → AreBack told reads image faults disk count xs
+        → AreBack told reads image faults disk count ys
         → AreBack told reads image faults disk count (xs ++ ys)
     back-append disk count [] ys first second = second
     back-append disk count (x ∷ xs) ys first second = (first.0, back-append disk count xs ys first.1 second)
@@ -142,7 +149,9 @@ module _ {D : Type 0} {g h : _} where
     later-second count (x ∷ xs) ys are = later-second count xs ys are.1
 
     -- what is back stays so where its names have the same as before
-    pub back_on : (disk disk' : Text → Option D) (count count' : Text → ℕ) (seats : List (DeskSeat D g h)) → ((name : Text) → is_among (journals seats) name ≡ true → disk' name ≡ disk name) → ((name : Text) → is_among (journals seats) name ≡ true → count' name ≡ count name)
+    pub back_on : (disk disk' : Text → Option D) (count count' : Text → ℕ) (seats : List (DeskSeat D g h))
+        → ((name : Text) → is_among (journals seats) name ≡ true → disk' name ≡ disk name)
+        → ((name : Text) → is_among (journals seats) name ≡ true → count' name ≡ count name)
         → AreBack told reads image faults disk count seats → AreBack told reads image faults disk' count' seats
     back_on disk disk' count count' [] disks counts back = tt
     back_on disk disk' count count' (seat ∷ seats) disks counts back =
@@ -156,7 +165,8 @@ module _ {D : Type 0} {g h : _} where
           back_on disk disk' count count' seats (λ name is. disks name (or_right _ _ is)) (λ name is. counts name (or_right _ _ is)) back.1,
         )
 
-    pub later_on : (count count' : Text → ℕ) (seats : List (DeskSeat D g h)) → ((name : Text) → is_among (journals seats) name ≡ true → count' name ≡ count name) → AreLater faults count seats → AreLater faults count' seats
+    pub later_on : (count count' : Text → ℕ) (seats : List (DeskSeat D g h))
+        → ((name : Text) → is_among (journals seats) name ≡ true → count' name ≡ count name) → AreLater faults count seats → AreLater faults count' seats
     later_on count count' [] counts later = tt
     later_on count count' (seat ∷ seats) counts later =
         let same = counts (seat_journal seat) (or_left _ _ (text_is (seat_journal seat))) in
@@ -176,7 +186,16 @@ module _ {D : Type 0} {g h : _} where
         pub counts : SameBeside (journals given) count0 count
 
       pub given_none : Given all disk0 out0 count0
-      given_none = record { given = []; split = sym (append-nil all); back = tt; inside = λ name is. absurd cc; others_out = λ name none. refl; disks = λ name none. refl; counts = λ name none. refl }
+      given_none = record {
+        given = [];
+        split = sym (append-nil all);
+        back = tt;
+        inside = λ name is. absurd cc;
+        others_out = λ name none. refl;
+        disks =
+            λ name none. refl;
+        counts = λ name none. refl;
+      }
 
       module _ (distinct : has_duplicate (journals all) ≡ false) (out : AllOut (journals all) out0) (later : AreLater faults count0 all) where
         pub record Next (seats : List (DeskSeat D g h)) (seat : DeskSeat D g h) (given : List (DeskSeat D g h)) : Type 0 where
@@ -184,31 +203,39 @@ module _ {D : Type 0} {g h : _} where
           pub among : is_among (journals all) (seat_journal seat) ≡ true
           pub counted : count0 (seat_journal seat) ≤ faults (seat_disk seat)
 
-        pub next_of : (seats : List (DeskSeat D g h)) (seat : DeskSeat D g h) (given : List (DeskSeat D g h)) → all ≡ (seats ++ seat ∷ []) ++ given → Next seats seat given
+        pub next_of : (seats : List (DeskSeat D g h)) (seat : DeskSeat D g h) (given : List (DeskSeat D g h)) → all ≡ (seats ++ seat ∷ []) ++ given
+            → Next seats seat given
         next_of seats seat given split =
             let whole : all ≡ seats ++ (seat ∷ given) = split ∙ append_assoc seats (seat ∷ []) given in
             let names : journals all ≡ journals seats ++ (seat_journal seat ∷ journals given) = ap journals whole ∙ journals-append seats (seat ∷ given) in
-            let two : Parts (journals seats) (seat_journal seat ∷ journals given) = parts (journals seats) (seat_journal seat ∷ journals given) (ap has_duplicate (sym names) ∙ distinct) in
+            let two : Parts (journals seats) (seat_journal seat ∷ journals given) =
+            parts (journals seats) (seat_journal seat ∷ journals given) (ap has_duplicate (sym names) ∙ distinct) in
             record {
               apart = or_first _ _ two.second;
-              among = ap (λ ns. is_among ns (seat_journal seat)) names ∙ among_second (journals seats) (seat_journal seat ∷ journals given) (seat_journal seat) (or_left _ _ (text_is (seat_journal seat)));
+              among = ap (λ ns. is_among ns (seat_journal seat)) names
+                  ∙ among_second (journals seats) (seat_journal seat ∷ journals given) (seat_journal seat) (or_left _ _ (text_is (seat_journal seat)));
               counted = (later-second count0 seats (seat ∷ given) (subst (AreLater faults count0) whole later)).0;
             }
 
         -- the next disk is out, and its count didn't fall
-        pub given_out : (seats before : List (DeskSeat D g h)) (seat : DeskSeat D g h) (disk : Text → Option D) (is_out : Text → Bool) (count : Text → ℕ) → before ≡ seats ++ seat ∷ [] → Given before disk is_out count → is_out (seat_journal seat) ≡ true
+        pub given_out : (seats before : List (DeskSeat D g h)) (seat : DeskSeat D g h) (disk : Text → Option D) (is_out : Text → Bool) (count : Text → ℕ)
+            → before ≡ seats ++ seat ∷ [] → Given before disk is_out count → is_out (seat_journal seat) ≡ true
         given_out seats before seat disk is_out count is so_far =
             let next : Next seats seat so_far.given = next_of seats seat so_far.given (so_far.split ∙ ap (λ l. l ++ so_far.given) is) in
             so_far.others_out (seat_journal seat) next.apart ∙ out (seat_journal seat) next.among
 
-        pub given_later : (seats before : List (DeskSeat D g h)) (seat : DeskSeat D g h) (disk : Text → Option D) (is_out : Text → Bool) (count : Text → ℕ) → before ≡ seats ++ seat ∷ [] → Given before disk is_out count → count (seat_journal seat) ≤ faults (seat_disk seat)
+        pub given_later : (seats before : List (DeskSeat D g h)) (seat : DeskSeat D g h) (disk : Text → Option D) (is_out : Text → Bool) (count : Text → ℕ)
+            → before ≡ seats ++ seat ∷ [] → Given before disk is_out count → count (seat_journal seat) ≤ faults (seat_disk seat)
         given_later seats before seat disk is_out count is so_far =
             let next : Next seats seat so_far.given = next_of seats seat so_far.given (so_far.split ∙ ap (λ l. l ++ so_far.given) is) in
             subst (λ n. n ≤ faults (seat_disk seat)) (sym (so_far.counts (seat_journal seat) next.apart)) next.counted
 
         -- one more is back
-        pub given_more : (seats before : List (DeskSeat D g h)) (seat : DeskSeat D g h) (now : D) (closed : IsClosed told image faults seat.desk now) (disk disk' : Text → Option D) (is_out is_out' : Text → Bool) (count count' : Text → ℕ) (one : Text) → one ≡ seat_journal seat → before ≡ seats ++ seat ∷ [] → Given before disk is_out count
-            → (told → disk' one ≡ Some now) → SameOthers one disk disk' → is_out' one ≡ false → SameOthers one is_out is_out' → count' one ≡ faults now → SameOthers one count count'
+        pub given_more : (seats before : List (DeskSeat D g h)) (seat : DeskSeat D g h) (now : D) (closed : IsClosed told image faults seat.desk now)
+            (disk disk' : Text → Option D) (is_out is_out' : Text → Bool) (count count' : Text → ℕ) (one : Text) → one ≡ seat_journal seat
+            → before ≡ seats ++ seat ∷ [] → Given before disk is_out count
+            → (told → disk' one ≡ Some now) → SameOthers one disk disk' → is_out' one ≡ false → SameOthers one is_out is_out' → count' one ≡ faults now
+            → SameOthers one count count'
             → Given seats disk' is_out' count'
         given_more seats before seat now closed disk disk' is_out is_out' count count' one named is so_far held disks inside outs counted counts =
             let given = so_far.given in
@@ -219,15 +246,25 @@ module _ {D : Type 0} {g h : _} where
               given = seat ∷ given;
               split = split ∙ append_assoc seats (seat ∷ []) given;
               back = (
-                record { now = now; left = record { closed = now; is_closed = closed; left = left_same reads image faults now }; held = λ t. ap disk' (sym named) ∙ held t; counted = ap count' (sym named) ∙ counted },
-                back_on disk disk' count count' given (beside_one one (journals given) disk disk' apart disks) (beside_one one (journals given) count count' apart counts) so_far.back,
+                record {
+                  now = now;
+                  left = record { closed = now; is_closed = closed; left = left_same reads image faults now };
+                  held =
+                      λ t. ap disk' (sym named) ∙ held t;
+                  counted = ap count' (sym named) ∙ counted;
+                },
+                back_on disk disk' count count' given (beside_one one (journals given) disk disk' apart disks)
+                    (beside_one one (journals given) count count' apart counts) so_far.back,
               );
               inside = λ name among. by name (bytes_eq name (seat_journal seat)) refl among;
-              others_out = subst (λ n. SameBeside (n ∷ journals given) out0 is_out') named (beside_more one (journals given) out0 is_out is_out' so_far.others_out outs);
+              others_out =
+                  subst (λ n. SameBeside (n ∷ journals given) out0 is_out') named (beside_more one (journals given) out0 is_out is_out' so_far.others_out outs);
               disks = subst (λ n. SameBeside (n ∷ journals given) disk0 disk') named (beside_more one (journals given) disk0 disk disk' so_far.disks disks);
-              counts = subst (λ n. SameBeside (n ∷ journals given) count0 count') named (beside_more one (journals given) count0 count count' so_far.counts counts);
+              counts =
+                  subst (λ n. SameBeside (n ∷ journals given) count0 count') named (beside_more one (journals given) count0 count count' so_far.counts counts);
             }
           where
             by : (name : Text) (b : Bool) → bytes_eq name (seat_journal seat) ≡ b → is_among (journals (seat ∷ so_far.given)) name ≡ true → is_out' name ≡ false
             by name true same among = ap is_out' (same_text name (seat_journal seat) (sym same) ∙ sym named) ∙ inside
-            by name false differ among = outs name (ap (bytes_eq name) named ∙ differ) ∙ so_far.inside name (sym (ap (λ b. b || is_among (journals so_far.given) name) differ) ∙ among)
+            by name false differ among =
+                outs name (ap (bytes_eq name) named ∙ differ) ∙ so_far.inside name (sym (ap (λ b. b || is_among (journals so_far.given) name) differ) ∙ among)

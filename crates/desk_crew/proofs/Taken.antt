@@ -19,5 +19,6 @@ no_new_images image journal old new others none name c left = by (bytes_eq name 
     by false is = subst (λ d. image_on image d c) (others name is) left
 
 -- the first of a list with one more, as something of each
-pub map_more : {X Y : Type 0} (f : X → Y) (xs : List X) (i : ℕ) (x : X) → i < length xs → x ≡ get_or xs i x → map f (take (i + 1) xs) ≡ map f (take i xs) ++ f x ∷ []
+pub map_more : {X Y : Type 0} (f : X → Y) (xs : List X) (i : ℕ) (x : X) → i < length xs → x ≡ get_or xs i x
+    → map f (take (i + 1) xs) ≡ map f (take i xs) ++ f x ∷ []
 map_more f xs i x low is = ap (map f) (take_more xs i x low ∙ ap (λ a. take i xs ++ a ∷ []) (sym is)) ∙ map-append f (take i xs) (x ∷ [])

@@ -1,5 +1,6 @@
 -- Users at their desks, and what an ask, a close and an opening make of a desk and of its disk.
-use Rattle.std.specs.Prelude.{◌≡◌, ℕ, ◌≤◌, ◌*◌, ◌^◌, Bool, true, false, List, [], ◌∷◌, ◌++◌, bytes_eq, Option, Some, None, Result, Ok, Err, string_bytes}
+use Rattle.std.specs.Prelude.{◌≡◌, ℕ, ◌≤◌, ◌*◌, ◌^◌, Bool, true, false, List, [], ◌∷◌, ◌++◌}
+use Rattle.std.specs.Prelude.{bytes_eq, Option, Some, None, Result, Ok, Err, string_bytes}
 use Rattle.outside.specs.Faults.{Rose}
 use Rattle.cqe_base.specs.Schema.{Text, DatabaseSchema}
 use Rattle.cqe_base.specs.Facts.{FactSet}
@@ -19,7 +20,8 @@ use Rattle.desk_counter.specs.Lives.{IsAskOf}
 use Rattle.desk_counter.specs.Items.{history_of, flying, has_broke}
 use Rattle.turnstile.specs.Passes.{mine, turns}
 use Rattle.desk_counter.specs.Counters.{first_history}
-use Rattle.desk_counter.specs.Sole.{counter_in, pass_in, kept_in, pairs_of_sole, sole_state, IsSoleIn, IsAsOpened}
+use Rattle.desk_counter.specs.Sole.{counter_in, pass_in, kept_in, pairs_of_sole, sole_state}
+use Rattle.desk_counter.specs.Sole.{IsSoleIn, IsAsOpened}
 use Rattle.desk_counter.specs.declared.sole.SoleOf.{SoleOf}
 use Rattle.desk_counter.specs.declared.ticketed_desk.TicketedDesk.{TicketedDesk}
 use Rattle.desk_counter.specs.declared.item.Item.{Item}
@@ -99,49 +101,63 @@ abbrev pub journal_seated : {D : Type 0} {g h : _} → Result (DeskSeat D g h) (
 journal_seated (Ok seat) = seat_journal seat
 journal_seated (Err returned) = string_bytes returned.journal
 
--- an opening leaves a disk as it was: it reads the same, no crash leaves anything new, and its count of faults didn't fall
-pub record IsLeft {D : Type 0} (reads : D → List ℕ) (image : D → List ℕ → Type 0) (faults : D → ℕ) (old new : D) : Type 0 where
+-- an opening leaves a disk as it was: it reads the same, no crash leaves anything new, and its
+-- count of faults didn't fall
+pub record IsLeft {D : Type 0} (reads : D → List ℕ) (image : D → List ℕ → Type 0) (faults : D → ℕ)
+    (old new : D) : Type 0 where
   pub reads_same : reads new ≡ reads old
   pub images : (c : List ℕ) → image new c → image old c
   pub later : faults old ≤ faults new
 
--- A desk leaves this disk as it is closed: unless its journal was refused, each image holds the state that the desk showed,
--- whose history is legal, and is what was put under the counter and then what the pass has of its own; only of a user who
--- is served has it any; the count rose where an append failed; and where nothing was appended the disk is as it was at the
--- opening.
-pub record IsClosed {D : Type 0} {g h : _} (told : Type 0) (image : D → List ℕ → Type 0) (faults : D → ℕ) (desk : SoleOf (TicketedDesk D g) Item (Fixed D) h) (disk : D) : Type 0 where
+-- A desk leaves this disk as it is closed: unless its journal was refused, each image holds the
+-- state that the desk showed, whose history is legal, and is what was put under the counter and
+-- then what the pass has of its own; only of a user who is served has it any; the count rose where
+-- an append failed; and where nothing was appended the disk is as it was at the opening.
+pub record IsClosed {D : Type 0} {g h : _} (told : Type 0) (image : D → List ℕ → Type 0)
+    (faults : D → ℕ) (desk : SoleOf (TicketedDesk D g) Item (Fixed D) h) (disk : D) : Type 0 where
   pub holds : told → is_sealed (kept_in desk).standing ≡ false → (c : List ℕ) → image disk c
-      → Holds (kept_in desk).schema (kept_in desk).world (kept_in desk).user (kept_in desk).header (sole_state desk) c
-  pub legal : IsLegal (kept_in desk).schema (kept_in desk).world (kept_in desk).user (history_of (pairs_of_sole desk))
-  pub added : history_of (pairs_of_sole desk) ≡ first_history (counter_in desk) ++ history_of (mine (pass_in desk))
-  pub idle : is_open (kept_in desk).standing ≡ false → (history_of (pairs_of_sole desk) ≡ []) × (flying (pairs_of_sole desk) ≡ None)
+      → Holds (kept_in desk).schema (kept_in desk).world (kept_in desk).user (kept_in desk).header
+      (sole_state desk) c
+  pub legal : IsLegal (kept_in desk).schema (kept_in desk).world (kept_in desk).user
+      (history_of (pairs_of_sole desk))
+  pub added : history_of (pairs_of_sole desk)
+      ≡ first_history (counter_in desk) ++ history_of (mine (pass_in desk))
+  pub idle : is_open (kept_in desk).standing ≡ false → (history_of (pairs_of_sole desk) ≡ [])
+      × (flying (pairs_of_sole desk) ≡ None)
   pub later : faults (kept_in desk).disk ≤ faults disk
   pub cause : (sole_state desk).broken ≡ true → Rose (faults (kept_in desk).disk) (faults disk)
   pub shut : is_sealed (kept_in desk).standing ≡ true → disk ≡ (kept_in desk).disk
   pub still : IsAsOpened (kept_in desk) (pairs_of_sole desk) → disk ≡ (kept_in desk).disk
 
 -- a desk was closed, and an opening left its disk as this one
-pub record IsLeftBy {D : Type 0} {g h : _} (told : Type 0) (reads : D → List ℕ) (image : D → List ℕ → Type 0) (faults : D → ℕ) (desk : SoleOf (TicketedDesk D g) Item (Fixed D) h) (now : D) : Type 0 where
+pub record IsLeftBy {D : Type 0} {g h : _} (told : Type 0) (reads : D → List ℕ)
+    (image : D → List ℕ → Type 0) (faults : D → ℕ)
+    (desk : SoleOf (TicketedDesk D g) Item (Fixed D) h) (now : D) : Type 0 where
   pub closed : D
   pub is_closed : IsClosed told image faults desk closed
   pub left : IsLeft reads image faults closed now
 
 module _ (schema : DatabaseSchema) (world : FactSet) where
   -- a seat's user got this reply to a text, and all but his desk's state is as it was
-  pub record IsToldAt {D : Type 0} {g h : _} (text : Text) (told_reply : Reply) (old new : DeskSeat D g h) : Type 0 where
+  pub record IsToldAt {D : Type 0} {g h : _} (text : Text) (told_reply : Reply)
+      (old new : DeskSeat D g h) : Type 0 where
     pub user_is : seat_user new ≡ seat_user old
     pub journal_is : seat_journal new ≡ seat_journal old
     pub refusal_is : new.refusal ≡ old.refusal
     pub kept_is : seat_kept new ≡ seat_kept old
-    pub settled : (state : UserState) → IsSeatIn old state → IsAskOf schema world (profile_of (seat_user old)) (IsSeatIn new) state text told_reply
+    pub settled : (state : UserState) → IsSeatIn old state
+        → IsAskOf schema world (profile_of (seat_user old)) (IsSeatIn new) state text told_reply
 
-  -- an ask of a name goes to the first seat of that name, and to no other; without such a seat there is no reply
-  pub data Tells {D : Type 0} {g h : _} (name text : Text) : List (DeskSeat D g h) → List (DeskSeat D g h) → Option Reply → Type 0 where
+  -- an ask of a name goes to the first seat of that name, and to no other; without such a seat
+  -- there is no reply
+  pub data Tells {D : Type 0} {g h : _} (name text : Text) : List (DeskSeat D g h)
+      → List (DeskSeat D g h) → Option Reply → Type 0 where
     nobody : Tells name text [] [] None
     here : {old new : DeskSeat D g h} {others : List (DeskSeat D g h)} {told_reply : Reply}
         → is_named name old ≡ true → IsToldAt text told_reply old new
         → Tells name text (old ∷ others) (new ∷ others) (Some told_reply)
-    further : {seat : DeskSeat D g h} {others after : List (DeskSeat D g h)} {told_reply : Option Reply}
+    further : {seat : DeskSeat D g h} {others after : List (DeskSeat D g h)}
+        {told_reply : Option Reply}
         → is_named name seat ≡ false → Tells name text others after told_reply
         → Tells name text (seat ∷ others) (seat ∷ after) told_reply
 
@@ -153,23 +169,32 @@ module _ (schema : DatabaseSchema) (world : FactSet) (header : List ℕ) where
     pub header_is : (seat_kept seat).header ≡ header
     pub user_is : (seat_kept seat).user ≡ profile_of (seat_user seat)
 
-  module _ {D : Type 0} (told : Type 0) (reads : D → List ℕ) (image : D → List ℕ → Type 0) (faults : D → ℕ) where
-    -- a seat was opened from this disk, behind an earlier refusal if there was one: its standing has its cause, and it is a restart of each state that the disk holds
-    pub record IsOpenedFrom {g h : _} (disk : D) (before : Option DeskError) (seat : DeskSeat D g h) : Type 0 where
+  module _ {D : Type 0} (told : Type 0) (reads : D → List ℕ) (image : D → List ℕ → Type 0)
+      (faults : D → ℕ) where
+    -- a seat was opened from this disk, behind an earlier refusal if there was one: its standing
+    -- has its cause, and it is a restart of each state that the disk holds
+    pub record IsOpenedFrom {g h : _} (disk : D) (before : Option DeskError)
+        (seat : DeskSeat D g h) : Type 0 where
       pub served : IsServed seat
-      pub standing : IsStanding schema world (profile_of (seat_user seat)) told header (reads disk) (seat_history seat) (faults disk) (faults (seat_disk seat)) (seat_standing seat)
-      pub restarted : told → (state : UserState) → Holds schema world (profile_of (seat_user seat)) header state (reads disk)
-          → Restarts schema world (profile_of (seat_user seat)) (IsSeatIn seat) state (faults disk) (faults (seat_disk seat))
+      pub standing : IsStanding schema world (profile_of (seat_user seat)) told header (reads disk)
+          (seat_history seat) (faults disk) (faults (seat_disk seat)) (seat_standing seat)
+      pub restarted : told → (state : UserState)
+          → Holds schema world (profile_of (seat_user seat)) header state (reads disk)
+          → Restarts schema world (profile_of (seat_user seat)) (IsSeatIn seat) state (faults disk)
+          (faults (seat_disk seat))
       pub refusal : seat.refusal ≡ first_refusal before (seat_standing seat)
       pub fresh : IsFresh seat
       pub opening_is : (seat_kept seat).opening ≡ seat_history seat
       pub legal : IsLegal schema world (profile_of (seat_user seat)) (seat_history seat)
-      -- what was put under its counter is that history, and its pass has all turns and nothing of its own
+      -- what was put under its counter is that history, and its pass has all turns and nothing of
+      -- its own
       pub first_is : first_history (counter_in seat.desk) ≡ seat_history seat
       pub mine_is : mine (pass_in seat.desk) ≡ []
       pub turns_are : turns (pass_in seat.desk) ≡ 65 * 2 ^ 57
       -- each image of its disk holds the state that its desk shows, unless its journal was refused
-      pub holds : told → is_sealed (seat_standing seat) ≡ false → (c : List ℕ) → image (seat_disk seat) c → Holds schema world (profile_of (seat_user seat)) header (seat_state seat) c
+      pub holds : told → is_sealed (seat_standing seat) ≡ false → (c : List ℕ)
+          → image (seat_disk seat) c
+          → Holds schema world (profile_of (seat_user seat)) header (seat_state seat) c
 
     -- a seat was closed and opened again
     pub record IsReopened {g h : _} (old new : DeskSeat D g h) : Type 0 where

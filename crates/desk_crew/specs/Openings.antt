@@ -10,6 +10,8 @@ module _ (schema : DatabaseSchema) (world : FactSet) (user : UserProfile) (heade
   abbrev pub OpensNone : List ℕ → Type 0
   OpensNone bytes = (entries : History) → Opens schema world user header entries bytes → ⊥
 
-  -- the history with which a user's journal is opened, by its bytes: the legal one that they stand for, and the empty one where they open no desk
+  -- the history with which a user's journal is opened, by its bytes: the legal one that they stand
+  -- for, and the empty one where they open no desk
   abbrev pub IsOpening : List ℕ → History → Type 0
-  IsOpening bytes opened = Opens schema world user header opened bytes ⊎ (OpensNone bytes × (opened ≡ []))
+  IsOpening bytes opened =
+      Opens schema world user header opened bytes ⊎ (OpensNone bytes × (opened ≡ []))

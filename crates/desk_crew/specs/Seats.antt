@@ -7,5 +7,6 @@ use Rattle.desk_counter.specs.declared.ticketed_desk.TicketedDesk.{TicketedDesk}
 use Rattle.desk_crew.specs.declared.seat.Seat.{Seat}
 
 -- a seat whose value is a desk over disks of this type
-abbrev pub DeskSeat : (D : Type 0) (g : DiskGhosts D) → OwnedGhosts (TicketedDesk D g) Item (Fixed D) → Type 0
+abbrev pub DeskSeat : (D : Type 0) (g : DiskGhosts D)
+    → OwnedGhosts (TicketedDesk D g) Item (Fixed D) → Type 0
 DeskSeat D g h = Seat (TicketedDesk D g) Item (Fixed D) h

@@ -1,5 +1,6 @@
 -- The disks of users on their shelf.
-use Rattle.std.specs.Prelude.{◌≡◌, ℕ, ◌≤◌, Bool, true, false, List, [], ◌∷◌, bytes_eq, Option, Some, None, map, string_bytes}
+use Rattle.std.specs.Prelude.{◌≡◌, ℕ, ◌≤◌, Bool, true, false, List, [], ◌∷◌, bytes_eq, Option, Some}
+use Rattle.std.specs.Prelude.{None, map, string_bytes}
 use Rattle.std.specs.List.{list_any}
 use Rattle.outside.specs.Faults.{Rose}
 use Rattle.outside.specs.Shelf.{IsTaken, bytes_on, image_on}
@@ -10,8 +11,9 @@ use Rattle.log_journal.specs.Names.{journal_name}
 use Rattle.desk_crew.specs.Crew.{seat_user, seat_journal, seat_disk, IsLeft, IsLeftBy, IsOpenedFrom}
 use Rattle.desk_crew.specs.Seats.{DeskSeat}
 
--- The journals of users by their names, in a call: the bytes that were read of each as the call began, none where there was no disk, and what a crash
--- could leave then; the count of its disk's faults then, and as the call ended; the bytes that are read then, and what a crash may leave.
+-- The journals of users by their names, in a call: the bytes that were read of each as the call
+-- began, none where there was no disk, and what a crash could leave then; the count of its disk's
+-- faults then, and as the call ended; the bytes that are read then, and what a crash may leave.
 pub record Journals : Type 1 where
   pub bytes : Text → List ℕ
   pub image_before : Text → List ℕ → Type 0
@@ -21,7 +23,8 @@ pub record Journals : Type 1 where
   pub image : Text → List ℕ → Type 0
 
 -- the journals of users in a directory, by what a shelf held as a call began and as it ended
-abbrev pub journals_on : {D : Type 0} → (D → List ℕ) → (D → List ℕ → Type 0) → Text → (Text → Option D) → (Text → Option D) → (Text → ℕ) → (Text → ℕ) → Journals
+abbrev pub journals_on : {D : Type 0} → (D → List ℕ) → (D → List ℕ → Type 0) → Text
+    → (Text → Option D) → (Text → Option D) → (Text → ℕ) → (Text → ℕ) → Journals
 journals_on reads image directory disk disk' count count' = record {
   bytes = λ name. bytes_on reads (disk (journal_name directory name));
   image_before = λ name. image_on image (disk (journal_name directory name));
@@ -37,7 +40,8 @@ is_among names name = list_any (bytes_eq name) names
 
 -- the journal of this name reads as it did, and no crash leaves anything new of it
 abbrev pub IsKept : Journals → Text → Type 0
-IsKept journals name = (journals.reads name ≡ journals.bytes name) × ((c : List ℕ) → journals.image name c → journals.image_before name c)
+IsKept journals name = (journals.reads name ≡ journals.bytes name)
+    × ((c : List ℕ) → journals.image name c → journals.image_before name c)
 
 -- all do
 abbrev pub AreKept : Journals → Type 0
@@ -72,8 +76,10 @@ abbrev pub SameBytes : {D : Type 0} → (D → List ℕ) → (Text → Option D)
 SameBytes reads old new = (name : Text) → bytes_on reads (new name) ≡ bytes_on reads (old name)
 
 -- no disk has an image that it hadn't before
-abbrev pub NoNewImages : {D : Type 0} → (D → List ℕ → Type 0) → (Text → Option D) → (Text → Option D) → Type 0
-NoNewImages image old new = (name : Text) (c : List ℕ) → image_on image (new name) c → image_on image (old name) c
+abbrev pub NoNewImages : {D : Type 0} → (D → List ℕ → Type 0) → (Text → Option D)
+    → (Text → Option D) → Type 0
+NoNewImages image old new =
+    (name : Text) (c : List ℕ) → image_on image (new name) c → image_on image (old name) c
 
 -- no count fell
 abbrev pub NoneFell : (Text → ℕ) → (Text → ℕ) → Type 0
@@ -87,14 +93,18 @@ SomeRose old new = (name : Text) × Rose (old name) (new name)
 abbrev pub AreOut : List Text → (Text → Bool) → Type 0
 AreOut names is_out = (name : Text) → is_out name ≡ is_among names name
 
--- the count of faults under the name of each seat's journal is at most that of its disk as its desk was opened
+-- the count of faults under the name of each seat's journal is at most that of its disk as its desk
+-- was opened
 abbrev pub AreLater : {D : Type 0} {g h : _} → (D → ℕ) → (Text → ℕ) → List (DeskSeat D g h) → Type 0
 AreLater faults count [] = Unit {0}
-AreLater faults count (seat ∷ seats) = (count (seat_journal seat) ≤ faults (seat_disk seat)) × AreLater faults count seats
+AreLater faults count (seat ∷ seats) =
+    (count (seat_journal seat) ≤ faults (seat_disk seat)) × AreLater faults count seats
 
-module _ {D : Type 0} (told : Type 0) (reads : D → List ℕ) (image : D → List ℕ → Type 0) (faults : D → ℕ) where
+module _ {D : Type 0} (told : Type 0) (reads : D → List ℕ) (image : D → List ℕ → Type 0)
+    (faults : D → ℕ) where
   -- a seat's disk is back, as its desk left it or as one more opening did
-  pub record IsBack {g h : _} (disk : Text → Option D) (count : Text → ℕ) (seat : DeskSeat D g h) : Type 0 where
+  pub record IsBack {g h : _} (disk : Text → Option D) (count : Text → ℕ) (seat : DeskSeat D g h) :
+      Type 0 where
     pub now : D
     pub left : IsLeftBy told reads image faults seat.desk now
     pub held : told → disk (seat_journal seat) ≡ Some now
@@ -105,9 +115,11 @@ module _ {D : Type 0} (told : Type 0) (reads : D → List ℕ) (image : D → Li
   AreBack disk count [] = Unit {0}
   AreBack disk count (seat ∷ seats) = IsBack disk count seat × AreBack disk count seats
 
-  module _ (disk_told : Type 0) (schema : DatabaseSchema) (world : FactSet) (header directory : List ℕ) where
+  module _ (disk_told : Type 0) (schema : DatabaseSchema) (world : FactSet)
+      (header directory : List ℕ) where
     -- a user's journal was taken from the shelf and opened
-    pub record IsSeatOf {g h : _} (disk : Text → Option D) (count : Text → ℕ) (user : User) (seat : DeskSeat D g h) : Type 0 where
+    pub record IsSeatOf {g h : _} (disk : Text → Option D) (count : Text → ℕ) (user : User)
+        (seat : DeskSeat D g h) : Type 0 where
       pub user_is : seat_user seat ≡ user
       pub journal_is : seat_journal seat ≡ journal_name directory (string_bytes user.name)
       pub taken : D
@@ -117,7 +129,9 @@ module _ {D : Type 0} (told : Type 0) (reads : D → List ℕ) (image : D → Li
       pub left : IsLeft reads image faults taken (seat_disk seat)
 
     -- those of all users were
-    abbrev pub AreSeatsOf : {g h : _} → (Text → Option D) → (Text → ℕ) → List User → List (DeskSeat D g h) → Type 0
+    abbrev pub AreSeatsOf : {g h : _} → (Text → Option D) → (Text → ℕ) → List User
+        → List (DeskSeat D g h) → Type 0
     AreSeatsOf disk count [] [] = Unit {0}
-    AreSeatsOf disk count (user ∷ users) (seat ∷ seats) = IsSeatOf disk count user seat × AreSeatsOf disk count users seats
+    AreSeatsOf disk count (user ∷ users) (seat ∷ seats) =
+        IsSeatOf disk count user seat × AreSeatsOf disk count users seats
     AreSeatsOf disk count users seats = ⊥

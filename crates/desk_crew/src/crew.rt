@@ -1,6 +1,9 @@
-//! Users at their desks: their journals are taken from the shelf and opened, closed and opened again, and given back.
+//! Users at their desks: their journals are taken from the shelf and opened, closed and opened
+//! again, and given back.
 
-ghost use Rattle.std.specs.Prelude.{◌≡◌, ◌≤◌, ◌<◌, [], true, false, List, ℕ, map, length, position, IfOk, IfSome, OnOk, OnErr, IsErrOf, IfNone, OnSome, option_map, All, string_bytes, vec_capacity};
+ghost use Rattle.std.specs.Prelude.{◌≡◌, ◌≤◌, ◌<◌, [], true, false, List, ℕ, map, length, position};
+ghost use Rattle.std.specs.Prelude.{IfOk, IfSome, OnOk, OnErr, IsErrOf, IfNone, OnSome, option_map};
+ghost use Rattle.std.specs.Prelude.{All, string_bytes, vec_capacity};
 ghost use Rattle.std.specs.List.{AllByRecursion, list_any};
 ghost use Rattle.outside.specs.Faults.{Rose};
 ghost use Rattle.outside.specs.Shelf.{SameNames, SameOthers};
@@ -12,8 +15,11 @@ ghost use Rattle.cqe_base.specs.Limits.{KeepsLimits};
 ghost use Rattle.log_journal.specs.Opening.{header_bytes};
 ghost use Rattle.log_journal.specs.Names.{journal_name};
 ghost use Rattle.user_log.specs.Replies.{reply_of};
-ghost use Rattle.desk_crew.specs.Crew.{named_user, seat_user, seat_kept, seat_broke, is_named, IsServed, Tells, AreReopened};
-ghost use Rattle.desk_crew.specs.Shelved.{journals, SameBeside, AllOut, AllIn, NoneOut, NoneFell, AreOut, AreLater, AreBack, IsSeatOf, AreSeatsOf, SameBytes, NoNewImages};
+ghost use Rattle.desk_crew.specs.Crew.{named_user, seat_user, seat_kept, seat_broke, is_named};
+ghost use Rattle.desk_crew.specs.Crew.{IsServed, Tells, AreReopened};
+ghost use Rattle.desk_crew.specs.Shelved.{journals, SameBeside, AllOut, AllIn, NoneOut, NoneFell};
+ghost use Rattle.desk_crew.specs.Shelved.{AreOut, AreLater, AreBack, IsSeatOf, AreSeatsOf};
+ghost use Rattle.desk_crew.specs.Shelved.{SameBytes, NoNewImages};
 ghost use Rattle.desk_crew.specs.declared.crew.NotOpened.{NotOpened};
 
 use crate::registry::Registry;
@@ -54,9 +60,11 @@ pub fn give_back<F: Shelf>(shelf: &mut F, seats: Vec<DeskSeat<'_, F::D>>) -> boo
     ensures back { AreBack F.tells F.D.reads F.D.image F.D.faults (F.disk shelf.new)
         (F.disk_faults shelf.new) seats.entry.items }
     ensures inside { AllIn (journals seats.entry.items) (F.is_out shelf.new) }
-    ensures others_out { SameBeside (journals seats.entry.items) (F.is_out shelf.old) (F.is_out shelf.new) }
+    ensures others_out { SameBeside (journals seats.entry.items) (F.is_out shelf.old)
+        (F.is_out shelf.new) }
     ensures disks { SameBeside (journals seats.entry.items) (F.disk shelf.old) (F.disk shelf.new) }
-    ensures counts { SameBeside (journals seats.entry.items) (F.disk_faults shelf.old) (F.disk_faults shelf.new) }
+    ensures counts { SameBeside (journals seats.entry.items) (F.disk_faults shelf.old)
+        (F.disk_faults shelf.new) }
     ensures faults { F.faults shelf.new ≡ F.faults shelf.old }
     ensures files { SameNames (F.file shelf.old) (F.file shelf.new) }
     ensures looked { F.looked shelf.new ≡ F.looked shelf.old }
@@ -83,16 +91,20 @@ pub fn reopen_all<'w, F: Shelf>(
     requires distinct { has_duplicate (journals seats.items) ≡ false }
     requires out { AllOut (journals seats.items) (F.is_out shelf.old) }
     requires later { AreLater F.D.faults (F.disk_faults shelf.old) seats.items }
-    ensures reopened { IfSome result (λ reopened. AreReopened registry.now.schema.now registry.now.world.now
-        (header_bytes registry.now.header.now) F.D.tells F.D.reads F.D.image F.D.faults seats.entry.items
+    ensures reopened { IfSome result (λ reopened.
+        AreReopened registry.now.schema.now registry.now.world.now
+        (header_bytes registry.now.header.now) F.D.tells F.D.reads F.D.image F.D.faults
+        seats.entry.items
         reopened.items) }
     ensures untouched { OnSome result (shelf.new ≡ shelf.old) }
     ensures back { IfNone result (AreBack F.tells F.D.reads F.D.image F.D.faults (F.disk shelf.new)
         (F.disk_faults shelf.new) seats.entry.items) }
     ensures inside { IfNone result (AllIn (journals seats.entry.items) (F.is_out shelf.new)) }
-    ensures others_out { SameBeside (journals seats.entry.items) (F.is_out shelf.old) (F.is_out shelf.new) }
+    ensures others_out { SameBeside (journals seats.entry.items) (F.is_out shelf.old)
+        (F.is_out shelf.new) }
     ensures disks { SameBeside (journals seats.entry.items) (F.disk shelf.old) (F.disk shelf.new) }
-    ensures counts { SameBeside (journals seats.entry.items) (F.disk_faults shelf.old) (F.disk_faults shelf.new) }
+    ensures counts { SameBeside (journals seats.entry.items) (F.disk_faults shelf.old)
+        (F.disk_faults shelf.new) }
     ensures faults { F.faults shelf.new ≡ F.faults shelf.old }
     ensures files { SameNames (F.file shelf.old) (F.file shelf.new) }
     ensures looked { F.looked shelf.new ≡ F.looked shelf.old }
@@ -119,8 +131,8 @@ pub fn reopen_all<'w, F: Shelf>(
     Some(reopened)
 }
 
-/// Takes the journal of a user from the shelf and opens it. A refusal leaves the disk on the shelf, with the same
-/// bytes, and a crash leaves nothing new of it.
+/// Takes the journal of a user from the shelf and opens it. A refusal leaves the disk on the shelf,
+/// with the same bytes, and a crash leaves nothing new of it.
 fn open_seat<'w, F: Shelf>(
     alloc: Global,
     registry: &Registry<'w>,
@@ -128,28 +140,38 @@ fn open_seat<'w, F: Shelf>(
     user: &'w User,
 ) -> Result<DeskSeat<'w, F::D>, NotOpened>
     requires limits { KeepsLimits registry.now.schema.now (profile_of user.now) }
-    requires inside { F.is_out shelf.old (journal_name registry.now.directory.now (string_bytes user.now.name))
+    requires inside { F.is_out shelf.old
+        (journal_name registry.now.directory.now (string_bytes user.now.name))
         ≡ false }
-    ensures opened { IfOk result (IsSeatOf F.tells F.D.reads F.D.image F.D.faults F.D.tells registry.now.schema.now
-        registry.now.world.now (header_bytes registry.now.header.now) registry.now.directory.now (F.disk shelf.old)
+    ensures opened { IfOk result
+        (IsSeatOf F.tells F.D.reads F.D.image F.D.faults F.D.tells registry.now.schema.now
+        registry.now.world.now (header_bytes registry.now.header.now) registry.now.directory.now
+        (F.disk shelf.old)
         (F.disk_faults shelf.old) user.now) }
-    ensures out { OnOk result (F.is_out shelf.new (journal_name registry.now.directory.now (string_bytes user.now.name))
+    ensures out { OnOk result
+        (F.is_out shelf.new (journal_name registry.now.directory.now (string_bytes user.now.name))
         ≡ true) }
-    ensures others_out { SameOthers (journal_name registry.now.directory.now (string_bytes user.now.name))
+    ensures others_out { SameOthers
+        (journal_name registry.now.directory.now (string_bytes user.now.name))
         (F.is_out shelf.old) (F.is_out shelf.new) }
-    ensures disks { SameOthers (journal_name registry.now.directory.now (string_bytes user.now.name)) (F.disk shelf.old)
+    ensures disks { SameOthers
+        (journal_name registry.now.directory.now (string_bytes user.now.name)) (F.disk shelf.old)
         (F.disk shelf.new) }
     ensures counts { OnOk result (SameNames (F.disk_faults shelf.old) (F.disk_faults shelf.new)) }
     ensures refused_out { OnErr result (SameNames (F.is_out shelf.old) (F.is_out shelf.new)) }
-    ensures refused_bytes { F.tells → OnErr result (SameBytes F.D.reads (F.disk shelf.old) (F.disk shelf.new)) }
-    ensures refused_images { F.tells → OnErr result (NoNewImages F.D.image (F.disk shelf.old) (F.disk shelf.new)) }
+    ensures refused_bytes { F.tells
+        → OnErr result (SameBytes F.D.reads (F.disk shelf.old) (F.disk shelf.new)) }
+    ensures refused_images { F.tells
+        → OnErr result (NoNewImages F.D.image (F.disk shelf.old) (F.disk shelf.new)) }
     ensures fell { NoneFell (F.disk_faults shelf.old) (F.disk_faults shelf.new) }
-    ensures other_counts { SameOthers (journal_name registry.now.directory.now (string_bytes user.now.name))
+    ensures other_counts { SameOthers
+        (journal_name registry.now.directory.now (string_bytes user.now.name))
         (F.disk_faults shelf.old) (F.disk_faults shelf.new) }
     ensures later { F.faults shelf.old ≤ F.faults shelf.new }
     ensures files { SameNames (F.file shelf.old) (F.file shelf.new) }
     ensures looked { F.looked shelf.new ≡ F.looked shelf.old }
-    ensures cause { IsErrOf result NotOpened.Shelf → Rose (F.faults shelf.old) (F.faults shelf.new) }
+    ensures cause { IsErrOf result NotOpened.Shelf
+        → Rose (F.faults shelf.old) (F.faults shelf.new) }
 {
     let Ok(journal) = journal_name(alloc, registry.directory, user.name.as_str()) else {
         return Err(NotOpened::Memory);
@@ -170,31 +192,39 @@ fn open_seat<'w, F: Shelf>(
     }
 }
 
-/// Takes the journals of all users and opens them. A refusal leaves all disks on the shelf, with the same bytes, and a
-/// crash leaves nothing new of them.
+/// Takes the journals of all users and opens them. A refusal leaves all disks on the shelf, with
+/// the same bytes, and a crash leaves nothing new of them.
 pub fn open_all<'w, F: Shelf>(
     alloc: Global,
     registry: &Registry<'w>,
     shelf: &mut F,
 ) -> Result<Vec<DeskSeat<'w, F::D>>, NotOpened>
-    requires limits { All (λ user. KeepsLimits registry.now.schema.now (profile_of user)) registry.now.users.now }
-    requires distinct { has_duplicate (map (λ user. user.name) (map named_user registry.now.users.now)) ≡ false }
+    requires limits { All
+        (λ user. KeepsLimits registry.now.schema.now (profile_of user)) registry.now.users.now }
+    requires distinct { has_duplicate
+        (map (λ user. user.name) (map named_user registry.now.users.now)) ≡ false }
     requires inside { NoneOut (F.is_out shelf.old) }
-    ensures opened { IfOk result (λ seats. AreSeatsOf F.tells F.D.reads F.D.image F.D.faults F.D.tells
-        registry.now.schema.now registry.now.world.now (header_bytes registry.now.header.now) registry.now.directory.now
+    ensures opened { IfOk result (λ seats.
+        AreSeatsOf F.tells F.D.reads F.D.image F.D.faults F.D.tells
+        registry.now.schema.now registry.now.world.now
+        (header_bytes registry.now.header.now) registry.now.directory.now
         (F.disk shelf.old) (F.disk_faults shelf.old) registry.now.users.now seats.items) }
     ensures out { IfOk result (λ seats. AreOut (journals seats.items) (F.is_out shelf.new)) }
     ensures disks { SameBeside (map (journal_name registry.now.directory.now)
-        (map (λ user. user.name) (map named_user registry.now.users.now))) (F.disk shelf.old) (F.disk shelf.new) }
+        (map (λ user. user.name) (map named_user registry.now.users.now))) (F.disk shelf.old)
+        (F.disk shelf.new) }
     ensures counts { OnOk result (SameNames (F.disk_faults shelf.old) (F.disk_faults shelf.new)) }
     ensures refused_out { OnErr result (NoneOut (F.is_out shelf.new)) }
-    ensures refused_bytes { F.tells → OnErr result (SameBytes F.D.reads (F.disk shelf.old) (F.disk shelf.new)) }
-    ensures refused_images { F.tells → OnErr result (NoNewImages F.D.image (F.disk shelf.old) (F.disk shelf.new)) }
+    ensures refused_bytes { F.tells
+        → OnErr result (SameBytes F.D.reads (F.disk shelf.old) (F.disk shelf.new)) }
+    ensures refused_images { F.tells
+        → OnErr result (NoNewImages F.D.image (F.disk shelf.old) (F.disk shelf.new)) }
     ensures fell { NoneFell (F.disk_faults shelf.old) (F.disk_faults shelf.new) }
     ensures later { F.faults shelf.old ≤ F.faults shelf.new }
     ensures files { SameNames (F.file shelf.old) (F.file shelf.new) }
     ensures looked { F.looked shelf.new ≡ F.looked shelf.old }
-    ensures cause { IsErrOf result NotOpened.Shelf → Rose (F.faults shelf.old) (F.faults shelf.new) }
+    ensures cause { IsErrOf result NotOpened.Shelf
+        → Rose (F.faults shelf.old) (F.faults shelf.new) }
 {
     law_journals_differ();
     let Ok(mut seats) = room_for(alloc, registry.users.len()) else {
@@ -232,10 +262,12 @@ pub fn answer<R: Wait, G: Gate, D: Disk>(
     gate: &G,
 ) -> Option<Reply>
     requires short { length text.now ≤ 4096 }
-    requires users { AllByRecursion (λ seat. (seat_kept seat).user ≡ profile_of (seat_user seat)) seats.old.items }
+    requires users { AllByRecursion
+        (λ seat. (seat_kept seat).user ≡ profile_of (seat_user seat)) seats.old.items }
     ensures replied { (schema : DatabaseSchema) (world : FactSet) (header : List ℕ)
         → AllByRecursion (IsServed schema world header) seats.old.items
-        → Tells schema world name.now text.now seats.old.items seats.new.items (option_map reply_of result) }
+        → Tells schema world name.now text.now seats.old.items seats.new.items
+        (option_map reply_of result) }
 {
     let place = place_of(seats.as_slice(), name)?;
     let seat = &mut seats[place];

@@ -5,7 +5,8 @@ use cqe_base::user::User;
 use cqe_base::world::World;
 use log_journal::Header;
 
-/// The database, the users of a policy, and where their journals lie: that of a user is the disk `DIRECTORY/NAME.log`.
+/// The database, the users of a policy, and where their journals lie: that of a user is the disk
+/// `DIRECTORY/NAME.log`.
 #[derive(Clone, Copy)]
 pub struct Registry<'w> {
     pub schema: &'w Schema,

@@ -7,7 +7,9 @@ ghost use Rattle.log_journal.specs.Opening.{header_bytes};
 ghost use Rattle.user_log.specs.Replies.{reply_of};
 ghost use Rattle.desk_counter.specs.Items.{has_broke};
 ghost use Rattle.desk_counter.specs.Sole.{pairs_of_sole};
-ghost use Rattle.desk_crew.specs.Crew.{first_refusal, seat_user, seat_kept, seat_journal, disk_seated, journal_seated, IsLeft, IsLeftBy, IsClosed, IsToldAt, IsOpenedFrom, IsReopened};
+ghost use Rattle.desk_crew.specs.Crew.{first_refusal, seat_user, seat_kept, seat_journal};
+ghost use Rattle.desk_crew.specs.Crew.{disk_seated, journal_seated, IsLeft, IsLeftBy, IsClosed};
+ghost use Rattle.desk_crew.specs.Crew.{IsToldAt, IsOpenedFrom, IsReopened};
 
 use crate::registry::Registry;
 use cqe_base::user::User;

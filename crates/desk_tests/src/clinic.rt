@@ -79,8 +79,8 @@ fn schema(alloc: Global) -> Result<Schema, Fail> {
     Ok(Schema::new(alloc, domains, relations)?)
 }
 
-/// Makes a user of this name and method, with a budget of 1,000,000 and no token, from a text that says what he knows
-/// beforehand and one that says what is kept from him.
+/// Makes a user of this name and method, with a budget of 1,000,000 and no token, from a text that
+/// says what he knows beforehand and one that says what is kept from him.
 pub fn make_user(
     alloc: Global,
     schema: &Schema,
@@ -123,7 +123,8 @@ pub fn counter_of<'w>(
 ) -> Result<(Counter<'w, MemoryDisk>, DeskPass<MemoryDisk>), Fail>
     requires { KeepsLimits clinic.now.schema (profile_of user.now) }
     ensures pass { IfOk result (λ c. IsPassOf c.1 c.0) }
-    ensures opened { IfOk result (λ c. length (kept_by c.0).opening ≤ length (history_of (seen c.1))) }
+    ensures opened { IfOk result
+        (λ c. length (kept_by c.0).opening ≤ length (history_of (seen c.1))) }
     ensures user { IfOk result (λ c. (kept_by c.0).user ≡ profile_of user.now) }
     ensures legal { IfOk result (λ c. HasSeenLegal (kept_by c.0) c.1) }
     ensures all { IfOk result (λ c. shares_of c.1 ≡ 65) }

@@ -15,7 +15,8 @@ use std::alloc::Global;
 use std::test::Fail;
 use turnstile::PassError;
 
-/// The clinic, with two users from whom Ann's infection is kept by lies, and who know that who takes the drug is infected.
+/// The clinic, with two users from whom Ann's infection is kept by lies, and who know that who
+/// takes the drug is infected.
 #[derive(Drop)]
 struct Ward {
     clinic: Clinic,

@@ -19,7 +19,8 @@ const FROM_THE_GATE: [u8; 14] = [
     0x01, 0x02, 0x00, 0x09, 0x64, 0x72, 0x75, 0x67, 0x28, 0x61, 0x6e, 0x6e, 0x29, 0x00,
 ];
 
-// The device calls of an opening without records: a sync, the length, and the reads of the header and of the closed gate.
+// The device calls of an opening without records: a sync, the length, and the reads of the header
+// and of the closed gate.
 // Each record is one read more.
 const OPENING: u64 = 4;
 
@@ -189,7 +190,8 @@ fn with_record(alloc: Global, kind: u8, text: &[u8]) -> Result<Vec<u8>, Fail>
     Ok(bytes)
 }
 
-// Eight quantifiers over two persons make 256 instances of the 119 nodes of sixty atoms: more than 20,000 nodes.
+// Eight quantifiers over two persons make 256 instances of the 119 nodes of sixty atoms: more than
+// 20,000 nodes.
 #[test]
 fn a_record_beyond_the_limits_is_refused(rt: HostRuntime) -> Result<(), Fail> {
     let alloc = rt.alloc();
@@ -251,7 +253,8 @@ fn a_fault_at_the_opening_seals_the_desk(rt: HostRuntime) -> Result<(), Fail> {
     Ok(())
 }
 
-/// What two asks are answered on a disk, and how many entries the next life finds in the picked image.
+/// What two asks are answered on a disk, and how many entries the next life finds in the picked
+/// image.
 fn two_lives(
     rt: &impl Abort,
     alloc: Global,
@@ -272,8 +275,8 @@ fn two_lives(
     Ok((first, second, count))
 }
 
-// The program stops at each device call of two asks. A write of the gate alone is torn by pictures: 0 and 3 leave none
-// of it, 1 and 4 all, and 2 and 7 a byte of 0 and of 1.
+// The program stops at each device call of two asks. A write of the gate alone is torn by pictures:
+// 0 and 3 leave none of it, 1 and 4 all, and 2 and 7 a byte of 0 and of 1.
 #[test]
 fn a_new_life_finds_what_was_answered(rt: HostRuntime) -> Result<(), Fail> {
     let alloc = rt.alloc();

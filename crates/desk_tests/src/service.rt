@@ -13,7 +13,8 @@ use std::sync::Wait;
 use std::test::Fail;
 use worker_pool::Job;
 
-/// A user who knows that Ann is infected or takes the drug, and from whom it is kept that both are so.
+/// A user who knows that Ann is infected or takes the drug, and from whom it is kept that both are
+/// so.
 fn user(alloc: Global, clinic: &Clinic) -> Result<User, Fail>
     ensures { IfOk result (λ user. KeepsLimits clinic.now.schema (profile_of user)) }
 {

@@ -45,7 +45,8 @@ fn bytes_of(alloc: Global, text: &str) -> Result<Vec<u8>, Fail> {
     Ok(bytes)
 }
 
-// The liar is told `no` of `drug(ann)`, which is true and would give the secret away, and `no` of `hiv(bob)`.
+// The liar is told `no` of `drug(ann)`, which is true and would give the secret away, and `no` of
+// `hiv(bob)`.
 #[test]
 fn a_session_is_answered_line_for_line(rt: HostRuntime) -> Result<(), Fail> {
     let alloc = rt.alloc();
@@ -102,8 +103,8 @@ fn each_end_has_its_cause(rt: HostRuntime) -> Result<(), Fail> {
     Ok(())
 }
 
-// Each line comes in a piece of its own, and the read behind `quit` would fail. A client who waits for a reply before he
-// goes on gets it, and one who is silent behind `quit` isn't waited for.
+// Each line comes in a piece of its own, and the read behind `quit` would fail. A client who waits
+// for a reply before he goes on gets it, and one who is silent behind `quit` isn't waited for.
 #[test]
 fn a_line_is_answered_before_more_is_read(rt: HostRuntime) -> Result<(), Fail> {
     let alloc = rt.alloc();

@@ -15,7 +15,8 @@ const FROM_THE_GATE: [u8; 14] = [
     0x01, 0x02, 0x00, 0x09, 0x64, 0x72, 0x75, 0x67, 0x28, 0x61, 0x6e, 0x6e, 0x29, 0x00,
 ];
 
-// The device calls of an opening without records: a sync, the length, and the reads of the header and of the closed gate.
+// The device calls of an opening without records: a sync, the length, and the reads of the header
+// and of the closed gate.
 // Each record is one read more.
 const OPENING: u64 = 4;
 
@@ -90,8 +91,8 @@ fn one_append_writes_its_bytes(rt: HostRuntime) -> Result<(), Fail> {
     Ok(())
 }
 
-// Behind the header stands what each case names: a gate, and then records with their next gates. The function is long by its
-// table.
+// Behind the header stands what each case names: a gate, and then records with their next gates.
+// The function is long by its table.
 #[test]
 fn any_bytes_are_opened_or_refused(rt: HostRuntime) -> Result<(), Fail> {
     let alloc = rt.alloc();
@@ -194,8 +195,9 @@ fn two_appends(alloc: Global, disk: MemoryDisk) -> Result<(MemoryDisk, usize), F
     }
 }
 
-// A stop at each device call, and several pictures of what was torn. A tail of an earlier crash stands behind the
-// closed gate: a record and an open gate with another record, which nothing may bring back.
+// A stop at each device call, and several pictures of what was torn. A tail of an earlier crash
+// stands behind the closed gate: a record and an open gate with another record, which nothing may
+// bring back.
 #[test]
 fn a_stop_leaves_the_acknowledged_records(rt: HostRuntime) -> Result<(), Fail> {
     let alloc = rt.alloc();

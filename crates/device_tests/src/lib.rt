@@ -1,9 +1,10 @@
-//! Tests of what lies outside and of what stands on it alone: streams, disks, shelves and links in memory, turns at one
-//! value, workers, journals and their making.
+//! Tests of what lies outside and of what stands on it alone: streams, disks, shelves and links in
+//! memory, turns at one value, workers, journals and their making.
 //!
-//! They call the libraries as any other crate does. A module is named for what it tests: `streams`, `disks`, `shelves` and
-//! `links` of `outside`, `turns` of `turnstile`, `workers` of `worker_pool`, `journals` of `log_journal`, `making` of
-//! `init_engine`. Bytes, calls and orders that are compared were worked out by hand.
+//! They call the libraries as any other crate does. A module is named for what it tests: `streams`,
+//! `disks`, `shelves` and `links` of `outside`, `turns` of `turnstile`, `workers` of `worker_pool`,
+//! `journals` of `log_journal`, `making` of `init_engine`. Bytes, calls and orders that are
+//! compared were worked out by hand.
 #![tactic(auto)]
 
 #[cfg(test)]

@@ -46,7 +46,8 @@ fn check_back(rt: &impl Abort, links: &MemoryLinks, want: &[&[u8]]) {
     }
 }
 
-// Answers the connections of a door up to its end or its first failure, and answers whether it came to its end.
+// Answers the connections of a door up to its end or its first failure, and answers whether it came
+// to its end.
 fn echo_all<D: Door>(door: &mut D) -> bool {
     for _ in 0..10 {
         match echo_next(door) {

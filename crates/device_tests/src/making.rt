@@ -59,8 +59,8 @@ fn with_header(alloc: Global, behind: &[u8]) -> Result<Vec<u8>, AllocError> {
     Ok(bytes)
 }
 
-// What the disks hold from byte 72 on, one after the other, with a 255 behind each, and a 254 for a disk that isn't
-// there. An empty disk shows nothing.
+// What the disks hold from byte 72 on, one after the other, with a 255 behind each, and a 254 for a
+// disk that isn't there. An empty disk shows nothing.
 fn shown(alloc: Global, shelf: &MemoryShelf) -> Result<Vec<u8>, AllocError> {
     let mut all = Vec::new(alloc);
     for name in JOURNALS {
@@ -155,8 +155,8 @@ fn a_disk_that_is_not_empty_is_left(rt: HostRuntime) -> Result<(), Fail> {
     Ok(())
 }
 
-// One call of bob's disk fails: of an empty one the length, a sync, the write and a sync; of another the length, and
-// then those of the opening.
+// One call of bob's disk fails: of an empty one the length, a sync, the write and a sync; of
+// another the length, and then those of the opening.
 #[test]
 fn a_disk_that_fails_stops_it(rt: HostRuntime) -> Result<(), Fail> {
     let alloc = rt.alloc();

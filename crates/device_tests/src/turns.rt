@@ -1,5 +1,6 @@
 //! Threads that take turns at one list, whose passes meet.
-ghost use Rattle.std.specs.Prelude.{◌≡◌, ℕ, ◌+◌, ◌*◌, ◌^◌, ◌≤◌, [], ◌∷◌, ◌++◌, length, IfOk, IfErr, IfSome, MatchBool};
+ghost use Rattle.std.specs.Prelude.{◌≡◌, ℕ, ◌+◌, ◌*◌, ◌^◌, ◌≤◌, [], ◌∷◌, ◌++◌, length, IfOk, IfErr};
+ghost use Rattle.std.specs.Prelude.{IfSome, MatchBool};
 ghost use Rattle.turnstile.specs.History.{turn_entries};
 ghost use Rattle.turnstile.specs.Passes.{IsOf, IsReady, shares, turns, mine};
 
@@ -32,7 +33,8 @@ impl Recorded for Tally {
 impl Tally {
     fn add(&mut self, ticket: u64, who: u64) -> Result<(), AllocError>
         ensures fixed { self.new.most ≡ self.old.most }
-        ensures ok { IfOk result (λ _. self.new.turns.items ≡ self.old.turns.items ++ (ticket, who) ∷ []) }
+        ensures ok { IfOk result (λ _. self.new.turns.items
+            ≡ self.old.turns.items ++ (ticket, who) ∷ []) }
         ensures err { IfErr result (λ _. self.new.turns.items ≡ self.old.turns.items) }
     {
         self.turns.push((ticket, who))?;
@@ -51,7 +53,9 @@ fn take_turn<R: Wait>(
     requires turns { 1 ≤ turns pass.old }
     ensures place { IsOf pass.new turnstile.now × IsReady pass.new }
     ensures counts { (shares pass.new ≡ shares pass.old) × (turns pass.new + 1 ≡ turns pass.old) }
-    ensures mine { MatchBool result ((ticket : ℕ) × (mine pass.new ≡ mine pass.old ++ (ticket, who) ∷ [])) (mine pass.new ≡ mine pass.old) }
+    ensures mine { MatchBool result
+        ((ticket : ℕ) × (mine pass.new ≡ mine pass.old ++ (ticket, who) ∷ []))
+        (mine pass.new ≡ mine pass.old) }
 {
     let mut turn = turnstile.enter(rt, pass);
     let ticket = turn.ticket();
@@ -85,7 +89,8 @@ fn take_turns<R: Wait>(
     (pass, added)
 }
 
-// Two threads take turns, and then each with the pass of the other. The passes meet, and the turnstile is closed.
+// Two threads take turns, and then each with the pass of the other. The passes meet, and the
+// turnstile is closed.
 fn take_turns_by_two<R: Threads + Wait + Sync>(
     rt: &R,
     alloc: Global,

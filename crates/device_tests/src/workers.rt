@@ -62,7 +62,8 @@ fn crew_for(
 ) -> Result<Vec<Worker<Greeter, MemoryDoor>>, Fail>
     ensures count { IfOk result (λ crew. length crew.items ≡ length doors.items) }
     ensures running { IfOk result (λ crew. All (λ worker. worker.ended ≡ None) crew.items) }
-    ensures none { IfOk result (λ crew. All (λ worker. length worker.job.numbers.items ≡ 0) crew.items) }
+    ensures none { IfOk result (λ crew.
+        All (λ worker. length worker.job.numbers.items ≡ 0) crew.items) }
     ensures room { IfOk result (λ crew. All (λ worker. worker.job.room ≡ room) crew.items) }
 {
     let mut crew = Vec::new(alloc);
@@ -107,8 +108,8 @@ fn serve<R: Threads + Wait + Abort + Sync>(
     }
 }
 
-// Checks that each worker greeted the connections that its door gave, with different numbers below this one, and answers
-// how many there were.
+// Checks that each worker greeted the connections that its door gave, with different numbers below
+// this one, and answers how many there were.
 fn check_greeted(rt: &impl Abort, crew: &[Worker<Greeter, MemoryDoor>], below: usize) -> usize {
     let mut seen = [false; 1000];
     let mut all = 0usize;

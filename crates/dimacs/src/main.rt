@@ -1,11 +1,13 @@
-//! The program `dimacs`: it makes the real streams, answers the clauses of its input, and ends with the solvers' statuses.
+//! The program `dimacs`: it makes the real streams, answers the clauses of its input, and ends with
+//! the solvers' statuses.
 //!
-//! It shows the search machine alone, in the format of other solvers: a model, a refutation that others can check, or that
-//! the budget was spent, and always the cost. What it promises is the contract of `answer_input` in `dimacs_text`; this
-//! crate adds nothing to it. `docs/FORMATS.md` has the input, the output and the statuses.
+//! It shows the search machine alone, in the format of other solvers: a model, a refutation that
+//! others can check, or that the budget was spent, and always the cost. What it promises is the
+//! contract of `answer_input` in `dimacs_text`; this crate adds nothing to it. `docs/FORMATS.md`
+//! has the input, the output and the statuses.
 //!
-//! Its stored run is a refutation in LRAT; models, refutations and spent budgets are scenes of `rehearsals`. Read
-//! `answer_input` first.
+//! Its stored run is a refutation in LRAT; models, refutations and spent budgets are scenes of
+//! `rehearsals`. Read `answer_input` first.
 #![tactic(auto)]
 
 use dimacs_text::answer_input;

@@ -6,7 +6,8 @@ use Rattle.dimacs_text.specs.declared.cnf.Cnf.TheInside.{Inside}
 
 -- what the fields are
 abbrev pub cnf_inside : Inside → Cnf
-cnf_inside c = record { variables = c.variables; clauses = c.clauses; budget = c.budget; lrat = c.lrat }
+cnf_inside c =
+    record { variables = c.variables; clauses = c.clauses; budget = c.budget; lrat = c.lrat }
 
 -- what a search needs of clauses
 pub record IsSearchable (c : Cnf) : Type 0 where

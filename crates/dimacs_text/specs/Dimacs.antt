@@ -1,5 +1,6 @@
 -- What a file in the DIMACS format means, and where it is refused.
-use Rattle.std.specs.Prelude.{ℕ, zero, suc, ◌+◌, ◌==◌, Bool, true, false, ◌&&◌, nat_le, nat_lt, if◌then◌else◌}
+use Rattle.std.specs.Prelude.{ℕ, zero, suc, ◌+◌, ◌==◌, Bool, true, false, ◌&&◌, nat_le, nat_lt}
+use Rattle.std.specs.Prelude.{if◌then◌else◌}
 use Rattle.std.specs.Prelude.{List, [], ◌∷◌, ◌++◌, length, codes, bytes_eq}
 use Rattle.std.specs.Prelude.{Option, Some, None, is_some, unwrap_or, Result, Ok, Err}
 use Rattle.cqe_base.specs.Schema.{Text}
@@ -10,8 +11,10 @@ use Rattle.line_protocol.specs.Words.{number_in}
 use Rattle.dimacs_text.specs.declared.words.SignedNumber.{SignedNumber}
 use Rattle.dimacs_text.specs.declared.header.Header.{Header}
 use Rattle.dimacs_text.specs.declared.refusal.RefusalKind.{RefusalKind}
-use Rattle.dimacs_text.specs.declared.refusal.RefusalKind.TheVariants.{NotALine, TooLong, TooMany, Order}
-use Rattle.dimacs_text.specs.declared.refusal.RefusalKind.TheVariants.{Limit, Variable, Surplus, Missing}
+use Rattle.dimacs_text.specs.declared.refusal.RefusalKind.TheVariants.{NotALine, TooLong, TooMany}
+use Rattle.dimacs_text.specs.declared.refusal.RefusalKind.TheVariants.{Order}
+use Rattle.dimacs_text.specs.declared.refusal.RefusalKind.TheVariants.{Limit, Variable, Surplus}
+use Rattle.dimacs_text.specs.declared.refusal.RefusalKind.TheVariants.{Missing}
 use Rattle.dimacs_text.specs.declared.refusal.DimacsRefusal.{DimacsRefusal}
 
 -- what the lines so far have said
@@ -50,21 +53,25 @@ allow p (Some budget) =
 
 -- `c budget N` and `c lrat` are options; every other comment says nothing
 abbrev pub with_comment : Problem → List Text → Step
-with_comment p (word ∷ []) = if bytes_eq word (codes "lrat") then Ok (record p { lrat = true }) else Ok p
-with_comment p (word ∷ number ∷ []) = if bytes_eq word (codes "budget") then allow p (number_in number) else Ok p
+with_comment p (word ∷ []) =
+    if bytes_eq word (codes "lrat") then Ok (record p { lrat = true }) else Ok p
+with_comment p (word ∷ number ∷ []) =
+    if bytes_eq word (codes "budget") then allow p (number_in number) else Ok p
 with_comment p _ = Ok p
 
 -- ---- the problem line
 
 -- a problem line with these two numbers, where both are numbers
 abbrev pub header_of : Option ℕ → Option ℕ → Option Header
-header_of (Some variables) (Some clauses) = Some (record { variables = variables; clauses = clauses })
+header_of (Some variables) (Some clauses) =
+    Some (record { variables = variables; clauses = clauses })
 header_of _ _ = None
 
 -- `cnf`, the number of variables and the number of clauses
 abbrev pub header_in : List Text → Option Header
 header_in (kind ∷ variables ∷ clauses ∷ []) =
-    if bytes_eq kind (codes "cnf") then header_of (number_in variables) (number_in clauses) else None
+    if bytes_eq kind (codes "cnf") then header_of (number_in variables) (number_in clauses)
+    else None
 header_in _ = None
 
 -- the problem line stands once, and says at most 1,000,000 variables and as many clauses
@@ -72,7 +79,8 @@ abbrev pub with_header : Problem → Option Header → Step
 with_header p None = Err NotALine
 with_header p (Some header) =
     if is_some p.header then Err Order
-    else if nat_le header.variables 1000000 && nat_le header.clauses 1000000 then Ok (record p { header = Some header })
+    else if nat_le header.variables 1000000 && nat_le header.clauses 1000000
+    then Ok (record p { header = Some header })
     else Err Limit
 
 -- ---- clauses
@@ -85,18 +93,21 @@ literal_of false variable = Positive variable
 -- the clause is over; there are at most as many as the problem line says
 abbrev pub close : ℕ → Problem → Step
 close most p =
-    if nat_lt (length p.clauses) most then Ok (record p { clauses = p.clauses ++ p.unfinished ∷ []; unfinished = [] })
+    if nat_lt (length p.clauses) most
+    then Ok (record p { clauses = p.clauses ++ p.unfinished ∷ []; unfinished = [] })
     else Err Surplus
 
 -- a literal that would stand twice in a clause is written once, in its first place
 abbrev pub with_literal : Problem → Literal → Problem
 with_literal p l = record p { unfinished = union p.unfinished (l ∷ []) }
 
--- 0 ends a clause; any other number is a literal, whose variable is at most that of the problem line
+-- 0 ends a clause; any other number is a literal, whose variable is at most that of the problem
+-- line
 abbrev pub with_number : Header → Problem → Bool → ℕ → Step
 with_number header p is_negative zero = close header.clauses p
 with_number header p is_negative (suc variable) =
-    if nat_lt variable header.variables then Ok (with_literal p (literal_of is_negative variable)) else Err Variable
+    if nat_lt variable header.variables then Ok (with_literal p (literal_of is_negative variable))
+    else Err Variable
 
 -- numbers stand behind the problem line
 abbrev pub with_signed_number : Option Header → Problem → SignedNumber → Step
@@ -111,7 +122,8 @@ with_number_word p (Some signed) = with_signed_number p.header p signed
 -- the numbers of a line, from left to right
 abbrev pub with_numbers : Problem → List Text → Step
 with_numbers p [] = Ok p
-with_numbers p (word ∷ rest) = then_step (with_number_word p (signed_number_in word)) (λ next. with_numbers next rest)
+with_numbers p (word ∷ rest) =
+    then_step (with_number_word p (signed_number_in word)) (λ next. with_numbers next rest)
 
 -- ---- lines
 
@@ -147,7 +159,13 @@ pub record Cnf : Type 0 where
 -- the clauses and options of a problem; where no budget is said it is 1,000,000
 abbrev pub cnf_of : Problem → Header → Cnf
 cnf_of p header =
-    record { variables = header.variables; clauses = p.clauses; budget = unwrap_or p.budget 1000000; lrat = p.lrat }
+    record {
+      variables =
+          header.variables;
+      clauses = p.clauses;
+      budget = unwrap_or p.budget 1000000;
+      lrat = p.lrat;
+    }
 
 -- the file is over: there was a problem line, each clause is over, and there are as many as it says
 abbrev pub finish : ℕ → Problem → Option Header → Result Cnf DimacsRefusal
@@ -167,7 +185,7 @@ cnf_after number p [] = finish number p p.header
 cnf_after number p (line ∷ lines) =
     then_lines number (with_line number p line) (λ next. cnf_after (number + 1) next lines)
 
--- the clauses and options that bytes are, or the first line that is refused, with its kind; where something is wanting
--- at the end, that is the line behind the last
+-- the clauses and options that bytes are, or the first line that is refused, with its kind; where
+-- something is wanting at the end, that is the line behind the last
 unfoldable pub cnf_in : List ℕ → Result Cnf DimacsRefusal
 cnf_in bytes = cnf_after 1 empty_problem (text_lines bytes)

@@ -1,18 +1,23 @@
 -- How the program ends, and what it has written then.
 use Rattle.std.specs.Prelude.{◌≡◌, ℕ, List, [], ◌++◌, Option, Some, None, Ok, Err, codes, decimal}
-use Rattle.cqe_base.specs.Machine.{End as MachineEnd, Model, Refuted as MachineRefuted, end_within_budget}
+use Rattle.cqe_base.specs.Machine.{End as MachineEnd, Model, Refuted as MachineRefuted}
+use Rattle.cqe_base.specs.Machine.{end_within_budget}
 use Rattle.outside.specs.Streams.{AppendsPart}
 use Rattle.dimacs_text.specs.Dimacs.{Cnf, cnf_in}
 use Rattle.clause_solver.specs.Costs.{cost_within_budget}
 use Rattle.dimacs_text.specs.Printed.{cost_text, end_text}
 use Rattle.dimacs_text.specs.declared.refusal.RefusalKind.{RefusalKind}
-use Rattle.dimacs_text.specs.declared.refusal.RefusalKind.TheVariants.{NotALine, TooLong, TooMany, Order}
-use Rattle.dimacs_text.specs.declared.refusal.RefusalKind.TheVariants.{Limit, Variable, Surplus, Missing}
+use Rattle.dimacs_text.specs.declared.refusal.RefusalKind.TheVariants.{NotALine, TooLong, TooMany}
+use Rattle.dimacs_text.specs.declared.refusal.RefusalKind.TheVariants.{Order}
+use Rattle.dimacs_text.specs.declared.refusal.RefusalKind.TheVariants.{Limit, Variable, Surplus}
+use Rattle.dimacs_text.specs.declared.refusal.RefusalKind.TheVariants.{Missing}
 use Rattle.dimacs_text.specs.declared.refusal.DimacsRefusal.{DimacsRefusal}
 use Rattle.dimacs_text.specs.declared.ending.Verdict.{Verdict}
-use Rattle.dimacs_text.specs.declared.ending.Verdict.TheVariants.{Satisfiable, Unsatisfiable, Unknown}
+use Rattle.dimacs_text.specs.declared.ending.Verdict.TheVariants.{Satisfiable, Unsatisfiable}
+use Rattle.dimacs_text.specs.declared.ending.Verdict.TheVariants.{Unknown}
 use Rattle.dimacs_text.specs.declared.ending.Ending.{Ending}
-use Rattle.dimacs_text.specs.declared.ending.Ending.TheVariants.{Answered, Refused, ReadFault, WriteFault, Memory}
+use Rattle.dimacs_text.specs.declared.ending.Ending.TheVariants.{Answered, Refused, ReadFault}
+use Rattle.dimacs_text.specs.declared.ending.Ending.TheVariants.{WriteFault, Memory}
 
 -- the machine's end on the clauses within their budget
 abbrev pub end_of : Cnf → Option MachineEnd
@@ -32,7 +37,8 @@ verdict_of None = Unknown
 verdict_of (Some (Model signs)) = Satisfiable
 verdict_of (Some (MachineRefuted lines)) = Unsatisfiable
 
--- the bytes are clauses, the verdict is that of the machine's end on them, and their answer was appended
+-- the bytes are clauses, the verdict is that of the machine's end on them, and their answer was
+-- appended
 pub record Answers (bytes : List ℕ) (verdict : Verdict) (old new : List ℕ) : Type 0 where
   pub cnf : Cnf
   pub read : cnf_in bytes ≡ Ok cnf
@@ -45,7 +51,8 @@ pub record Breaks (bytes old new : List ℕ) : Type 0 where
   pub read : cnf_in bytes ≡ Ok cnf
   pub appended : AppendsPart old new (answer_text cnf)
 
--- what an ending says of the bytes that were left before and after, and of the output before and after
+-- what an ending says of the bytes that were left before and after, and of the output before and
+-- after
 abbrev pub Ends : Ending → List ℕ → List ℕ → List ℕ → List ℕ → Type 0
 Ends (Answered verdict) before after old new = (after ≡ []) × Answers before verdict old new
 Ends (Refused refusal) before after old new = (cnf_in before ≡ Err refusal) × (new ≡ old)
@@ -77,7 +84,8 @@ refusal_number Missing = 8
 -- the kind and the line of a refusal
 abbrev pub refusal_text : DimacsRefusal → List ℕ
 refusal_text refusal =
-    codes "dimacs: refused " ++ decimal (refusal_number refusal.kind) ++ codes " " ++ decimal refusal.line ++ codes "\n"
+    codes "dimacs: refused " ++ decimal (refusal_number refusal.kind) ++ codes " "
+    ++ decimal refusal.line ++ codes "\n"
 
 -- what is said of an ending without an answer
 abbrev pub complaint_of : Ending → List ℕ

@@ -33,19 +33,20 @@ abbrev pub hints_text : List ℕ → Text
 hints_text [] = codes "0\n"
 hints_text (number ∷ rest) = decimal (number + 1) ++ codes " " ++ hints_text rest
 
--- a line of a refutation in LRAT: its number, its clause, and its chain backwards, so that each clause leaves one
--- literal for those behind it
+-- a line of a refutation in LRAT: its number, its clause, and its chain backwards, so that each
+-- clause leaves one literal for those behind it
 abbrev pub lrat_line : ℕ → RefutationLine → Text
 lrat_line number line =
-    decimal number ++ codes " " ++ clause_text line.clause ++ codes " " ++ hints_text (reverse line.chain)
+    decimal number ++ codes " " ++ clause_text line.clause ++ codes " "
+    ++ hints_text (reverse line.chain)
 
 -- the lines of a refutation in LRAT, numbered from here on
 abbrev pub lrat_text : ℕ → List RefutationLine → Text
 lrat_text number [] = []
 lrat_text number (line ∷ lines) = lrat_line number line ++ lrat_text (number + 1) lines
 
--- what is printed of a refutation: its lines where they are wanted, numbered on from the given clauses, which are
--- counted from 1
+-- what is printed of a refutation: its lines where they are wanted, numbered on from the given
+-- clauses, which are counted from 1
 abbrev pub refutation_text : Cnf → List RefutationLine → Text
 refutation_text cnf lines =
     codes "s UNSATISFIABLE\n" ++ (if cnf.lrat then lrat_text (length cnf.clauses + 1) lines else [])

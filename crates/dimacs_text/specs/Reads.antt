@@ -17,9 +17,11 @@ pub record RefusesFirst (number : ℕ) (before : List ℕ) (kind : RefusalKind) 
   pub lines : text_lines before ≡ first ∷ rest
   pub refused : (p : Problem) → with_line number p first ≡ Err kind
 
--- what reading the next line says of the bytes to come, before and after, and of the line in the buffer
+-- what reading the next line says of the bytes to come, before and after, and of the line in the
+-- buffer
 abbrev pub ReadsLine : ℕ → NextLine → List ℕ → List ℕ → List ℕ → Type 0
-ReadsLine number next.Line before after line = TakesLine before after line × (nat_lt 1000000 number ≡ false)
+ReadsLine number next.Line before after line =
+    TakesLine before after line × (nat_lt 1000000 number ≡ false)
 ReadsLine number next.End before after line = (before ≡ []) × (after ≡ [])
 ReadsLine number (next.Refused kind) before after line = RefusesFirst number before kind
 ReadsLine number next.Fault before after line = Unit {0}

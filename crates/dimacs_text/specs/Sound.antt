@@ -14,7 +14,8 @@ abbrev pub clauses_in : Option Header → ℕ
 clauses_in None = 0
 clauses_in (Some header) = header.clauses
 
--- its variables are below that of the problem line, no clause has a literal twice, and all numbers are small
+-- its variables are below that of the problem line, no clause has a literal twice, and all numbers
+-- are small
 pub record IsSound (p : Problem) : Type 0 where
   pub below : ClausesBelow (variables_in p.header) p.clauses
   pub no_repeat : HaveNoRepeat p.clauses

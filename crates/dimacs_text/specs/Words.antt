@@ -1,5 +1,6 @@
 -- The words of a line, and the numbers that words write.
-use Rattle.std.specs.Prelude.{ℕ, ◌==◌, Bool, true, false, not, Option, None, option_map, if◌then◌else◌}
+use Rattle.std.specs.Prelude.{ℕ, ◌==◌, Bool, true, false, not, Option, None, option_map}
+use Rattle.std.specs.Prelude.{if◌then◌else◌}
 use Rattle.std.specs.Prelude.{List, [], ◌∷◌, length, filter}
 use Rattle.std.specs.List.{slice_split}
 use Rattle.cqe_base.specs.Schema.{Text}

@@ -13,9 +13,9 @@ use clause_solver::Found;
 use outside::{Failed, Sink, Source, write_all};
 use std::alloc::{AllocError, Global};
 
-/// Reads clauses from the source, searches them within their budget and writes the answer to the sink. What it can't do
-/// it says to the complaints; where they fail too, nothing else changes. The format, the answer and the complaints are
-/// those of `docs/FORMATS.md`, "DIMACS".
+/// Reads clauses from the source, searches them within their budget and writes the answer to the
+/// sink. What it can't do it says to the complaints; where they fail too, nothing else changes. The
+/// format, the answer and the complaints are those of `docs/FORMATS.md`, "DIMACS".
 pub fn answer_input<S: Source, K: Sink, E: Sink>(
     alloc: Global,
     source: &mut S,
@@ -23,12 +23,15 @@ pub fn answer_input<S: Source, K: Sink, E: Sink>(
     complaints: &mut E,
 ) -> Ending
     ensures ends { S.tells → K.tells →
-        Ends result (S.left source.old) (S.left source.new) (K.written sink.old) (K.written sink.new) }
+        Ends result (S.left source.old) (S.left source.new) (K.written sink.old)
+        (K.written sink.new) }
     ensures complaint { E.tells → AppendsUnless (complaint_of result)
         (E.written complaints.old) (E.written complaints.new)
         (Rose (E.faults complaints.old) (E.faults complaints.new)) }
-    ensures read_cause { result ≡ Ending.ReadFault → Rose (S.faults source.old) (S.faults source.new) }
-    ensures write_cause { result ≡ Ending.WriteFault → Rose (K.faults sink.old) (K.faults sink.new) }
+    ensures read_cause { result ≡ Ending.ReadFault
+        → Rose (S.faults source.old) (S.faults source.new) }
+    ensures write_cause { result ≡ Ending.WriteFault
+        → Rose (K.faults sink.old) (K.faults sink.new) }
     ensures held { S.held source.new ≡ S.held source.old }
     ensures source_later { S.faults source.old ≤ S.faults source.new }
     ensures sink_later { K.faults sink.old ≤ K.faults sink.new }
@@ -42,9 +45,12 @@ pub fn answer_input<S: Source, K: Sink, E: Sink>(
 // The same without the complaint.
 fn answer<S: Source, K: Sink>(alloc: Global, source: &mut S, sink: &mut K) -> Ending
     ensures ends { S.tells → K.tells →
-        Ends result (S.left source.old) (S.left source.new) (K.written sink.old) (K.written sink.new) }
-    ensures read_cause { result ≡ Ending.ReadFault → Rose (S.faults source.old) (S.faults source.new) }
-    ensures write_cause { result ≡ Ending.WriteFault → Rose (K.faults sink.old) (K.faults sink.new) }
+        Ends result (S.left source.old) (S.left source.new) (K.written sink.old)
+        (K.written sink.new) }
+    ensures read_cause { result ≡ Ending.ReadFault
+        → Rose (S.faults source.old) (S.faults source.new) }
+    ensures write_cause { result ≡ Ending.WriteFault
+        → Rose (K.faults sink.old) (K.faults sink.new) }
     ensures held { S.held source.new ≡ S.held source.old }
     ensures source_later { S.faults source.old ≤ S.faults source.new }
     ensures sink_later { K.faults sink.old ≤ K.faults sink.new }

@@ -8,7 +8,8 @@ use clause_store::clauses::Clauses;
 use std::alloc::{AllocError, Global};
 use std::marker::Model;
 
-/// Clauses over variables below a number, the budget of their search, and whether a refutation is to be printed.
+/// Clauses over variables below a number, the budget of their search, and whether a refutation is
+/// to be printed.
 #[derive(Drop)]
 pub struct Cnf {
     variables: u32,
@@ -34,8 +35,20 @@ impl Cnf {
 
     /// These clauses, over variables below `variables`, where they can be searched.
     pub fn new(variables: u32, clauses: Clauses, budget: u64, lrat: bool) -> Cnf
-        requires { IsSearchable (record { variables = variables; clauses = clauses; budget = budget; lrat = lrat }) }
-        ensures { result ≡ record { variables = variables; clauses = clauses; budget = budget; lrat = lrat } }
+        requires { IsSearchable (record {
+          variables =
+              variables;
+          clauses = clauses;
+          budget = budget;
+          lrat = lrat;
+        }) }
+        ensures { result ≡ record {
+          variables =
+              variables;
+          clauses = clauses;
+          budget = budget;
+          lrat = lrat;
+        } }
     {
         Cnf {
             variables,
@@ -60,8 +73,8 @@ impl Cnf {
         self.lrat
     }
 
-    /// The machine's end on the clauses within the budget, with its whole cost, or with the budget where that was
-    /// spent.
+    /// The machine's end on the clauses within the budget, with its whole cost, or with the budget
+    /// where that was spent.
     pub fn search(&self, alloc: Global) -> Result<Searched, AllocError>
         ensures found { IfOk result (λ searched. found_of searched.found ≡ end_of self.now) }
         ensures cost { IfOk result (λ searched. searched.cost ≡ cost_of self.now) }

@@ -33,8 +33,8 @@ pub enum Ending {
 }
 
 impl Ending {
-    /// The status with which the program ends, as solvers have it: 10 satisfiable, 20 unsatisfiable, 0 unknown; else
-    /// 5 refused, 6 read, 7 write, 13 memory.
+    /// The status with which the program ends, as solvers have it: 10 satisfiable, 20
+    /// unsatisfiable, 0 unknown; else 5 refused, 6 read, 7 write, 13 memory.
     pub fn status(self) -> u8
         ensures { result ≡ status_of self }
     {

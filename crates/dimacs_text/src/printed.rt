@@ -3,7 +3,8 @@ ghost use Rattle.std.specs.Prelude.{◌≡◌, ◌<◌, ◌≤◌, ◌+◌, ◌^
 ghost use Rattle.std.specs.Prelude.{◌++◌, length, reverse, map, codes, decimal, string_bytes};
 ghost use Rattle.clause_store.specs.PlainLines.{line_of, lines_of};
 ghost use Rattle.clause_solver.specs.PlainStates.{found_of};
-ghost use Rattle.dimacs_text.specs.Printed.{literal_text, clause_text, value_text, values_text, cost_text, end_text};
+ghost use Rattle.dimacs_text.specs.Printed.{literal_text, clause_text, value_text, values_text};
+ghost use Rattle.dimacs_text.specs.Printed.{cost_text, end_text};
 ghost use Rattle.dimacs_text.specs.Printed.{hints_text, lrat_line, lrat_text, refutation_text};
 
 use crate::cnf::Cnf;
@@ -14,7 +15,8 @@ use std::alloc::{AllocError, Global};
 
 /// Appends literals with a blank behind each, and 0.
 fn push_clause(text: &mut String, clause: &[Lit]) -> Result<(), AllocError>
-    ensures { OnOk result (string_bytes text.new ≡ string_bytes text.old ++ clause_text clause.now) }
+    ensures { OnOk result (string_bytes text.new
+        ≡ string_bytes text.old ++ clause_text clause.now) }
 {
     for literal in clause {
         write!(text, "{} ", literal.number())?;
@@ -25,7 +27,8 @@ fn push_clause(text: &mut String, clause: &[Lit]) -> Result<(), AllocError>
 /// Appends the value of a variable: its literal that is true.
 fn push_value(text: &mut String, variable: usize, sign: bool) -> Result<(), AllocError>
     requires { variable + 1 < 2 ^ 64 }
-    ensures { OnOk result (string_bytes text.new ≡ string_bytes text.old ++ value_text variable sign) }
+    ensures { OnOk result (string_bytes text.new
+        ≡ string_bytes text.old ++ value_text variable sign) }
 {
     if !sign {
         text.push_str("-")?;
@@ -35,7 +38,8 @@ fn push_value(text: &mut String, variable: usize, sign: bool) -> Result<(), Allo
 
 /// Appends the values of a model, and 0.
 fn push_values(text: &mut String, signs: &[bool]) -> Result<(), AllocError>
-    ensures { OnOk result (string_bytes text.new ≡ string_bytes text.old ++ values_text 0 signs.now) }
+    ensures { OnOk result (string_bytes text.new
+        ≡ string_bytes text.old ++ values_text 0 signs.now) }
 {
     for (variable, sign) in signs.iter().enumerate() {
         push_value(text, variable, *sign)?;
@@ -45,7 +49,8 @@ fn push_values(text: &mut String, signs: &[bool]) -> Result<(), AllocError>
 
 /// Appends the numbers of a chain backwards, counted from 1, with a blank behind each, and 0.
 fn push_hints(text: &mut String, chain: &[u32]) -> Result<(), AllocError>
-    ensures { OnOk result (string_bytes text.new ≡ string_bytes text.old ++ hints_text (reverse chain.now)) }
+    ensures { OnOk result (string_bytes text.new
+        ≡ string_bytes text.old ++ hints_text (reverse chain.now)) }
 {
     for number in chain.iter().rev() {
         write!(text, "{} ", *number as u64 + 1)?;
@@ -55,7 +60,8 @@ fn push_hints(text: &mut String, chain: &[u32]) -> Result<(), AllocError>
 
 /// Appends a line of a refutation, which has this number.
 fn push_line(text: &mut String, number: usize, line: &Line) -> Result<(), AllocError>
-    ensures { OnOk result (string_bytes text.new ≡ string_bytes text.old ++ lrat_line number (line_of line.now)) }
+    ensures { OnOk result (string_bytes text.new
+        ≡ string_bytes text.old ++ lrat_line number (line_of line.now)) }
 {
     write!(text, "{number} ")?;
     push_clause(text, &line.clause)?;
@@ -66,7 +72,8 @@ fn push_line(text: &mut String, number: usize, line: &Line) -> Result<(), AllocE
 /// Appends the lines of a refutation, numbered from here on.
 fn push_lines(text: &mut String, first: usize, lines: &[Line]) -> Result<(), AllocError>
     requires { first ≤ 1000001 }
-    ensures { OnOk result (string_bytes text.new ≡ string_bytes text.old ++ lrat_text first (map line_of lines.now)) }
+    ensures { OnOk result (string_bytes text.new
+        ≡ string_bytes text.old ++ lrat_text first (map line_of lines.now)) }
 {
     for (place, line) in lines.iter().enumerate() {
         push_line(text, first + place, line)?;
@@ -84,7 +91,8 @@ fn push_cost(text: &mut String, cost: u64) -> Result<(), AllocError>
 /// The text of what a search found and cost.
 pub fn answer_text(alloc: Global, cnf: &Cnf, searched: &Searched) -> Result<String, AllocError>
     ensures { IfOk result (λ text.
-        string_bytes text ≡ cost_text searched.now.cost ++ end_text cnf.now (found_of searched.now.found)) }
+        string_bytes text
+        ≡ cost_text searched.now.cost ++ end_text cnf.now (found_of searched.now.found)) }
 {
     let mut text = String::new(alloc);
     push_cost(&mut text, searched.cost)?;
@@ -94,7 +102,8 @@ pub fn answer_text(alloc: Global, cnf: &Cnf, searched: &Searched) -> Result<Stri
 
 /// Appends what a search found.
 fn push_end(text: &mut String, cnf: &Cnf, found: &Found) -> Result<(), AllocError>
-    ensures { OnOk result (string_bytes text.new ≡ string_bytes text.old ++ end_text cnf.now (found_of found.now)) }
+    ensures { OnOk result (string_bytes text.new
+        ≡ string_bytes text.old ++ end_text cnf.now (found_of found.now)) }
 {
     match found {
         Found::Model(signs) => push_model(text, signs),
@@ -105,7 +114,8 @@ fn push_end(text: &mut String, cnf: &Cnf, found: &Found) -> Result<(), AllocErro
 
 fn push_model(text: &mut String, signs: &Signs) -> Result<(), AllocError>
     ensures { OnOk result (string_bytes text.new
-        ≡ string_bytes text.old ++ (codes "s SATISFIABLE\nv " ++ values_text 0 signs.now.values.items)) }
+        ≡ string_bytes text.old
+        ++ (codes "s SATISFIABLE\nv " ++ values_text 0 signs.now.values.items)) }
 {
     text.push_str("s SATISFIABLE\nv ")?;
     push_values(text, &signs.values)?;

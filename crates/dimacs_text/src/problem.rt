@@ -1,8 +1,10 @@
 //! What the lines of a file have said so far.
 ghost use Rattle.std.specs.Prelude.{◌≡◌, ◌<◌, ◌≤◌, ◌+◌, ◌^◌, map, Ok, OnOk, IfErr};
 ghost use Rattle.dimacs_text.specs.Words.{words};
-ghost use Rattle.dimacs_text.specs.Dimacs.{empty_problem, allow, with_comment, with_header, begins_comment, with_words};
-ghost use Rattle.dimacs_text.specs.Dimacs.{literal_of, close, with_literal, with_number_word, with_numbers, finish};
+ghost use Rattle.dimacs_text.specs.Dimacs.{empty_problem, allow, with_comment, with_header};
+ghost use Rattle.dimacs_text.specs.Dimacs.{begins_comment, with_words};
+ghost use Rattle.dimacs_text.specs.Dimacs.{literal_of, close, with_literal, with_number_word};
+ghost use Rattle.dimacs_text.specs.Dimacs.{with_numbers, finish};
 ghost use Rattle.cqe_base.specs.Literal.{variable_of};
 ghost use Rattle.dimacs_text.specs.Sound.{variables_in};
 ghost use Rattle.dimacs_text.specs.Refuses.{Refuses};
@@ -74,8 +76,10 @@ impl Problem {
 
     /// The words of one more line.
     fn take_words(&mut self, words: &[&[u8]]) -> Result<(), LineError>
-        ensures added { OnOk result (with_words self.old (map (λ word. word.now) words.now) ≡ Ok self.new) }
-        ensures refused { IfErr result (Refuses (with_words self.old (map (λ word. word.now) words.now))) }
+        ensures added { OnOk result
+            (with_words self.old (map (λ word. word.now) words.now) ≡ Ok self.new) }
+        ensures refused { IfErr result
+            (Refuses (with_words self.old (map (λ word. word.now) words.now))) }
     {
         let [first, rest @ ..] = words else {
             return Ok(());
@@ -94,8 +98,10 @@ impl Problem {
 
     /// A comment behind its `c`.
     fn take_comment(&mut self, words: &[&[u8]]) -> Result<(), LineError>
-        ensures added { OnOk result (with_comment self.old (map (λ word. word.now) words.now) ≡ Ok self.new) }
-        ensures refused { IfErr result (Refuses (with_comment self.old (map (λ word. word.now) words.now))) }
+        ensures added { OnOk result (with_comment self.old (map (λ word. word.now) words.now)
+            ≡ Ok self.new) }
+        ensures refused { IfErr result
+            (Refuses (with_comment self.old (map (λ word. word.now) words.now))) }
     {
         match words {
             [word] => {
@@ -154,8 +160,10 @@ impl Problem {
 
     /// The numbers of a line, from left to right.
     fn take_numbers(&mut self, words: &[&[u8]]) -> Result<(), LineError>
-        ensures added { OnOk result (with_numbers self.old (map (λ word. word.now) words.now) ≡ Ok self.new) }
-        ensures refused { IfErr result (Refuses (with_numbers self.old (map (λ word. word.now) words.now))) }
+        ensures added { OnOk result (with_numbers self.old (map (λ word. word.now) words.now)
+            ≡ Ok self.new) }
+        ensures refused { IfErr result
+            (Refuses (with_numbers self.old (map (λ word. word.now) words.now))) }
     {
         for word in words {
             self.take_number(signed_number_in(word))?;

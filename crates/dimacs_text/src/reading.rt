@@ -1,12 +1,13 @@
 //! A file is read from its source line by line, to its end or to the first line that is refused.
 //!
-//! It isn't a script of `script_lines`: it has ten times the lines, kinds of refusals of its own and something to say
-//! at its end, and it isn't read behind a refusal.
+//! It isn't a script of `script_lines`: it has ten times the lines, kinds of refusals of its own
+//! and something to say at its end, and it isn't read behind a refusal.
 ghost use Rattle.std.specs.Prelude.{◌≡◌, ◌≤◌, IsTrue};
 ghost use Rattle.outside.specs.Faults.{Rose};
 ghost use Rattle.line_protocol.specs.Buffer.{unread};
 ghost use Rattle.dimacs_text.specs.Dimacs.{finish};
-ghost use Rattle.dimacs_text.specs.Reads.{ReadsLine, ReadsFile, IsFinished, is_read_fault, is_next_fault};
+ghost use Rattle.dimacs_text.specs.Reads.{ReadsLine, ReadsFile, IsFinished, is_read_fault};
+ghost use Rattle.dimacs_text.specs.Reads.{is_next_fault};
 
 use crate::cnf::Cnf;
 use crate::problem::Problem;
@@ -43,11 +44,13 @@ pub enum NextLine {
 /// Reads the next line, which has this number. It is refused where it is too long or one too many.
 fn next_line<S: Source>(source: &mut S, buffer: &mut LineBuffer, number: u32) -> NextLine
     ensures reads { S.tells → ReadsLine number result
-        (unread buffer.old (S.left source.old)) (unread buffer.new (S.left source.new)) buffer.new.line }
+        (unread buffer.old (S.left source.old))
+        (unread buffer.new (S.left source.new)) buffer.new.line }
     ensures few { result ≡ NextLine.Line → number ≤ 1000000 }
     ensures held { S.held source.new ≡ S.held source.old }
     ensures later { S.faults source.old ≤ S.faults source.new }
-    ensures cause { IsTrue (is_next_fault result) → Rose (S.faults source.old) (S.faults source.new) }
+    ensures cause { IsTrue (is_next_fault result)
+        → Rose (S.faults source.old) (S.faults source.new) }
 {
     match read_line(source, buffer) {
         LineOutcome::Line => {
@@ -68,7 +71,8 @@ pub fn read_cnf<S: Source>(alloc: Global, source: &mut S) -> Reading
     ensures reads { S.tells → ReadsFile result (S.left source.old) (S.left source.new) }
     ensures held { S.held source.new ≡ S.held source.old }
     ensures later { S.faults source.old ≤ S.faults source.new }
-    ensures cause { IsTrue (is_read_fault result) → Rose (S.faults source.old) (S.faults source.new) }
+    ensures cause { IsTrue (is_read_fault result)
+        → Rose (S.faults source.old) (S.faults source.new) }
 {
     let mut problem = Problem::new(alloc);
     let mut buffer = LineBuffer::new();

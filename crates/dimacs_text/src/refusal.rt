@@ -4,8 +4,8 @@ ghost use Rattle.dimacs_text.specs.declared.refusal.LineError.TheVariants.{Memor
 
 use std::alloc::{AllocError, AllocFailed};
 
-/// Why a line of a file in the DIMACS format is refused. The numbers that are printed go from 1 in this order, as in
-/// `docs/FORMATS.md`, "DIMACS".
+/// Why a line of a file in the DIMACS format is refused. The numbers that are printed go from 1 in
+/// this order, as in `docs/FORMATS.md`, "DIMACS".
 #[derive(Clone, Copy, Debug, PartialEq, Eq)]
 pub enum RefusalKind {
     /// It has none of the shapes.
@@ -22,12 +22,13 @@ pub enum RefusalKind {
     Variable,
     /// One more clause than the problem line says.
     Surplus,
-    /// The file ends before the problem line, within a clause, or with fewer clauses than the problem line says.
+    /// The file ends before the problem line, within a clause, or with fewer clauses than the
+    /// problem line says.
     Missing,
 }
 
-/// The first line that is refused, counted from 1, and why. Where something is missing at the end it is the line behind
-/// the last.
+/// The first line that is refused, counted from 1, and why. Where something is missing at the end
+/// it is the line behind the last.
 #[derive(Clone, Copy, Debug, PartialEq, Eq)]
 pub struct DimacsRefusal {
     pub kind: RefusalKind,

@@ -32,7 +32,8 @@ never-spends law variables schema premises goal budget few enough =
     law (map (grounded_signed schema) premises) (grounded_signed schema goal) budget (omega arith)
 
 -- where an outcome is that of the probe, it is spent exactly where the search costs more than the budget
-pub spent-by-cost : SpentIsCost → (schema : DatabaseSchema) (premises : List Signed) (goal : Signed) (budget : ℕ) (o : Outcome) → o ≡ outcome schema premises goal budget
+pub spent-by-cost : SpentIsCost → (schema : DatabaseSchema) (premises : List Signed) (goal : Signed) (budget : ℕ) (o : Outcome)
+    → o ≡ outcome schema premises goal budget
     → (o ≡ Spent) ↔ CostsMore schema premises goal budget
 unfolding outcome
 spent-by-cost law schema premises goal budget o is =

@@ -24,17 +24,22 @@ passes p log i t below is h =
     ∙ ap p (sym (get_or-map told log i t))
     ∙ All-get_or (λ x. p x ≡ true) (told_log log) i (told t) (subst (λ n. i < n) (sym (length-map log told)) below) (AllPass-from_list_all p (told_log log) h)
 
-pub item-sentence : (schema : DatabaseSchema) (log : List Told) (i : ℕ) (t : Told) → i < length log → t ≡ get_or log i t → IsSmallLog schema (told_log log) → is_sentence_of schema (formula_of t.sentence) ≡ true
+pub item-sentence : (schema : DatabaseSchema) (log : List Told) (i : ℕ) (t : Told) → i < length log → t ≡ get_or log i t → IsSmallLog schema (told_log log)
+    → is_sentence_of schema (formula_of t.sentence) ≡ true
 item-sentence schema log i t below is small = passes (λ signed. is_sentence_of schema signed.0) log i t below is small.sentences
 
-pub item-small : (schema : DatabaseSchema) (log : List Told) (i : ℕ) (t : Told) → i < length log → t ≡ get_or log i t → IsSmallLog schema (told_log log) → nodes schema (formula_of t.sentence) ≤ 20000
+pub item-small : (schema : DatabaseSchema) (log : List Told) (i : ℕ) (t : Told) → i < length log → t ≡ get_or log i t → IsSmallLog schema (told_log log)
+    → nodes schema (formula_of t.sentence) ≤ 20000
 item-small schema log i t below is small = leb-true _ 20000 (passes (λ signed. nat_le (nodes schema signed.0) 20000) log i t below is small.each)
 
 -- the nodes of the log up to a part are within those of the whole log
-pub nodes-before : (schema : DatabaseSchema) (log : List Told) (i : ℕ) → IsSmallLog schema (told_log log) → sentence_nodes schema (told_log (take i log)) ≤ 60000
+pub nodes-before : (schema : DatabaseSchema) (log : List Told) (i : ℕ) → IsSmallLog schema (told_log log)
+    → sentence_nodes schema (told_log (take i log)) ≤ 60000
 nodes-before schema log i small =
-    let same : sentence_nodes schema (told_log (take i log)) ≡ sentence_nodes schema (take i (told_log log)) = ap (sentence_nodes schema) (sym (take-map told i log)) in
-    let part : sentence_nodes schema (take i (told_log log)) ≤ sentence_nodes schema (told_log log) = sum_by-take-le (λ signed. nodes schema signed.0) (told_log log) i in
+    let same : sentence_nodes schema (told_log (take i log)) ≡ sentence_nodes schema (take i (told_log log)) =
+    ap (sentence_nodes schema) (sym (take-map told i log)) in
+    let part : sentence_nodes schema (take i (told_log log)) ≤ sentence_nodes schema (told_log log) =
+    sum_by-take-le (λ signed. nodes schema signed.0) (told_log log) i in
     let whole = sentence_nodes-le schema (told_log log) in
     let all = small.all in
     omega arith

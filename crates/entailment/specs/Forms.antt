@@ -16,11 +16,14 @@ form_of_log schema log = form_of (map (grounded_signed schema) log)
 abbrev pub with_negated : List Signed → Signed → List Signed
 with_negated premises goal = premises ++ (goal.0, not goal.1) ∷ []
 
--- a form to which sentences were added: where it was that of a log, it is now that of the longer log
+-- a form to which sentences were added: where it was that of a log, it is now that of the longer
+-- log
 abbrev pub HasAdded : DatabaseSchema → List Signed → (before after : Form) → Type 0
-HasAdded schema more before after = (log : List Signed) → before ≡ form_of_log schema log → after ≡ form_of_log schema (log ++ more)
+HasAdded schema more before after =
+    (log : List Signed) → before ≡ form_of_log schema log → after ≡ form_of_log schema (log ++ more)
 
--- a form that can be searched, and whose models have worlds: its clauses use its variables, and no literal twice;
+-- a form that can be searched, and whose models have worlds: its clauses use its variables, and no
+-- literal twice;
 -- it is small; and the facts that it numbers are of the schema
 pub record IsSearchable (schema : DatabaseSchema) (form : Form) : Type 0 where
   pub below : ClausesBelow form.numbering.variables form.clauses

@@ -33,7 +33,8 @@ outcome_of verdict.Follows = Follows
 outcome_of (verdict.Open world) = Open
 outcome_of verdict.Spent = Spent
 
--- a verdict is true: the premises entail the goal, or the world that it carries is one in which they are true and the goal false
+-- a verdict is true: the premises entail the goal, or the world that it carries is one in which
+-- they are true and the goal false
 abbrev pub IsTrueVerdict : DatabaseSchema → List Signed → Signed → Verdict → Type 0
 IsTrueVerdict schema premises goal verdict.Follows = Entails schema premises goal
 IsTrueVerdict schema premises goal (verdict.Open world) = IsCountermodel schema premises goal world

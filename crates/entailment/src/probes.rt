@@ -1,5 +1,6 @@
 //! Probes: the clause form of what is asked, the search, and the check of what it found.
-ghost use Rattle.std.specs.Prelude.{◌≡◌, ◌≤◌, ◌<◌, ◌+◌, ◌^◌, true, nat_le, [], ◌∷◌, ◌++◌, Some, IfOk, OnOk};
+ghost use Rattle.std.specs.Prelude.{◌≡◌, ◌≤◌, ◌<◌, ◌+◌, ◌^◌, true, nat_le, [], ◌∷◌, ◌++◌, Some};
+ghost use Rattle.std.specs.Prelude.{IfOk, OnOk};
 ghost use Rattle.std.specs.List.{list_all};
 ghost use Rattle.cqe_base.specs.Formula.{formula_of, nodes, is_sentence_of};
 ghost use Rattle.cqe_base.specs.Ground.{ground_of, ground_nodes, grounded};
@@ -13,7 +14,8 @@ ghost use Rattle.entailment.specs.Views.{schema_of, log_of};
 ghost use Rattle.entailment.specs.Budgets.{IsSpentByCost};
 ghost use Rattle.entailment.specs.Models.{HaveModelsInWorlds};
 ghost use Rattle.entailment.specs.Verdicts.{verdict_of_probe, checked_verdict};
-ghost use Rattle.entailment.specs.Probes.{premise_list, premise_of, goal_of, outcome_of, IsTrueVerdict};
+ghost use Rattle.entailment.specs.Probes.{premise_list, premise_of, goal_of, outcome_of};
+ghost use Rattle.entailment.specs.Probes.{IsTrueVerdict};
 
 use crate::laws::law_models_are_worlds_of_schema;
 use crate::view::{Told, View};
@@ -37,7 +39,8 @@ use proof_check::model::check_model;
 use proof_check::refutation::check_refutation;
 use std::alloc::{AllocError, Global};
 
-/// A further premise, if there is one, and a goal: each a sentence, or with `false` beside it its negation.
+/// A further premise, if there is one, and a goal: each a sentence, or with `false` beside it its
+/// negation.
 #[derive(Clone, Copy)]
 pub struct Probe<'a> {
     pub premise: Option<(&'a Sentence, bool)>,
@@ -55,9 +58,9 @@ pub enum Verdict {
     Spent,
 }
 
-/// Runs a probe of the view's log with a budget. The clause form of the log, of the premise and of the negated goal is searched, and what
-/// the search found is checked before it is told. Each end of the machine is right, so the check
-/// never fails: a probe is spent for its cost alone.
+/// Runs a probe of the view's log with a budget. The clause form of the log, of the premise and of
+/// the negated goal is searched, and what the search found is checked before it is told. Each end
+/// of the machine is right, so the check never fails: a probe is spent for its cost alone.
 pub fn test(
     alloc: Global,
     view: &mut View<'_>,
@@ -66,17 +69,24 @@ pub fn test(
 ) -> Result<Verdict, AllocError>
     requires premise { are_sentences_of (schema_of view.old) (premise_of probe.now) ≡ true }
     requires goal { is_sentence_of (schema_of view.old) (goal_of probe.now).0 ≡ true }
-    requires premise_nodes { list_all (λ signed. nat_le (nodes (schema_of view.old) signed.0) 20000) (premise_of probe.now) ≡ true }
+    requires premise_nodes { list_all (λ signed. nat_le (nodes (schema_of view.old) signed.0) 20000)
+        (premise_of probe.now) ≡ true }
     requires goal_nodes { nodes (schema_of view.old) (goal_of probe.now).0 ≤ 40000 }
-    requires all_nodes { log_nodes (schema_of view.old) (log_of view.old) + sentence_nodes (schema_of view.old) (premise_of probe.now)
+    requires all_nodes { log_nodes (schema_of view.old) (log_of view.old)
+        + sentence_nodes (schema_of view.old) (premise_of probe.now)
         + nodes (schema_of view.old) (goal_of probe.now).0 ≤ 100000 }
     requires budget { budget ≤ 4000000 }
     ensures outcome { IfOk result (λ verdict. outcome_of verdict
-        ≡ outcome (schema_of view.old) (log_of view.old ++ premise_of probe.now) (goal_of probe.now) budget) }
+        ≡ outcome (schema_of view.old) (log_of view.old ++ premise_of probe.now)
+        (goal_of probe.now) budget) }
     ensures end { IfOk result (λ verdict. verdict ≡ verdict_of_probe (schema_of view.old)
         (log_of view.old ++ premise_of probe.now) (goal_of probe.now) budget) }
-    ensures sound { IfOk result (IsTrueVerdict (schema_of view.old) (log_of view.old ++ premise_of probe.now) (goal_of probe.now)) }
-    ensures spent { IfOk result (IsSpentByCost (schema_of view.old) (log_of view.old ++ premise_of probe.now) (goal_of probe.now) budget) }
+    ensures sound { IfOk result
+        (IsTrueVerdict (schema_of view.old) (log_of view.old ++ premise_of probe.now)
+        (goal_of probe.now)) }
+    ensures spent { IfOk result
+        (IsSpentByCost (schema_of view.old) (log_of view.old ++ premise_of probe.now)
+        (goal_of probe.now) budget) }
     ensures models { IfOk result (λ verdict. HaveModelsInWorlds (schema_of view.old)
         (with_negated (log_of view.old ++ premise_of probe.now) (goal_of probe.now))) }
     ensures schema { schema_of view.new ≡ schema_of view.old }
@@ -99,12 +109,15 @@ pub fn test(
 fn form_of_probe(alloc: Global, view: &View<'_>, probe: &Probe<'_>) -> Result<Former, AllocError>
     requires premise { are_sentences_of (schema_of view.now) (premise_of probe.now) ≡ true }
     requires goal { is_sentence_of (schema_of view.now) (goal_of probe.now).0 ≡ true }
-    requires premise_nodes { list_all (λ signed. nat_le (nodes (schema_of view.now) signed.0) 20000) (premise_of probe.now) ≡ true }
+    requires premise_nodes { list_all (λ signed. nat_le (nodes (schema_of view.now) signed.0) 20000)
+        (premise_of probe.now) ≡ true }
     requires goal_nodes { nodes (schema_of view.now) (goal_of probe.now).0 ≤ 40000 }
-    requires all_nodes { log_nodes (schema_of view.now) (log_of view.now) + sentence_nodes (schema_of view.now) (premise_of probe.now)
+    requires all_nodes { log_nodes (schema_of view.now) (log_of view.now)
+        + sentence_nodes (schema_of view.now) (premise_of probe.now)
         + nodes (schema_of view.now) (goal_of probe.now).0 ≤ 100000 }
     ensures form { IfOk result (λ former. former
-        ≡ form_of_log (schema_of view.now) (with_negated (log_of view.now ++ premise_of probe.now) (goal_of probe.now))) }
+        ≡ form_of_log (schema_of view.now)
+        (with_negated (log_of view.now ++ premise_of probe.now) (goal_of probe.now))) }
     ensures searchable { IfOk result (IsSearchable (schema_of view.now)) }
 {
     law_variables_are_few();
@@ -143,8 +156,10 @@ fn add_premise(
     premise: Option<(&Sentence, bool)>,
 ) -> Result<(), AllocError>
     requires sentence { are_sentences_of schema.now (premise_list premise) ≡ true }
-    requires small { list_all (λ signed. nat_le (nodes schema.now signed.0) 20000) (premise_list premise) ≡ true }
-    requires room { former.old.numbering.variables + sentence_nodes schema.now (premise_list premise) < 2 ^ 31 }
+    requires small { list_all (λ signed. nat_le (nodes schema.now signed.0) 20000)
+        (premise_list premise) ≡ true }
+    requires room { former.old.numbering.variables
+        + sentence_nodes schema.now (premise_list premise) < 2 ^ 31 }
     ensures { OnOk result (HasAdded schema.now (premise_list premise.entry) former.old former.new) }
 {
     match premise {
@@ -163,8 +178,10 @@ fn add_sentence(
 ) -> Result<(), AllocError>
     requires sentence { is_sentence_of schema.now (formula_of sentence.now) ≡ true }
     requires small { nodes schema.now (formula_of sentence.now) ≤ 40000 }
-    requires room { former.old.numbering.variables + nodes schema.now (formula_of sentence.now) < 2 ^ 31 }
-    ensures { OnOk result (HasAdded schema.now ((formula_of sentence.now, yes) ∷ []) former.old former.new) }
+    requires room { former.old.numbering.variables + nodes schema.now (formula_of sentence.now)
+        < 2 ^ 31 }
+    ensures { OnOk result
+        (HasAdded schema.now ((formula_of sentence.now, yes) ∷ []) former.old former.new) }
 {
     law_added_forms_grow();
     let prop = ground_formula(alloc, schema, sentence)?;
@@ -175,8 +192,10 @@ fn add_sentence(
 fn ground_formula(alloc: Global, schema: &Schema, sentence: &Sentence) -> Result<Prop, AllocError>
     requires sentence { is_sentence_of schema.now (formula_of sentence.now) ≡ true }
     requires small { nodes schema.now (formula_of sentence.now) ≤ 40000 }
-    ensures grounded { IfOk result (λ prop. ground_of prop ≡ grounded schema.now (formula_of sentence.now)) }
-    ensures same_nodes { IfOk result (λ prop. ground_nodes (ground_of prop) ≡ nodes schema.now (formula_of sentence.now)) }
+    ensures grounded { IfOk result (λ prop. ground_of prop
+        ≡ grounded schema.now (formula_of sentence.now)) }
+    ensures same_nodes { IfOk result (λ prop. ground_nodes (ground_of prop)
+        ≡ nodes schema.now (formula_of sentence.now)) }
 {
     match ground(alloc, schema, sentence) {
         Ok(prop) => Ok(prop),

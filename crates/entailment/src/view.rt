@@ -1,5 +1,6 @@
 //! Views: a log over a schema, which grows by one sentence at a time.
-ghost use Rattle.std.specs.Prelude.{◌≡◌, ◌≤◌, ◌+◌, true, [], ◌∷◌, ◌++◌, length, map, IfOk, OnErr, OnOk};
+ghost use Rattle.std.specs.Prelude.{◌≡◌, ◌≤◌, ◌+◌, true, [], ◌∷◌, ◌++◌, length, map, IfOk, OnErr};
+ghost use Rattle.std.specs.Prelude.{OnOk};
 ghost use Rattle.cqe_base.specs.Formula.{formula_of, nodes, is_sentence_of};
 ghost use Rattle.cqe_base.specs.History.{profile_of, known, signed_nodes};
 ghost use Rattle.entailment.specs.Logs.{log_nodes, IsSmallLog, told_log};
@@ -38,13 +39,16 @@ impl<'s> View<'s> {
         Ok(View { schema, log })
     }
 
-    /// Appends the query, or where `yes` is false its negation, to the log. A refusal changes nothing.
+    /// Appends the query, or where `yes` is false its negation, to the log. A refusal changes
+    /// nothing.
     pub fn add(&mut self, alloc: Global, query: &Sentence, yes: bool) -> Result<(), AllocError>
         requires sentence { is_sentence_of (schema_of self.old) (formula_of query.now) ≡ true }
         requires query { nodes (schema_of self.old) (formula_of query.now) ≤ 20000 }
-        requires room { log_nodes (schema_of self.old) (log_of self.old) + signed_nodes (schema_of self.old) (formula_of query.now) yes ≤ 60000 }
+        requires room { log_nodes (schema_of self.old) (log_of self.old)
+            + signed_nodes (schema_of self.old) (formula_of query.now) yes ≤ 60000 }
         ensures schema { schema_of self.new ≡ schema_of self.old }
-        ensures added { OnOk result (log_of self.new ≡ log_of self.old ++ (formula_of query.now, yes) ∷ []) }
+        ensures added { OnOk result (log_of self.new
+            ≡ log_of self.old ++ (formula_of query.now, yes) ∷ []) }
         ensures refused { OnErr result (log_of self.new ≡ log_of self.old) }
     {
         let sentence = query.copy(alloc)?;
@@ -74,7 +78,8 @@ impl<'s> View<'s> {
 
 /// These sentences, as parts of a log.
 fn told_of(alloc: Global, sentences: &[Sentence]) -> Result<Vec<Told>, AllocError>
-    ensures { IfOk result (λ told. told_log told.items ≡ map (λ s. (s, true)) (map formula_of sentences.now)) }
+    ensures { IfOk result (λ told. told_log told.items
+        ≡ map (λ s. (s, true)) (map formula_of sentences.now)) }
 {
     let mut told = Vec::new(alloc);
     for sentence in sentences {

@@ -1,12 +1,14 @@
 //! Sentences with their quantifiers written out.
 
-ghost use Rattle.std.specs.Prelude.{◌≡◌, true, false, ◌+◌, ◌<◌, ◌≤◌, ◌↔◌, [], ◌∷◌, ◌++◌, length, take, map, IfOk, if◌then◌else◌};
+ghost use Rattle.std.specs.Prelude.{◌≡◌, true, false, ◌+◌, ◌<◌, ◌≤◌, ◌↔◌, [], ◌∷◌, ◌++◌, length};
+ghost use Rattle.std.specs.Prelude.{take, map, IfOk, if◌then◌else◌};
 ghost use Rattle.std.specs.FinSet as set;
 ghost use Rattle.cqe_base.specs.Schema.{domain_size};
 ghost use Rattle.cqe_base.specs.Facts.{FactSet};
 ghost use Rattle.cqe_base.specs.Formula.{formula_of, nodes, nesting, is_sentence_of};
 ghost use Rattle.cqe_base.specs.Truth.{true_in, constants_of};
-ghost use Rattle.cqe_base.specs.Ground.{ground_of, ground_true, ground_false, grounded_at, grounded, true_ground, ground_nodes};
+ghost use Rattle.cqe_base.specs.Ground.{ground_of, ground_true, ground_false, grounded_at};
+ghost use Rattle.cqe_base.specs.Ground.{grounded, true_ground, ground_nodes};
 
 use cqe_base::assignment::{are_equal, fact_of};
 use cqe_base::laws::{law_grounded_nodes, law_grounding, law_nesting};
@@ -25,16 +27,23 @@ pub enum GroundError {
 /// A ground formula has at most so many nodes.
 const NODES: u64 = 40_000;
 
-/// Writes out the quantifiers of a sentence, each in the order of its domain's constants, and decides its equations.
+/// Writes out the quantifiers of a sentence, each in the order of its domain's constants, and
+/// decides its equations.
 ///
-/// `TooLarge` comes before any memory is taken. The limit is the one that `cqe_base` sets for a user's view and for each sentence
-/// that is guarded from him (specs/Limits.antt), counted in nodes of the result: a quantifier counts all its instances.
+/// `TooLarge` comes before any memory is taken. The limit is the one that `cqe_base` sets for a
+/// user's view and for each sentence that is guarded from him (specs/Limits.antt), counted in nodes
+/// of the result: a quantifier counts all its instances.
 pub fn ground(alloc: Global, schema: &Schema, sentence: &Sentence) -> Result<Prop, GroundError>
     requires { is_sentence_of schema.now (formula_of sentence.now) ≡ true }
-    ensures grounded { IfOk result (λ prop. ground_of prop ≡ grounded schema.now (formula_of sentence.now)) }
-    ensures same_truth { IfOk result (λ prop. (world : FactSet) → true_ground (set.contains world) (ground_of prop) ≡ true_in schema.now world (formula_of sentence.now)) }
-    ensures same_nodes { IfOk result (λ prop. ground_nodes (ground_of prop) ≡ nodes schema.now (formula_of sentence.now)) }
-    ensures too_large { (result ≡ Err GroundError.TooLarge) ↔ (40000 < nodes schema.now (formula_of sentence.now)) }
+    ensures grounded { IfOk result (λ prop. ground_of prop
+        ≡ grounded schema.now (formula_of sentence.now)) }
+    ensures same_truth { IfOk result (λ prop. (world : FactSet)
+        → true_ground (set.contains world) (ground_of prop)
+        ≡ true_in schema.now world (formula_of sentence.now)) }
+    ensures same_nodes { IfOk result (λ prop. ground_nodes (ground_of prop)
+        ≡ nodes schema.now (formula_of sentence.now)) }
+    ensures too_large { (result ≡ Err GroundError.TooLarge)
+        ↔ (40000 < nodes schema.now (formula_of sentence.now)) }
 {
     if nodes(sentence, schema) > NODES {
         return Err(GroundError::TooLarge);
@@ -52,7 +61,8 @@ pub fn ground(alloc: Global, schema: &Schema, sentence: &Sentence) -> Result<Pro
     }
 }
 
-/// The ground formula of a sentence where the variables of so many enclosing quantifiers have these constants.
+/// The ground formula of a sentence where the variables of so many enclosing quantifiers have these
+/// constants.
 #[cycle(grounding)]
 fn ground_at(
     alloc: Global,
@@ -62,7 +72,8 @@ fn ground_at(
     sentence: &Sentence,
 ) -> Result<Prop, AllocError>
     requires { depth + nesting (formula_of sentence.now) ≤ 8 }
-    ensures { IfOk result (λ prop. ground_of prop ≡ grounded_at schema.now (take depth places) (formula_of sentence.now)) }
+    ensures { IfOk result (λ prop. ground_of prop
+        ≡ grounded_at schema.now (take depth places) (formula_of sentence.now)) }
 {
     match sentence {
         Sentence::True => Ok(Prop::True),
@@ -132,13 +143,15 @@ fn boxed(
     sentence: &Sentence,
 ) -> Result<Box<Prop>, AllocError>
     requires { depth + nesting (formula_of sentence.now) ≤ 8 }
-    ensures { IfOk result (λ boxed. ground_of boxed.value ≡ grounded_at schema.now (take depth places) (formula_of sentence.now)) }
+    ensures { IfOk result (λ boxed. ground_of boxed.value
+        ≡ grounded_at schema.now (take depth places) (formula_of sentence.now)) }
 {
     let prop = ground_at(alloc, schema, places, depth, sentence)?;
     Ok(Box::new(alloc, prop)?)
 }
 
-/// The ground formulas of a sentence with each constant of a domain in the next place, in the order of the domain.
+/// The ground formulas of a sentence with each constant of a domain in the next place, in the order
+/// of the domain.
 #[cycle(grounding)]
 fn instances(
     alloc: Global,
@@ -149,7 +162,9 @@ fn instances(
     body: &Sentence,
 ) -> Result<Vec<Prop>, AllocError>
     requires { depth + 1 + nesting (formula_of body.now) ≤ 8 }
-    ensures { IfOk result (λ parts. map ground_of parts.items ≡ map (λ c. grounded_at schema.now (take depth places ++ c ∷ []) (formula_of body.now)) (constants_of schema.now domain)) }
+    ensures { IfOk result (λ parts. map ground_of parts.items
+        ≡ map (λ c. grounded_at schema.now (take depth places ++ c ∷ []) (formula_of body.now))
+        (constants_of schema.now domain)) }
 {
     let mut parts = Vec::new(alloc);
     for index in 0..schema.domain_size(domain) {
@@ -174,7 +189,8 @@ fn instance(
     body: &Sentence,
 ) -> Result<Prop, AllocError>
     requires { depth + 1 + nesting (formula_of body.now) ≤ 8 }
-    ensures { IfOk result (λ prop. ground_of prop ≡ grounded_at schema.now (take depth places ++ constant ∷ []) (formula_of body.now)) }
+    ensures { IfOk result (λ prop. ground_of prop
+        ≡ grounded_at schema.now (take depth places ++ constant ∷ []) (formula_of body.now)) }
 {
     let mut places = places;
     places[depth] = constant;

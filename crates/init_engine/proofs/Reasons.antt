@@ -17,13 +17,15 @@ module _ {D : Type 0} (reads : D → List ℕ) (image : D → List ℕ → Type 
   held_stays (Some held) disk is stays = subst (λ d. Stays reads image (Some d) (Some after)) is stays
   held_stays None disk is stays = record { bytes = stays.bytes ∙ is.0; images = λ c left. is.1 c (stays.images c left) }
 
-  pub held_stays_at : (held : Option D) (disk : D) → IsTaken reads image held disk → (why : Stop) → StaysAt reads image (Some disk) (Some after) why → StaysAt reads image held (Some after) why
+  pub held_stays_at : (held : Option D) (disk : D) → IsTaken reads image held disk → (why : Stop) → StaysAt reads image (Some disk) (Some after) why
+      → StaysAt reads image held (Some after) why
   held_stays_at held disk is (stop.Refused why) stays = held_stays held disk is stays
   held_stays_at held disk is stop.DiskFault stays = λ some. held_stays held disk is (stays (λ none. some (sym (taken_reads reads image held disk is) ∙ none)))
   held_stays_at held disk is stop.ShelfFault stays = held_stays held disk is stays
   held_stays_at held disk is stop.Memory stays = held_stays held disk is stays
 
-module _ (told told' : Type 0) (header bytes bytes' : List ℕ) (before before' now now' : ℕ) (gives : told' → told) (same : told' → bytes ≡ bytes') (le : before' ≤ before) (le' : now ≤ now') where
+module _ (told told' : Type 0) (header bytes bytes' : List ℕ) (before before' now now' : ℕ) (gives : told' → told) (same : told' → bytes ≡ bytes')
+    (le : before' ≤ before) (le' : now ≤ now') where
   refused_of : (why : OpenError) → IsRefused told header bytes before now why → IsRefused told' header bytes' before' now' why
   refused_of NotAJournal is = λ t. subst (λ b. Refuses header b NotAJournal) (same t) (is (gives t))
   refused_of OtherPolicy is = λ t. subst (λ b. Refuses header b OtherPolicy) (same t) (is (gives t))

@@ -1,5 +1,6 @@
 -- The users one after the other.
-use Rattle.std.proofs.Common.{◌≡◌, ◌⊎◌, ◌∙◌, sym, ap, subst, refl, inl, inr, ℕ, ◌<◌, ◌≤◌, ◌+◌, List, false, Option, Some, slice_get, bytes_eq, get_or, length, string_bytes, option_map, arith}
+use Rattle.std.proofs.Common.{◌≡◌, ◌⊎◌, ◌∙◌, sym, ap, subst, refl, inl, inr, ℕ, ◌<◌, ◌≤◌, ◌+◌, List, false, Option, Some, slice_get, bytes_eq, get_or, length}
+use Rattle.std.proofs.Common.{string_bytes, option_map, arith}
 use Rattle.std.proofs.lemmas.Option.{slice_get-map, slice_get_read}
 use Rattle.outside.proofs.Rises.{rose_wide}
 use Rattle.outside.specs.Shelf.{SameOthers, bytes_on}
@@ -14,21 +15,26 @@ use Rattle.init_engine.specs.declared.end.Stop.TheVariants as stop
 use Rattle.init_engine.proofs.Reasons.{reason_of}
 use Rattle.init_engine.proofs.Apart.{names_apart, same_some}
 
-module _ {D : Type 0} (reads : D → List ℕ) (image : D → List ℕ → Type 0) (header directory : List ℕ) (names : List (List ℕ)) (once : has_duplicate names ≡ false) (differ : JournalsDiffer) where
+module _ {D : Type 0} (reads : D → List ℕ) (image : D → List ℕ → Type 0) (header directory : List ℕ) (names : List (List ℕ))
+    (once : has_duplicate names ≡ false) (differ : JournalsDiffer) where
   -- the journals of two of the users have two names
-  journals_apart : (i k : ℕ) (first second : List ℕ) → (i ≡ k → ⊥) → slice_get names i ≡ Some first → slice_get names k ≡ Some second → bytes_eq (journal_name directory first) (journal_name directory second) ≡ false
+  journals_apart : (i k : ℕ) (first second : List ℕ) → (i ≡ k → ⊥) → slice_get names i ≡ Some first → slice_get names k ≡ Some second
+      → bytes_eq (journal_name directory first) (journal_name directory second) ≡ false
   journals_apart i k first second other is is' = differ directory first second ∙ names_apart names once i k first second other is is'
 
-  module _ (old mid new : List ℕ → Option D) (k : ℕ) (name : List ℕ) (is : slice_get names k ≡ Some name) (so_far : Readies reads image header directory names old mid k k) (others : SameOthers (journal_name directory name) mid new) where
+  module _ (old mid new : List ℕ → Option D) (k : ℕ) (name : List ℕ) (is : slice_get names k ≡ Some name)
+      (so_far : Readies reads image header directory names old mid k k) (others : SameOthers (journal_name directory name) mid new) where
     -- the disk of the next user stands as it stood at first
     pub not_yet : mid (journal_name directory name) ≡ old (journal_name directory name)
     not_yet = so_far.others (journal_name directory name) (λ i first less is'. journals_apart k i name first (λ same. omega (arith, less, same)) is is')
 
-    touched : (other : List ℕ) → ((i : ℕ) (first : List ℕ) → i < k + 1 → slice_get names i ≡ Some first → bytes_eq other (journal_name directory first) ≡ false) → new other ≡ old other
+    touched : (other : List ℕ) → ((i : ℕ) (first : List ℕ) → i < k + 1 → slice_get names i ≡ Some first → bytes_eq other (journal_name directory first) ≡ false)
+        → new other ≡ old other
     touched other apart =
         others other (apart k name (omega arith) is) ∙ so_far.others other (λ i first less is'. apart i first (omega (arith, less)) is')
 
-    before : (i : ℕ) (first : List ℕ) → i < k → slice_get names i ≡ Some first → IsReady reads image header (old (journal_name directory first)) (new (journal_name directory first))
+    before : (i : ℕ) (first : List ℕ) → i < k → slice_get names i ≡ Some first
+        → IsReady reads image header (old (journal_name directory first)) (new (journal_name directory first))
     before i first less is' =
         subst (λ d. IsReady reads image header (old (journal_name directory first)) d)
         (sym (others (journal_name directory first) (journals_apart i k first name (λ same. omega (arith, less, same)) is' is))) (so_far.are i first less is')
@@ -38,7 +44,8 @@ module _ {D : Type 0} (reads : D → List ℕ) (image : D → List ℕ → Type 
     stopped = record { are = before; others = touched }
 
     -- it is made ready
-    pub one_more : IsReady reads image header (mid (journal_name directory name)) (new (journal_name directory name)) → Readies reads image header directory names old new (k + 1) (k + 1)
+    pub one_more : IsReady reads image header (mid (journal_name directory name)) (new (journal_name directory name))
+        → Readies reads image header directory names old new (k + 1) (k + 1)
     one_more ready = record { are = λ i first less is'. by_place i first (cases i k less) is'; others = touched }
       where
         cases : (i k : ℕ) → i < k + 1 → (i < k) ⊎ (i ≡ k)
@@ -47,16 +54,19 @@ module _ {D : Type 0} (reads : D → List ℕ) (image : D → List ℕ → Type 
         last : IsReady reads image header (old (journal_name directory name)) (new (journal_name directory name))
         last = subst (λ d. IsReady reads image header d (new (journal_name directory name))) not_yet ready
 
-        by_place : (i : ℕ) (first : List ℕ) → (i < k) ⊎ (i ≡ k) → slice_get names i ≡ Some first → IsReady reads image header (old (journal_name directory first)) (new (journal_name directory first))
+        by_place : (i : ℕ) (first : List ℕ) → (i < k) ⊎ (i ≡ k) → slice_get names i ≡ Some first
+            → IsReady reads image header (old (journal_name directory first)) (new (journal_name directory first))
         by_place i first (inl less) is' = before i first less is'
         by_place i first (inr same) is' =
             subst (λ n. IsReady reads image header (old (journal_name directory n)) (new (journal_name directory n)))
             (same_some name first (sym is ∙ ap (λ j. slice_get names j) (sym same) ∙ is')) last
 
 -- The shelf as it was at first, before the next user and after him; he is stopped at.
-module _ {D : Type 0} (told : Type 0) (reads : D → List ℕ) (image : D → List ℕ → Type 0) (header directory : List ℕ) (names : List (List ℕ)) (once : has_duplicate names ≡ false) (differ : JournalsDiffer)
+module _ {D : Type 0} (told : Type 0) (reads : D → List ℕ) (image : D → List ℕ → Type 0) (header directory : List ℕ) (names : List (List ℕ))
+    (once : has_duplicate names ≡ false) (differ : JournalsDiffer)
     (old mid new : List ℕ → Option D) (before middle now : List ℕ → ℕ) (shelf_before shelf_middle shelf_now : ℕ)
-    (k : ℕ) (name : List ℕ) (is : slice_get names k ≡ Some name) (so_far : told → Readies reads image header directory names old mid k k) (others : SameOthers (journal_name directory name) mid new)
+    (k : ℕ) (name : List ℕ) (is : slice_get names k ≡ Some name) (so_far : told
+    → Readies reads image header directory names old mid k k) (others : SameOthers (journal_name directory name) mid new)
     (counts : (n : List ℕ) → before n ≤ middle n) (later : shelf_before ≤ shelf_middle) where
   abbrev change : Change D
   change = record { old = old; new = new; before = before; now = now; shelf_before = shelf_before; shelf_now = shelf_now }
@@ -72,9 +82,12 @@ module _ {D : Type 0} (told : Type 0) (reads : D → List ℕ) (image : D → Li
   stops why reason kept = record {
     name = name;
     is = is;
-    reason = reason_of told told header (bytes_on reads (mid journal)) (bytes_on reads (old journal)) (middle journal) (before journal) (now journal) (now journal)
-        (λ t. t) stood (counts journal) (omega arith) shelf_middle shelf_before shelf_now shelf_now (rose_wide shelf_before shelf_middle shelf_now shelf_now later (omega arith)) why reason;
-    kept = λ t. subst (λ d. StaysAt reads image d (new journal) why) (not_yet reads image header directory names once differ old mid new k name is (so_far t) others) (kept t);
+    reason =
+        reason_of told told header (bytes_on reads (mid journal)) (bytes_on reads (old journal)) (middle journal) (before journal) (now journal) (now journal)
+        (λ t. t) stood (counts journal) (omega arith) shelf_middle shelf_before shelf_now shelf_now
+        (rose_wide shelf_before shelf_middle shelf_now shelf_now later (omega arith)) why reason;
+    kept = λ t. subst (λ d. StaysAt reads image d (new journal) why)
+        (not_yet reads image header directory names once differ old mid new k name is (so_far t) others) (kept t);
     ready = λ t. stopped reads image header directory names once differ old mid new k name is (so_far t) others;
   }
 
@@ -86,6 +99,9 @@ module _ {D : Type 0} (told : Type 0) (reads : D → List ℕ) (image : D → Li
   ends stop.Memory reason kept = (k, stops stop.Memory reason kept)
 
 -- the name of the user at a place
-pub name_at : (users : List User) (k : ℕ) (user : User) (text : List ℕ) → k < length users → user ≡ get_or users k user → text ≡ string_bytes user.name → slice_get (user_names users) k ≡ Some text
+pub name_at : (users : List User) (k : ℕ) (user : User) (text : List ℕ) → k < length users → user ≡ get_or users k user → text ≡ string_bytes user.name
+    → slice_get (user_names users) k ≡ Some text
 name_at users k user text within is same =
-    slice_get-map (λ (u : User). string_bytes u.name) users k ∙ ap (λ o. option_map (λ (u : User). string_bytes u.name) o) (slice_get_read users (length users) k user refl within is) ∙ ap (λ (t : List ℕ). Some t) (sym same)
+    slice_get-map (λ (u : User). string_bytes u.name) users k
+    ∙ ap (λ o. option_map (λ (u : User). string_bytes u.name) o) (slice_get_read users (length users) k user refl within is)
+    ∙ ap (λ (t : List ℕ). Some t) (sym same)

@@ -1,5 +1,6 @@
 -- What becomes of the disks of users whose journals are made.
-use Rattle.std.specs.Prelude.{◌≡◌, ◌≢◌, ℕ, ◌<◌, List, [], ◌∷◌, ◌++◌, false, bytes_eq, map, string_bytes, slice_get, Option, Some}
+use Rattle.std.specs.Prelude.{◌≡◌, ◌≢◌, ℕ, ◌<◌, List, [], ◌∷◌, ◌++◌, false, bytes_eq, map}
+use Rattle.std.specs.Prelude.{string_bytes, slice_get, Option, Some}
 use Rattle.outside.specs.Shelf.{bytes_on}
 use Rattle.outside.specs.Disk.{Only}
 use Rattle.cqe_base.specs.declared.user.User.{User}
@@ -11,7 +12,8 @@ abbrev pub user_names : List User → List (List ℕ)
 user_names users = map (λ user. string_bytes user.name) users
 
 module _ {D : Type 0} (reads : D → List ℕ) (image : D → List ℕ → Type 0) (header : List ℕ) where
-  -- The disk is a journal with this header, in each image. One that was empty is an empty journal, and another has its bytes.
+  -- The disk is a journal with this header, in each image. One that was empty is an empty journal,
+  -- and another has its bytes.
   pub record IsMade (before : List ℕ) (disk : D) : Type 0 where
     pub durable : Only (reads disk) (image disk)
     pub journal : (all : List Recorded) × IsJournal header all (reads disk)
@@ -25,6 +27,10 @@ module _ {D : Type 0} (reads : D → List ℕ) (image : D → List ℕ → Type 
     pub made : IsMade (bytes_on reads before) disk
 
   -- Of these users the first are ready, and no disk is touched but those of the first of them.
-  pub record Readies (directory : List ℕ) (names : List (List ℕ)) (old new : List ℕ → Option D) (ready touched : ℕ) : Type 0 where
-    pub are : (i : ℕ) (name : List ℕ) → i < ready → slice_get names i ≡ Some name → IsReady (old (journal_name directory name)) (new (journal_name directory name))
-    pub others : (other : List ℕ) → ((i : ℕ) (name : List ℕ) → i < touched → slice_get names i ≡ Some name → bytes_eq other (journal_name directory name) ≡ false) → new other ≡ old other
+  pub record Readies (directory : List ℕ) (names : List (List ℕ)) (old new : List ℕ → Option D)
+      (ready touched : ℕ) : Type 0 where
+    pub are : (i : ℕ) (name : List ℕ) → i < ready → slice_get names i ≡ Some name
+        → IsReady (old (journal_name directory name)) (new (journal_name directory name))
+    pub others : (other : List ℕ)
+        → ((i : ℕ) (name : List ℕ) → i < touched → slice_get names i ≡ Some name
+        → bytes_eq other (journal_name directory name) ≡ false) → new other ≡ old other

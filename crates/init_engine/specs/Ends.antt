@@ -7,9 +7,11 @@ use Rattle.init_engine.specs.Stops.{HasReason, StaysAt}
 use Rattle.init_engine.specs.declared.end.Stop.{Stop}
 use Rattle.init_engine.specs.declared.end.Stop.TheVariants as stop
 use Rattle.init_engine.specs.declared.end.InitEnd.{InitEnd}
-use Rattle.init_engine.specs.declared.end.InitEnd.TheVariants.{Done, Refused, DiskFault, ShelfFault, Memory}
+use Rattle.init_engine.specs.declared.end.InitEnd.TheVariants.{Done, Refused, DiskFault, ShelfFault}
+use Rattle.init_engine.specs.declared.end.InitEnd.TheVariants.{Memory}
 
--- A shelf before and after: the disks by their names, their counts of faults, and the shelf's own count.
+-- A shelf before and after: the disks by their names, their counts of faults, and the shelf's own
+-- count.
 pub record Change (D : Type 0) : Type 0 where
   pub old : List ℕ → Option D
   pub new : List ℕ → Option D
@@ -18,18 +20,27 @@ pub record Change (D : Type 0) : Type 0 where
   pub shelf_before : ℕ
   pub shelf_now : ℕ
 
-module _ {D : Type 0} (told : Type 0) (reads : D → List ℕ) (image : D → List ℕ → Type 0) (header directory : List ℕ) (names : List (List ℕ)) (change : Change D) where
-  -- It stopped at this user, who shows the reason: those before him are ready, and the disks of those behind him are as they were.
+module _ {D : Type 0} (told : Type 0) (reads : D → List ℕ) (image : D → List ℕ → Type 0)
+    (header directory : List ℕ) (names : List (List ℕ)) (change : Change D) where
+  -- It stopped at this user, who shows the reason: those before him are ready, and the disks of
+  -- those behind him are as they were.
   pub record StopsAt (user : ℕ) (why : Stop) : Type 0 where
     pub name : List ℕ
     pub is : slice_get names user ≡ Some name
-    pub reason : HasReason told header (bytes_on reads (change.old (journal_name directory name))) (change.before (journal_name directory name)) (change.now (journal_name directory name)) change.shelf_before change.shelf_now why
-    pub kept : told → StaysAt reads image (change.old (journal_name directory name)) (change.new (journal_name directory name)) why
-    pub ready : told → Readies reads image header directory names change.old change.new user (user + 1)
+    pub reason : HasReason told header (bytes_on reads (change.old (journal_name directory name)))
+        (change.before (journal_name directory name))
+        (change.now (journal_name directory name)) change.shelf_before change.shelf_now why
+    pub kept : told → StaysAt reads image (change.old (journal_name directory name))
+        (change.new (journal_name directory name)) why
+    pub ready : told
+        → Readies reads image header directory names change.old change.new user (user + 1)
 
-  -- All users are ready and no other disk is touched, or it stopped at the first user who can't be served.
+  -- All users are ready and no other disk is touched, or it stopped at the first user who can't be
+  -- served.
   abbrev pub IsEnd : InitEnd → Type 0
-  IsEnd Done = told → Readies reads image header directory names change.old change.new (length names) (length names)
+  IsEnd Done = told
+      → Readies reads image header directory names change.old change.new (length names)
+      (length names)
   IsEnd (Refused user why) = StopsAt user (stop.Refused why)
   IsEnd DiskFault = (user : ℕ) × StopsAt user stop.DiskFault
   IsEnd ShelfFault = (user : ℕ) × StopsAt user stop.ShelfFault

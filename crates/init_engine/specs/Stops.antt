@@ -8,11 +8,14 @@ use Rattle.log_journal.specs.declared.header.OpenError.TheVariants.{Memory}
 use Rattle.init_engine.specs.declared.end.Stop.{Stop}
 use Rattle.init_engine.specs.declared.end.Stop.TheVariants as stop
 
--- Why it stopped at a disk with these bytes and, before and after, these counts of its faults and of the shelf's.
+-- Why it stopped at a disk with these bytes and, before and after, these counts of its faults and
+-- of the shelf's.
 abbrev pub HasReason : Type 0 → List ℕ → List ℕ → ℕ → ℕ → ℕ → ℕ → Stop → Type 0
-HasReason told header bytes before now shelf_before shelf_now (stop.Refused why) = (told → bytes ≢ []) × (why ≢ Memory) × IsRefused told header bytes before now why
+HasReason told header bytes before now shelf_before shelf_now (stop.Refused why) =
+    (told → bytes ≢ []) × (why ≢ Memory) × IsRefused told header bytes before now why
 HasReason told header bytes before now shelf_before shelf_now stop.DiskFault = Rose before now
-HasReason told header bytes before now shelf_before shelf_now stop.ShelfFault = Rose shelf_before shelf_now
+HasReason told header bytes before now shelf_before shelf_now stop.ShelfFault =
+    Rose shelf_before shelf_now
 HasReason told header bytes before now shelf_before shelf_now stop.Memory = Unit {0}
 
 module _ {D : Type 0} (reads : D → List ℕ) (image : D → List ℕ → Type 0) where

@@ -6,7 +6,8 @@ use log_journal::OpenError;
 pub enum InitEnd {
     /// Each user has a journal with the header.
     Done,
-    /// The disk of the user of this number, counted from 0, isn't empty and doesn't open as a journal.
+    /// The disk of the user of this number, counted from 0, isn't empty and doesn't open as a
+    /// journal.
     Refused { user: usize, why: OpenError },
     /// A call of a disk failed at the making of a journal.
     DiskFault,

@@ -13,10 +13,11 @@ use log_journal::{Header, law_journals_differ};
 use outside::Shelf;
 use std::alloc::Global;
 
-/// Makes an empty journal with this header on the disk of each user, `DIRECTORY/NAME.log`, where that disk is empty. A
-/// disk that isn't empty has to open as a journal with this header, and is left as it is. It stops at the first user who
-/// can't be served, and each disk is back on the shelf whatever comes. Only where a disk fails may that disk be left with
-/// a journal that is half made.
+/// Makes an empty journal with this header on the disk of each user, `DIRECTORY/NAME.log`, where
+/// that disk is empty. A disk that isn't empty has to open as a journal with this header, and is
+/// left as it is. It stops at the first user who can't be served, and each disk is back on the
+/// shelf whatever comes. Only where a disk fails may that disk be left with a journal that is half
+/// made.
 pub fn run_init<F: Shelf>(
     alloc: Global,
     users: &[User],
@@ -26,8 +27,18 @@ pub fn run_init<F: Shelf>(
 ) -> InitEnd
     requires names { has_duplicate (user_names users.now) ≡ false }
     requires out { (name : List ℕ) → F.is_out shelf.old name ≡ false }
-    ensures ends { IsEnd F.tells F.D.reads F.D.image (header_bytes header.now) directory.now (user_names users.now)
-        (record { old = F.disk shelf.old; new = F.disk shelf.new; before = F.disk_faults shelf.old; now = F.disk_faults shelf.new; shelf_before = F.faults shelf.old; shelf_now = F.faults shelf.new }) result }
+    ensures ends { IsEnd F.tells F.D.reads F.D.image (header_bytes header.now) directory.now
+        (user_names users.now)
+        (record {
+          old = F.disk shelf.old;
+          new = F.disk shelf.new;
+          before =
+              F.disk_faults shelf.old;
+          now = F.disk_faults shelf.new;
+          shelf_before =
+              F.faults shelf.old;
+          shelf_now = F.faults shelf.new;
+        }) result }
     ensures out { (name : List ℕ) → F.is_out shelf.new name ≡ false }
     ensures counts { (name : List ℕ) → F.disk_faults shelf.old name ≤ F.disk_faults shelf.new name }
     ensures files { (name : List ℕ) → F.file shelf.new name ≡ F.file shelf.old name }

@@ -1,5 +1,6 @@
 //! What is done with the disk of one user.
-ghost use Rattle.std.specs.Prelude.{◌≡◌, ◌≢◌, ◌≤◌, ◌++◌, ◌∷◌, [], List, ℕ, true, false, Some, IfOk, OnOk, IfErr};
+ghost use Rattle.std.specs.Prelude.{◌≡◌, ◌≢◌, ◌≤◌, ◌++◌, ◌∷◌, [], List, ℕ, true, false, Some, IfOk};
+ghost use Rattle.std.specs.Prelude.{OnOk, IfErr};
 ghost use Rattle.outside.specs.Disk.{Only};
 ghost use Rattle.outside.specs.Faults.{HasCause};
 ghost use Rattle.outside.specs.Shelf.{SameNames, SameOthers};
@@ -23,13 +24,25 @@ pub(crate) fn serve<F: Shelf>(
     shelf: &mut F,
 ) -> Result<(), Stop>
     requires { F.is_out shelf.old (journal_name directory.now name.now) ≡ false }
-    ensures ready { F.tells → OnOk result (IsReady F.D.reads F.D.image (header_bytes header.now) (F.disk shelf.old (journal_name directory.now name.now)) (F.disk shelf.new (journal_name directory.now name.now))) }
-    ensures reason { IfErr result (HasReason F.tells (header_bytes header.now) (bytes_on F.D.reads (F.disk shelf.old (journal_name directory.now name.now)))
-        (F.disk_faults shelf.old (journal_name directory.now name.now)) (F.disk_faults shelf.new (journal_name directory.now name.now)) (F.faults shelf.old) (F.faults shelf.new)) }
-    ensures kept { F.tells → IfErr result (StaysAt F.D.reads F.D.image (F.disk shelf.old (journal_name directory.now name.now)) (F.disk shelf.new (journal_name directory.now name.now))) }
-    ensures disks { SameOthers (journal_name directory.now name.now) (F.disk shelf.old) (F.disk shelf.new) }
+    ensures ready { F.tells
+        → OnOk result (IsReady F.D.reads F.D.image (header_bytes header.now)
+        (F.disk shelf.old (journal_name directory.now name.now))
+        (F.disk shelf.new (journal_name directory.now name.now))) }
+    ensures reason { IfErr result
+        (HasReason F.tells (header_bytes header.now)
+        (bytes_on F.D.reads (F.disk shelf.old (journal_name directory.now name.now)))
+        (F.disk_faults shelf.old (journal_name directory.now name.now))
+        (F.disk_faults shelf.new (journal_name directory.now name.now)) (F.faults shelf.old)
+        (F.faults shelf.new)) }
+    ensures kept { F.tells
+        → IfErr result (StaysAt F.D.reads F.D.image
+        (F.disk shelf.old (journal_name directory.now name.now))
+        (F.disk shelf.new (journal_name directory.now name.now))) }
+    ensures disks { SameOthers (journal_name directory.now name.now) (F.disk shelf.old)
+        (F.disk shelf.new) }
     ensures out { SameNames (F.is_out shelf.old) (F.is_out shelf.new) }
-    ensures counts { (other : List ℕ) → F.disk_faults shelf.old other ≤ F.disk_faults shelf.new other }
+    ensures counts { (other : List ℕ)
+        → F.disk_faults shelf.old other ≤ F.disk_faults shelf.new other }
     ensures files { (other : List ℕ) → F.file shelf.new other ≡ F.file shelf.old other }
     ensures looked { F.looked shelf.new ≡ F.looked shelf.old }
     ensures later { F.faults shelf.old ≤ F.faults shelf.new }
@@ -46,13 +59,21 @@ fn serve_disk<F: Shelf>(
     shelf: &mut F,
 ) -> Result<(), Stop>
     requires { F.is_out shelf.old journal.now ≡ false }
-    ensures ready { F.tells → OnOk result (IsReady F.D.reads F.D.image (header_bytes header.now) (F.disk shelf.old journal.now) (F.disk shelf.new journal.now)) }
-    ensures reason { IfErr result (HasReason F.tells (header_bytes header.now) (bytes_on F.D.reads (F.disk shelf.old journal.now))
-        (F.disk_faults shelf.old journal.now) (F.disk_faults shelf.new journal.now) (F.faults shelf.old) (F.faults shelf.new)) }
-    ensures kept { F.tells → IfErr result (StaysAt F.D.reads F.D.image (F.disk shelf.old journal.now) (F.disk shelf.new journal.now)) }
+    ensures ready { F.tells
+        → OnOk result (IsReady F.D.reads F.D.image (header_bytes header.now)
+        (F.disk shelf.old journal.now) (F.disk shelf.new journal.now)) }
+    ensures reason { IfErr result
+        (HasReason F.tells (header_bytes header.now)
+        (bytes_on F.D.reads (F.disk shelf.old journal.now))
+        (F.disk_faults shelf.old journal.now) (F.disk_faults shelf.new journal.now)
+        (F.faults shelf.old) (F.faults shelf.new)) }
+    ensures kept { F.tells
+        → IfErr result (StaysAt F.D.reads F.D.image (F.disk shelf.old journal.now)
+        (F.disk shelf.new journal.now)) }
     ensures disks { SameOthers journal.now (F.disk shelf.old) (F.disk shelf.new) }
     ensures out { SameNames (F.is_out shelf.old) (F.is_out shelf.new) }
-    ensures counts { (other : List ℕ) → F.disk_faults shelf.old other ≤ F.disk_faults shelf.new other }
+    ensures counts { (other : List ℕ)
+        → F.disk_faults shelf.old other ≤ F.disk_faults shelf.new other }
     ensures files { (other : List ℕ) → F.file shelf.new other ≡ F.file shelf.old other }
     ensures looked { F.looked shelf.new ≡ F.looked shelf.old }
     ensures later { F.faults shelf.old ≤ F.faults shelf.new }
@@ -70,8 +91,11 @@ fn serve_disk<F: Shelf>(
 
 // Makes a journal on a disk that is empty, and opens another.
 fn make<D: Disk>(alloc: Global, disk: D, header: &Header) -> (D, Result<(), Stop>)
-    ensures made { D.tells → OnOk result.1 (IsMade D.reads D.image (header_bytes header.now) (D.reads disk) result.0) }
-    ensures reason { IfErr result.1 (HasReason D.tells (header_bytes header.now) (D.reads disk) (D.faults disk) (D.faults result.0) 0 0) }
+    ensures made { D.tells
+        → OnOk result.1 (IsMade D.reads D.image (header_bytes header.now) (D.reads disk) result.0) }
+    ensures reason { IfErr result.1
+        (HasReason D.tells (header_bytes header.now) (D.reads disk) (D.faults disk)
+        (D.faults result.0) 0 0) }
     ensures kept { D.tells → IfErr result.1 (StaysAt D.reads D.image (Some disk) (Some result.0)) }
     ensures count { D.faults disk ≤ D.faults result.0 }
 {
@@ -86,10 +110,12 @@ fn make<D: Disk>(alloc: Global, disk: D, header: &Header) -> (D, Result<(), Stop
     }
 }
 
-// Makes a journal on an empty disk, and syncs before so that no crash brings back what may be pending.
+// Makes a journal on an empty disk, and syncs before so that no crash brings back what may be
+// pending.
 fn format_empty<D: Disk>(disk: &mut D, header: &Header) -> Result<(), Failed>
     requires { D.tells → D.reads disk.old ≡ [] }
-    ensures made { D.tells → OnOk result (IsMade D.reads D.image (header_bytes header.now) [] disk.new) }
+    ensures made { D.tells
+        → OnOk result (IsMade D.reads D.image (header_bytes header.now) [] disk.new) }
     ensures cause { HasCause (D.faults disk.old) (D.faults disk.new) result }
 {
     disk.sync()?;
@@ -99,8 +125,11 @@ fn format_empty<D: Disk>(disk: &mut D, header: &Header) -> Result<(), Failed>
 // Opens a disk that isn't empty, and leaves it.
 fn reopen<D: Disk>(alloc: Global, disk: D, header: &Header) -> (D, Result<(), Stop>)
     requires { D.tells → D.reads disk ≢ [] }
-    ensures made { D.tells → OnOk result.1 (IsMade D.reads D.image (header_bytes header.now) (D.reads disk) result.0) }
-    ensures reason { IfErr result.1 (HasReason D.tells (header_bytes header.now) (D.reads disk) (D.faults disk) (D.faults result.0) 0 0) }
+    ensures made { D.tells
+        → OnOk result.1 (IsMade D.reads D.image (header_bytes header.now) (D.reads disk) result.0) }
+    ensures reason { IfErr result.1
+        (HasReason D.tells (header_bytes header.now) (D.reads disk) (D.faults disk)
+        (D.faults result.0) 0 0) }
     ensures kept { D.tells → IfErr result.1 (StaysAt D.reads D.image (Some disk) (Some result.0)) }
     ensures count { D.faults disk ≤ D.faults result.0 }
 {

@@ -53,11 +53,13 @@ after_none p xs none =
 -- each part of printable bytes is printable
 pub all_front : (p : ℕ → Bool) (xs : List ℕ) (n : ℕ) → list_all p xs ≡ true → list_all p (take n xs) ≡ true
 all_front p xs n all =
-    and_first (list_all p (take n xs)) (list_all p (drop n xs)) (sym (list_all-append p (take n xs) (drop n xs)) ∙ ap (λ (l : List ℕ). list_all p l) (take-append-drop n xs) ∙ all)
+    and_first (list_all p (take n xs)) (list_all p (drop n xs)) (sym (list_all-append p (take n xs) (drop n xs))
+    ∙ ap (λ (l : List ℕ). list_all p l) (take-append-drop n xs) ∙ all)
 
 pub all_rest : (p : ℕ → Bool) (xs : List ℕ) (n : ℕ) → list_all p xs ≡ true → list_all p (drop n xs) ≡ true
 all_rest p xs n all =
-    and_second (list_all p (take n xs)) (list_all p (drop n xs)) (sym (list_all-append p (take n xs) (drop n xs)) ∙ ap (λ (l : List ℕ). list_all p l) (take-append-drop n xs) ∙ all)
+    and_second (list_all p (take n xs)) (list_all p (drop n xs)) (sym (list_all-append p (take n xs) (drop n xs))
+    ∙ ap (λ (l : List ℕ). list_all p l) (take-append-drop n xs) ∙ all)
 
 -- a printable byte is ASCII
 printable_is_ascii : (b : ℕ) → is_printable b ≡ true → b < 128

@@ -1,5 +1,6 @@
 -- The first line of bytes, by where the first line feed stands.
-use Rattle.std.proofs.Common.{◌≡◌, ℕ, ◌+◌, ◌<◌, ◌≤◌, ◌==◌, true, false, List, [], ◌∷◌, ◌++◌, length, take, drop, get_or, refl, sym, ap, ◌∙◌, arith, append_assoc, length-append}
+use Rattle.std.proofs.Common.{◌≡◌, ℕ, ◌+◌, ◌<◌, ◌≤◌, ◌==◌, true, false, List, [], ◌∷◌, ◌++◌, length, take, drop, get_or, refl, sym, ap, ◌∙◌, arith}
+use Rattle.std.proofs.Common.{append_assoc, length-append}
 use Rattle.std.specs.Prelude.{if◌then◌else◌, nat_lt}
 use Rattle.std.proofs.lemmas.Bool.{eq-eqb, ne_eqb}
 use Rattle.std.proofs.lemmas.Bool.Decides.{nat_tests}
@@ -31,13 +32,16 @@ feed_before bytes left n feed =
     }
 
 -- a line that has begun is the first, with all that it has
-begun : (line bytes : List ℕ) → 4096 < length line → (first : TextLine) × (rest : List TextLine) × (lines_after line bytes ≡ first ∷ rest) × (is_too_long first ≡ true)
+begun : (line bytes : List ℕ) → 4096 < length line → (first : TextLine) × (rest : List TextLine) × (lines_after line bytes ≡ first ∷ rest)
+    × (is_too_long first ≡ true)
 begun [] bytes long = absurd (omega arith)
 begun (b ∷ line) [] long =
     let too_long : nat_lt 4096 (length (b ∷ line)) ≡ true = grind (arith, nat_tests) in
     (record { bytes = b ∷ line; ended = false }, [], refl, too_long)
 begun (b ∷ line) (c ∷ bytes) long =
-    elim (c == 10) as (λ t. (first : TextLine) × (rest : List TextLine) × ((if t then record { bytes = b ∷ line; ended = true } ∷ lines_after [] bytes else lines_after (b ∷ line ++ c ∷ []) bytes) ≡ first ∷ rest) × (is_too_long first ≡ true)) [
+    elim (c == 10) as (λ t. (first : TextLine) × (rest : List TextLine)
+    × ((if t then record { bytes = b ∷ line; ended = true } ∷ lines_after [] bytes else lines_after (b ∷ line ++ c ∷ []) bytes) ≡ first ∷ rest)
+    × (is_too_long first ≡ true)) [
       | true ↦
           let too_long : nat_lt 4096 (length (b ∷ line)) ≡ true = grind (arith, nat_tests) in
           (record { bytes = b ∷ line; ended = true }, lines_after [] bytes, refl, too_long)
@@ -69,7 +73,8 @@ takes_first bytes n feed fits =
           text_lines-skip bytes n some feed.first
           ∙ ap (λ (l : List ℕ). lines_after (take n bytes) l) split
           ∙ lines_after-feed (take n bytes) (drop (n + 1) bytes) (get_or bytes n 0) (eq-eqb (get_or bytes n 0) 10 here);
-      bytes = sym (take-append-drop n bytes) ∙ ap (λ (l : List ℕ). take n bytes ++ l) (split ∙ ap (λ (b : ℕ). b ∷ drop (n + 1) bytes) here) ∙ sym (append_assoc (take n bytes) (10 ∷ []) (drop (n + 1) bytes));
+      bytes = sym (take-append-drop n bytes) ∙ ap (λ (l : List ℕ). take n bytes ++ l) (split ∙ ap (λ (b : ℕ). b ∷ drop (n + 1) bytes) here)
+          ∙ sym (append_assoc (take n bytes) (10 ∷ []) (drop (n + 1) bytes));
       fits = grind (arith, nat_tests);
       says = refl;
     }

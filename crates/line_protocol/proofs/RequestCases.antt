@@ -16,14 +16,16 @@ and_false false = refl
 choice : Text → Text → Bool → LineRequest
 choice user phrase test = if test then login_as user phrase else other_line
 
-pub login_holds : (text user phrase : Text) → user ≡ before_first is_blank text → phrase ≡ after_first is_blank text → is_login user phrase ≡ true → login_as user phrase ≡ login_of text
+pub login_holds : (text user phrase : Text) → user ≡ before_first is_blank text → phrase ≡ after_first is_blank text → is_login user phrase ≡ true
+    → login_as user phrase ≡ login_of text
 unfolding login_of choice
 login_holds text user phrase front rest holds =
     ap (choice user phrase) (sym holds)
     ∙ ap (λ (u : Text). choice u phrase (is_login u phrase)) front
     ∙ ap (λ (p : Text). choice (before_first is_blank text) p (is_login (before_first is_blank text) p)) rest
 
-pub login_fails : (text user phrase : Text) → user ≡ before_first is_blank text → phrase ≡ after_first is_blank text → is_login user phrase ≡ false → other_line ≡ login_of text
+pub login_fails : (text user phrase : Text) → user ≡ before_first is_blank text → phrase ≡ after_first is_blank text → is_login user phrase ≡ false
+    → other_line ≡ login_of text
 unfolding login_of choice
 login_fails text user phrase front rest fails =
     ap (choice user phrase) (sym fails)
@@ -47,7 +49,8 @@ unprintable line fails = ap (chosen line) (sym fails)
 said : Text → Bool → LineRequest
 said line test = if test then worded (before_first is_blank line) (after_first is_blank line) else lone line
 
-pub word_and_text : (line word text : Text) → list_all is_printable line ≡ true → list_any is_blank line ≡ true → word ≡ before_first is_blank line → text ≡ after_first is_blank line → worded word text ≡ request_of line
+pub word_and_text : (line word text : Text) → list_all is_printable line ≡ true → list_any is_blank line ≡ true → word ≡ before_first is_blank line
+    → text ≡ after_first is_blank line → worded word text ≡ request_of line
 unfolding request_of chosen said
 word_and_text line word text printable blank front rest =
     ap (λ (w : Text). worded w text) front

@@ -37,12 +37,14 @@ search_further bytes from n front behind k below =
       | true ↦ λ earlier. front k (grind (arith, nat_tests))
       | false ↦ λ later.
           let place : k ≡ from + (k - from) = grind (arith, nat_tests) in
-          let same : get_or (drop from bytes) (k - from) 0 ≡ get_or bytes k 0 = get_or-drop from bytes (k - from) 0 ∙ ap (λ (i : ℕ). get_or bytes i 0) (sym place) in
+          let same : get_or (drop from bytes) (k - from) 0 ≡ get_or bytes k 0 =
+          get_or-drop from bytes (k - from) 0 ∙ ap (λ (i : ℕ). get_or bytes i 0) (sym place) in
           λ feed. behind (k - from) (omega arith) (same ∙ feed)
     ] refl
 
 -- the first line feed behind the front that was searched is the first of all
-pub found_behind : (bytes : List ℕ) (from place : ℕ) → from ≤ length bytes → HasNoFeedBelow from bytes → position (λ b. b == 10) (drop from bytes) ≡ Some place → HasFeedAt (from + place) bytes
+pub found_behind : (bytes : List ℕ) (from place : ℕ) → from ≤ length bytes → HasNoFeedBelow from bytes → position (λ b. b == 10) (drop from bytes) ≡ Some place
+    → HasFeedAt (from + place) bytes
 found_behind bytes from place within front is =
     let found = position-Some (λ (b : ℕ). b == 10) (drop from bytes) place 0 is in
     let inside : place < length (drop from bytes) = found.0 in
@@ -53,12 +55,15 @@ found_behind bytes from place within front is =
     }
 
 -- no line feed is there
-pub none_behind : (bytes : List ℕ) (from : ℕ) → from ≤ length bytes → HasNoFeedBelow from bytes → position (λ b. b == 10) (drop from bytes) ≡ None → HasNoFeedBelow (length bytes) bytes
+pub none_behind : (bytes : List ℕ) (from : ℕ) → from ≤ length bytes → HasNoFeedBelow from bytes → position (λ b. b == 10) (drop from bytes) ≡ None
+    → HasNoFeedBelow (length bytes) bytes
 none_behind bytes from within front is =
     let feed : ℕ → Bool = λ b. b == 10 in
-    let past : length (drop from bytes) ≤ position_or_len feed (drop from bytes) = past_end (position_or_len feed (drop from bytes)) (length (drop from bytes)) is in
+    let past : length (drop from bytes) ≤ position_or_len feed (drop from bytes) =
+    past_end (position_or_len feed (drop from bytes)) (length (drop from bytes)) is in
     let all : length bytes ≡ from + length (drop from bytes) = omega (arith, length-drop from bytes) in
-    let whole = search_further bytes from (length (drop from bytes)) front (λ k below. other_byte (get_or (drop from bytes) k 0) (fails_before_first feed (drop from bytes) k 0 (omega arith))) in
+    let whole = search_further bytes from (length (drop from bytes)) front (λ k below.
+    other_byte (get_or (drop from bytes) k 0) (fails_before_first feed (drop from bytes) k 0 (omega arith))) in
     λ k below. whole k (omega arith)
 
 -- what holds in any case holds of none

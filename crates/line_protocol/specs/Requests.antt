@@ -23,9 +23,11 @@ meaning_of Other = other_line
 
 -- whether a user and a phrase make a login: a name of the form of a constant's, and 1 to 256 bytes
 abbrev pub is_login : Text → Text → Bool
-is_login user phrase = is_schema_name user && (nat_le 1 (length phrase) && nat_le (length phrase) 256)
+is_login user phrase =
+    is_schema_name user && (nat_le 1 (length phrase) && nat_le (length phrase) 256)
 
--- the request of the text behind `login `: a name, one blank, and a phrase, which is all of the rest
+-- the request of the text behind `login `: a name, one blank, and a phrase, which is all of the
+-- rest
 unfoldable pub login_of : Text → LineRequest
 login_of text =
     let user = before_first is_blank text in
@@ -48,7 +50,8 @@ lone word =
 
 -- the request of printable bytes
 abbrev pub spoken : Text → LineRequest
-spoken line = if list_any is_blank line then worded (before_first is_blank line) (after_first is_blank line) else lone line
+spoken line = if list_any is_blank line
+    then worded (before_first is_blank line) (after_first is_blank line) else lone line
 
 -- the request of a line
 unfoldable pub request_of : Text → LineRequest

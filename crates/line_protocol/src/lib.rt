@@ -1,11 +1,12 @@
-//! The line protocol of sessions: the lines of a source, the requests that they make, and the replies to them.
+//! The line protocol of sessions: the lines of a source, the requests that they make, and the
+//! replies to them.
 //!
-//! However a source cuts its bytes, the lines are the same, and each is read as one request by a definition; a reply
-//! is written whole or the sink has failed. Nothing here takes memory.
+//! However a source cuts its bytes, the lines are the same, and each is read as one request by a
+//! definition; a reply is written whole or the sink has failed. Nothing here takes memory.
 //!
-//! Read `lines`, which reads a line into a `LineBuffer`, then `request`, `reply` and `login`. `words` parts printable
-//! lines into words and reads numbers, also for scripts, DIMACS and the command line; `LineText` holds a short line
-//! while it is put together.
+//! Read `lines`, which reads a line into a `LineBuffer`, then `request`, `reply` and `login`.
+//! `words` parts printable lines into words and reads numbers, also for scripts, DIMACS and the
+//! command line; `LineText` holds a short line while it is put together.
 #![tactic(auto)]
 
 mod line_text;

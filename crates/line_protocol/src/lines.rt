@@ -1,5 +1,6 @@
 //! Lines out of the pieces that a source gives.
-ghost use Rattle.std.specs.Prelude.{◌≡◌, ◌≢◌, ◌==◌, ℕ, ◌+◌, ◌≤◌, List, [], length, take, position, IfOk, IfSome, IfNone, OnErr};
+ghost use Rattle.std.specs.Prelude.{◌≡◌, ◌≢◌, ◌==◌, ℕ, ◌+◌, ◌≤◌, List, [], length, take, position};
+ghost use Rattle.std.specs.Prelude.{IfOk, IfSome, IfNone, OnErr};
 ghost use Rattle.cqe_base.specs.Lines.{without_return};
 ghost use Rattle.outside.specs.Faults.{HasCause, Rose};
 ghost use Rattle.line_protocol.specs.Buffer.{unread};
@@ -70,7 +71,8 @@ impl LineBuffer {
         }
     }
 
-    /// The line that was read last, without its end. It is empty where the last outcome wasn't `Line`.
+    /// The line that was read last, without its end. It is empty where the last outcome wasn't
+    /// `Line`.
     pub fn line(&self) -> &[u8]
         ensures line { result.now ≡ self.now.line }
         ensures short { length result.now ≤ 4096 }
@@ -144,7 +146,8 @@ impl LineBuffer {
         requires room { length self.old.ahead ≤ 4096 }
         ensures line { self.new.line ≡ [] }
         ensures more { IfOk result (λ n. length self.new.ahead ≡ length self.old.ahead + n) }
-        ensures behind { IfOk result (λ n. self.old.ahead ≡ take (length self.old.ahead) self.new.ahead) }
+        ensures behind { IfOk result
+            (λ n. self.old.ahead ≡ take (length self.old.ahead) self.new.ahead) }
         ensures same { OnErr result (self.new.ahead ≡ self.old.ahead) }
         ensures unread { S.tells →
             unread self.new (S.left source.new) ≡ unread self.old (S.left source.old) }
@@ -183,15 +186,17 @@ fn content_length(bytes: &[u8]) -> usize
     }
 }
 
-/// Reads the next line into the buffer. Lines end with a line feed; a carriage return before that is dropped, and a
-/// rest without a line feed is a line unless it is empty. Give a source the same buffer each time, since the buffer
-/// has what was taken of the lines behind.
+/// Reads the next line into the buffer. Lines end with a line feed; a carriage return before that
+/// is dropped, and a rest without a line feed is a line unless it is empty. Give a source the same
+/// buffer each time, since the buffer has what was taken of the lines behind.
 pub fn read_line<S: Source>(source: &mut S, buffer: &mut LineBuffer) -> LineOutcome
     ensures reads { S.tells → Reads result
-        (unread buffer.old (S.left source.old)) (unread buffer.new (S.left source.new)) buffer.new.line }
+        (unread buffer.old (S.left source.old))
+        (unread buffer.new (S.left source.new)) buffer.new.line }
     ensures held { S.held source.new ≡ S.held source.old }
     ensures later { S.faults source.old ≤ S.faults source.new }
-    ensures cause { result ≡ LineOutcome.ReadFault → Rose (S.faults source.old) (S.faults source.new) }
+    ensures cause { result ≡ LineOutcome.ReadFault
+        → Rose (S.faults source.old) (S.faults source.new) }
 {
     buffer.forget_line();
     let mut searched = 0;

@@ -24,10 +24,13 @@ pub enum Reply {
     Bye,
 }
 
-/// Writes the line of a reply, in one piece where the sink takes it. After a failure a part of the line may be written.
+/// Writes the line of a reply, in one piece where the sink takes it. After a failure a part of the
+/// line may be written.
 pub fn write_reply<K: Sink>(sink: &mut K, reply: &Reply) -> Result<(), Failed>
-    ensures all { K.tells → OnOk result (K.written sink.new ≡ K.written sink.old ++ line_of reply.now) }
-    ensures part { K.tells → OnErr result (AppendsPart (K.written sink.old) (K.written sink.new) (line_of reply.now)) }
+    ensures all { K.tells
+        → OnOk result (K.written sink.new ≡ K.written sink.old ++ line_of reply.now) }
+    ensures part { K.tells
+        → OnErr result (AppendsPart (K.written sink.old) (K.written sink.new) (line_of reply.now)) }
     ensures answers { K.answers sink.new ≡ K.answers sink.old }
     ensures cause { HasCause (K.faults sink.old) (K.faults sink.new) result }
 {

@@ -2,7 +2,8 @@
 ghost use Rattle.std.specs.Prelude.{◌≡◌, true};
 ghost use Rattle.std.specs.List.{list_all};
 ghost use Rattle.line_protocol.specs.Words.{is_printable};
-ghost use Rattle.line_protocol.specs.Requests.{is_login, login_of, lone, meaning_of, request_of, worded};
+ghost use Rattle.line_protocol.specs.Requests.{is_login, login_of, lone, meaning_of, request_of};
+ghost use Rattle.line_protocol.specs.Requests.{worded};
 
 use crate::words::{are_printable, printable_text, split_at_blank};
 use cqe_base::declarations::is_schema_name;
@@ -10,7 +11,8 @@ use cqe_base::declarations::is_schema_name;
 /// What a line asks for.
 #[derive(Clone, Copy, Debug, PartialEq, Eq)]
 pub enum Request<'a> {
-    /// `login NAME PHRASE`: a name of the form of a constant's, and a phrase of 1 to 256 bytes, blanks among them.
+    /// `login NAME PHRASE`: a name of the form of a constant's, and a phrase of 1 to 256 bytes,
+    /// blanks among them.
     Login { user: &'a str, phrase: &'a str },
     /// `ask TEXT`, or `ask` alone, which asks the empty text.
     Ask(&'a str),
@@ -20,7 +22,8 @@ pub enum Request<'a> {
     Other,
 }
 
-/// Reads a line, which is given without its end. One blank ends its first word; further ones belong to the text.
+/// Reads a line, which is given without its end. One blank ends its first word; further ones belong
+/// to the text.
 pub fn read_request(line: &[u8]) -> Request<'_>
     ensures { meaning_of result ≡ request_of line.now }
 {

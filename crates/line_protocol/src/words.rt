@@ -14,7 +14,8 @@ pub fn split_at_blank(bytes: &[u8]) -> Option<(&[u8], &[u8])>
     ensures blank { is_some result ≡ list_any is_blank bytes.now }
     ensures front { IfSome result (λ parts. parts.0.now ≡ before_first is_blank bytes.now) }
     ensures rest { IfSome result (λ parts. parts.1.now ≡ after_first is_blank bytes.now) }
-    ensures printable { IfSome result (λ parts. (list_all is_printable parts.0.now ≡ true) × (list_all is_printable parts.1.now ≡ true)) }
+    ensures printable { IfSome result (λ parts. (list_all is_printable parts.0.now ≡ true)
+        × (list_all is_printable parts.1.now ≡ true)) }
 {
     let blank = first_blank(bytes)?;
     Some((&bytes[..blank], &bytes[blank + 1..]))
@@ -51,7 +52,8 @@ pub fn printable_text(bytes: &[u8]) -> &str
     }
 }
 
-/// The number that one to ten ASCII digits write, leading zeros included, and none for any other word.
+/// The number that one to ten ASCII digits write, leading zeros included, and none for any other
+/// word.
 pub fn number_in(word: &[u8]) -> Option<u64>
     ensures { result ≡ number_in word.now }
 {

@@ -1,5 +1,6 @@
 -- What an append leaves, in terms of records.
-use Rattle.std.proofs.Common.{◌≡◌, ◌≢◌, ◌⊎◌, inl, inr, Result, Ok, Err, OnOk, ℕ, ◌+◌, ◌/◌, ◌%◌, ◌<◌, ◌≤◌, ◌^◌, List, [], ◌∷◌, ◌++◌, length, take, drop, get_or, sym, ◌∙◌, ap, subst, arith, append_assoc, length-append, length-take, take-append-drop}
+use Rattle.std.proofs.Common.{◌≡◌, ◌≢◌, ◌⊎◌, inl, inr, Result, Ok, Err, OnOk, ℕ, ◌+◌, ◌/◌, ◌%◌, ◌<◌, ◌≤◌, ◌^◌, List, [], ◌∷◌, ◌++◌, length, take, drop, get_or}
+use Rattle.std.proofs.Common.{sym, ◌∙◌, ap, subst, arith, append_assoc, length-append, length-take, take-append-drop}
 use Rattle.std.proofs.lemmas.List.{take_more, take-take}
 use Rattle.std.proofs.lemmas.Bool.{cases_eq}
 use Rattle.log_journal.specs.Records.{Recorded, record_bytes, IsJournal, Adds, KeepsOrAdds}
@@ -8,7 +9,8 @@ use Rattle.log_journal.specs.Bytes.{IsFront, EndsAt, piece_of, with_piece, IsBet
 use Rattle.log_journal.proofs.Fronts.{front_one, front_append, walked, journal_of, ends_of}
 
 -- a journal's header and records are those that its bytes show
-carried : (header : List ℕ) (before : List Recorded) (bytes : List ℕ) → IsJournal header before bytes → (P : List ℕ → List Recorded → Type 0) → P (take 72 bytes) (records bytes)
+carried : (header : List ℕ) (before : List Recorded) (bytes : List ℕ) → IsJournal header before bytes → (P : List ℕ → List Recorded → Type 0)
+    → P (take 72 bytes) (records bytes)
     → P header before
 carried header before bytes journal P p =
     let found = walked header before bytes journal in
@@ -31,13 +33,15 @@ module _ (bytes : List ℕ) (gate : ℕ) (ends : EndsAt bytes gate) where
   pub reads_journal : IsJournal (take 72 bytes) (records bytes) bytes
   reads_journal = journal_of (take 72 bytes) front (records bytes) (get_or bytes gate 1) (drop (gate + 1) bytes) bytes header_size ends.front ends.closed
       (sym (take-append-drop (gate + 1) bytes) ∙ ap (λ (l : List ℕ). l ++ drop (gate + 1) bytes) (take_more bytes gate 1 ends.within)
-      ∙ append_assoc (take gate bytes) (get_or bytes gate 1 ∷ []) (drop (gate + 1) bytes) ∙ ap (λ (l : List ℕ). l ++ get_or bytes gate 1 ∷ drop (gate + 1) bytes) before_gate)
+      ∙ append_assoc (take gate bytes) (get_or bytes gate 1 ∷ []) (drop (gate + 1) bytes)
+      ∙ ap (λ (l : List ℕ). l ++ get_or bytes gate 1 ∷ drop (gate + 1) bytes) before_gate)
 
   -- up to the gate all is as it was
   pub kept : (c : List ℕ) → take (gate + 1) c ≡ take (gate + 1) bytes → IsJournal (take 72 bytes) (records bytes) c
   kept c same = journal_of (take 72 bytes) front (records bytes) (get_or bytes gate 1) (drop (gate + 1) c) c header_size ends.front ends.closed
       (sym (take-append-drop (gate + 1) c) ∙ ap (λ (l : List ℕ). l ++ drop (gate + 1) c) (same ∙ take_more bytes gate 1 ends.within)
-      ∙ append_assoc (take gate bytes) (get_or bytes gate 1 ∷ []) (drop (gate + 1) c) ∙ ap (λ (l : List ℕ). l ++ get_or bytes gate 1 ∷ drop (gate + 1) c) before_gate)
+      ∙ append_assoc (take gate bytes) (get_or bytes gate 1 ∷ []) (drop (gate + 1) c)
+      ∙ ap (λ (l : List ℕ). l ++ get_or bytes gate 1 ∷ drop (gate + 1) c) before_gate)
 
   module _ (kind : ℕ) (text : List ℕ) (low_kind : 1 ≤ kind) (high_kind : kind ≤ 4) (short : length text ≤ 4096) where
     abbrev pub piece : List ℕ
@@ -59,7 +63,8 @@ module _ (bytes : List ℕ) (gate : ℕ) (ends : EndsAt bytes gate) where
 
     open_gate : (rest c : List ℕ) → c ≡ take gate bytes ++ 1 ∷ piece ++ rest → IsJournal (take 72 bytes) (records bytes ++ (kind, text) ∷ []) c
     open_gate rest c is =
-        journal_of (take 72 bytes) (front ++ 1 ∷ record_bytes kind text) (records bytes ++ (kind, text) ∷ []) 0 rest c header_size new_front (omega arith) (open_split rest c is)
+        journal_of (take 72 bytes) (front ++ 1 ∷ record_bytes kind text) (records bytes ++ (kind, text) ∷ []) 0 rest c header_size new_front (omega arith)
+        (open_split rest c is)
 
     -- behind the open gate the journal has the record
     pub added : (c : List ℕ) → c ≡ with_piece bytes gate 1 piece → Adds bytes (kind, text) c
@@ -69,7 +74,8 @@ module _ (bytes : List ℕ) (gate : ℕ) (ends : EndsAt bytes gate) where
     pub ends_behind : (c : List ℕ) → c ≡ with_piece bytes gate 1 piece → length c < 2 ^ 64 → EndsAt c (gate + 4 + length text)
     ends_behind c is fits =
         let rest = drop (gate + 1 + length piece) bytes in
-        ends_of (take 72 bytes) (front ++ 1 ∷ record_bytes kind text) (records bytes ++ (kind, text) ∷ []) 0 rest c header_size new_front (omega arith) (open_split rest c is)
+        ends_of (take 72 bytes) (front ++ 1 ∷ record_bytes kind text) (records bytes ++ (kind, text) ∷ []) 0 rest c header_size new_front (omega arith)
+        (open_split rest c is)
         (gate + 4 + length text) (omega (arith, front_size, length-append front (1 ∷ record_bytes kind text))) fits
 
     -- in between there are the records before, or these and the new one

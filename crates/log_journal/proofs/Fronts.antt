@@ -1,5 +1,6 @@
 -- Bytes that stand for whole records, and journals made of them.
-use Rattle.std.proofs.Common.{◌≡◌, ◌≢◌, ℕ, zero, suc, ◌+◌, ◌-◌, ◌<◌, ◌≤◌, ◌^◌, ◌/◌, ◌%◌, Bool, true, ◌&&◌, nat_le, nat_lt, List, [], ◌∷◌, ◌++◌, length, take, drop, get_or, Some, None, refl, sym, ◌∙◌, ap, subst, arith, append_assoc, length-append, if◌then◌else◌}
+use Rattle.std.proofs.Common.{◌≡◌, ◌≢◌, ℕ, zero, suc, ◌+◌, ◌-◌, ◌<◌, ◌≤◌, ◌^◌, ◌/◌, ◌%◌, Bool, true, ◌&&◌, nat_le, nat_lt, List, [], ◌∷◌, ◌++◌, length, take}
+use Rattle.std.proofs.Common.{drop, get_or, Some, None, refl, sym, ◌∙◌, ap, subst, arith, append_assoc, length-append, if◌then◌else◌}
 use Rattle.std.proofs.lemmas.List.{append-nil, take_at, drop_at, get_or-append_right}
 use Rattle.std.proofs.lemmas.Bool.{and_parts}
 use Rattle.std.proofs.lemmas.Bool.Decides.{nat_tests}
@@ -116,7 +117,8 @@ written_whole ((kind, text) ∷ all) each number gate rest =
     let low = length text % 256 in
     let behind : List ℕ = written all ++ gate ∷ rest in
     let more : 0 < length behind = omega (arith, length-append (written all) (gate ∷ rest)) in
-    ap (λ (l : List ℕ). if is_whole kind high low l then damaged (number + 1) (length_of high low) l else Some number) (append_assoc text (written all) (gate ∷ rest))
+    ap (λ (l : List ℕ). if is_whole kind high low l then damaged (number + 1) (length_of high low) l
+    else Some number) (append_assoc text (written all) (gate ∷ rest))
     ∙ ap (λ b. if b then damaged (number + 1) (length_of high low) (text ++ behind) else Some number) (record_whole kind text behind parts.0 more)
     ∙ damaged_skip (number + 1) (length_of high low) text behind size
     ∙ written_whole all parts.1 (number + 1) gate rest
@@ -129,7 +131,8 @@ front_whole front all is number gate rest = ap (λ (l : List ℕ). damaged numbe
 -- the walk finds what a journal says
 module _ (header : List ℕ) (all : List Recorded) (bytes : List ℕ) (journal : IsJournal header all bytes) where
   walk_size : length bytes ≡ 72 + length (written all) + 1 + length journal.rest
-  walk_size = ap length journal.is ∙ omega (arith, journal.size, length-append (header ++ written all) (journal.gate ∷ journal.rest), length-append header (written all))
+  walk_size = ap length journal.is
+      ∙ omega (arith, journal.size, length-append (header ++ written all) (journal.gate ∷ journal.rest), length-append header (written all))
 
   walk_behind : drop 72 bytes ≡ written all ++ journal.gate ∷ journal.rest
   walk_behind = ap (λ (l : List ℕ). drop 72 l) (journal.is ∙ append_assoc header (written all) (journal.gate ∷ journal.rest))
@@ -168,16 +171,19 @@ module _ (header front : List ℕ) (all : List Recorded) (gate : ℕ) (rest c : 
       let before : take place c ≡ header ++ front = ap (λ (l : List ℕ). take place l) split ∙ take_at (header ++ front) (gate ∷ rest) place front_size in
       let drops : drop 72 (take place c) ≡ front = ap (λ (l : List ℕ). drop 72 l) before ∙ drop_at header front 72 size in
       let none_left : place - place ≡ 0 = omega arith in
-      let byte : get_or c place 1 ≡ gate = ap (λ (l : List ℕ). get_or l place 1) split ∙ get_or-append_right (header ++ front) (gate ∷ rest) place place 1 front_size (omega arith)
+      let byte : get_or c place 1 ≡ gate =
+      ap (λ (l : List ℕ). get_or l place 1) split ∙ get_or-append_right (header ++ front) (gate ∷ rest) place place 1 front_size (omega arith)
       ∙ ap (λ (n : ℕ). get_or (gate ∷ rest) n 1) none_left in
       record {
         behind = omega (arith, is);
         within = omega (arith, is, long);
-        front = subst (λ (l : List ℕ). IsFront l (records c)) (sym drops) (subst (λ (l : List Recorded). IsFront front l) (sym (walked header all c journal_of).are) is_front);
+        front = subst (λ (l : List ℕ). IsFront l (records c)) (sym drops)
+            (subst (λ (l : List Recorded). IsFront front l) (sym (walked header all c journal_of).are) is_front);
         closed = λ one. shut (sym byte ∙ one);
         fits = fits;
       }
 
 -- a header and a closed gate
 pub empty_journal_of : (header c : List ℕ) → length header ≡ 72 → c ≡ header ++ 0 ∷ [] → IsJournal header [] c
-empty_journal_of header c size is = journal_of header [] [] 0 [] c size front_none (omega arith) (is ∙ ap (λ (l : List ℕ). l ++ 0 ∷ []) (sym (append-nil header)))
+empty_journal_of header c size is =
+    journal_of header [] [] 0 [] c size front_none (omega arith) (is ∙ ap (λ (l : List ℕ). l ++ 0 ∷ []) (sym (append-nil header)))

@@ -1,18 +1,21 @@
 -- What the writes of an append leave of the bytes.
-use Rattle.std.proofs.Common.{◌≡◌, ◌⊎◌, inl, inr, ⊎_elim, ℕ, ◌+◌, ◌<◌, ◌≤◌, List, [], ◌∷◌, ◌++◌, length, take, drop, get_or, sym, ◌∙◌, ap, subst, arith, append_assoc, length-append, length-take, take-append-drop}
+use Rattle.std.proofs.Common.{◌≡◌, ◌⊎◌, inl, inr, ⊎_elim, ℕ, ◌+◌, ◌<◌, ◌≤◌, List, [], ◌∷◌, ◌++◌, length, take, drop, get_or, sym, ◌∙◌, ap, subst, arith}
+use Rattle.std.proofs.Common.{append_assoc, length-append, length-take, take-append-drop}
 use Rattle.std.proofs.lemmas.List.{take_at, drop_at, take_more, drop_more, take-take}
 use Rattle.outside.specs.Disk.{Holds, Torn, Follows, Only}
 use Rattle.outside.specs.RecordLaws.{torn_none}
 use Rattle.log_journal.specs.Bytes.{with_piece, IsBetween}
 
 -- a write over bytes that are all on the disk
-pub torn_only : (at n : ℕ) (bytes : List ℕ) (old new : List ℕ → Type 0) → Only bytes old → Follows (Torn at n) old new → (c : List ℕ) → new c → Torn at n bytes c
+pub torn_only : (at n : ℕ) (bytes : List ℕ) (old new : List ℕ → Type 0) → Only bytes old → Follows (Torn at n) old new → (c : List ℕ) → new c
+    → Torn at n bytes c
 torn_only at n bytes old new only follows c is =
     let from = follows c is in
     subst (λ d. Torn at n d c) (only from.0 from.1) from.2
 
 -- at its moments
-pub torn_moments : (at n : ℕ) (bytes : List ℕ) (old new since : List ℕ → Type 0) → Only bytes old → Follows (Torn at n) old new → ((c : List ℕ) → since c → old c ⊎ new c)
+pub torn_moments : (at n : ℕ) (bytes : List ℕ) (old new since : List ℕ → Type 0) → Only bytes old → Follows (Torn at n) old new
+    → ((c : List ℕ) → since c → old c ⊎ new c)
     → (c : List ℕ) → since c → Torn at n bytes c
 torn_moments at n bytes old new since only follows moments c is =
     ⊎_elim (λ was. subst (λ d. Torn at n bytes d) (sym (only c was)) (torn_none at n bytes)) (torn_only at n bytes old new only follows c) (moments c is)
@@ -60,7 +63,8 @@ module _ (bytes : List ℕ) (gate : ℕ) (within : gate < length bytes) (piece :
       let behind : drop gate kept ≡ left ∷ (piece ++ tail) =
       drop_more kept gate 0 (omega (arith, long, kept_size)) ∙ ap (λ (l : List ℕ). left ∷ l) (torn.after ∙ back_of byte) in
       let whole : kept ≡ take gate bytes ++ left ∷ (piece ++ tail) =
-      sym (take-append-drop gate kept) ∙ ap (λ (l : List ℕ). l ++ drop gate kept) (torn.before ∙ front_of byte) ∙ ap (λ (l : List ℕ). take gate bytes ++ l) behind in
+      sym (take-append-drop gate kept) ∙ ap (λ (l : List ℕ). l ++ drop gate kept) (torn.before ∙ front_of byte)
+      ∙ ap (λ (l : List ℕ). take gate bytes ++ l) behind in
       inr (
         left,
         tail ++ more,

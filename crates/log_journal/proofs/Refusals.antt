@@ -14,7 +14,8 @@ module _ (header : Header) (all : List Recorded) (bytes : List ℕ) (journal : I
       let walk = walked (header_bytes header) all bytes journal in
       ⊎_elim
       (λ few. absurd (omega (arith, few, walk.long)))
-      (λ other. other (sym (take-take 8 72 bytes (omega arith)) ∙ ap (λ (l : List ℕ). take 8 l) walk.begins ∙ take_at first_eight (header.policy ++ header.facts) 8 refl))
+      (λ other. other (sym (take-take 8 72 bytes (omega arith)) ∙ ap (λ (l : List ℕ). take 8 l) walk.begins
+      ∙ take_at first_eight (header.policy ++ header.facts) 8 refl))
       refused
   unrefused OtherPolicy refused = refused.2 (walked (header_bytes header) all bytes journal).begins
   unrefused (Damaged number) refused = let e : None ≡ Some number = sym (walked (header_bytes header) all bytes journal).whole ∙ refused.2 in cc

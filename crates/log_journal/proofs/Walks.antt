@@ -1,5 +1,6 @@
 -- Bytes through which a reader walks with no damage are a journal.
-use Rattle.std.proofs.Common.{◌≡◌, ◌≢◌, ℕ, zero, suc, ◌+◌, ◌<◌, ◌≤◌, Bool, true, false, ◌&&◌, ◌==◌, nat_le, nat_lt, List, [], ◌∷◌, ◌++◌, length, take, drop, Some, None, refl, sym, ◌∙◌, ap, subst, arith, append_assoc, length-take, length-drop, take-append-drop, if◌then◌else◌}
+use Rattle.std.proofs.Common.{◌≡◌, ◌≢◌, ℕ, zero, suc, ◌+◌, ◌<◌, ◌≤◌, Bool, true, false, ◌&&◌, ◌==◌, nat_le, nat_lt, List, [], ◌∷◌, ◌++◌, length, take, drop}
+use Rattle.std.proofs.Common.{Some, None, refl, sym, ◌∙◌, ap, subst, arith, append_assoc, length-take, length-drop, take-append-drop, if◌then◌else◌}
 use Rattle.std.proofs.lemmas.Bool.{and_parts}
 use Rattle.std.proofs.lemmas.Bool.Decides.{nat_tests}
 use Rattle.log_journal.specs.Records.{Recorded, IsJournal}
@@ -26,7 +27,8 @@ pub record IsWhole (kind high low : ℕ) (rest : List ℕ) : Type 0 where
 
 whole_shows : (kind high low : ℕ) (rest : List ℕ) → is_whole kind high low rest ≡ true → IsWhole kind high low rest
 whole_shows kind high low rest is =
-    let parts = and_parts ((nat_le 1 kind && nat_le kind 4) && nat_lt low 256) (nat_le (length_of high low) 4096 && nat_lt (length_of high low) (length rest)) is in
+    let parts = and_parts ((nat_le 1 kind && nat_le kind 4) && nat_lt low 256) (nat_le (length_of high low) 4096
+    && nat_lt (length_of high low) (length rest)) is in
     let front = and_parts (nat_le 1 kind && nat_le kind 4) (nat_lt low 256) parts.0 in
     let kinds = and_parts (nat_le 1 kind) (nat_le kind 4) front.0 in
     let sizes = and_parts (nat_le (length_of high low) 4096) (nat_lt (length_of high low) (length rest)) parts.1 in
@@ -69,31 +71,38 @@ module _ (kind high low : ℕ) (rest : List ℕ) where
   text_size long = omega (arith, length-take size rest, long)
 
   -- a whole record, and what follows it
-  next_split : IsWhole kind high low rest → IsSplit (opened 0 (drop size rest)) (drop size rest) → IsSplit ((kind, take size rest) ∷ opened size rest) (1 ∷ kind ∷ high ∷ low ∷ rest)
+  next_split : IsWhole kind high low rest → IsSplit (opened 0 (drop size rest)) (drop size rest)
+      → IsSplit ((kind, take size rest) ∷ opened size rest) (1 ∷ kind ∷ high ∷ low ∷ rest)
   next_split whole split =
       let text = take size rest in
-      let behind : opened size rest ≡ opened 0 (drop size rest) = ap (λ (l : List ℕ). opened size l) parts_of ∙ opened_skip size text (drop size rest) (text_size whole.long) in
+      let behind : opened size rest ≡ opened 0 (drop size rest) =
+      ap (λ (l : List ℕ). opened size l) parts_of ∙ opened_skip size text (drop size rest) (text_size whole.long) in
       subst (λ (l : List Recorded). IsSplit ((kind, text) ∷ l) (1 ∷ kind ∷ high ∷ low ∷ rest)) (sym behind) (record {
         front = (1 ∷ kind ∷ high ∷ low ∷ text) ++ split.front;
         is_front = front_append (1 ∷ kind ∷ high ∷ low ∷ text) split.front ((kind, text) ∷ []) (opened 0 (drop size rest))
-            (front_one kind high low text (text_size whole.long) whole.low_byte whole.low_kind whole.high_kind (omega (arith, text_size whole.long, whole.short))) split.is_front;
+            (front_one kind high low text (text_size whole.long) whole.low_byte whole.low_kind whole.high_kind
+            (omega (arith, text_size whole.long, whole.short))) split.is_front;
         gate = split.gate;
         rest = split.rest;
         closed = split.closed;
-        is = ap (λ (l : List ℕ). 1 ∷ kind ∷ high ∷ low ∷ l) (parts_of ∙ ap (λ (l : List ℕ). text ++ l) split.is ∙ sym (append_assoc text split.front (split.gate ∷ split.rest)));
+        is = ap (λ (l : List ℕ). 1 ∷ kind ∷ high ∷ low ∷ l) (parts_of ∙ ap (λ (l : List ℕ). text ++ l) split.is
+            ∙ sym (append_assoc text split.front (split.gate ∷ split.rest)));
       })
 
   -- at a gate
-  gate_split : (gate number : ℕ) → (IsWhole kind high low rest → damaged (number + 1) 0 (drop size rest) ≡ None → IsSplit (opened 0 (drop size rest)) (drop size rest))
+  gate_split : (gate number : ℕ)
+      → (IsWhole kind high low rest → damaged (number + 1) 0 (drop size rest) ≡ None → IsSplit (opened 0 (drop size rest)) (drop size rest))
       → damaged number 0 (gate ∷ kind ∷ high ∷ low ∷ rest) ≡ None → IsSplit (opened 0 (gate ∷ kind ∷ high ∷ low ∷ rest)) (gate ∷ kind ∷ high ∷ low ∷ rest)
   gate_split gate number further none = by_gate (gate == 1) refl
     where
-      by_whole : gate ≡ 1 → (t : Bool) → is_whole kind high low rest ≡ t → (if t then damaged (number + 1) size rest else Some number) ≡ None → IsSplit ((kind, take size rest) ∷ opened size rest) (gate ∷ kind ∷ high ∷ low ∷ rest)
+      by_whole : gate ≡ 1 → (t : Bool) → is_whole kind high low rest ≡ t → (if t then damaged (number + 1) size rest else Some number) ≡ None
+          → IsSplit ((kind, take size rest) ∷ opened size rest) (gate ∷ kind ∷ high ∷ low ∷ rest)
       by_whole one false is none = absurd cc
       by_whole one true is none =
           let whole = whole_shows kind high low rest is in
           let rest_none : damaged (number + 1) 0 (drop size rest) ≡ None =
-          sym (damaged_skip (number + 1) size (take size rest) (drop size rest) (text_size whole.long)) ∙ ap (λ (l : List ℕ). damaged (number + 1) size l) (sym parts_of) ∙ none in
+          sym (damaged_skip (number + 1) size (take size rest) (drop size rest) (text_size whole.long))
+          ∙ ap (λ (l : List ℕ). damaged (number + 1) size l) (sym parts_of) ∙ none in
           subst (λ g. IsSplit ((kind, take size rest) ∷ opened size rest) (g ∷ kind ∷ high ∷ low ∷ rest)) (sym one) (next_split whole (further whole rest_none))
 
       by_gate : (t : Bool) → (gate == 1) ≡ t → IsSplit (opened 0 (gate ∷ kind ∷ high ∷ low ∷ rest)) (gate ∷ kind ∷ high ∷ low ∷ rest)
@@ -103,8 +112,10 @@ module _ (kind high low : ℕ) (rest : List ℕ) where
           shut is one = grind (arith, nat_tests)
       by_gate true is =
           let one : gate ≡ 1 = grind (arith, nat_tests) in
-          let opens : opened 0 (gate ∷ kind ∷ high ∷ low ∷ rest) ≡ (kind, take size rest) ∷ opened size rest = ap (λ (b : Bool). if b then (kind, take size rest) ∷ opened size rest else []) is in
-          let left = sym (ap (λ (b : Bool). if b then (if is_whole kind high low rest then damaged (number + 1) size rest else Some number) else None) is) ∙ none in
+          let opens : opened 0 (gate ∷ kind ∷ high ∷ low ∷ rest) ≡ (kind, take size rest) ∷ opened size rest =
+          ap (λ (b : Bool). if b then (kind, take size rest) ∷ opened size rest else []) is in
+          let left =
+          sym (ap (λ (b : Bool). if b then (if is_whole kind high low rest then damaged (number + 1) size rest else Some number) else None) is) ∙ none in
           subst (λ (l : List Recorded). IsSplit l (gate ∷ kind ∷ high ∷ low ∷ rest)) (sym opens) (by_whole one (is_whole kind high low rest) refl left)
 
 -- from a gate on
@@ -116,12 +127,14 @@ split_at (suc fuel) number (gate ∷ a ∷ []) few more none = closes gate (a �
 split_at (suc fuel) number (gate ∷ a ∷ b ∷ []) few more none = closes gate (a ∷ b ∷ []) (not_open gate number none)
 split_at (suc fuel) number (gate ∷ kind ∷ high ∷ low ∷ rest) few more none =
     gate_split kind high low rest gate number
-    (λ whole left. split_at fuel (number + 1) (drop (length_of high low) rest) (omega (arith, few, length-drop (length_of high low) rest)) (omega (arith, whole.long, length-drop (length_of high low) rest)) left)
+    (λ whole left. split_at fuel (number + 1) (drop (length_of high low) rest) (omega (arith, few, length-drop (length_of high low) rest))
+    (omega (arith, whole.long, length-drop (length_of high low) rest)) left)
     none
 
 unwalked : (header : List ℕ) (all : List Recorded) (bytes : List ℕ) → IsWalked header all bytes → IsJournal header all bytes
 unwalked header all bytes walk =
-    let split = split_at (length bytes + 1) 0 (drop 72 bytes) (omega (arith, length-drop 72 bytes, walk.long)) (omega (arith, length-drop 72 bytes, walk.long)) walk.whole in
+    let split = split_at (length bytes + 1) 0 (drop 72 bytes) (omega (arith, length-drop 72 bytes, walk.long))
+    (omega (arith, length-drop 72 bytes, walk.long)) walk.whole in
     journal_of header split.front all split.gate split.rest bytes (omega (arith, ap length walk.begins, length-take 72 bytes, walk.long))
     (subst (λ (l : List Recorded). IsFront split.front l) walk.are split.is_front) split.closed
     (sym (take-append-drop 72 bytes) ∙ (λ i. walk.begins i ++ split.is i) ∙ sym (append_assoc header split.front (split.gate ∷ split.rest)))

@@ -1,5 +1,7 @@
 -- What a window on a disk shows of the record at a gate.
-use Rattle.std.proofs.Common.{◌≡◌, ◌≢◌, ◌⊎◌, inl, inr, ℕ, zero, suc, ◌+◌, ◌-◌, ◌<◌, ◌≤◌, ◌^◌, Bool, true, false, Option, Some, None, Result, Ok, Err, IfOk, IfErr, IfSome, List, [], ◌∷◌, ◌++◌, ◌==◌, ◌&&◌, nat_le, nat_lt, length, take, drop, refl, sym, ◌∙◌, ap, subst, arith, append_assoc, length-append, length-take, length-drop, take-append-drop, slice_index_or, min, if◌then◌else◌}
+use Rattle.std.proofs.Common.{◌≡◌, ◌≢◌, ◌⊎◌, inl, inr, ℕ, zero, suc, ◌+◌, ◌-◌, ◌<◌, ◌≤◌, ◌^◌, Bool, true, false, Option, Some, None, Result, Ok, Err, IfOk}
+use Rattle.std.proofs.Common.{IfErr, IfSome, List, [], ◌∷◌, ◌++◌, ◌==◌, ◌&&◌, nat_le, nat_lt, length, take, drop, refl, sym, ◌∙◌, ap, subst, arith}
+use Rattle.std.proofs.Common.{append_assoc, length-append, length-take, length-drop, take-append-drop, slice_index_or, min, if◌then◌else◌}
 use Rattle.std.proofs.lemmas.List.{append-nil, drop_at, take_at, drop-drop, take_rest, take-take, take_min}
 use Rattle.std.proofs.lemmas.Option.{none-some}
 use Rattle.std.proofs.lemmas.Bool.Decides.{nat_tests}
@@ -39,9 +41,11 @@ damaged_grows number zero (gate ∷ kind ∷ high ∷ low ∷ rest) found is =
 
 -- a record that is short enough is whole in a long window where it is whole
 whole_alike : (kind high low : ℕ) (rest tail : List ℕ) → 4097 ≤ length rest → is_whole kind high low (rest ++ tail) ≡ is_whole kind high low rest
-whole_alike kind high low rest tail long = ap (λ b. ((nat_le 1 kind && nat_le kind 4) && nat_lt low 256) && b) (by_size (length_of high low) (nat_le (length_of high low) 4096) refl)
+whole_alike kind high low rest tail long =
+    ap (λ b. ((nat_le 1 kind && nat_le kind 4) && nat_lt low 256) && b) (by_size (length_of high low) (nat_le (length_of high low) 4096) refl)
   where
-    by_size : (size : ℕ) (short : Bool) → nat_le size 4096 ≡ short → (nat_le size 4096 && nat_lt size (length (rest ++ tail))) ≡ (nat_le size 4096 && nat_lt size (length rest))
+    by_size : (size : ℕ) (short : Bool) → nat_le size 4096 ≡ short
+        → (nat_le size 4096 && nat_lt size (length (rest ++ tail))) ≡ (nat_le size 4096 && nat_lt size (length rest))
     by_size size false is = ap (λ b. b && nat_lt size (length (rest ++ tail))) is ∙ sym (ap (λ b. b && nat_lt size (length rest)) is)
     by_size size true is =
         let bound : size ≤ 4096 = grind (arith, nat_tests) in
@@ -105,14 +109,16 @@ none_left : (l : List ℕ) → length l ≡ 0 → l ≡ []
 none_left [] is = refl
 none_left (a ∷ l) is = absurd (omega arith)
 
-pub window_of : (disk : List ℕ) (gate n : ℕ) (old new window : List ℕ) → length old ≡ 4101 → gate < length disk → Fills disk gate n old new → window ≡ take n new
+pub window_of : (disk : List ℕ) (gate n : ℕ) (old new window : List ℕ) → length old ≡ 4101 → gate < length disk → Fills disk gate n old new
+    → window ≡ take n new
     → IsWindow window (drop gate disk)
 window_of disk gate n old new window size within fills is =
     let left : length (drop gate disk) ≡ length disk - gate = length-drop gate disk in
     let n_is : n ≡ min 4101 (length disk - gate) = fills.count ∙ ap (λ (k : ℕ). min k (length disk - gate)) size in
     let bound : n ≤ length (drop gate disk) = omega (arith, n_is, left) in
     let front_size : length (take n (drop gate disk)) ≡ n = omega (arith, length-take n (drop gate disk), bound) in
-    let window_is : window ≡ take n (drop gate disk) = is ∙ ap (λ (l : List ℕ). take n l) fills.piece ∙ take_at (take n (drop gate disk)) (drop n old) n front_size in
+    let window_is : window ≡ take n (drop gate disk) =
+    is ∙ ap (λ (l : List ℕ). take n l) fills.piece ∙ take_at (take n (drop gate disk)) (drop n old) n front_size in
     let window_size : length window ≡ n = ap length window_is ∙ front_size in
     let rest_size : length (drop n (drop gate disk)) ≡ length disk - gate - n = omega (arith, length-drop n (drop gate disk), left) in
     record {
@@ -143,14 +149,16 @@ pub closed_in : (window bytes : List ℕ) → IsWindow window bytes → slice_in
 closed_in window bytes is shut one = shut (sym (same_first window is.tail is.more) ∙ sym (ap (λ (l : List ℕ). slice_index_or l 0 0) is.split) ∙ one)
 
 -- one record more is read
-pub goes_on : (disk : List ℕ) (all all' : List Recorded) (gate next : ℕ) (record' : Record) → SoFar disk all (drop gate disk) → HasRecord (drop gate disk) record'
+pub goes_on : (disk : List ℕ) (all all' : List Recorded) (gate next : ℕ) (record' : Record) → SoFar disk all (drop gate disk)
+    → HasRecord (drop gate disk) record'
     → all' ≡ all ++ recorded record' ∷ [] → next ≡ gate + (length record'.text.items + 4) → SoFar disk all' (drop next disk)
 goes_on disk all all' gate next record' so_far has grown is =
     let text = record'.text.items in
     let one : slice_index_or (drop gate disk) 0 0 ≡ 1 = ap (λ (l : List ℕ). slice_index_or l 0 0) has.gate in
     let behind : has.behind ≡ take (length (drop gate disk) - 1) (drop 1 (drop gate disk)) =
     ap (λ (l : List ℕ). drop 1 l) (sym has.gate) ∙ sym (take_rest (drop gate disk) 1) in
-    let opened : drop gate disk ≡ (1 ∷ record'.kind ∷ has.starts.high ∷ has.starts.low ∷ text) ++ has.rest = has.gate ∙ ap (λ (l : List ℕ). 1 ∷ l) has.starts.split in
+    let opened : drop gate disk ≡ (1 ∷ record'.kind ∷ has.starts.high ∷ has.starts.low ∷ text) ++ has.rest =
+    has.gate ∙ ap (λ (l : List ℕ). 1 ∷ l) has.starts.split in
     let rest_is : has.rest ≡ drop next disk =
     sym (drop_at (1 ∷ record'.kind ∷ has.starts.high ∷ has.starts.low ∷ text) has.rest (length text + 4) (omega arith))
     ∙ ap (λ (l : List ℕ). drop (length text + 4) l) (sym opened) ∙ drop-drop (length text + 4) gate disk ∙ ap (λ (n : ℕ). drop n disk) (sym is) in
@@ -158,7 +166,8 @@ goes_on disk all all' gate next record' so_far has grown is =
     (one_more disk all all' (drop gate disk) has.behind record'.kind text text has.rest so_far one behind has.starts refl grown)
 
 -- the next gate has a place
-pub next_fits : (disk : List ℕ) (gate : ℕ) (record' : Record) → HasRecord (drop gate disk) record' → length disk < 2 ^ 64 → gate + (length record'.text.items + 4) < 2 ^ 64
+pub next_fits : (disk : List ℕ) (gate : ℕ) (record' : Record) → HasRecord (drop gate disk) record' → length disk < 2 ^ 64
+    → gate + (length record'.text.items + 4) < 2 ^ 64
 next_fits disk gate record' has fits =
     omega (
       arith,
@@ -171,7 +180,8 @@ next_fits disk gate record' has fits =
     )
 
 -- all is read at the closed gate
-pub is_read : (disk : List ℕ) (all : List Recorded) (gate : ℕ) → 73 ≤ length disk → length disk < 2 ^ 64 → SoFar disk all (drop gate disk) → slice_index_or (drop gate disk) 0 0 ≢ 1
+pub is_read : (disk : List ℕ) (all : List Recorded) (gate : ℕ) → 73 ≤ length disk → length disk < 2 ^ 64 → SoFar disk all (drop gate disk)
+    → slice_index_or (drop gate disk) 0 0 ≢ 1
     → IsRead disk all gate
 is_read disk all gate long fits so_far shut =
     let place : length disk - length (drop gate disk) ≡ gate = omega (arith, length-drop gate disk, so_far.more) in
@@ -182,11 +192,13 @@ pub stops_at : (disk : List ℕ) (all : List Recorded) (rest : List ℕ) → 73 
     → damaged 0 0 (drop 72 disk) ≡ Some (length all)
 stops_at disk all [] long so_far stops = absurd (omega (arith, so_far.more))
 stops_at disk all (gate ∷ tail) long so_far stops =
-    ap (λ (l : List ℕ). damaged 0 0 l) (drop_72 disk all (gate ∷ tail) long so_far) ∙ front_whole so_far.front all so_far.is_front 0 gate tail ∙ stops (0 + length all)
+    ap (λ (l : List ℕ). damaged 0 0 l) (drop_72 disk all (gate ∷ tail) long so_far) ∙ front_whole so_far.front all so_far.is_front 0 gate tail
+    ∙ stops (0 + length all)
     ∙ ap (λ (n : ℕ). Some n) (omega arith)
 
 -- the record that is found in a window, and why none is
-pub found_in : (window bytes : List ℕ) → IsWindow window bytes → (result : Result (Option Record) OpenError) → IfOk result (λ found. IfSome found (λ record'. HasRecord window record'))
+pub found_in : (window bytes : List ℕ) → IsWindow window bytes → (result : Result (Option Record) OpenError)
+    → IfOk result (λ found. IfSome found (λ record'. HasRecord window record'))
     → IfOk result (λ found. IfSome found (λ record'. HasRecord bytes record'))
 found_in window bytes is (Ok (Some record')) has = record_in window bytes record' is has
 found_in window bytes is (Ok None) has = has
@@ -201,7 +213,8 @@ stopped_in told window bytes number before now is (Err why) (inr stops) =
     subst (λ (w : OpenError). IsStopped told bytes number before now w) (sym stops.0) (refl, λ t. damaged_in window bytes (is t) (stops.1 (is t).more))
 
 -- the first 73 bytes of a disk, read into a piece of that size
-pub start_of : (disk disk' : List ℕ) (n : ℕ) (old new start : List ℕ) → disk' ≡ disk → length old ≡ 73 → Fills disk' 0 n old new → start ≡ take n new → start ≡ take 73 disk
+pub start_of : (disk disk' : List ℕ) (n : ℕ) (old new start : List ℕ) → disk' ≡ disk → length old ≡ 73 → Fills disk' 0 n old new → start ≡ take n new
+    → start ≡ take 73 disk
 start_of disk disk' n old new start same size fills is =
     let n_is : n ≡ min 73 (length disk') = omega (arith, fills.count, size) in
     let front_size : length (take n disk') ≡ n = omega (arith, length-take n disk', n_is) in
@@ -238,8 +251,10 @@ pub start_begins : (header disk start : List ℕ) → start ≡ take 73 disk →
 start_begins header disk start is begins = sym (begins_as header disk start is 72 (omega arith)) ∙ begins
 
 -- why reading stops at a gate is why the journal is refused
-pub refused_at : (told : Type 0) (disk disk' : List ℕ) (all : List Recorded) (gate number first before now : ℕ) (why : OpenError) → first ≤ before → (told → 73 ≤ length disk) → disk' ≡ disk
-    → (told → SoFar disk' all (drop gate disk')) → number ≡ length all → IsStopped told (drop gate disk') number before now why → IsRefused told (take 72 disk) disk first now why
+pub refused_at : (told : Type 0) (disk disk' : List ℕ) (all : List Recorded) (gate number first before now : ℕ) (why : OpenError) → first ≤ before
+    → (told → 73 ≤ length disk) → disk' ≡ disk
+    → (told → SoFar disk' all (drop gate disk')) → number ≡ length all → IsStopped told (drop gate disk') number before now why
+    → IsRefused told (take 72 disk) disk first now why
 refused_at told disk disk' all gate number first before now Memory on long same so_far count stopped = tt
 refused_at told disk disk' all gate number first before now DiskFault on long same so_far count stopped = rose_since first before now on stopped
 refused_at told disk disk' all gate number first before now (Damaged other) on long same so_far count stopped = λ t. (
@@ -253,7 +268,8 @@ refused_at told disk disk' all gate number first before now NotAJournal on long 
 refused_at told disk disk' all gate number first before now OtherPolicy on long same so_far count stopped = absurd stopped
 
 -- a disk of which nothing was asked
-pub only_none : (reads : List ℕ) (image : List ℕ → Type 0) (now : ℕ) (since : ℕ → List ℕ → Type 0) (faults : ℕ) → ((t : ℕ) (c : List ℕ) → t ≤ now → image c → since t c)
+pub only_none : (reads : List ℕ) (image : List ℕ → Type 0) (now : ℕ) (since : ℕ → List ℕ → Type 0) (faults : ℕ)
+    → ((t : ℕ) (c : List ℕ) → t ≤ now → image c → since t c)
     → ((c : List ℕ) → since now c → image c) → IsOnlyRead reads reads image image now now since since faults faults
 only_none reads image now since faults counts only = record {
   reads = refl;
@@ -264,8 +280,10 @@ only_none reads image now since faults counts only = record {
 }
 
 -- one call behind others
-pub only_then : (reads reads' reads'' : List ℕ) (image image' image'' : List ℕ → Type 0) (before middle now : ℕ) (past since later : ℕ → List ℕ → Type 0) (faults faults' faults'' : ℕ)
-    → IsOnlyRead reads reads' image image' before middle past since faults faults' → IsOnlyRead reads' reads'' image' image'' middle now since later faults' faults''
+pub only_then : (reads reads' reads'' : List ℕ) (image image' image'' : List ℕ → Type 0) (before middle now : ℕ) (past since later : ℕ → List ℕ → Type 0)
+    (faults faults' faults'' : ℕ)
+    → IsOnlyRead reads reads' image image' before middle past since faults faults'
+    → IsOnlyRead reads' reads'' image' image'' middle now since later faults' faults''
     → IsOnlyRead reads reads'' image image'' before now past later faults faults''
 only_then reads reads' reads'' image image' image'' before middle now past since later faults faults' faults'' first second = record {
   reads = second.reads ∙ first.reads;

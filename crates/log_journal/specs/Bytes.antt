@@ -1,5 +1,6 @@
 -- Where the closed gate of a journal stands, and what an append makes of the bytes round it.
-use Rattle.std.specs.Prelude.{◌≡◌, ◌≢◌, ◌⊎◌, true, ℕ, ◌+◌, ◌<◌, ◌≤◌, ◌^◌, List, [], ◌∷◌, ◌++◌, length, take, drop, get_or}
+use Rattle.std.specs.Prelude.{◌≡◌, ◌≢◌, ◌⊎◌, true, ℕ, ◌+◌, ◌<◌, ◌≤◌, ◌^◌, List, [], ◌∷◌, ◌++◌}
+use Rattle.std.specs.Prelude.{length, take, drop, get_or}
 use Rattle.std.specs.List.{list_all}
 use Rattle.log_journal.specs.Records.{Recorded, record_bytes, is_record, written}
 use Rattle.log_journal.specs.Walk.{records}
@@ -23,8 +24,10 @@ piece_of kind text = record_bytes kind text ++ 0 ∷ []
 
 -- the bytes with this byte at the gate and a piece behind it
 abbrev pub with_piece : List ℕ → ℕ → ℕ → List ℕ → List ℕ
-with_piece bytes gate byte piece = take gate bytes ++ byte ∷ piece ++ drop (gate + 1 + length piece) bytes
+with_piece bytes gate byte piece =
+    take gate bytes ++ byte ∷ piece ++ drop (gate + 1 + length piece) bytes
 
 -- All stays up to the gate, it among them, or the piece stands whole behind a gate of any value.
 abbrev pub IsBetween : List ℕ → ℕ → List ℕ → List ℕ → Type 0
-IsBetween bytes gate piece c = (take (gate + 1) c ≡ take (gate + 1) bytes) ⊎ ((byte : ℕ) × (rest : List ℕ) × (c ≡ take gate bytes ++ byte ∷ piece ++ rest))
+IsBetween bytes gate piece c = (take (gate + 1) c ≡ take (gate + 1) bytes)
+    ⊎ ((byte : ℕ) × (rest : List ℕ) × (c ≡ take gate bytes ++ byte ∷ piece ++ rest))

@@ -7,4 +7,6 @@ journal_name directory name = directory ++ (codes "/" ++ (name ++ codes ".log"))
 
 -- In one directory the journals of two users have the same name exactly where the users have.
 abbrev pub JournalsDiffer : Type 0
-JournalsDiffer = (directory first second : List ℕ) → bytes_eq (journal_name directory first) (journal_name directory second) ≡ bytes_eq first second
+JournalsDiffer = (directory first second : List ℕ)
+    → bytes_eq (journal_name directory first) (journal_name directory second)
+    ≡ bytes_eq first second

@@ -1,5 +1,6 @@
 -- The header of a journal, and why its bytes are refused.
-use Rattle.std.specs.Prelude.{◌≡◌, ◌≢◌, ◌⊎◌, ℕ, ◌<◌, ◌≤◌, List, [], ◌∷◌, ◌++◌, length, take, drop, Some}
+use Rattle.std.specs.Prelude.{◌≡◌, ◌≢◌, ◌⊎◌, ℕ, ◌<◌, ◌≤◌, List, [], ◌∷◌, ◌++◌, length, take, drop}
+use Rattle.std.specs.Prelude.{Some}
 use Rattle.outside.specs.Disk.{Elapses}
 use Rattle.outside.specs.Faults.{Rose}
 use Rattle.log_journal.specs.Records.{Recorded, IsJournal}
@@ -8,7 +9,8 @@ use Rattle.log_journal.specs.Bytes.{EndsAt}
 use Rattle.log_journal.specs.declared.header.Header.{Header}
 use Rattle.log_journal.specs.declared.header.Record.{Record}
 use Rattle.log_journal.specs.declared.header.OpenError.{OpenError}
-use Rattle.log_journal.specs.declared.header.OpenError.TheVariants.{NotAJournal, OtherPolicy, Damaged, DiskFault, Memory}
+use Rattle.log_journal.specs.declared.header.OpenError.TheVariants.{NotAJournal, OtherPolicy}
+use Rattle.log_journal.specs.declared.header.OpenError.TheVariants.{Damaged, DiskFault, Memory}
 
 -- the first eight bytes of a journal, `CQEJRNL1`
 abbrev pub first_eight : List ℕ
@@ -31,13 +33,15 @@ pub record IsRecord (record' : Record) : Type 0 where
 -- Behind this header the bytes show this reason to refuse them, and none that stands before it.
 abbrev pub Refuses : List ℕ → List ℕ → OpenError → Type 0
 Refuses header bytes NotAJournal = (length bytes < 73) ⊎ (take 8 bytes ≢ first_eight)
-Refuses header bytes OtherPolicy = (73 ≤ length bytes) × (take 8 bytes ≡ first_eight) × (take 72 bytes ≢ header)
-Refuses header bytes (Damaged number) = (73 ≤ length bytes) × (take 72 bytes ≡ header) × (damaged 0 0 (drop 72 bytes) ≡ Some number)
+Refuses header bytes OtherPolicy =
+    (73 ≤ length bytes) × (take 8 bytes ≡ first_eight) × (take 72 bytes ≢ header)
+Refuses header bytes (Damaged number) =
+    (73 ≤ length bytes) × (take 72 bytes ≡ header) × (damaged 0 0 (drop 72 bytes) ≡ Some number)
 Refuses header bytes DiskFault = ⊥
 Refuses header bytes Memory = ⊥
 
--- Why an opening was refused: want of memory, a fault of the disk, whose count of faults rose, or the bytes, where clauses
--- are told of them.
+-- Why an opening was refused: want of memory, a fault of the disk, whose count of faults rose, or
+-- the bytes, where clauses are told of them.
 abbrev pub IsRefused : Type 0 → List ℕ → List ℕ → ℕ → ℕ → OpenError → Type 0
 IsRefused told header bytes before now Memory = Unit {0}
 IsRefused told header bytes before now DiskFault = Rose before now
@@ -68,16 +72,19 @@ pub record HasRecord (bytes : List ℕ) (record' : Record) : Type 0 where
   pub gate : bytes ≡ 1 ∷ behind
   pub starts : StartsWithRecord behind record'.kind record'.text.items rest
 
--- Why no record was read at a gate: want of memory, a fault of the disk, or that the record of this number isn't whole.
+-- Why no record was read at a gate: want of memory, a fault of the disk, or that the record of this
+-- number isn't whole.
 abbrev pub IsStopped : Type 0 → List ℕ → ℕ → ℕ → ℕ → OpenError → Type 0
 IsStopped told bytes number before now Memory = Unit {0}
 IsStopped told bytes number before now DiskFault = Rose before now
-IsStopped told bytes number before now (Damaged other) = (other ≡ number) × (told → (n : ℕ) → damaged n 0 bytes ≡ Some n)
+IsStopped told bytes number before now (Damaged other) =
+    (other ≡ number) × (told → (n : ℕ) → damaged n 0 bytes ≡ Some n)
 IsStopped told bytes number before now NotAJournal = ⊥
 IsStopped told bytes number before now OtherPolicy = ⊥
 
 -- A disk before and after calls that only read it.
-pub record IsOnlyRead (old new : List ℕ) (image image' : List ℕ → Type 0) (before now : ℕ) (past since : ℕ → List ℕ → Type 0) (faults faults' : ℕ) : Type 0 where
+pub record IsOnlyRead (old new : List ℕ) (image image' : List ℕ → Type 0) (before now : ℕ)
+    (past since : ℕ → List ℕ → Type 0) (faults faults' : ℕ) : Type 0 where
   pub reads : new ≡ old
   pub images : (c : List ℕ) → image' c → image c
   pub moments : (c : List ℕ) → since before c → image c

@@ -1,5 +1,6 @@
 -- The records of a journal, and the bytes that it is.
-use Rattle.std.specs.Prelude.{◌≡◌, ◌≢◌, ◌⊎◌, ℕ, ◌/◌, ◌%◌, Bool, true, ◌&&◌, List, [], ◌∷◌, ◌++◌, length, nat_le}
+use Rattle.std.specs.Prelude.{◌≡◌, ◌≢◌, ◌⊎◌, ℕ, ◌/◌, ◌%◌, Bool, true, ◌&&◌, List, [], ◌∷◌, ◌++◌}
+use Rattle.std.specs.Prelude.{length, nat_le}
 use Rattle.std.specs.List.{list_all}
 
 -- a record: its kind and its text
@@ -31,9 +32,11 @@ pub record IsJournal (header : List ℕ) (all : List Recorded) (bytes : List ℕ
 
 -- Whatever journal the old bytes are, the new ones are it with this record more.
 abbrev pub Adds : List ℕ → Recorded → List ℕ → Type 0
-Adds old added new = (header : List ℕ) (before : List Recorded) → IsJournal header before old → IsJournal header (before ++ added ∷ []) new
+Adds old added new = (header : List ℕ) (before : List Recorded) → IsJournal header before old
+    → IsJournal header (before ++ added ∷ []) new
 
 -- Whatever journal the old bytes are, the new ones are it as it was, or with this record more.
 abbrev pub KeepsOrAdds : List ℕ → Recorded → List ℕ → Type 0
 KeepsOrAdds old added new =
-    (header : List ℕ) (before : List Recorded) → IsJournal header before old → IsJournal header before new ⊎ IsJournal header (before ++ added ∷ []) new
+    (header : List ℕ) (before : List Recorded) → IsJournal header before old
+    → IsJournal header before new ⊎ IsJournal header (before ++ added ∷ []) new

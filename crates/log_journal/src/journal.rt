@@ -1,5 +1,6 @@
 //! A journal on a disk.
-ghost use Rattle.std.specs.Prelude.{◌≡◌, ◌≤◌, ◌<◌, ◌+◌, ◌++◌, ◌∷◌, [], false, List, ℕ, length, take, OnOk};
+ghost use Rattle.std.specs.Prelude.{◌≡◌, ◌≤◌, ◌<◌, ◌+◌, ◌++◌, ◌∷◌, [], false, List, ℕ, length};
+ghost use Rattle.std.specs.Prelude.{take, OnOk};
 ghost use Rattle.outside.specs.Disk.{Only, Elapses};
 ghost use Rattle.outside.specs.Faults.{HasCause};
 ghost use Rattle.log_journal.specs.Bytes.{EndsAt, piece_of};
@@ -81,7 +82,8 @@ impl<D: Disk> Journal<D> {
         ensures time { Elapses (D.moment (disk_of self.old)) (D.moment (disk_of self.new))
             (D.image_since (disk_of self.old)) (D.image_since (disk_of self.new)) }
 
-        // After a failure at the disk each image is one of the two, and no later append touches the disk.
+        // After a failure at the disk each image is one of the two, and no later append touches the
+        // disk.
         ensures either { D.tells → IsErrOf result AppendError.DiskFault
             → (c : List ℕ) → D.image (disk_of self.new) c
             → KeepsOrAdds (D.reads (disk_of self.old)) (kind, text.now) c }
@@ -92,7 +94,8 @@ impl<D: Disk> Journal<D> {
             → Rose (D.faults (disk_of self.old)) (D.faults (disk_of self.new)) }
         ensures count { D.faults (disk_of self.old) ≤ D.faults (disk_of self.new) }
         ensures refused { IsErrOf result AppendError.Broken ↔ IsTrue (is_broken self.old) }
-        ensures untouched { IsErrOf result AppendError.Broken → disk_of self.new ≡ disk_of self.old }
+        ensures untouched { IsErrOf result AppendError.Broken
+            → disk_of self.new ≡ disk_of self.old }
         ensures broken { OnErr result (IsTrue (is_broken self.new)) }
         ensures whole { OnOk result (is_broken self.new ≡ false) }
     {
@@ -135,11 +138,14 @@ fn put_record<D: Disk>(
     requires durable { Only (D.reads disk.old) (D.image disk.old) }
 
     ensures size { length room.new.items ≡ length room.old.items }
-    ensures added { D.tells → OnOk result (Adds (D.reads disk.old) (kind, text.now) (D.reads disk.new)) }
+    ensures added { D.tells
+        → OnOk result (Adds (D.reads disk.old) (kind, text.now) (D.reads disk.new)) }
     ensures ends { D.tells → OnOk result (EndsAt (D.reads disk.new) (gate + 4 + length text.now)) }
     ensures durable { OnOk result (Only (D.reads disk.new) (D.image disk.new)) }
-    ensures images { D.tells → (c : List ℕ) → D.image disk.new c → KeepsOrAdds (D.reads disk.old) (kind, text.now) c }
-    ensures time { Elapses (D.moment disk.old) (D.moment disk.new) (D.image_since disk.old) (D.image_since disk.new) }
+    ensures images { D.tells → (c : List ℕ) → D.image disk.new c
+        → KeepsOrAdds (D.reads disk.old) (kind, text.now) c }
+    ensures time { Elapses (D.moment disk.old) (D.moment disk.new) (D.image_since disk.old)
+        (D.image_since disk.new) }
     ensures moments { D.tells → (c : List ℕ) → D.image_since disk.new (D.moment disk.old) c
         → KeepsOrAdds (D.reads disk.old) (kind, text.now) c }
     ensures cause { HasCause (D.faults disk.old) (D.faults disk.new) result }

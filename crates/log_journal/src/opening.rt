@@ -1,11 +1,15 @@
 //! How a journal is made and opened.
-ghost use Rattle.std.specs.Prelude.{◌≡◌, ◌≢◌, ◌⊎◌, ◌≤◌, ◌<◌, ◌+◌, ◌++◌, ◌∷◌, [], ◌^◌, false, List, ℕ, length, take, drop, Some, None, IfSome, IfNone, IfOk, IfErr, OnOk, IsErrOf, IsTrue, ◌↔◌, map, All, slice_index_or};
+ghost use Rattle.std.specs.Prelude.{◌≡◌, ◌≢◌, ◌⊎◌, ◌≤◌, ◌<◌, ◌+◌, ◌++◌, ◌∷◌, [], ◌^◌, false, List};
+ghost use Rattle.std.specs.Prelude.{ℕ, length, take, drop, Some, None, IfSome, IfNone, IfOk, IfErr};
+ghost use Rattle.std.specs.Prelude.{OnOk, IsErrOf, IsTrue, ◌↔◌, map, All, slice_index_or};
 ghost use Rattle.outside.specs.Disk.{Only, Elapses};
 ghost use Rattle.outside.specs.Faults.{HasCause, Rose};
 ghost use Rattle.log_journal.specs.Records.{Recorded, IsJournal};
 ghost use Rattle.log_journal.specs.Walk.{damaged};
 ghost use Rattle.log_journal.specs.Bytes.{EndsAt};
-ghost use Rattle.log_journal.specs.Opening.{header_bytes, recorded, IsRecord, Refuses, IsRefused, IsOutside, StartsWithRecord, HasRecord, IsStopped, IsOnlyRead, IsRead};
+ghost use Rattle.log_journal.specs.Opening.{header_bytes, recorded, IsRecord, Refuses, IsRefused};
+ghost use Rattle.log_journal.specs.Opening.{IsOutside, StartsWithRecord, HasRecord, IsStopped};
+ghost use Rattle.log_journal.specs.Opening.{IsOnlyRead, IsRead};
 ghost use Rattle.log_journal.specs.Journal.{is_broken, disk_after};
 ghost use Rattle.log_journal.specs.declared.header.OpenError.{OpenError};
 
@@ -41,14 +45,17 @@ fn empty_journal(header: &Header) -> [u8; 73]
     bytes
 }
 
-/// Writes an empty journal on an empty disk. Where it fails, nothing is said of what the disk holds.
+/// Writes an empty journal on an empty disk. Where it fails, nothing is said of what the disk
+/// holds.
 pub fn format<D: Disk>(disk: &mut D, header: &Header) -> Result<(), Failed>
     requires empty { D.tells → D.reads disk.old ≡ [] }
     requires synced { Only (D.reads disk.old) (D.image disk.old) }
     ensures written { D.tells → OnOk result (D.reads disk.new ≡ header_bytes header.now ++ 0 ∷ []) }
-    ensures journal { D.tells → OnOk result (IsJournal (header_bytes header.now) [] (D.reads disk.new)) }
+    ensures journal { D.tells
+        → OnOk result (IsJournal (header_bytes header.now) [] (D.reads disk.new)) }
     ensures durable { OnOk result (Only (D.reads disk.new) (D.image disk.new)) }
-    ensures time { Elapses (D.moment disk.old) (D.moment disk.new) (D.image_since disk.old) (D.image_since disk.new) }
+    ensures time { Elapses (D.moment disk.old) (D.moment disk.new) (D.image_since disk.old)
+        (D.image_since disk.new) }
     ensures cause { HasCause (D.faults disk.old) (D.faults disk.new) result }
 {
     write_synced(disk, 0, &empty_journal(header))
@@ -57,7 +64,8 @@ pub fn format<D: Disk>(disk: &mut D, header: &Header) -> Result<(), Failed>
 // Why the first bytes are refused.
 fn header_refusal(header: &[u8], bytes: &[u8]) -> Option<OpenError>
     ensures some { IfSome result (Refuses header.now bytes.now) }
-    ensures kind { IfSome result (λ why. (why ≡ OpenError.NotAJournal) ⊎ (why ≡ OpenError.OtherPolicy)) }
+    ensures kind { IfSome result
+        (λ why. (why ≡ OpenError.NotAJournal) ⊎ (why ≡ OpenError.OtherPolicy)) }
     ensures none { IfNone result ((73 ≤ length bytes.now) × (take 72 bytes.now ≡ header.now)) }
 {
     if bytes.len() < 73 {
@@ -94,11 +102,12 @@ fn next_record(bytes: &[u8]) -> Option<(u8, &[u8], &[u8])>
     Some((*kind, &rest[..length], &rest[length..]))
 }
 
-// The record behind the gate that stands first, or none where that is closed. The bytes hold the longest record and its
-// next gate, or all that there is.
+// The record behind the gate that stands first, or none where that is closed. The bytes hold the
+// longest record and its next gate, or all that there is.
 fn first_record(alloc: Global, bytes: &[u8], number: usize) -> Result<Option<Record>, OpenError>
     ensures found { IfOk result (λ found. IfSome found (λ record'. HasRecord bytes.now record')) }
-    ensures closed { IfOk result (λ found. IfNone found (0 < length bytes.now × (slice_index_or bytes.now 0 0 ≢ 1))) }
+    ensures closed { IfOk result (λ found.
+        IfNone found (0 < length bytes.now × (slice_index_or bytes.now 0 0 ≢ 1))) }
     ensures err { IfErr result (λ why. (why ≡ OpenError.Memory) ⊎ ((why ≡ OpenError.Damaged number)
         × (0 < length bytes.now → (n : ℕ) → damaged n 0 bytes.now ≡ Some n))) }
 {
@@ -125,8 +134,8 @@ fn damaged_record(number: usize) -> OpenError
     }
 }
 
-// The record behind the gate at this place of a disk, or none where that is closed. It reads no further than the longest
-// record reaches.
+// The record behind the gate at this place of a disk, or none where that is closed. It reads no
+// further than the longest record reaches.
 fn record_at<D: Disk>(
     alloc: Global,
     disk: &mut D,
@@ -134,13 +143,17 @@ fn record_at<D: Disk>(
     number: usize,
 ) -> Result<Option<Record>, OpenError>
     requires { D.tells → gate < length (D.reads disk.old) }
-    ensures found { D.tells → IfOk result (λ found. IfSome found (λ record'. HasRecord (drop gate (D.reads disk.old)) record')) }
+    ensures found { D.tells
+        → IfOk result (λ found.
+        IfSome found (λ record'. HasRecord (drop gate (D.reads disk.old)) record')) }
     ensures each { IfOk result (λ found. IfSome found IsRecord) }
     ensures closed { D.tells → IfOk result (λ found. IfNone found
         (slice_index_or (drop gate (D.reads disk.old)) 0 0 ≢ 1)) }
-    ensures refused { IfErr result (λ why. IsStopped D.tells (drop gate (D.reads disk.old)) number (D.faults disk.old)
+    ensures refused { IfErr result (λ why.
+        IsStopped D.tells (drop gate (D.reads disk.old)) number (D.faults disk.old)
         (D.faults disk.new) why) }
-    ensures only { IsOnlyRead (D.reads disk.old) (D.reads disk.new) (D.image disk.old) (D.image disk.new)
+    ensures only { IsOnlyRead (D.reads disk.old) (D.reads disk.new) (D.image disk.old)
+        (D.image disk.new)
         (D.moment disk.old) (D.moment disk.new) (D.image_since disk.old) (D.image_since disk.new)
         (D.faults disk.old) (D.faults disk.new) }
 {
@@ -149,15 +162,19 @@ fn record_at<D: Disk>(
     first_record(alloc, &window[..count], number)
 }
 
-// The records of a disk behind the header, and the place of the closed gate, behind which nothing is read.
+// The records of a disk behind the header, and the place of the closed gate, behind which nothing
+// is read.
 fn read_records<D: Disk>(alloc: Global, disk: &mut D) -> Result<(Vec<Record>, u64), OpenError>
     requires long { D.tells → 73 ≤ length (D.reads disk.old) }
     requires fits { D.tells → length (D.reads disk.old) < 2 ^ 64 }
-    ensures ok { D.tells → IfOk result (λ r. IsRead (D.reads disk.old) (map recorded r.0.items) r.1) }
+    ensures ok { D.tells
+        → IfOk result (λ r. IsRead (D.reads disk.old) (map recorded r.0.items) r.1) }
     ensures each { IfOk result (λ r. All IsRecord r.0.items) }
-    ensures refused { IfErr result (IsRefused D.tells (take 72 (D.reads disk.old)) (D.reads disk.old)
+    ensures refused { IfErr result
+        (IsRefused D.tells (take 72 (D.reads disk.old)) (D.reads disk.old)
         (D.faults disk.old) (D.faults disk.new)) }
-    ensures only { IsOnlyRead (D.reads disk.old) (D.reads disk.new) (D.image disk.old) (D.image disk.new)
+    ensures only { IsOnlyRead (D.reads disk.old) (D.reads disk.new) (D.image disk.old)
+        (D.image disk.new)
         (D.moment disk.old) (D.moment disk.new) (D.image_since disk.old) (D.image_since disk.new)
         (D.faults disk.old) (D.faults disk.new) }
 {
@@ -178,9 +195,11 @@ fn read_header<D: Disk>(disk: &mut D, header: &Header) -> Result<(), OpenError>
     ensures long { D.tells → OnOk result (73 ≤ length (D.reads disk.old)) }
     ensures fits { D.tells → OnOk result (length (D.reads disk.old) < 2 ^ 64) }
     ensures begins { D.tells → OnOk result (take 72 (D.reads disk.old) ≡ header_bytes header.now) }
-    ensures refused { IfErr result (IsRefused D.tells (header_bytes header.now) (D.reads disk.old) (D.faults disk.old)
+    ensures refused { IfErr result
+        (IsRefused D.tells (header_bytes header.now) (D.reads disk.old) (D.faults disk.old)
         (D.faults disk.new)) }
-    ensures only { IsOnlyRead (D.reads disk.old) (D.reads disk.new) (D.image disk.old) (D.image disk.new)
+    ensures only { IsOnlyRead (D.reads disk.old) (D.reads disk.new) (D.image disk.old)
+        (D.image disk.new)
         (D.moment disk.old) (D.moment disk.new) (D.image_since disk.old) (D.image_since disk.new)
         (D.faults disk.old) (D.faults disk.new) }
 {
@@ -199,13 +218,16 @@ fn read_journal<D: Disk>(
     disk: &mut D,
     header: &Header,
 ) -> Result<(Vec<Record>, u64), OpenError>
-    ensures opened { D.tells → IfOk result (λ r. IsJournal (header_bytes header.now) (map recorded r.0.items)
+    ensures opened { D.tells
+        → IfOk result (λ r. IsJournal (header_bytes header.now) (map recorded r.0.items)
         (D.reads disk.old)) }
     ensures each { IfOk result (λ r. All IsRecord r.0.items) }
     ensures ends { D.tells → IfOk result (λ r. EndsAt (D.reads disk.new) r.1) }
-    ensures refused { IfErr result (IsRefused D.tells (header_bytes header.now) (D.reads disk.old) (D.faults disk.old)
+    ensures refused { IfErr result
+        (IsRefused D.tells (header_bytes header.now) (D.reads disk.old) (D.faults disk.old)
         (D.faults disk.new)) }
-    ensures only { IsOnlyRead (D.reads disk.old) (D.reads disk.new) (D.image disk.old) (D.image disk.new)
+    ensures only { IsOnlyRead (D.reads disk.old) (D.reads disk.new) (D.image disk.old)
+        (D.image disk.new)
         (D.moment disk.old) (D.moment disk.new) (D.image_since disk.old) (D.image_since disk.new)
         (D.faults disk.old) (D.faults disk.new) }
 {
@@ -219,54 +241,67 @@ fn read_synced<D: Disk>(
     disk: &mut D,
     header: &Header,
 ) -> Result<(Vec<Record>, u64), OpenError>
-    ensures opened { D.tells → IfOk result (λ r. IsJournal (header_bytes header.now) (map recorded r.0.items)
+    ensures opened { D.tells
+        → IfOk result (λ r. IsJournal (header_bytes header.now) (map recorded r.0.items)
         (D.reads disk.old)) }
     ensures each { IfOk result (λ r. All IsRecord r.0.items) }
     ensures ends { D.tells → IfOk result (λ r. EndsAt (D.reads disk.new) r.1) }
-    ensures refused { IfErr result (IsRefused D.tells (header_bytes header.now) (D.reads disk.old) (D.faults disk.old)
+    ensures refused { IfErr result
+        (IsRefused D.tells (header_bytes header.now) (D.reads disk.old) (D.faults disk.old)
         (D.faults disk.new)) }
     ensures reads { D.reads disk.new ≡ D.reads disk.old }
     ensures durable { OnOk result (Only (D.reads disk.new) (D.image disk.new)) }
-    ensures synced { IfErr result (λ why. (why ≡ OpenError.DiskFault) ⊎ Only (D.reads disk.new) (D.image disk.new)) }
+    ensures synced { IfErr result (λ why. (why ≡ OpenError.DiskFault)
+        ⊎ Only (D.reads disk.new) (D.image disk.new)) }
     ensures images { (c : List ℕ) → D.image disk.new c → D.image disk.old c }
-    ensures moments { (c : List ℕ) → D.image_since disk.new (D.moment disk.old) c → D.image disk.old c }
-    ensures time { Elapses (D.moment disk.old) (D.moment disk.new) (D.image_since disk.old) (D.image_since disk.new) }
+    ensures moments { (c : List ℕ) → D.image_since disk.new (D.moment disk.old) c
+        → D.image disk.old c }
+    ensures time { Elapses (D.moment disk.old) (D.moment disk.new) (D.image_since disk.old)
+        (D.image_since disk.new) }
     ensures count { D.faults disk.old ≤ D.faults disk.new }
 {
     disk.sync()?;
     read_journal(alloc, disk, header)
 }
 
-/// Opens the journal of a disk and reads its records, all and in order. It begins with a sync and repairs nothing: the
-/// bytes stay, and no crash at any moment leaves anything new. A refusal hands the disk back.
+/// Opens the journal of a disk and reads its records, all and in order. It begins with a sync and
+/// repairs nothing: the bytes stay, and no crash at any moment leaves anything new. A refusal hands
+/// the disk back.
 ///
-/// It reads record by record, each behind its open gate, and nothing behind the closed one. So what lies there costs
-/// nothing, and over a file to which another process appends meanwhile the records up to some moment are read.
+/// It reads record by record, each behind its open gate, and nothing behind the closed one. So what
+/// lies there costs nothing, and over a file to which another process appends meanwhile the records
+/// up to some moment are read.
 pub fn open<D: Disk>(
     alloc: Global,
     disk: D,
     header: &Header,
 ) -> Result<(Journal<D>, Vec<Record>), Refused<D, OpenError>>
-    ensures opened { D.tells → IfOk result (λ r. IsJournal (header_bytes header.now) (map recorded r.1.items)
+    ensures opened { D.tells
+        → IfOk result (λ r. IsJournal (header_bytes header.now) (map recorded r.1.items)
         (D.reads disk)) }
     ensures each { IfOk result (λ r. All IsRecord r.1.items) }
     ensures whole { IfOk result (λ r. is_broken r.0 ≡ false) }
 
-    // Bytes are refused exactly where they show a reason: what is opened shows none, a refusal has its cause, and a
-    // journal with this header is refused for a fault or for want of memory alone.
-    ensures sound { D.tells → OnOk result ((why : OpenError) → ¬ Refuses (header_bytes header.now) (D.reads disk) why) }
-    ensures refused { IfErr result (λ r. IsRefused D.tells (header_bytes header.now) (D.reads disk) (D.faults disk)
+    // Bytes are refused exactly where they show a reason: what is opened shows none, a refusal has
+    // its cause, and a journal with this header is refused for a fault or for want of memory alone.
+    ensures sound { D.tells
+        → OnOk result ((why : OpenError) → ¬ Refuses (header_bytes header.now) (D.reads disk) why) }
+    ensures refused { IfErr result (λ r.
+        IsRefused D.tells (header_bytes header.now) (D.reads disk) (D.faults disk)
         (D.faults r.disk) r.why) }
-    ensures good { D.tells → (all : List Recorded) → IsJournal (header_bytes header.now) all (D.reads disk)
+    ensures good { D.tells → (all : List Recorded)
+        → IsJournal (header_bytes header.now) all (D.reads disk)
         → IfErr result (λ r. IsOutside r.why) }
 
     ensures reads { D.reads (disk_after result) ≡ D.reads disk }
     ensures durable { OnOk result (Only (D.reads disk) (D.image (disk_after result))) }
-    ensures synced { IfErr result (λ r. (r.why ≡ OpenError.DiskFault) ⊎ Only (D.reads disk) (D.image r.disk)) }
+    ensures synced { IfErr result (λ r. (r.why ≡ OpenError.DiskFault)
+        ⊎ Only (D.reads disk) (D.image r.disk)) }
     ensures images { (c : List ℕ) → D.image (disk_after result) c → D.image disk c }
     ensures time { Elapses (D.moment disk) (D.moment (disk_after result)) (D.image_since disk)
         (D.image_since (disk_after result)) }
-    ensures moments { (c : List ℕ) → D.image_since (disk_after result) (D.moment disk) c → D.image disk c }
+    ensures moments { (c : List ℕ) → D.image_since (disk_after result) (D.moment disk) c
+        → D.image disk c }
     ensures count { D.faults disk ≤ D.faults (disk_after result) }
 {
     let mut disk = disk;

@@ -10,11 +10,14 @@ use outside::{Disk, Failed};
 pub(crate) fn write_synced<D: Disk>(disk: &mut D, at: u64, piece: &[u8]) -> Result<(), Failed>
     requires within { D.tells → at ≤ length (D.reads disk.old) }
     requires durable { Only (D.reads disk.old) (D.image disk.old) }
-    ensures written { D.tells → OnOk result (Holds (D.reads disk.old) at piece.now (D.reads disk.new)) }
+    ensures written { D.tells
+        → OnOk result (Holds (D.reads disk.old) at piece.now (D.reads disk.new)) }
     ensures fits { D.tells → OnOk result (length (D.reads disk.new) < 2 ^ 64) }
     ensures durable { OnOk result (Only (D.reads disk.new) (D.image disk.new)) }
-    ensures images { (c : List ℕ) → D.image disk.new c → Torn at (length piece.now) (D.reads disk.old) c }
-    ensures time { Elapses (D.moment disk.old) (D.moment disk.new) (D.image_since disk.old) (D.image_since disk.new) }
+    ensures images { (c : List ℕ) → D.image disk.new c
+        → Torn at (length piece.now) (D.reads disk.old) c }
+    ensures time { Elapses (D.moment disk.old) (D.moment disk.new) (D.image_since disk.old)
+        (D.image_since disk.new) }
     ensures moments { (c : List ℕ) → D.image_since disk.new (D.moment disk.old) c
         → Torn at (length piece.now) (D.reads disk.old) c }
     ensures cause { HasCause (D.faults disk.old) (D.faults disk.new) result }
@@ -29,13 +32,17 @@ pub(crate) fn put<D: Disk>(disk: &mut D, gate: u64, piece: &[u8]) -> Result<(), 
     requires fits { D.tells → length (D.reads disk.old) < 2 ^ 64 }
     requires durable { Only (D.reads disk.old) (D.image disk.old) }
 
-    ensures written { D.tells → OnOk result (D.reads disk.new ≡ with_piece (D.reads disk.old) gate 1 piece.now) }
+    ensures written { D.tells
+        → OnOk result (D.reads disk.new ≡ with_piece (D.reads disk.old) gate 1 piece.now) }
     ensures fits { D.tells → OnOk result (length (D.reads disk.new) < 2 ^ 64) }
     ensures durable { OnOk result (Only (D.reads disk.new) (D.image disk.new)) }
 
-    // At each moment, and at the end of a call that fails, the gate is shut or the piece stands whole behind it.
-    ensures images { D.tells → (c : List ℕ) → D.image disk.new c → IsBetween (D.reads disk.old) gate piece.now c }
-    ensures time { Elapses (D.moment disk.old) (D.moment disk.new) (D.image_since disk.old) (D.image_since disk.new) }
+    // At each moment, and at the end of a call that fails, the gate is shut or the piece stands
+    // whole behind it.
+    ensures images { D.tells → (c : List ℕ) → D.image disk.new c
+        → IsBetween (D.reads disk.old) gate piece.now c }
+    ensures time { Elapses (D.moment disk.old) (D.moment disk.new) (D.image_since disk.old)
+        (D.image_since disk.new) }
     ensures moments { D.tells → (c : List ℕ) → D.image_since disk.new (D.moment disk.old) c
         → IsBetween (D.reads disk.old) gate piece.now c }
     ensures cause { HasCause (D.faults disk.old) (D.faults disk.new) result }

@@ -1,4 +1,5 @@
-//! Budgets at which no probe is spent: (2n + 1) (n + 1)^(n + 1) for n variables, worked out by hand.
+//! Budgets at which no probe is spent: (2n + 1) (n + 1)^(n + 1) for n variables, worked out by
+//! hand.
 use entailment::enough;
 use std::process::Abort;
 use std::test::Fail;

@@ -71,7 +71,8 @@ fn others_lack_one(alloc: Global) -> Result<Sentence, AllocError> {
     Ok(Sentence::Forall(PERSON, each))
 }
 
-/// Each person takes drug 0, with 66 negations before the atom: one more than 597 times 67 nodes over 597 persons.
+/// Each person takes drug 0, with 66 negations before the atom: one more than 597 times 67 nodes
+/// over 597 persons.
 fn denied(alloc: Global) -> Result<Sentence, AllocError> {
     let first_drug = Term::Constant(Constant {
         domain: DRUG,

@@ -80,8 +80,11 @@ fn fits(schema: &Schema, sentence: &Sentence) -> bool
 
 /// Whether there is no premise, or one that fits.
 fn premise_fits(schema: &Schema, premise: Option<(&Sentence, bool)>) -> bool
-    ensures sentence { IsTrue result → are_sentences_of schema.now (premise_list premise.entry) ≡ true }
-    ensures each { IsTrue result → list_all (λ signed. nat_le (nodes schema.now signed.0) 20000) (premise_list premise.entry) ≡ true }
+    ensures sentence { IsTrue result
+        → are_sentences_of schema.now (premise_list premise.entry) ≡ true }
+    ensures each { IsTrue result
+        → list_all (λ signed. nat_le (nodes schema.now signed.0) 20000) (premise_list premise.entry)
+        ≡ true }
     ensures small { IsTrue result → sentence_nodes schema.now (premise_list premise.entry) ≤ 10000 }
 {
     match premise {
@@ -157,7 +160,8 @@ type Case = (
     &'static str,
 );
 
-/// The first four are the two probes of the query whether ann takes the drug, against the secret that she is infected: they cost 11 and 9.
+/// The first four are the two probes of the query whether ann takes the drug, against the secret
+/// that she is infected: they cost 11 and 9.
 const CASES: [Case; 9] = [
     (Some((DRUG, ANN, true)), (HIV, ANN, true), 10, "spent"),
     (Some((DRUG, ANN, true)), (HIV, ANN, true), 11, "follows"),

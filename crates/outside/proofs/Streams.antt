@@ -1,5 +1,6 @@
 -- What a sink has after some calls.
-use Rattle.std.proofs.Common.{OnErr, ◌≡◌, ◌<◌, ◌+◌, ◌++◌, ℕ, suc, List, ◌∷◌, length, take, drop, get_or, sym, ◌∙◌, ap, subst, refl, arith, append_assoc, length-append}
+use Rattle.std.proofs.Common.{OnErr, ◌≡◌, ◌<◌, ◌+◌, ◌++◌, ℕ, suc, List, ◌∷◌, length, take, drop, get_or, sym, ◌∙◌, ap, subst, refl, arith, append_assoc}
+use Rattle.std.proofs.Common.{length-append}
 use Rattle.std.specs.Prelude.{Result, Ok, Err}
 use Rattle.std.specs.List.{flat_map}
 use Rattle.std.proofs.Math.Seq.{split_at, take-append-add}
@@ -20,7 +21,8 @@ at_refusal (Ok x) p = tt
 at_refusal (Err e) p = p
 
 -- a part that was appended behind a front of the whole
-appends_inside : (front part back old before after : List ℕ) → before ≡ old ++ front → AppendsPart before after part → AppendsPart old after (front ++ (part ++ back))
+appends_inside : (front part back old before after : List ℕ) → before ≡ old ++ front → AppendsPart before after part
+    → AppendsPart old after (front ++ (part ++ back))
 appends_inside front part back old before after is (n, less, new) = (
   length front + n,
   omega (arith, less, length-append front (part ++ back), length-append part back),
@@ -29,9 +31,11 @@ appends_inside front part back old before after is (n, less, new) = (
 )
 
 -- the sink failed in the middle of one of the parts
-pub part_appended : {X : Type 0} (f : X → List ℕ) (parts : List X) (i : ℕ) (part : X) (old before after : List ℕ) → i < length parts → part ≡ get_or parts i part → before ≡ old ++ flat_map f (take i parts)
+pub part_appended : {X : Type 0} (f : X → List ℕ) (parts : List X) (i : ℕ) (part : X) (old before after : List ℕ) → i < length parts
+    → part ≡ get_or parts i part → before ≡ old ++ flat_map f (take i parts)
     → AppendsPart before after (f part) → AppendsPart old after (flat_map f parts)
 part_appended {X = X} f parts i part old before after low is so_far appended =
     let split = ap (flat_map f) (split_at parts i part low) ∙ flat_map-append f (take i parts) (get_or parts i part ∷ drop (suc i) parts) in
     subst (AppendsPart old after) (sym split)
-    (appends_inside (flat_map f (take i parts)) (f (get_or parts i part)) (flat_map f (drop (suc i) parts)) old before after so_far (subst (λ (x : X). AppendsPart before after (f x)) is appended))
+    (appends_inside (flat_map f (take i parts)) (f (get_or parts i part)) (flat_map f (drop (suc i) parts)) old before after so_far
+    (subst (λ (x : X). AppendsPart before after (f x)) is appended))

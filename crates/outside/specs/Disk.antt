@@ -5,13 +5,14 @@ use Rattle.std.specs.Prelude.{◌≡◌, ◌⊎◌, ℕ, ◌+◌, ◌-◌, ◌�
 abbrev pub Holds : List ℕ → ℕ → List ℕ → List ℕ → Type 0
 Holds old at bytes new = new ≡ take at old ++ bytes ++ drop (at + length bytes) old
 
--- A piece was filled with the n bytes from this place on, fewer than the piece has only where the disk ends.
+-- A piece was filled with the n bytes from this place on, fewer than the piece has only where the
+-- disk ends.
 pub record Fills (disk : List ℕ) (at n : ℕ) (old new : List ℕ) : Type 0 where
   pub count : n ≡ min (length old) (length disk - at)
   pub piece : new ≡ take n (drop at disk) ++ drop n old
 
--- A crash after a write of n bytes: up to the old end no byte outside of the range has changed, and none is lost. The
--- range, and what lies past the old end, may hold any bytes.
+-- A crash after a write of n bytes: up to the old end no byte outside of the range has changed, and
+-- none is lost. The range, and what lies past the old end, may hold any bytes.
 pub record Torn (at n : ℕ) (old new : List ℕ) : Type 0 where
   pub before : take at (take (length old) new) ≡ take at old
   pub after : drop (at + n) (take (length old) new) ≡ drop (at + n) old
@@ -25,7 +26,8 @@ Follows step old new = (c : List ℕ) → new c → (d : List ℕ) × old d × s
 abbrev pub Only : List ℕ → (List ℕ → Type 0) → Type 0
 Only bytes image = (c : List ℕ) → image c → c ≡ bytes
 
--- Time goes on: the images at the moments since t are those since t as the call began, and those at the moments of the call.
+-- Time goes on: the images at the moments since t are those since t as the call began, and those at
+-- the moments of the call.
 pub record Elapses (before now : ℕ) (past since : ℕ → List ℕ → Type 0) : Type 0 where
   pub later : before ≤ now
   pub nothing_else : (t : ℕ) (c : List ℕ) → t ≤ before → since t c → past t c ⊎ since before c

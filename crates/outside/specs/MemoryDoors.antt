@@ -9,7 +9,8 @@ use Rattle.outside.specs.declared.memory_door.MemoryDoor.{MemoryDoor}
 -- the visit of two ends that are back
 abbrev pub finished_visit : Finished → Visit
 finished_visit finished =
-    visit_of (source_held finished.source) (sink_written finished.sink) (source_faults finished.source) (sink_faults finished.sink)
+    visit_of (source_held finished.source) (sink_written finished.sink)
+    (source_faults finished.source) (sink_faults finished.sink)
 
 -- the visits of a door that is back
 abbrev pub visits_of : DoorBack → List Visit

@@ -22,7 +22,8 @@ links_left links = links.left
 
 -- how many of them are at no door
 abbrev pub links_at_hand : MemoryLinks → ℕ
-links_at_hand links = length links.waiting.items + sum_by (λ group. length group.items) links.groups.items
+links_at_hand links =
+    length links.waiting.items + sum_by (λ group. length group.items) links.groups.items
 
 -- the visits of the doors that are back
 abbrev pub links_back : MemoryLinks → List Visit

@@ -1,7 +1,9 @@
 -- What a door gives and gets back.
-use Rattle.std.specs.Prelude.{ℕ, Bool, List, Option, Some, None, Result, Ok, Err, ◌==◌, if◌then◌else◌}
+use Rattle.std.specs.Prelude.{ℕ, Bool, List, Option, Some, None, Result, Ok, Err, ◌==◌}
+use Rattle.std.specs.Prelude.{if◌then◌else◌}
 
--- A finished connection: all bytes that came in, what was written, and of each end whether its count of faults is 0.
+-- A finished connection: all bytes that came in, what was written, and of each end whether its
+-- count of faults is 0.
 pub record Visit : Type 0 where
   pub held : List ℕ
   pub written : List ℕ
@@ -20,7 +22,13 @@ place_of address doors = record { address = address; doors = doors }
 -- the visit of two ends, by what the source held, what the sink has written, and the counts of both
 abbrev pub visit_of : List ℕ → List ℕ → ℕ → ℕ → Visit
 visit_of held written source_faults sink_faults =
-    record { held = held; written = written; source_whole = source_faults == 0; sink_whole = sink_faults == 0 }
+    record {
+      held =
+          held;
+      written = written;
+      source_whole = source_faults == 0;
+      sink_whole = sink_faults == 0;
+    }
 
 -- one where a count isn't 0, else none
 abbrev pub one_if_any : ℕ → ℕ

@@ -5,13 +5,15 @@ ghost use Rattle.outside.specs.Faults.{HasCause};
 
 use crate::Failed;
 
-/// Bytes that outlive the program. Between two syncs that succeed a crash may leave any bytes in each range that was
-/// written and past the old end; other bytes stay.
+/// Bytes that outlive the program. Between two syncs that succeed a crash may leave any bytes in
+/// each range that was written and past the old end; other bytes stay.
 ///
-/// Each call says in its clause `time` that the images at the moments since an earlier one are those as the call began
-/// and those at the moments of the call, and in its clause `moments` what the latter are.
+/// Each call says in its clause `time` that the images at the moments since an earlier one are
+/// those as the call began and those at the moments of the call, and in its clause `moments` what
+/// the latter are.
 pub trait Disk {
-    /// Whether clauses are told what the disk reads: over memory they are, over a real file they are not.
+    /// Whether clauses are told what the disk reads: over memory they are, over a real file they
+    /// are not.
     ghost tells: { Type 0 };
 
     /// The bytes that the disk reads, where clauses are told.
@@ -34,12 +36,14 @@ pub trait Disk {
         ensures length { tells → IfOk result (λ n. n ≡ length (reads self.old)) }
         ensures reads { reads self.new ≡ reads self.old }
         ensures images { (c : List ℕ) → image self.new c → image self.old c }
-        ensures time { Elapses (moment self.old) (moment self.new) (image_since self.old) (image_since self.new) }
-        ensures moments { (c : List ℕ) → image_since self.new (moment self.old) c → image self.old c }
+        ensures time { Elapses (moment self.old) (moment self.new) (image_since self.old)
+            (image_since self.new) }
+        ensures moments { (c : List ℕ) → image_since self.new (moment self.old) c
+            → image self.old c }
         ensures cause { HasCause (faults self.old) (faults self.new) result };
 
-    /// Fills the piece from that place on, less only where the disk ends. Nobody reads behind the end: a real disk may
-    /// fail there, and a fault is nothing to bring about.
+    /// Fills the piece from that place on, less only where the disk ends. Nobody reads behind the
+    /// end: a real disk may fail there, and a fault is nothing to bring about.
     fn read_at(&mut self, at: u64, into: &mut [u8]) -> Result<usize, Failed>
         requires within { tells → at ≤ length (reads self.old) }
         ensures fits { IfOk result (λ n. n ≤ length into.old) }
@@ -47,17 +51,22 @@ pub trait Disk {
         ensures same_piece { tells → OnErr result (into.new ≡ into.old) }
         ensures reads { reads self.new ≡ reads self.old }
         ensures images { (c : List ℕ) → image self.new c → image self.old c }
-        ensures time { Elapses (moment self.old) (moment self.new) (image_since self.old) (image_since self.new) }
-        ensures moments { (c : List ℕ) → image_since self.new (moment self.old) c → image self.old c }
+        ensures time { Elapses (moment self.old) (moment self.new) (image_since self.old)
+            (image_since self.new) }
+        ensures moments { (c : List ℕ) → image_since self.new (moment self.old) c
+            → image self.old c }
         ensures cause { HasCause (faults self.old) (faults self.new) result };
 
-    /// Writes the whole piece from that place on. Until a sync, a crash may leave any bytes in the range.
+    /// Writes the whole piece from that place on. Until a sync, a crash may leave any bytes in the
+    /// range.
     fn write_at(&mut self, at: u64, bytes: &[u8]) -> Result<(), Failed>
         requires { tells → at ≤ length (reads self.old) }
-        ensures written { tells → OnOk result (Holds (reads self.old) at bytes.now (reads self.new)) }
+        ensures written { tells
+            → OnOk result (Holds (reads self.old) at bytes.now (reads self.new)) }
         ensures fits { tells → OnOk result (length (reads self.new) < 2 ^ 64) }
         ensures images { Follows (Torn at (length bytes.now)) (image self.old) (image self.new) }
-        ensures time { Elapses (moment self.old) (moment self.new) (image_since self.old) (image_since self.new) }
+        ensures time { Elapses (moment self.old) (moment self.new) (image_since self.old)
+            (image_since self.new) }
         ensures moments { (c : List ℕ) → image_since self.new (moment self.old) c
             → image self.old c ⊎ image self.new c }
         ensures cause { HasCause (faults self.old) (faults self.new) result };
@@ -67,16 +76,20 @@ pub trait Disk {
         ensures durable { OnOk result (Only (reads self.old) (image self.new)) }
         ensures reads { reads self.new ≡ reads self.old }
         ensures images { (c : List ℕ) → image self.new c → image self.old c }
-        ensures time { Elapses (moment self.old) (moment self.new) (image_since self.old) (image_since self.new) }
-        ensures moments { (c : List ℕ) → image_since self.new (moment self.old) c → image self.old c }
+        ensures time { Elapses (moment self.old) (moment self.new) (image_since self.old)
+            (image_since self.new) }
+        ensures moments { (c : List ℕ) → image_since self.new (moment self.old) c
+            → image self.old c }
         ensures cause { HasCause (faults self.old) (faults self.new) result };
 
     /// A disk as it reads is one of its images.
     ghost read_is_image: { (disk : Self) → tells → image disk (reads disk) };
 
     /// This moment is one of those since an earlier one.
-    ghost counts_now: { (disk : Self) (t : ℕ) (c : List ℕ) → t ≤ moment disk → image disk c → image_since disk t c };
+    ghost counts_now: { (disk : Self) (t : ℕ) (c : List ℕ) → t ≤ moment disk → image disk c
+        → image_since disk t c };
 
     /// Since this moment there is no other.
-    ghost only_now: { (disk : Self) (c : List ℕ) → image_since disk (moment disk) c → image disk c };
+    ghost only_now: { (disk : Self) (c : List ℕ) → image_since disk (moment disk) c
+        → image disk c };
 }

@@ -9,8 +9,8 @@ pub enum Point {
     Settled,
 }
 
-/// What an ask passes between its steps. A gate does nothing to any other object; that of a test may wait there for
-/// another call, a stated number of turns at most.
+/// What an ask passes between its steps. A gate does nothing to any other object; that of a test
+/// may wait there for another call, a stated number of turns at most.
 pub trait Gate {
     /// An ask of this user passes.
     fn pass(&self, user: &str, point: Point);

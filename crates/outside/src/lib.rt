@@ -1,11 +1,13 @@
-//! What lies outside of the program: sources, sinks, disks, shelves of files and disks, doors through which connections
-//! come, and links that open them, each a trait with an object in memory that meets it.
+//! What lies outside of the program: sources, sinks, disks, shelves of files and disks, doors
+//! through which connections come, and links that open them, each a trait with an object in memory
+//! that meets it.
 //!
-//! A call answers `Failed` only where the count of faults of its object rose, and code that is generic over a trait
-//! can't raise a count. What an object gives or holds is told over memory and isn't told over a real stream or file.
+//! A call answers `Failed` only where the count of faults of its object rose, and code that is
+//! generic over a trait can't raise a count. What an object gives or holds is told over memory and
+//! isn't told over a real stream or file.
 //!
-//! Read `stream`, `disk`, `shelf` and `links` first, and `write`, which has what is written whole; then the objects in
-//! memory, which keep to a `Plan` of the calls that are to fail.
+//! Read `stream`, `disk`, `shelf` and `links` first, and `write`, which has what is written whole;
+//! then the objects in memory, which keep to a `Plan` of the calls that are to fail.
 #![tactic(auto)]
 
 mod disk;

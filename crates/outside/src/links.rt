@@ -1,8 +1,11 @@
-//! Connections of clients: the doors through which they come, and the links that open doors at an address.
-ghost use Rattle.std.specs.Prelude.{◌≡◌, ◌≢◌, ◌⊎◌, ◌<◌, ◌≤◌, ◌+◌, ◌-◌, ◌++◌, ◌∷◌, [], List, ℕ, Option, Some, None, All, length, IfOk, OnOk, OnErr, IsErrOf};
+//! Connections of clients: the doors through which they come, and the links that open doors at an
+//! address.
+ghost use Rattle.std.specs.Prelude.{◌≡◌, ◌≢◌, ◌⊎◌, ◌<◌, ◌≤◌, ◌+◌, ◌-◌, ◌++◌, ◌∷◌, [], List, ℕ};
+ghost use Rattle.std.specs.Prelude.{Option, Some, None, All, length, IfOk, OnOk, OnErr, IsErrOf};
 ghost use Rattle.std.specs.List.{sum_by};
 ghost use Rattle.outside.specs.Faults.{Rose, HasCause};
-ghost use Rattle.outside.specs.Visits.{Visit, Place, place_of, visit_of, one_if_any, came, IfCame, UnlessCame, OnEnd, UnlessEnd};
+ghost use Rattle.outside.specs.Visits.{Visit, Place, place_of, visit_of, one_if_any, came, IfCame};
+ghost use Rattle.outside.specs.Visits.{UnlessCame, OnEnd, UnlessEnd};
 
 use crate::{Failed, Sink, Source};
 use std::alloc::Global;
@@ -16,7 +19,8 @@ pub enum LinksError {
     Memory,
 }
 
-/// Where connections come in, one after the other. Each has two ends, which go back once it is served.
+/// Where connections come in, one after the other. Each has two ends, which go back once it is
+/// served.
 pub trait Door {
     /// The end of a connection that its client's bytes come from.
     type Src: Source + Drop + Send;
@@ -24,7 +28,8 @@ pub trait Door {
     /// The end of a connection that answers go to.
     type Snk: Sink + Drop + Send;
 
-    /// Whether clauses are told what comes in and goes back: over memory they are, over a real socket they are not.
+    /// Whether clauses are told what comes in and goes back: over memory they are, over a real
+    /// socket they are not.
     ghost tells: { Type 0 };
 
     /// How many connections it gave, where clauses are told.
@@ -36,7 +41,8 @@ pub trait Door {
     /// The connections that are back, in the order in which they came back, where clauses are told.
     ghost back: { Self → List Visit };
 
-    /// What the source of the last connection held, where that connection isn't back and clauses are told.
+    /// What the source of the last connection held, where that connection isn't back and clauses
+    /// are told.
     ghost last: { Self → Option (List ℕ) };
 
     /// How often it answered that no further connection will come. It doesn't fall.
@@ -45,21 +51,27 @@ pub trait Door {
     /// The count of faults, which doesn't fall.
     ghost faults: { Self → ℕ };
 
-    /// The ends of the next connection, or none where no further one will come. It may wait for a client.
+    /// The ends of the next connection, or none where no further one will come. It may wait for a
+    /// client.
     fn next(&mut self) -> Result<Option<(Self::Src, Self::Snk)>, Failed>
         ensures given { tells → given self.new ≡ given self.old + came result }
         ensures left { tells → left self.old ≡ came result + left self.new }
-        ensures last { tells → IfCame result (λ source sink. last self.new ≡ Some (Self.Src.held source)) }
+        ensures last { tells
+            → IfCame result (λ source sink. last self.new ≡ Some (Self.Src.held source)) }
         ensures still_last { tells → UnlessCame result (last self.new ≡ last self.old) }
         ensures back { tells → back self.new ≡ back self.old }
 
         // Nothing is taken from the ends or written to them, and they haven't failed.
-        ensures whole { IfCame result (λ source sink. (Self.Src.faults source ≡ 0) × (Self.Snk.faults sink ≡ 0)) }
-        ensures untaken { IfCame result (λ source sink. Self.Src.tells → Self.Src.left source ≡ Self.Src.held source) }
-        ensures unwritten { IfCame result (λ source sink. Self.Snk.tells → Self.Snk.written sink ≡ []) }
+        ensures whole { IfCame result (λ source sink. (Self.Src.faults source ≡ 0)
+            × (Self.Snk.faults sink ≡ 0)) }
+        ensures untaken { IfCame result (λ source sink. Self.Src.tells
+            → Self.Src.left source ≡ Self.Src.held source) }
+        ensures unwritten { IfCame result
+            (λ source sink. Self.Snk.tells → Self.Snk.written sink ≡ []) }
 
         // Its answers go to the client whose bytes come.
-        ensures client { tells → IfCame result (λ source sink. Self.Snk.answers sink ≡ Self.Src.held source) }
+        ensures client { tells
+            → IfCame result (λ source sink. Self.Snk.answers sink ≡ Self.Src.held source) }
         ensures none_left { tells → OnEnd result (left self.old ≡ 0) }
         ensures end { OnEnd result (Rose (ends self.old) (ends self.new)) }
         ensures no_end { UnlessEnd result (ends self.new ≡ ends self.old) }
@@ -73,7 +85,8 @@ pub trait Door {
         // What was written went to the client who asked.
         requires client { tells → Self.Snk.answers sink ≡ Self.Src.held source }
         ensures back { tells → back self.new
-            ≡ back self.old ++ visit_of (Self.Src.held source) (Self.Snk.written sink) (Self.Src.faults source)
+            ≡ back self.old ++ visit_of (Self.Src.held source) (Self.Snk.written sink)
+            (Self.Src.faults source)
             (Self.Snk.faults sink) ∷ [] }
         ensures none { tells → last self.new ≡ None }
         ensures given { tells → given self.new ≡ given self.old }
@@ -90,13 +103,15 @@ pub trait Links {
     /// The doors that they open.
     type D: Door + Drop + Send;
 
-    /// Whether clauses are told what comes in and goes back: over memory they are, over real sockets they are not.
+    /// Whether clauses are told what comes in and goes back: over memory they are, over real
+    /// sockets they are not.
     ghost tells: { Type 0 };
 
     /// How many connections the doors gave that are back, where clauses are told.
     ghost given: { Self → ℕ };
 
-    /// How many connections are still to be given, those at doors that aren't back among them, where clauses are told.
+    /// How many connections are still to be given, those at doors that aren't back among them,
+    /// where clauses are told.
     ghost left: { Self → ℕ };
 
     /// How many of them are at no door, where clauses are told.
@@ -131,7 +146,8 @@ pub trait Links {
         ensures unended { IfOk result (λ opened. All (λ door. Self.D.ends door ≡ 0) opened.items) }
 
         // The connections at hand are spread over the doors.
-        ensures spread { tells → IfOk result (λ opened. sum_by Self.D.left opened.items + at_hand self.new
+        ensures spread { tells
+            → IfOk result (λ opened. sum_by Self.D.left opened.items + at_hand self.new
             ≡ at_hand self.old) }
         ensures all { tells → 0 < doors → OnOk result (at_hand self.new ≡ 0) }
         ensures kept { tells → OnErr result (at_hand self.new ≡ at_hand self.old) }
@@ -145,9 +161,11 @@ pub trait Links {
         ensures left { tells → left self.new ≡ left self.old }
         ensures back { tells → back self.new ≡ back self.old }
         ensures later { faults self.old ≤ faults self.new }
-        ensures cause { IsErrOf result LinksError.Failed → Rose (faults self.old) (faults self.new) };
+        ensures cause { IsErrOf result LinksError.Failed
+            → Rose (faults self.old) (faults self.new) };
 
-    /// Takes a door back that `listen` gave. Where the door failed, the links' count rises. It takes no memory.
+    /// Takes a door back that `listen` gave. Where the door failed, the links' count rises. It
+    /// takes no memory.
     fn take_back(&mut self, door: Self::D)
         requires { 0 < out self.old }
         ensures out { out self.old ≡ out self.new + 1 }

@@ -1,8 +1,10 @@
 //! A disk in memory, which keeps a record of all its calls.
-ghost use Rattle.std.specs.Prelude.{◌≡◌, ◌⊎◌, ◌≤◌, ◌<◌, ◌^◌, [], ◌∷◌, ◌++◌, true, false, length, IfOk, OnOk, OnErr};
+ghost use Rattle.std.specs.Prelude.{◌≡◌, ◌⊎◌, ◌≤◌, ◌<◌, ◌^◌, [], ◌∷◌, ◌++◌, true, false, length};
+ghost use Rattle.std.specs.Prelude.{IfOk, OnOk, OnErr};
 ghost use Rattle.outside.specs.Disk.{Holds, Fills, Torn};
 ghost use Rattle.outside.specs.Faults.{HasCause};
-ghost use Rattle.outside.specs.Record.{bytes_after, bytes_after_operation, image_after_operation, IsImage, IsImageSince, IsRefusal};
+ghost use Rattle.outside.specs.Record.{bytes_after, bytes_after_operation, image_after_operation};
+ghost use Rattle.outside.specs.Record.{IsImage, IsImageSince, IsRefusal};
 ghost use Rattle.outside.specs.RecordLaws.{bytes_are_image, image_counts, image_only};
 
 use crate::{Disk, Failed, Plan};
@@ -24,7 +26,8 @@ pub struct Call {
     pub failed: bool,
 }
 
-/// A disk in memory. It keeps a record of all its calls, and what a crash may leave follows from that record.
+/// A disk in memory. It keeps a record of all its calls, and what a crash may leave follows from
+/// that record.
 #[derive(Drop)]
 pub struct MemoryDisk {
     alloc: Global,
@@ -37,7 +40,9 @@ pub struct MemoryDisk {
 }
 
 impl MemoryDisk {
-    ghost use Rattle.outside.specs.MemoryDisk.{memory_bytes, memory_calls, memory_faults, memory_moment, IsMemoryImage, IsMemoryImageSince, IsFresh};
+    ghost use Rattle.outside.specs.MemoryDisk.{memory_bytes, memory_calls, memory_faults};
+    ghost use Rattle.outside.specs.MemoryDisk.{memory_moment, IsMemoryImage, IsMemoryImageSince};
+    ghost use Rattle.outside.specs.MemoryDisk.{IsFresh};
     ghost use Rattle.outside.specs.Disk.{Only, Elapses};
     ghost use Rattle.outside.specs.Record.{IsReading};
     ghost use Rattle.outside.specs.declared.memory_disk.Operation.TheVariants.{Sync};
@@ -50,8 +55,8 @@ impl MemoryDisk {
         Self::with_plan(alloc, bytes, Plan::Never)
     }
 
-    /// The same, where the calls of the plan fail. A failed write may leave any bytes in its range after a crash, and
-    /// the disk goes on to read what it read before.
+    /// The same, where the calls of the plan fail. A failed write may leave any bytes in its range
+    /// after a crash, and the disk goes on to read what it read before.
     pub fn with_plan(alloc: Global, bytes: Vec<u8>, plan: Plan) -> Result<Self, AllocError>
         ensures fresh { IfOk result (IsFresh bytes.items) }
     {
@@ -73,8 +78,10 @@ impl MemoryDisk {
         &self.bytes
     }
 
-    /// An image that a crash may leave now. The number picks what is left of the writes since the last sync:
-    /// nothing, all, bytes of one value over each range, a front of each piece, or all and more bytes past the end.
+    /// An image that a crash may leave now. The number picks what is left of the writes since the
+    /// last sync:
+    /// nothing, all, bytes of one value over each range, a front of each piece, or all and more
+    /// bytes past the end.
     pub fn crash_image(&self, alloc: Global, number: u64) -> Result<Vec<u8>, AllocError>
         ensures { IfOk result (λ image. IsMemoryImage self.now image.items) }
     {
@@ -107,8 +114,10 @@ impl MemoryDisk {
         requires { IsReading operation }
         ensures reads { memory_bytes self.new ≡ memory_bytes self.old }
         ensures images { (c : List ℕ) → IsMemoryImage self.new c → IsMemoryImage self.old c }
-        ensures durable { operation ≡ Sync → OnOk result (Only (memory_bytes self.old) (IsMemoryImage self.new)) }
-        ensures time { Elapses (memory_moment self.old) (memory_moment self.new) (IsMemoryImageSince self.old)
+        ensures durable { operation ≡ Sync
+            → OnOk result (Only (memory_bytes self.old) (IsMemoryImage self.new)) }
+        ensures time { Elapses (memory_moment self.old) (memory_moment self.new)
+            (IsMemoryImageSince self.old)
             (IsMemoryImageSince self.new) }
         ensures moments { (c : List ℕ) → IsMemoryImageSince self.new (memory_moment self.old) c
             → IsMemoryImage self.old c }
@@ -158,7 +167,8 @@ fn overwrite(alloc: Global, bytes: &[u8], at: usize, piece: &[u8]) -> Result<Vec
 }
 
 impl Disk for MemoryDisk {
-    ghost use Rattle.outside.specs.MemoryDisk.{memory_bytes, memory_faults, memory_moment, IsMemoryImage, IsMemoryImageSince};
+    ghost use Rattle.outside.specs.MemoryDisk.{memory_bytes, memory_faults, memory_moment};
+    ghost use Rattle.outside.specs.MemoryDisk.{IsMemoryImage, IsMemoryImageSince};
 
     ghost tells = { Unit {0} };
 
@@ -172,7 +182,8 @@ impl Disk for MemoryDisk {
 
     ghost faults = { memory_faults };
 
-    ghost read_is_image = { λ d told. bytes_are_image d.first.items d.calls.items d.bytes.items d.kept };
+    ghost read_is_image = { λ d told.
+        bytes_are_image d.first.items d.calls.items d.bytes.items d.kept };
 
     ghost counts_now = { λ d t c le now. image_counts d.first.items d.calls.items t c le now };
 
@@ -217,7 +228,8 @@ fn after_call(
     call: &Call,
     number: u64,
 ) -> Result<(Vec<u8>, Vec<u8>), AllocError>
-    ensures bytes { IfOk result (λ r. r.0.items ≡ bytes_after_operation bytes.now call.now.operation call.now.failed) }
+    ensures bytes { IfOk result (λ r. r.0.items
+        ≡ bytes_after_operation bytes.now call.now.operation call.now.failed) }
     ensures image { IfOk result (λ r. image_after_operation bytes.now
         (λ d. d ≡ image.now) call.now.operation call.now.failed r.1.items) }
 {
@@ -261,7 +273,8 @@ fn torn(
     torn_to(alloc, image, at, piece.len(), &left, &past_the_end)
 }
 
-// A write of so many bytes of which these are left, where it begins within the image, with more past the end.
+// A write of so many bytes of which these are left, where it begins within the image, with more
+// past the end.
 fn torn_to(
     alloc: Global,
     image: &[u8],

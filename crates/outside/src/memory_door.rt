@@ -1,12 +1,15 @@
 //! A door in memory.
-ghost use Rattle.std.specs.Prelude.{◌≡◌, ◌≤◌, ◌<◌, ◌+◌, ◌^◌, [], length, map, None, option_to_list, vec_capacity, IfOk};
-ghost use Rattle.outside.specs.MemoryStreams.{source_held, source_left, source_faults, sink_written, sink_answers, sink_faults};
+ghost use Rattle.std.specs.Prelude.{◌≡◌, ◌≤◌, ◌<◌, ◌+◌, ◌^◌, [], length, map, None, option_to_list};
+ghost use Rattle.std.specs.Prelude.{vec_capacity, IfOk};
+ghost use Rattle.outside.specs.MemoryStreams.{source_held, source_left, source_faults};
+ghost use Rattle.outside.specs.MemoryStreams.{sink_written, sink_answers, sink_faults};
 
 use crate::{Door, Failed, MemorySink, MemorySource, Plan};
 use std::alloc::{AllocError, Global};
 use std::snapshot::Snapshot;
 
-/// A connection in memory that is still to be given: what its client sends, and where its answers go.
+/// A connection in memory that is still to be given: what its client sends, and where its answers
+/// go.
 #[derive(Drop)]
 pub struct Connection {
     source: MemorySource,
@@ -17,8 +20,8 @@ pub struct Connection {
 }
 
 impl Connection {
-    /// A connection of two ends of which nothing was taken or written yet. From here on the sink is the one that
-    /// answers the client of this source.
+    /// A connection of two ends of which nothing was taken or written yet. From here on the sink is
+    /// the one that answers the client of this source.
     pub fn new(source: MemorySource, sink: MemorySink) -> Self
         requires whole { (source_faults source ≡ 0) × (sink_faults sink ≡ 0) }
         requires untouched { (source_left source ≡ source_held source) × (sink_written sink ≡ []) }
@@ -68,8 +71,8 @@ impl DoorBack {
     }
 }
 
-/// A door that gives connections from memory, and whose calls fail by a plan. It keeps a place for each connection, to
-/// which its ends come back.
+/// A door that gives connections from memory, and whose calls fail by a plan. It keeps a place for
+/// each connection, to which its ends come back.
 #[derive(Drop)]
 pub struct MemoryDoor {
     // The last of them is given first.
@@ -82,11 +85,13 @@ pub struct MemoryDoor {
     ends: u64,
     faults: u64,
     ghost counted: { given + length waiting.items < 2 ^ 64 },
-    ghost room: { length finished.items + (length (option_to_list last) + length waiting.items) ≤ vec_capacity finished },
+    ghost room: { length finished.items + (length (option_to_list last) + length waiting.items)
+        ≤ vec_capacity finished },
 }
 
 impl MemoryDoor {
-    ghost use Rattle.outside.specs.MemoryDoors.{finished_visit, door_given, door_left, door_back, door_last, door_ends, door_faults, visits_of};
+    ghost use Rattle.outside.specs.MemoryDoors.{finished_visit, door_given, door_left, door_back};
+    ghost use Rattle.outside.specs.MemoryDoors.{door_last, door_ends, door_faults, visits_of};
 
     /// A door that gives these connections, the first of them first, and never fails.
     pub fn new(alloc: Global, connections: Vec<Connection>) -> Result<Self, AllocError>
@@ -99,7 +104,8 @@ impl MemoryDoor {
         Self::with_plan(alloc, connections, Plan::Never)
     }
 
-    /// The same, where the calls of the plan fail. A call that takes a connection back can't fail and isn't counted.
+    /// The same, where the calls of the plan fail. A call that takes a connection back can't fail
+    /// and isn't counted.
     pub fn with_plan(
         alloc: Global,
         connections: Vec<Connection>,
@@ -195,7 +201,8 @@ impl MemoryDoor {
 }
 
 impl Door for MemoryDoor {
-    ghost use Rattle.outside.specs.MemoryDoors.{door_given, door_left, door_back, door_last, door_ends, door_faults};
+    ghost use Rattle.outside.specs.MemoryDoors.{door_given, door_left, door_back, door_last};
+    ghost use Rattle.outside.specs.MemoryDoors.{door_ends, door_faults};
 
     type Src = MemorySource;
 

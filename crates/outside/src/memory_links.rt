@@ -1,8 +1,10 @@
 //! Links in memory.
-ghost use Rattle.std.specs.Prelude.{◌≡◌, ◌≤◌, ◌<◌, ◌+◌, ◌-◌, ◌++◌, ◌∷◌, [], All, length, vec_len, vec_capacity, IfOk, OnOk, OnErr};
+ghost use Rattle.std.specs.Prelude.{◌≡◌, ◌≤◌, ◌<◌, ◌+◌, ◌-◌, ◌++◌, ◌∷◌, [], All, length, vec_len};
+ghost use Rattle.std.specs.Prelude.{vec_capacity, IfOk, OnOk, OnErr};
 ghost use Rattle.std.specs.List.{sum_by};
 ghost use Rattle.outside.specs.Visits.{place_of, one_if_any};
-ghost use Rattle.outside.specs.MemoryDoors.{door_given, door_left, door_back, door_ends, door_faults};
+ghost use Rattle.outside.specs.MemoryDoors.{door_given, door_left, door_back, door_ends};
+ghost use Rattle.outside.specs.MemoryDoors.{door_faults};
 
 use crate::{Connection, DoorBack, Finished, Links, LinksError, MemoryDoor, Plan};
 use std::alloc::{AllocError, Global};
@@ -14,7 +16,8 @@ pub struct Listened {
     pub doors: u32,
 }
 
-/// Links that spread connections from memory over the doors of a `listen`, and whose calls fail by a plan.
+/// Links that spread connections from memory over the doors of a `listen`, and whose calls fail by
+/// a plan.
 #[derive(Drop)]
 pub struct MemoryLinks {
     // The last of them is given first.
@@ -35,7 +38,9 @@ pub struct MemoryLinks {
 }
 
 impl MemoryLinks {
-    ghost use Rattle.outside.specs.MemoryLinks.{visits_among, links_given, links_left, links_at_hand, links_back, links_out, links_ended, links_listened, places_of, links_faults};
+    ghost use Rattle.outside.specs.MemoryLinks.{visits_among, links_given, links_left};
+    ghost use Rattle.outside.specs.MemoryLinks.{links_at_hand, links_back, links_out, links_ended};
+    ghost use Rattle.outside.specs.MemoryLinks.{links_listened, places_of, links_faults};
 
     /// Links with these connections, the first of them first, that never fail, nor do their doors.
     pub fn new(alloc: Global, connections: Vec<Connection>) -> Self
@@ -51,8 +56,9 @@ impl MemoryLinks {
         Self::with_plans(alloc, connections, Plan::Never, Vec::new(alloc))
     }
 
-    /// The same, where the calls of the plan fail. Each door that they open follows the next of the other plans, and
-    /// never fails where there is none. A call that takes a door back can't fail and isn't counted.
+    /// The same, where the calls of the plan fail. Each door that they open follows the next of the
+    /// other plans, and never fails where there is none. A call that takes a door back can't fail
+    /// and isn't counted.
     pub fn with_plans(
         alloc: Global,
         connections: Vec<Connection>,
@@ -129,7 +135,8 @@ impl MemoryLinks {
         ensures fresh { IfOk result (λ opened. All (λ door. (door_given door ≡ 0)
             × (door_back door ≡ [])) opened.items) }
         ensures unended { IfOk result (λ opened. All (λ door. door_ends door ≡ 0) opened.items) }
-        ensures spread { IfOk result (λ opened. sum_by door_left opened.items + links_at_hand self.new
+        ensures spread { IfOk result (λ opened.
+            sum_by door_left opened.items + links_at_hand self.new
             ≡ links_at_hand self.old) }
         ensures all { 0 < doors → OnOk result (links_at_hand self.new ≡ 0) }
         ensures kept { OnErr result (links_at_hand self.new ≡ links_at_hand self.old) }
@@ -167,7 +174,9 @@ impl MemoryLinks {
 }
 
 impl Links for MemoryLinks {
-    ghost use Rattle.outside.specs.MemoryLinks.{links_given, links_left, links_at_hand, links_back, links_out, links_ended, links_listened, links_faults};
+    ghost use Rattle.outside.specs.MemoryLinks.{links_given, links_left, links_at_hand, links_back};
+    ghost use Rattle.outside.specs.MemoryLinks.{links_out, links_ended, links_listened};
+    ghost use Rattle.outside.specs.MemoryLinks.{links_faults};
 
     type D = MemoryDoor;
 
@@ -236,7 +245,8 @@ fn move_some(from: &mut Vec<Connection>, to: &mut Vec<Connection>, count: usize)
     }
 }
 
-// Moves the connections of all groups to the others, so that they are given before those and in their order.
+// Moves the connections of all groups to the others, so that they are given before those and in
+// their order.
 fn gather(
     waiting: &mut Vec<Connection>,
     groups: &mut Vec<Vec<Connection>>,
@@ -331,7 +341,8 @@ fn spread(
     ensures whole { All (λ door. door_faults door ≡ 0) opened.new.items }
     ensures fresh { All (λ door. (door_given door ≡ 0) × (door_back door ≡ [])) opened.new.items }
     ensures unended { All (λ door. door_ends door ≡ 0) opened.new.items }
-    ensures spread { sum_by door_left opened.new.items + length waiting.new.items ≡ length waiting.old.items }
+    ensures spread { sum_by door_left opened.new.items + length waiting.new.items
+        ≡ length waiting.old.items }
     ensures all { 0 < length rooms.items → length waiting.new.items ≡ 0 }
 {
     let mut rooms = rooms;

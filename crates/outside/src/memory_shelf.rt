@@ -1,5 +1,7 @@
 //! A shelf in memory.
-ghost use Rattle.std.specs.Prelude.{◌≡◌, ◌≤◌, ◌++◌, ◌∷◌, [], List, ℕ, Some, None, true, false, IfOk, IfSome, IfNone, OnErr, OnOk, IfErr, IsErrOf, map, option_copied, string_bytes};
+ghost use Rattle.std.specs.Prelude.{◌≡◌, ◌≤◌, ◌++◌, ◌∷◌, [], List, ℕ, Some, None, true, false};
+ghost use Rattle.std.specs.Prelude.{IfOk, IfSome, IfNone, OnErr, OnOk, IfErr, IsErrOf, map};
+ghost use Rattle.std.specs.Prelude.{option_copied, string_bytes};
 ghost use Rattle.outside.specs.Faults.{Rose};
 ghost use Rattle.outside.specs.Shelf.{SameNames, SameOthers, IsTaken};
 ghost use Rattle.outside.specs.MemoryFiles.{file_among};
@@ -37,7 +39,9 @@ pub struct MemoryShelf {
 }
 
 impl MemoryShelf {
-    ghost use Rattle.outside.specs.MemoryShelves.{file_named, shelf_faults, files_of, files_looked_at, disk_named, is_disk_out, disk_faults_of};
+    ghost use Rattle.outside.specs.MemoryShelves.{file_named, shelf_faults, files_of};
+    ghost use Rattle.outside.specs.MemoryShelves.{files_looked_at, disk_named, is_disk_out};
+    ghost use Rattle.outside.specs.MemoryShelves.{disk_faults_of};
     ghost use Rattle.outside.specs.MemoryDisk.{memory_faults};
 
     /// A shelf without files and disks that never fails.
@@ -52,8 +56,8 @@ impl MemoryShelf {
         Self::with_plan(alloc, Plan::Never)
     }
 
-    /// A shelf without files and disks whose calls fail by plan. A call that gives a disk back can't fail and isn't
-    /// counted.
+    /// A shelf without files and disks whose calls fail by plan. A call that gives a disk back
+    /// can't fail and isn't counted.
     pub fn with_plan(alloc: Global, plan: Plan) -> Self
         ensures empty { files_of result ≡ [] }
         ensures no_disks { (name : List ℕ) → disk_named result name ≡ None }
@@ -74,7 +78,8 @@ impl MemoryShelf {
 
     /// Puts a file behind those that are there. Of two files of one name the first is read.
     pub fn put(&mut self, alloc: Global, name: &str, bytes: &[u8]) -> Result<(), AllocError>
-        ensures added { OnOk result (files_of self.new ≡ files_of self.old ++ (name.now, bytes.now) ∷ []) }
+        ensures added { OnOk result
+            (files_of self.new ≡ files_of self.old ++ (name.now, bytes.now) ∷ []) }
         ensures refused { OnErr result (files_of self.new ≡ files_of self.old) }
         ensures disks { SameNames (disk_named self.old) (disk_named self.new) }
         ensures out { SameNames (is_disk_out self.old) (is_disk_out self.new) }
@@ -100,9 +105,11 @@ impl MemoryShelf {
         ensures disks { SameOthers name.now (disk_named self.old) (disk_named self.new) }
         ensures out { SameNames (is_disk_out self.old) (is_disk_out self.new) }
         ensures count { OnOk result (disk_faults_of self.new name.now ≡ memory_faults disk) }
-        ensures other_counts { SameOthers name.now (disk_faults_of self.old) (disk_faults_of self.new) }
+        ensures other_counts { SameOthers name.now (disk_faults_of self.old)
+            (disk_faults_of self.new) }
         ensures refused { OnErr result (SameNames (disk_named self.old) (disk_named self.new)) }
-        ensures refused_counts { OnErr result (SameNames (disk_faults_of self.old) (disk_faults_of self.new)) }
+        ensures refused_counts { OnErr result
+            (SameNames (disk_faults_of self.old) (disk_faults_of self.new)) }
         ensures files { files_of self.new ≡ files_of self.old }
         ensures faults { shelf_faults self.new ≡ shelf_faults self.old }
         ensures looked { files_looked_at self.new ≡ files_looked_at self.old }
@@ -136,7 +143,8 @@ impl MemoryShelf {
 }
 
 impl Shelf for MemoryShelf {
-    ghost use Rattle.outside.specs.MemoryShelves.{file_named, files_looked_at, shelf_faults, disk_named, is_disk_out, disk_faults_of};
+    ghost use Rattle.outside.specs.MemoryShelves.{file_named, files_looked_at, shelf_faults};
+    ghost use Rattle.outside.specs.MemoryShelves.{disk_named, is_disk_out, disk_faults_of};
 
     type D = MemoryDisk;
 
@@ -177,7 +185,8 @@ impl Shelf for MemoryShelf {
 
 // Keeps one more name.
 fn keep_name(alloc: Global, names: &mut Vec<String>, name: &str) -> Result<(), ShelfError>
-    ensures kept { OnOk result (map string_bytes names.new.items ≡ map string_bytes names.old.items ++ name.now ∷ []) }
+    ensures kept { OnOk result (map string_bytes names.new.items
+        ≡ map string_bytes names.old.items ++ name.now ∷ []) }
     ensures refused { OnErr result (names.new.items ≡ names.old.items) }
     ensures memory { IfErr result (λ why. why ≡ ShelfError.Memory) }
 {
@@ -240,7 +249,8 @@ impl Place {
 fn take_from(disks: &mut Places<Place>, name: &str) -> Option<MemoryDisk>
     requires { out_at (at_name disks.old name.now) ≡ false }
     ensures taken { result ≡ held_at (at_name disks.old name.now) }
-    ensures place { IfSome result (λ disk. at_name disks.new name.now ≡ Some (Place.Out (memory_faults disk))) }
+    ensures place { IfSome result (λ disk. at_name disks.new name.now
+        ≡ Some (Place.Out (memory_faults disk))) }
     ensures none { IfNone result (SameNames (at_name disks.old) (at_name disks.new)) }
     ensures others { SameOthers name.now (at_name disks.old) (at_name disks.new) }
 {

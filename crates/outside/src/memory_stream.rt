@@ -32,8 +32,8 @@ impl MemorySource {
         Self::with_plan(bytes, Pieces::Whole, Plan::Never)
     }
 
-    /// A source of these bytes that gives them in such pieces and fails by plan. While bytes are left, a size of 0
-    /// counts as 1.
+    /// A source of these bytes that gives them in such pieces and fails by plan. While bytes are
+    /// left, a size of 0 counts as 1.
     pub fn with_plan(bytes: Vec<u8>, pieces: Pieces, plan: Plan) -> Self
         ensures held { source_held result ≡ bytes.items }
         ensures left { source_left result ≡ bytes.items }
@@ -120,7 +120,8 @@ pub struct MemorySink {
 }
 
 impl MemorySink {
-    ghost use Rattle.outside.specs.MemoryStreams.{source_held, sink_written, sink_answers, sink_faults};
+    ghost use Rattle.outside.specs.MemoryStreams.{source_held, sink_written, sink_answers};
+    ghost use Rattle.outside.specs.MemoryStreams.{sink_faults};
 
     /// An empty sink that fails for want of memory alone.
     pub fn new(alloc: Global) -> Self
@@ -130,7 +131,8 @@ impl MemorySink {
         Self::with_plan(alloc, Pieces::Whole, Plan::Never)
     }
 
-    /// An empty sink that takes such pieces and fails by plan. A size of 0 takes nothing, which counts as a fault.
+    /// An empty sink that takes such pieces and fails by plan. A size of 0 takes nothing, which
+    /// counts as a fault.
     pub fn with_plan(alloc: Global, pieces: Pieces, plan: Plan) -> Self
         ensures empty { sink_written result ≡ [] }
         ensures faultless { sink_faults result ≡ 0 }

@@ -1,6 +1,7 @@
 //! What an object in memory is told to do.
 
-/// Which calls of an object in memory are to fail, counted from 0. A call that finds no memory fails too.
+/// Which calls of an object in memory are to fail, counted from 0. A call that finds no memory
+/// fails too.
 #[derive(Drop)]
 pub enum Plan {
     /// None of them.

@@ -1,5 +1,6 @@
 //! Files and disks by their names.
-ghost use Rattle.std.specs.Prelude.{◌≡◌, ◌≤◌, ◌++◌, ◌∷◌, [], List, ℕ, Bool, true, false, Option, Some, None, IfOk, OnOk, OnErr, IsErrOf};
+ghost use Rattle.std.specs.Prelude.{◌≡◌, ◌≤◌, ◌++◌, ◌∷◌, [], List, ℕ, Bool, true, false, Option};
+ghost use Rattle.std.specs.Prelude.{Some, None, IfOk, OnOk, OnErr, IsErrOf};
 ghost use Rattle.outside.specs.Faults.{Rose};
 ghost use Rattle.outside.specs.Shelf.{IsTaken, Looks, SameNames, SameOthers};
 
@@ -19,8 +20,8 @@ pub enum ShelfError {
 
 /// Where the files of a policy and of facts lie, and the disks of journals. No call changes a file.
 ///
-/// A disk that was taken isn't taken again before it is given back. For each name the shelf keeps a count of faults,
-/// with which its disk comes and which is that disk's count again once it is back.
+/// A disk that was taken isn't taken again before it is given back. For each name the shelf keeps a
+/// count of faults, with which its disk comes and which is that disk's count again once it is back.
 pub trait Shelf {
     /// The disks that it gives.
     type D: Disk + Drop;
@@ -37,7 +38,8 @@ pub trait Shelf {
     /// The disk of this name was taken and isn't back.
     ghost is_out: { Self → List ℕ → Bool };
 
-    /// The count of faults of the disk of a name, as it was when the shelf last had it. It doesn't fall.
+    /// The count of faults of the disk of a name, as it was when the shelf last had it. It doesn't
+    /// fall.
     ghost disk_faults: { Self → List ℕ → ℕ };
 
     /// The count of faults, which doesn't fall.
@@ -49,20 +51,25 @@ pub trait Shelf {
     /// Reads the file of this name whole.
     fn read_file(&mut self, alloc: Global, name: &str) -> Result<Vec<u8>, ShelfError>
         ensures read { tells → IfOk result (λ bytes. file self.old name.now ≡ Some bytes.items) }
-        ensures missing { tells → IsErrOf result ShelfError.Missing → file self.old name.now ≡ None }
+        ensures missing { tells → IsErrOf result ShelfError.Missing
+            → file self.old name.now ≡ None }
         ensures looked { tells → OnOk result (looked self.new ≡ looked self.old ++ name.now ∷ []) }
-        ensures refused { tells → OnErr result (Looks name.now (looked self.old) (looked self.new)) }
+        ensures refused { tells
+            → OnErr result (Looks name.now (looked self.old) (looked self.new)) }
         ensures files { (name : List ℕ) → file self.new name ≡ file self.old name }
         ensures disks { SameNames (disk self.old) (disk self.new) }
         ensures out { SameNames (is_out self.old) (is_out self.new) }
         ensures disk_faults { SameNames (disk_faults self.old) (disk_faults self.new) }
         ensures later { faults self.old ≤ faults self.new }
-        ensures cause { IsErrOf result ShelfError.Failed → Rose (faults self.old) (faults self.new) };
+        ensures cause { IsErrOf result ShelfError.Failed
+            → Rose (faults self.old) (faults self.new) };
 
-    /// Takes the disk of this name. Where there is none it makes one without bytes, so that it never answers Missing.
+    /// Takes the disk of this name. Where there is none it makes one without bytes, so that it
+    /// never answers Missing.
     fn take_disk(&mut self, alloc: Global, name: &str) -> Result<Self::D, ShelfError>
         requires { is_out self.old name.now ≡ false }
-        ensures taken { tells → IfOk result (IsTaken Self.D.reads Self.D.image (disk self.old name.now)) }
+        ensures taken { tells
+            → IfOk result (IsTaken Self.D.reads Self.D.image (disk self.old name.now)) }
         ensures count { IfOk result (λ taken. Self.D.faults taken ≡ disk_faults self.old name.now) }
         ensures gone { tells → OnOk result (disk self.new name.now ≡ None) }
         ensures disks { SameOthers name.now (disk self.old) (disk self.new) }
@@ -77,7 +84,8 @@ pub trait Shelf {
         ensures refused_out { OnErr result (SameNames (is_out self.old) (is_out self.new)) }
         ensures found { IsErrOf result ShelfError.Missing → ⊥ }
         ensures later { faults self.old ≤ faults self.new }
-        ensures cause { IsErrOf result ShelfError.Failed → Rose (faults self.old) (faults self.new) };
+        ensures cause { IsErrOf result ShelfError.Failed
+            → Rose (faults self.old) (faults self.new) };
 
     /// Puts a disk that was taken back to its place. It takes no memory.
     fn give_disk(&mut self, name: &str, taken: Self::D)

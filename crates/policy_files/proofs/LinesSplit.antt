@@ -1,5 +1,6 @@
 -- The first line of bytes, by where the first line feed stands.
-use Rattle.std.proofs.Common.{◌≡◌, ℕ, ◌+◌, ◌<◌, ◌≤◌, ◌==◌, Bool, true, false, not, List, [], ◌∷◌, ◌++◌, length, take, drop, get_or, Some, None, refl, ap, ◌∙◌, arith, inl, inr}
+use Rattle.std.proofs.Common.{◌≡◌, ℕ, ◌+◌, ◌<◌, ◌≤◌, ◌==◌, Bool, true, false, not, List, [], ◌∷◌, ◌++◌, length, take, drop, get_or, Some, None, refl, ap, ◌∙◌}
+use Rattle.std.proofs.Common.{arith, inl, inr}
 use Rattle.std.specs.Prelude.{nat_lt, position}
 use Rattle.std.specs.List.{position_or_len}
 use Rattle.std.proofs.lemmas.Bool.{cases_Bool, not-true}
@@ -18,7 +19,11 @@ abbrev HasNoFeedBelow : ℕ → List ℕ → Type 0
 HasNoFeedBelow n bytes = (k : ℕ) → k < n → is_feed (get_or bytes k 0) ≡ false
 
 -- a line that a line feed ends
-pub first_line : (bytes : List ℕ) (n : ℕ) → position is_feed bytes ≡ Some n → text_lines bytes ≡ record { bytes = take n bytes; ended = true } ∷ text_lines (drop (n + 1) bytes)
+pub first_line : (bytes : List ℕ) (n : ℕ) → position is_feed bytes ≡ Some n → text_lines bytes ≡ record {
+  bytes =
+      take n bytes;
+  ended = true;
+} ∷ text_lines (drop (n + 1) bytes)
 unfolding text_lines
 first_line bytes n found =
     let at = position-Some is_feed bytes n 0 found in

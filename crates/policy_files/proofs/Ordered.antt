@@ -1,5 +1,6 @@
 -- Members whose keys ascend: the first key is the least.
-use Rattle.std.proofs.Common.{◌≡◌, ◌∙◌, refl, sym, subst, ap, Bool, true, false, List, [], ◌∷◌, Option, Some, None, String, Global, Less, nat_cmp, string_bytes, if◌then◌else◌}
+use Rattle.std.proofs.Common.{◌≡◌, ◌∙◌, refl, sym, subst, ap, Bool, true, false, List, [], ◌∷◌, Option, Some, None, String, Global, Less, nat_cmp, string_bytes}
+use Rattle.std.proofs.Common.{if◌then◌else◌}
 use Rattle.std.specs.Ordering.{is_lt, ordering_reverse}
 use Rattle.std.specs.Cmp.Lexicographic.{slice_cmp}
 use Rattle.std.specs.List.{AllByRecursion}
@@ -48,14 +49,18 @@ no_lesser key other (Some third) here there = by (is_less third other)
     by true = there
     by false = here
 
-none_less : (known : List Text) (key : String Global) (entries : List Entry) → Precedes key entries → NoLess (string_bytes key) (unknown_key known (members_view entries))
+none_less : (known : List Text) (key : String Global) (entries : List Entry) → Precedes key entries
+    → NoLess (string_bytes key) (unknown_key known (members_view entries))
 none_less known key [] precedes = tt
 none_less known key (e ∷ rest) precedes = by (contains_text known (string_bytes e.0)) (none_less known key rest precedes.1)
   where
     by : (t : Bool) → NoLess (string_bytes key) (unknown_key known (members_view rest))
-        → NoLess (string_bytes key) (if t then unknown_key known (members_view rest) else Some (lesser (string_bytes e.0) (unknown_key known (members_view rest))))
+        → NoLess (string_bytes key) (if t then unknown_key known (members_view rest)
+        else Some (lesser (string_bytes e.0) (unknown_key known (members_view rest))))
     by true = λ behind. behind
-    by false = λ behind. no_lesser (string_bytes key) (string_bytes e.0) (unknown_key known (members_view rest)) (not_less (string_bytes key) (string_bytes e.0) precedes.0) behind
+    by false = λ behind.
+        no_lesser (string_bytes key) (string_bytes e.0) (unknown_key known (members_view rest))
+        (not_less (string_bytes key) (string_bytes e.0) precedes.0) behind
 
 stays : (key : Text) (found : Option Text) → NoLess key found → lesser key found ≡ key
 stays key None isnt = refl

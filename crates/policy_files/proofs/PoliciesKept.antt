@@ -23,7 +23,8 @@ accepted_ok : (refusal : Option SchemaError) (made schema : DatabaseSchema) → 
 accepted_ok None made schema e = (refl, same_ok made schema e)
 accepted_ok (Some why) made schema e = absurd (cc)
 
-schema_ok : AcceptedIsValid → (domains relations : List Declaration) (schema : DatabaseSchema) → schema_in domains relations ≡ Ok schema → is_valid_schema schema ≡ true
+schema_ok : AcceptedIsValid → (domains relations : List Declaration) (schema : DatabaseSchema) → schema_in domains relations ≡ Ok schema
+    → is_valid_schema schema ≡ true
 schema_ok law domains relations schema e =
     let h = accepted_ok (schema_refusal domains relations) (schema_of domains relations) schema e in
     subst (λ s. is_valid_schema s ≡ true) h.1 (law domains relations h.0)
@@ -63,7 +64,8 @@ unfolding policy_in
 read_kept law bytes policy e = first_ok (tree_in bytes) policy_of policy e (λ root root_is e. law root policy e)
 
 -- its users in memory
-pub users_keep : (schema : DatabaseSchema) (users : List User) → All (λ named. KeepsLimits schema named.profile) (map policy_user_of users) → All (λ user. KeepsLimits schema (profile_of user)) users
+pub users_keep : (schema : DatabaseSchema) (users : List User) → All (λ named. KeepsLimits schema named.profile) (map policy_user_of users)
+    → All (λ user. KeepsLimits schema (profile_of user)) users
 users_keep schema users all = λ k d below.
     let at = all k (policy_user_of d) (rw (length-map users policy_user_of) below) in
     subst (λ (named : PolicyUser). KeepsLimits schema named.profile) (get_or-map policy_user_of users k d (policy_user_of d) below) at

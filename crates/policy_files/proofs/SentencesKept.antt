@@ -1,5 +1,6 @@
 -- The sentences that are read from a user's texts.
-use Rattle.std.proofs.Common.{◌≡◌, ℕ, ◌+◌, ◌≤◌, Bool, true, List, [], ◌∷◌, ◌++◌, length, length-append, Result, Ok, Err, Option, Some, None, refl, ap, ◌∙◌, arith, subst}
+use Rattle.std.proofs.Common.{◌≡◌, ℕ, ◌+◌, ◌≤◌, Bool, true, List, [], ◌∷◌, ◌++◌, length, length-append, Result, Ok, Err, Option, Some, None, refl, ap, ◌∙◌}
+use Rattle.std.proofs.Common.{arith, subst}
 use Rattle.std.specs.Prelude.{nat_lt}
 use Rattle.std.specs.List.{list_all}
 use Rattle.std.proofs.lemmas.List.Folds.{list_all-append}
@@ -25,17 +26,20 @@ module _ (schema : DatabaseSchema) where
   pub none_are : AreSmallSentences []
   none_are = record { of_schema = refl; small = refl }
 
-  small_ok : (user : ℕ) (key : Text) (index : ℕ) (read : Result Formula Refusal) (s : Formula) → small_sentence schema user key index read ≡ Ok s → (read ≡ Ok s) × (is_small schema s ≡ true)
+  small_ok : (user : ℕ) (key : Text) (index : ℕ) (read : Result Formula Refusal) (s : Formula) → small_sentence schema user key index read ≡ Ok s
+      → (read ≡ Ok s) × (is_small schema s ≡ true)
   small_ok user key index (Err why) s e = absurd (cc)
   small_ok user key index (Ok t) s e =
       let h = when_ok (is_small schema t) _ (Ok t) s e in
       let same : t ≡ s = same_ok t s h.1 in
       (ap (λ (x : Formula). Ok x) same, rw (← same) h.0)
 
-  sentence_ok : ReadingsAreSentences → (user : ℕ) (key : Text) (index : ℕ) (text : Text) (s : Formula) → sentence_of schema user key index text ≡ Ok s → (is_sentence_of schema s ≡ true) × (is_small schema s ≡ true)
+  sentence_ok : ReadingsAreSentences → (user : ℕ) (key : Text) (index : ℕ) (text : Text) (s : Formula) → sentence_of schema user key index text ≡ Ok s
+      → (is_sentence_of schema s ≡ true) × (is_small schema s ≡ true)
   unfolding sentence_of
   sentence_ok law user key index text s e =
-      let read = small_ok user key index (reading schema text) s (unless_ok (nat_lt 4096 (length text)) _ (small_sentence schema user key index (reading schema text)) s e).1 in
+      let read = small_ok user key index (reading schema text) s
+      (unless_ok (nat_lt 4096 (length text)) _ (small_sentence schema user key index (reading schema text)) s e).1 in
       (law schema text s read.0, read.1)
 
   behind_ok : ReadingsAreSentences → (user : ℕ) (key : Text) (read : List Formula) (texts : List Data) (all : List Formula)
@@ -46,7 +50,12 @@ module _ (schema : DatabaseSchema) where
   behind_ok law user key read (text ∷ texts) all good e =
       first_ok (sentence_of schema user key (length read) (text_in text)) (λ s. sentences_behind schema user key (read ++ s ∷ []) texts) all e (λ s here rest.
       let one = sentence_ok law user key (length read) (text_in text) s here in
-      let more = behind_ok law user key (read ++ s ∷ []) texts all (record { of_schema = all_more (is_sentence_of schema) read s good.of_schema one.0; small = all_more (is_small schema) read s good.small one.1 }) rest in
+      let more = behind_ok law user key (read ++ s ∷ []) texts all
+      (record {
+        of_schema = all_more (is_sentence_of schema) read s good.of_schema one.0;
+        small =
+            all_more (is_small schema) read s good.small one.1;
+      }) rest in
       (more.0, omega (arith, more.1, length-append read (s ∷ []))))
 
   -- sentences of an array, in a number that is within
@@ -55,7 +64,8 @@ module _ (schema : DatabaseSchema) where
     pub enough : least ≤ length sentences
     pub few : length sentences ≤ greatest
 
-  sentences_ok : ReadingsAreSentences → (user : ℕ) (key : Text) (least greatest : ℕ) (value : Data) (all : List Formula) → sentences_of schema user key least greatest value ≡ Ok all → AreSomeSentences least greatest all
+  sentences_ok : ReadingsAreSentences → (user : ℕ) (key : Text) (least greatest : ℕ) (value : Data) (all : List Formula)
+      → sentences_of schema user key least greatest value ≡ Ok all → AreSomeSentences least greatest all
   unfolding sentences_of
   sentences_ok law user key least greatest value all e =
       let h = when_ok (is_string_array value) _ _ all e in
@@ -72,6 +82,7 @@ module _ (schema : DatabaseSchema) where
       subst (AreSomeSentences 0 256) (same_ok [] all e) (record { good = none_are; enough = omega arith; few = omega arith })
   known_ok law user (Some value) all e = sentences_ok law user _ 0 256 value all e
 
-  pub secrets_ok : ReadingsAreSentences → (user : ℕ) (value : Option Data) (all : List Formula) → secrets_of schema user value ≡ Ok all → AreSomeSentences 1 16 all
+  pub secrets_ok : ReadingsAreSentences → (user : ℕ) (value : Option Data) (all : List Formula) → secrets_of schema user value ≡ Ok all
+      → AreSomeSentences 1 16 all
   secrets_ok law user None all e = absurd (cc)
   secrets_ok law user (Some value) all e = sentences_ok law user _ 1 16 value all e

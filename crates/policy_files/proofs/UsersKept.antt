@@ -1,5 +1,6 @@
 -- The users of a policy keep the limits, and their names differ.
-use Rattle.std.proofs.Common.{◌≡◌, ℕ, ◌+◌, ◌≤◌, true, false, List, [], ◌∷◌, ◌++◌, length, length-append, map, Ok, Err, Option, Some, None, refl, ap, ◌∙◌, arith, subst, All, lit≤}
+use Rattle.std.proofs.Common.{◌≡◌, ℕ, ◌+◌, ◌≤◌, true, false, List, [], ◌∷◌, ◌++◌, length, length-append, map, Ok, Err, Option, Some, None, refl, ap, ◌∙◌, arith}
+use Rattle.std.proofs.Common.{subst, All, lit≤}
 use Rattle.std.specs.Prelude.{nat_le, codes, bytes_eq, if◌then◌else◌}
 use Rattle.std.specs.List.{list_all, list_any}
 use Rattle.std.proofs.lemmas.Bool.{or_parts}
@@ -18,7 +19,8 @@ use Rattle.policy_files.specs.declared.error.PolicyError.TheVariants.{WrongKind,
 use Rattle.policy_files.specs.Tree.{natural}
 use Rattle.policy_files.specs.Policies.{PolicyUser}
 use Rattle.policy_files.specs.Keys.{only_keys, required, of_kind}
-use Rattle.policy_files.specs.Users.{user_place, new_name, name_of, method_of, known_of, secrets_of, fit_budget, budget_of, token_of, with_small_view, user_of, users_behind, names_of}
+use Rattle.policy_files.specs.Users.{user_place, new_name, name_of, method_of, known_of, secrets_of, fit_budget, budget_of, token_of, with_small_view, user_of}
+use Rattle.policy_files.specs.Users.{users_behind, names_of}
 use Rattle.policy_files.proofs.OkSteps.{first_ok, unless_ok, when_ok, same_ok, within_ok}
 use Rattle.policy_files.proofs.SentencesKept.{all_more, AreSomeSentences, known_ok, secrets_ok}
 
@@ -88,13 +90,15 @@ limits_kept schema user know secrets budget view = record {
   budget = budget.1;
 }
 
-view_ok : (schema : DatabaseSchema) (user : ℕ) (named out : PolicyUser) → with_small_view schema user named ≡ Ok out → (view_size schema named.profile [] ≤ 40000) × (named ≡ out)
+view_ok : (schema : DatabaseSchema) (user : ℕ) (named out : PolicyUser) → with_small_view schema user named ≡ Ok out
+    → (view_size schema named.profile [] ≤ 40000) × (named ≡ out)
 view_ok schema user named out e =
     let h = when_ok (nat_le (view_size schema named.profile []) 40000) (Limit (user_place user (codes "secrets"))) (Ok named) out e in
     let test : nat_le (view_size schema named.profile []) 40000 ≡ true = h.0 in
     (grind (arith, nat_tests), same_ok named out h.1)
 
-user_ok : ReadingsAreSentences → (schema : DatabaseSchema) (earlier : List Text) (user : ℕ) (keys : Data) (named : PolicyUser) → user_of schema earlier user keys ≡ Ok named → IsKeptUser schema earlier named
+user_ok : ReadingsAreSentences → (schema : DatabaseSchema) (earlier : List Text) (user : ℕ) (keys : Data) (named : PolicyUser)
+    → user_of schema earlier user keys ≡ Ok named → IsKeptUser schema earlier named
 unfolding user_of
 user_ok law schema earlier user keys named e =
     first_ok (only_keys (Some user) keys) _ named e (λ none none_is e.
@@ -107,7 +111,8 @@ user_ok law schema earlier user keys named e =
     let made : PolicyUser = record { name = name; profile = record { method = method; know = know; secrets = secrets; budget = budget }; token = token } in
     let view = view_ok schema user made named e in
     let kept : IsKeptUser schema earlier made = record {
-      limits = limits_kept schema made.profile (known_ok schema law user (get (codes "know") keys) know know_is) (secrets_ok schema law user (get (codes "secrets") keys) secrets secrets_is) (budget_ok user (get (codes "budget") keys) budget budget_is) view.0;
+      limits = limits_kept schema made.profile (known_ok schema law user (get (codes "know") keys) know know_is)
+          (secrets_ok schema law user (get (codes "secrets") keys) secrets secrets_is) (budget_ok user (get (codes "budget") keys) budget budget_is) view.0;
       name = name_ok earlier user (get (codes "name") keys) name name_is;
     } in
     subst (IsKeptUser schema earlier) view.1 kept)))))))
@@ -121,7 +126,8 @@ pub record AreKept (schema : DatabaseSchema) (users : List PolicyUser) : Type 0 
 pub no_users_kept : (schema : DatabaseSchema) → AreKept schema []
 no_users_kept schema = record { limits = All-nil (λ (user : PolicyUser). KeepsLimits schema user.profile); proper = refl; differ = refl }
 
-kept_more : (schema : DatabaseSchema) (read : List PolicyUser) (user : PolicyUser) → AreKept schema read → IsKeptUser schema (names_of read) user → AreKept schema (read ++ user ∷ [])
+kept_more : (schema : DatabaseSchema) (read : List PolicyUser) (user : PolicyUser) → AreKept schema read → IsKeptUser schema (names_of read) user
+    → AreKept schema (read ++ user ∷ [])
 kept_more schema read user kept one =
     let names : names_of (read ++ user ∷ []) ≡ names_of read ++ user.name ∷ [] = map-append (λ (u : PolicyUser). u.name) read (user ∷ []) in
     record {

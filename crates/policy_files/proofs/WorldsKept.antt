@@ -1,5 +1,6 @@
 -- The world of a facts file is one of the schema, with at most 100,000 facts.
-use Rattle.std.proofs.Common.{◌≡◌, ℕ, ◌+◌, ◌≤◌, ◌<◌, Bool, true, false, not, ◌&&◌, List, [], ◌∷◌, map, Result, Ok, Err, Option, Some, None, refl, sym, ◌∙◌, arith, subst, inl, inr}
+use Rattle.std.proofs.Common.{◌≡◌, ℕ, ◌+◌, ◌≤◌, ◌<◌, Bool, true, false, not, ◌&&◌, List, [], ◌∷◌, map, Result, Ok, Err, Option, Some, None, refl, sym, ◌∙◌}
+use Rattle.std.proofs.Common.{arith, subst, inl, inr}
 use Rattle.std.specs.Prelude.{nat_le, if◌then◌else◌, IsUtf8}
 use Rattle.std.specs.FinSet as set
 use Rattle.std.specs.Ordering.{eq_by_cmp}
@@ -39,7 +40,8 @@ module _ (grounded : GroundedFactsAreOfSchema) (reads : ReadingsAreSentences) (s
       subst (λ f. is_fact_of schema f ≡ true) same here.0
   in_schema _ fact of_schema e = absurd (cc)
 
-  read_in_schema : (read : Result Formula Refusal) (fact : Fact) → ((s : Formula) → read ≡ Ok s → is_sentence_of schema s ≡ true) → fact_read read ≡ Some fact → is_fact_of schema fact ≡ true
+  read_in_schema : (read : Result Formula Refusal) (fact : Fact) → ((s : Formula) → read ≡ Ok s → is_sentence_of schema s ≡ true) → fact_read read ≡ Some fact
+      → is_fact_of schema fact ≡ true
   read_in_schema (Err why) fact of_schema e = absurd (cc)
   read_in_schema (Ok s) fact of_schema e = in_schema s fact (of_schema s refl) e
 
@@ -90,23 +92,27 @@ module _ (grounded : GroundedFactsAreOfSchema) (reads : ReadingsAreSentences) (s
   fact_ok number world (Some fact) next small of_schema e =
       at (nat_le 100000 (set.len world) && not (set.contains world fact)) refl e
     where
-      at : (full : Bool) → (nat_le 100000 (set.len world) && not (set.contains world fact)) ≡ full → (if full then Err (Limit number) else Ok (set.insert world fact)) ≡ Ok next → IsSmallWorldOf schema next
+      at : (full : Bool) → (nat_le 100000 (set.len world) && not (set.contains world fact)) ≡ full
+          → (if full then Err (Limit number) else Ok (set.insert world fact)) ≡ Ok next → IsSmallWorldOf schema next
       at true is e = absurd (cc)
       at false is e = let same : set.insert world fact ≡ next = cc in subst (IsSmallWorldOf schema) same (joins world fact small (of_schema fact refl) is)
 
-  line_ok : (number : ℕ) (world : FactSet) (line : TextLine) (next : FactSet) → IsSmallWorldOf schema world → with_line schema number world line ≡ Ok next → IsSmallWorldOf schema next
+  line_ok : (number : ℕ) (world : FactSet) (line : TextLine) (next : FactSet) → IsSmallWorldOf schema world → with_line schema number world line ≡ Ok next
+      → IsSmallWorldOf schema next
   line_ok number world line next small e = at (says_nothing (content line)) e
     where
       at : (silent : Bool) → (if silent then Ok world else with_fact number world (fact_of_line schema line)) ≡ Ok next → IsSmallWorldOf schema next
       at true e = let same : world ≡ next = cc in subst (IsSmallWorldOf schema) same small
       at false e = fact_ok number world (fact_of_line schema line) next small (line_in_schema line) e
 
-  lines_ok : (number : ℕ) (world : FactSet) (lines : List TextLine) (all : FactSet) → IsSmallWorldOf schema world → with_lines schema number world lines ≡ Ok all → IsSmallWorldOf schema all
+  lines_ok : (number : ℕ) (world : FactSet) (lines : List TextLine) (all : FactSet) → IsSmallWorldOf schema world
+      → with_lines schema number world lines ≡ Ok all → IsSmallWorldOf schema all
   lines_ok number world [] all small e = let same : world ≡ all = cc in subst (IsSmallWorldOf schema) same small
   lines_ok number world (line ∷ lines) all small e =
       at (with_line schema number world line) refl e (λ next here rest. lines_ok (number + 1) next lines all (line_ok number world line next small here) rest)
     where
-      at : (step : Result FactSet FactsError) → with_line schema number world line ≡ step → (step >>= λ next. with_lines schema (number + 1) next lines) ≡ Ok all
+      at : (step : Result FactSet FactsError) → with_line schema number world line ≡ step
+          → (step >>= λ next. with_lines schema (number + 1) next lines) ≡ Ok all
           → ((next : FactSet) → with_line schema number world line ≡ Ok next → with_lines schema (number + 1) next lines ≡ Ok all → IsSmallWorldOf schema all)
           → IsSmallWorldOf schema all
       at (Err why) is e more = absurd (cc)

@@ -1,5 +1,6 @@
 -- What the bytes of a facts file are as a world, or why they are refused.
-use Rattle.std.specs.Prelude.{ℕ, ◌+◌, ◌==◌, Bool, true, not, ◌&&◌, nat_le, List, [], ◌∷◌, Option, Some, None, Result, Ok, Err, if◌then◌else◌}
+use Rattle.std.specs.Prelude.{ℕ, ◌+◌, ◌==◌, Bool, true, not, ◌&&◌, nat_le, List, [], ◌∷◌, Option}
+use Rattle.std.specs.Prelude.{Some, None, Result, Ok, Err, if◌then◌else◌}
 use Rattle.std.specs.Str.{is_utf8}
 use Rattle.std.specs.FinSet as set
 use Rattle.cqe_base.specs.declared.world.Fact.{Fact}
@@ -30,11 +31,13 @@ with_fact number world (Some fact) =
 -- the world with what one more line says
 abbrev pub with_line : DatabaseSchema → ℕ → FactSet → TextLine → Result FactSet FactsError
 with_line schema number world line =
-    if says_nothing (content line) then Ok world else with_fact number world (fact_of_line schema line)
+    if says_nothing (content line) then Ok world
+    else with_fact number world (fact_of_line schema line)
 
 infixl 10 ◌>>=◌
 -- what follows lines that were read, unless one of them is refused
-abbrev pub ◌>>=◌ : Result FactSet FactsError → (FactSet → Result FactSet FactsError) → Result FactSet FactsError
+abbrev pub ◌>>=◌ : Result FactSet FactsError → (FactSet → Result FactSet FactsError)
+    → Result FactSet FactsError
 (Ok world) >>= rest = rest world
 (Err why) >>= rest = Err why
 
@@ -46,4 +49,5 @@ with_lines schema number world (line ∷ lines) =
 
 -- the world that the bytes of a facts file are, or the first line that is refused
 unfoldable pub facts_of : DatabaseSchema → List ℕ → Result FactSet FactsError
-facts_of schema bytes = if is_utf8 bytes then with_lines schema 1 set.empty (text_lines bytes) else Err NotUtf8
+facts_of schema bytes =
+    if is_utf8 bytes then with_lines schema 1 set.empty (text_lines bytes) else Err NotUtf8

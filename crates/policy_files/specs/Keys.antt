@@ -1,12 +1,14 @@
 -- The keys of a policy, and how a step refuses one.
-use Rattle.std.specs.Prelude.{ℕ, ◌&&◌, nat_le, List, [], ◌∷◌, Option, Some, None, Result, Ok, Err, codes, if◌then◌else◌}
+use Rattle.std.specs.Prelude.{ℕ, ◌&&◌, nat_le, List, [], ◌∷◌, Option, Some, None, Result, Ok, Err}
+use Rattle.std.specs.Prelude.{codes, if◌then◌else◌}
 use Rattle.cqe_base.specs.declared.text.TextError.{TextError}
 use Rattle.cqe_base.specs.Schema.{Text}
 use Rattle.toml.specs.Data.{Data}
 use Rattle.policy_files.specs.Tree.{members, unknown_key}
 use Rattle.policy_files.specs.declared.error.Place.{Place}
 use Rattle.policy_files.specs.declared.error.PolicyError.{PolicyError}
-use Rattle.policy_files.specs.declared.error.PolicyError.TheVariants.{MissingKey, WrongKind, UnknownKey, Limit}
+use Rattle.policy_files.specs.declared.error.PolicyError.TheVariants.{MissingKey, WrongKind}
+use Rattle.policy_files.specs.declared.error.PolicyError.TheVariants.{UnknownKey, Limit}
 
 -- what a step of reading a policy gives, or why it refuses the policy
 abbrev pub Step : Type 0 → Type 0
@@ -22,9 +24,11 @@ abbrev pub ◌>>=◌ : {A B : Type 0} → Step A → (A → Step B) → Step B
 abbrev pub key_place : Option ℕ → Text → Place
 key_place user key = record { user = user; key = key; index = None; text = None }
 
--- the place of a text in the array at a user's key, with why it is no sentence, if that is the cause
+-- the place of a text in the array at a user's key, with why it is no sentence, if that is the
+-- cause
 abbrev pub text_place : ℕ → Text → ℕ → Option TextError → Place
-text_place user key index why = record { user = Some user; key = key; index = Some index; text = why }
+text_place user key index why =
+    record { user = Some user; key = key; index = Some index; text = why }
 
 -- the keys of a document
 abbrev pub root_keys : List Text
@@ -32,7 +36,8 @@ root_keys = codes "version" ∷ codes "domains" ∷ codes "relations" ∷ codes 
 
 -- the keys of a user
 abbrev pub user_keys : List Text
-user_keys = codes "name" ∷ codes "method" ∷ codes "know" ∷ codes "secrets" ∷ codes "budget" ∷ codes "token" ∷ []
+user_keys = codes "name" ∷ codes "method" ∷ codes "know" ∷ codes "secrets" ∷ codes "budget"
+    ∷ codes "token" ∷ []
 
 -- the keys in the user of this number, or of the document itself
 abbrev pub keys_at : Option ℕ → List Text
@@ -64,4 +69,5 @@ required kind place value = there place value >>= λ found. of_kind place (kind 
 
 -- a number from the least to the greatest
 abbrev pub within : ℕ → ℕ → Place → ℕ → Step ℕ
-within least greatest place n = if nat_le least n && nat_le n greatest then Ok n else Err (Limit place)
+within least greatest place n =
+    if nat_le least n && nat_le n greatest then Ok n else Err (Limit place)

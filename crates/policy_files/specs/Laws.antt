@@ -11,7 +11,8 @@ use Rattle.policy_files.specs.Users.{names_of}
 use Rattle.policy_files.specs.Policy.{policy_of}
 use Rattle.policy_files.specs.Facts.{facts_of}
 
--- the schema is valid, there are 1 to 256 users, each of whom keeps the limits, and their names are names of the form of a constant's that differ
+-- the schema is valid, there are 1 to 256 users, each of whom keeps the limits, and their names are
+-- names of the form of a constant's that differ
 pub record IsKeptPolicy (policy : PolicyValue) : Type 0 where
   pub schema : is_valid_schema policy.schema ≡ true
   pub some_user : 1 ≤ length policy.users
@@ -22,7 +23,8 @@ pub record IsKeptPolicy (policy : PolicyValue) : Type 0 where
 
 -- a policy that a tree means is kept
 abbrev pub PoliciesAreKept : Type 0
-PoliciesAreKept = (root : Data) (policy : PolicyValue) → policy_of root ≡ Ok policy → IsKeptPolicy policy
+PoliciesAreKept =
+    (root : Data) (policy : PolicyValue) → policy_of root ≡ Ok policy → IsKeptPolicy policy
 
 -- a world of the schema with at most 100,000 facts
 pub record IsSmallWorldOf (schema : DatabaseSchema) (world : FactSet) : Type 0 where

@@ -7,8 +7,10 @@ use Rattle.policy_files.specs.Policies.{PolicyUser, PolicyValue}
 
 -- the user that a User in memory is
 abbrev pub policy_user_of : User → PolicyUser
-policy_user_of user = record { name = string_bytes user.name; profile = profile_of user; token = user.token }
+policy_user_of user =
+    record { name = string_bytes user.name; profile = profile_of user; token = user.token }
 
 -- the policy that a Policy in memory is
 abbrev pub policy_value_of : Policy → PolicyValue
-policy_value_of policy = record { schema = policy.schema; users = map policy_user_of policy.users.items }
+policy_value_of policy =
+    record { schema = policy.schema; users = map policy_user_of policy.users.items }

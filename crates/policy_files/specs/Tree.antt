@@ -1,9 +1,11 @@
 -- What is read off the values of a TOML document.
-use Rattle.std.specs.Prelude.{ℕ, ℤ, pos, negsuc, Bool, true, ◌&&◌, List, [], ◌∷◌, map, Option, Some, None, option_map, is_some, unwrap_or, if◌then◌else◌}
+use Rattle.std.specs.Prelude.{ℕ, ℤ, pos, negsuc, Bool, true, ◌&&◌, List, [], ◌∷◌, map, Option, Some}
+use Rattle.std.specs.Prelude.{None, option_map, is_some, unwrap_or, if◌then◌else◌}
 use Rattle.std.specs.List.{list_all}
 use Rattle.std.specs.Ordering.{is_lt, nat_cmp}
 use Rattle.std.specs.Cmp.Lexicographic.{slice_cmp}
-use Rattle.toml.specs.Data.{Data, Items, no_items, item, Members, no_members, member, as_str, as_array, as_table}
+use Rattle.toml.specs.Data.{Data, Items, no_items, item, Members, no_members, member, as_str}
+use Rattle.toml.specs.Data.{as_array, as_table}
 use Rattle.cqe_base.specs.Schema.{Text, Declaration, contains_text}
 
 -- the values of an array, in their order

@@ -1,5 +1,6 @@
 -- What a user of a policy is, or why he is refused.
-use Rattle.std.specs.Prelude.{ℕ, ◌+◌, nat_le, nat_lt, List, [], ◌∷◌, ◌++◌, length, map, Option, Some, None, Result, Ok, Err, codes, if◌then◌else◌}
+use Rattle.std.specs.Prelude.{ℕ, ◌+◌, nat_le, nat_lt, List, [], ◌∷◌, ◌++◌, length, map, Option}
+use Rattle.std.specs.Prelude.{Some, None, Result, Ok, Err, codes, if◌then◌else◌}
 use Rattle.hex.specs.declared.error.FromHexError.{FromHexError}
 use Rattle.hex.specs.Hex.{decode_sized}
 use Rattle.toml.specs.Data.{Data, get, as_str, as_integer}
@@ -12,10 +13,13 @@ use Rattle.cqe_base.specs.History.{view_size}
 use Rattle.cqe_base.specs.Censor.{method_named}
 use Rattle.cqe_base.specs.Limits.{is_small}
 use Rattle.policy_files.specs.declared.error.Place.{Place}
-use Rattle.policy_files.specs.declared.error.PolicyError.TheVariants.{MissingKey, WrongKind, Sentence, Limit, DuplicateUser}
+use Rattle.policy_files.specs.declared.error.PolicyError.TheVariants.{MissingKey, WrongKind}
+use Rattle.policy_files.specs.declared.error.PolicyError.TheVariants.{Sentence, Limit}
+use Rattle.policy_files.specs.declared.error.PolicyError.TheVariants.{DuplicateUser}
 use Rattle.policy_files.specs.Tree.{elements, is_string_array, text_in, natural}
 use Rattle.policy_files.specs.Policies.{PolicyUser}
-use Rattle.policy_files.specs.Keys.{Step, ◌>>=◌, key_place, text_place, only_keys, of_kind, required, within}
+use Rattle.policy_files.specs.Keys.{Step, ◌>>=◌, key_place, text_place, only_keys, of_kind}
+use Rattle.policy_files.specs.Keys.{required, within}
 
 -- the place of a key of the user of this number
 abbrev pub user_place : ℕ → Text → Place
@@ -26,13 +30,15 @@ user_place user key = key_place (Some user) key
 -- a name of the form of a constant's that no earlier user has
 abbrev pub new_name : Place → List Text → Text → Step Text
 new_name place earlier name =
-    if is_schema_name name then (if contains_text earlier name then Err (DuplicateUser place) else Ok name)
+    if is_schema_name name
+    then (if contains_text earlier name then Err (DuplicateUser place) else Ok name)
     else Err (WrongKind place)
 
 -- the name at the key
 abbrev pub name_of : List Text → ℕ → Option Data → Step Text
 name_of earlier user value =
-    required as_str (user_place user (codes "name")) value >>= new_name (user_place user (codes "name")) earlier
+    required as_str (user_place user (codes "name")) value >>= new_name
+    (user_place user (codes "name")) earlier
 
 -- ---- the method
 
@@ -45,8 +51,10 @@ method_of user value =
 -- ---- sentences
 
 -- a sentence of at most 20,000 nodes
-abbrev pub small_sentence : DatabaseSchema → ℕ → Text → ℕ → Result Formula Reading.Refusal → Step Formula
-small_sentence schema user key index (Err why) = Err (Sentence (text_place user key index (Some why)))
+abbrev pub small_sentence : DatabaseSchema → ℕ → Text → ℕ → Result Formula Reading.Refusal
+    → Step Formula
+small_sentence schema user key index (Err why) =
+    Err (Sentence (text_place user key index (Some why)))
 small_sentence schema user key index (Ok sentence) =
     if is_small schema sentence then Ok sentence else Err (Limit (text_place user key index None))
 
@@ -57,7 +65,8 @@ sentence_of schema user key index text =
     else small_sentence schema user key index (reading schema text)
 
 -- the sentences of the texts that are left, behind those that were read
-abbrev pub sentences_behind : DatabaseSchema → ℕ → Text → List Formula → List Data → Step (List Formula)
+abbrev pub sentences_behind : DatabaseSchema → ℕ → Text → List Formula → List Data
+    → Step (List Formula)
 sentences_behind schema user key read [] = Ok read
 sentences_behind schema user key read (text ∷ rest) =
     sentence_of schema user key (length read) (text_in text)
@@ -67,7 +76,8 @@ sentences_behind schema user key read (text ∷ rest) =
 unfoldable pub sentences_of : DatabaseSchema → ℕ → Text → ℕ → ℕ → Data → Step (List Formula)
 sentences_of schema user key least greatest value =
     if is_string_array value then
-    (within least greatest (user_place user key) (length (elements value)) >>= λ count. sentences_behind schema user key [] (elements value))
+    (within least greatest (user_place user key) (length (elements value)) >>= λ count.
+    sentences_behind schema user key [] (elements value))
     else Err (WrongKind (user_place user key))
 
 -- at most 256 sentences that he knows; the key may be absent
@@ -91,7 +101,8 @@ fit_budget user (Some budget) = within 1 4000000 (user_place user (codes "budget
 abbrev pub budget_of : ℕ → Option Data → Step ℕ
 budget_of user None = Ok 1000000
 budget_of user (Some value) =
-    of_kind (user_place user (codes "budget")) (as_integer value) >>= λ number. fit_budget user (natural number)
+    of_kind (user_place user (codes "budget")) (as_integer value) >>= λ number.
+    fit_budget user (natural number)
 
 -- ---- the token
 
@@ -104,7 +115,8 @@ token_bytes user (Err why) = Err (WrongKind (user_place user (codes "token")))
 abbrev pub token_of : ℕ → Option Data → Step (Option (List ℕ))
 token_of user None = Ok None
 token_of user (Some value) =
-    of_kind (user_place user (codes "token")) (as_str value) >>= λ text. token_bytes user (decode_sized text 32)
+    of_kind (user_place user (codes "token")) (as_str value) >>= λ text.
+    token_bytes user (decode_sized text 32)
 
 -- ---- whole users
 
@@ -114,7 +126,8 @@ with_small_view schema user named =
     if nat_le (view_size schema named.profile []) 40000 then Ok named
     else Err (Limit (user_place user (codes "secrets")))
 
--- the user of this number, behind users of these names: unknown keys, then key by key, then the size of his view
+-- the user of this number, behind users of these names: unknown keys, then key by key, then the
+-- size of his view
 unfoldable pub user_of : DatabaseSchema → List Text → ℕ → Data → Step PolicyUser
 user_of schema earlier user keys = do
   none ← only_keys (Some user) keys

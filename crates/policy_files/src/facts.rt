@@ -7,7 +7,8 @@ ghost use Rattle.cqe_base.specs.Lines.{text_lines};
 ghost use Rattle.policy_files.specs.LinesRead.{line_of};
 ghost use Rattle.policy_files.specs.FactLines.{IsRefusal};
 ghost use Rattle.policy_files.specs.Laws.{IsSmallWorldOf};
-ghost use Rattle.policy_files.specs.Facts.{says_nothing, fact_of_line, with_fact, with_line, with_lines, facts_of};
+ghost use Rattle.policy_files.specs.Facts.{says_nothing, fact_of_line, with_fact, with_line};
+ghost use Rattle.policy_files.specs.Facts.{with_lines, facts_of};
 
 use crate::error::FactsError;
 use crate::laws::law_facts_are_worlds;
@@ -37,7 +38,8 @@ fn says_nothing(content: &[u8]) -> bool
 /// The fact that a line states.
 fn fact_of_line(alloc: Global, schema: &Schema, line: &Line<'_>) -> Result<Option<Fact>, AllocError>
     ensures found { IfOk result (λ found. found ≡ fact_of_line schema.now (line_of line.now)) }
-    ensures of_schema { IfOk result (λ found. IfSome found (λ fact. is_fact_of schema.now fact ≡ true)) }
+    ensures of_schema { IfOk result
+        (λ found. IfSome found (λ fact. is_fact_of schema.now fact ≡ true)) }
 {
     law_sentences_are_ascii();
     if line.bytes.len() > LINE {
@@ -70,8 +72,10 @@ fn add_line(
     number: u32,
     line: &Line<'_>,
 ) -> Result<(), FactsError>
-    ensures added { OnOk result (with_line schema.now number world.old (line_of line.now) ≡ Ok world.new) }
-    ensures refused { IfErr result (IsRefusal (with_line schema.now number world.old (line_of line.now))) }
+    ensures added { OnOk result (with_line schema.now number world.old (line_of line.now)
+        ≡ Ok world.new) }
+    ensures refused { IfErr result
+        (IsRefusal (with_line schema.now number world.old (line_of line.now))) }
 {
     if says_nothing(line.content()) {
         return Ok(());
@@ -85,8 +89,10 @@ fn add_line(
 
 /// The world of all lines of these bytes.
 fn world_of_lines(alloc: Global, schema: &Schema, bytes: &[u8]) -> Result<World, FactsError>
-    ensures read { IfOk result (λ world. with_lines schema.now 1 set.empty (text_lines bytes.now) ≡ Ok world) }
-    ensures refused { IfErr result (IsRefusal (with_lines schema.now 1 set.empty (text_lines bytes.now))) }
+    ensures read { IfOk result (λ world. with_lines schema.now 1 set.empty (text_lines bytes.now)
+        ≡ Ok world) }
+    ensures refused { IfErr result
+        (IsRefusal (with_lines schema.now 1 set.empty (text_lines bytes.now))) }
 {
     let mut world = World::new(alloc);
     let mut number = 1;
@@ -104,10 +110,11 @@ fn world_of_lines(alloc: Global, schema: &Schema, bytes: &[u8]) -> Result<World,
     Ok(world)
 }
 
-/// Reads the bytes of a facts file, UTF-8, as `docs/FORMATS.md`, "The facts file", has them: each line states one fact
-/// of the schema, or says nothing. A fact that stands twice counts once. The bytes are refused at their first bad line,
-/// counted from 1, by the numbers of `FactsError`: 1 it states no fact of the schema, 2 its fact is one too many; bytes
-/// that aren't UTF-8 are refused as a whole, by 3.
+/// Reads the bytes of a facts file, UTF-8, as `docs/FORMATS.md`, "The facts file", has them: each
+/// line states one fact of the schema, or says nothing. A fact that stands twice counts once. The
+/// bytes are refused at their first bad line, counted from 1, by the numbers of `FactsError`: 1 it
+/// states no fact of the schema, 2 its fact is one too many; bytes that aren't UTF-8 are refused as
+/// a whole, by 3.
 pub fn read_facts(alloc: Global, schema: &Schema, bytes: &[u8]) -> Result<World, FactsError>
     // What is read is the world that the bytes are.
     ensures read { IfOk result (λ world. facts_of schema.now bytes.now ≡ Ok world) }

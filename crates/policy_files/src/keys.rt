@@ -5,7 +5,8 @@ ghost use Rattle.toml.specs.Data.{get, as_str, as_integer, as_table};
 ghost use Rattle.toml.specs.View.{view, table_view};
 ghost use Rattle.cqe_base.specs.Schema.{contains_text};
 ghost use Rattle.policy_files.specs.Tree.{members, unknown_key, tables_in};
-ghost use Rattle.policy_files.specs.Keys.{root_keys, user_keys, keys_at, key_place, text_place, only_keys, there, required, within};
+ghost use Rattle.policy_files.specs.Keys.{root_keys, user_keys, keys_at, key_place, text_place};
+ghost use Rattle.policy_files.specs.Keys.{only_keys, there, required, within};
 ghost use Rattle.policy_files.specs.Gives.{Gives};
 
 use crate::error::{KeyText, Place, PolicyError, Stop};
@@ -77,7 +78,8 @@ fn is_key_at(user: Option<u32>, key: &str) -> bool
 
 /// The least key of a table that has no meaning there.
 fn unknown_key_in<'a>(user: Option<u32>, table: &'a Table) -> Option<&'a str>
-    ensures { option_map (λ key. key.now) result ≡ unknown_key (keys_at user) (table_view table.now) }
+    ensures { option_map (λ key. key.now) result
+        ≡ unknown_key (keys_at user) (table_view table.now) }
 {
     for (key, _value) in table {
         if !is_key_at(user, key.as_str()) {
@@ -89,7 +91,8 @@ fn unknown_key_in<'a>(user: Option<u32>, table: &'a Table) -> Option<&'a str>
 
 /// The same of a value, which has no keys where it is no table.
 fn unknown_key<'a>(user: Option<u32>, value: &'a Value) -> Option<&'a str>
-    ensures { option_map (λ key. key.now) result ≡ unknown_key (keys_at user) (members (view value.now)) }
+    ensures { option_map (λ key. key.now) result
+        ≡ unknown_key (keys_at user) (members (view value.now)) }
 {
     unknown_key_in(user, value.as_table()?)
 }
@@ -114,7 +117,8 @@ fn there<'a>(
     table: &'a Value,
     key: &str,
 ) -> Result<&'a Value, Stop>
-    ensures { Gives (λ v. view v.now) result (there (key_place user key.now) (get key.now (view table.now))) }
+    ensures { Gives (λ v. view v.now) result
+        (there (key_place user key.now) (get key.now (view table.now))) }
 {
     match value_at(table, key) {
         Some(value) => Ok(value),
@@ -132,7 +136,8 @@ pub fn string_at<'a>(
     table: &'a Value,
     key: &str,
 ) -> Result<&'a str, Stop>
-    ensures { Gives (λ text. text.now) result (required as_str (key_place user key.now) (get key.now (view table.now))) }
+    ensures { Gives (λ text. text.now) result
+        (required as_str (key_place user key.now) (get key.now (view table.now))) }
 {
     let value = there(alloc, user, table, key)?;
     match value.as_str() {
@@ -146,7 +151,8 @@ pub fn string_at<'a>(
 
 /// The integer that must stand at a key of a table.
 pub fn integer_at(alloc: Global, user: Option<u32>, table: &Value, key: &str) -> Result<i64, Stop>
-    ensures { Gives (λ number. number) result (required as_integer (key_place user key.now) (get key.now (view table.now))) }
+    ensures { Gives (λ number. number) result
+        (required as_integer (key_place user key.now) (get key.now (view table.now))) }
 {
     let value = there(alloc, user, table, key)?;
     match value.as_integer() {
@@ -165,7 +171,8 @@ pub fn table_at<'a>(
     table: &'a Value,
     key: &str,
 ) -> Result<&'a Table, Stop>
-    ensures { Gives (λ found. table_view found.now) result (required as_table (key_place user key.now) (get key.now (view table.now))) }
+    ensures { Gives (λ found. table_view found.now) result
+        (required as_table (key_place user key.now) (get key.now (view table.now))) }
 {
     let value = there(alloc, user, table, key)?;
     match value.as_table() {
@@ -184,7 +191,8 @@ pub fn tables_at<'a>(
     table: &'a Value,
     key: &str,
 ) -> Result<&'a [Value], Stop>
-    ensures { Gives (λ found. map view found.now) result (required tables_in (key_place user key.now) (get key.now (view table.now))) }
+    ensures { Gives (λ found. map view found.now) result
+        (required tables_in (key_place user key.now) (get key.now (view table.now))) }
 {
     let value = there(alloc, user, table, key)?;
     if is_table_array(value) {

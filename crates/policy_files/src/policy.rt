@@ -6,7 +6,8 @@ ghost use Rattle.toml.specs.View.{view, table_view};
 ghost use Rattle.cqe_base.specs.Memory.{declaration_of};
 ghost use Rattle.cqe_base.specs.History.{profile_of};
 ghost use Rattle.cqe_base.specs.Limits.{KeepsLimits};
-ghost use Rattle.policy_files.specs.Policy.{version_of, declared_at, schema_in, tree_in, policy_of, policy_in};
+ghost use Rattle.policy_files.specs.Policy.{version_of, declared_at, schema_in, tree_in, policy_of};
+ghost use Rattle.policy_files.specs.Policy.{policy_in};
 ghost use Rattle.policy_files.specs.Memory.{policy_value_of};
 ghost use Rattle.policy_files.specs.Laws.{IsKeptPolicy};
 ghost use Rattle.policy_files.specs.Gives.{Gives};
@@ -44,7 +45,8 @@ fn read_version(alloc: Global, root: &Value) -> Result<(), Stop>
 
 /// The declarations of a table at a key of the document.
 fn declared_at(alloc: Global, key: &str, values: &Table) -> Result<Vec<Declared>, Stop>
-    ensures { Gives (λ declared. map declaration_of declared.items) result (declared_at key.now (table_view values.now)) }
+    ensures { Gives (λ declared. map declaration_of declared.items) result
+        (declared_at key.now (table_view values.now)) }
 {
     if !are_string_arrays(values) {
         let place = key_place(alloc, None, key)?;
@@ -59,7 +61,8 @@ fn schema_in(
     domains: Vec<Declared>,
     relations: Vec<Declared>,
 ) -> Result<Schema, Stop>
-    ensures { Gives (λ schema. schema) result (schema_in (map declaration_of domains.items) (map declaration_of relations.items)) }
+    ensures { Gives (λ schema. schema) result
+        (schema_in (map declaration_of domains.items) (map declaration_of relations.items)) }
 {
     match Schema::new(alloc, domains, relations) {
         Ok(schema) => Ok(schema),
@@ -115,19 +118,22 @@ fn policy_in(alloc: Global, bytes: &[u8]) -> Result<Policy, Stop>
     policy_of(alloc, &root)
 }
 
-/// Reads the bytes of a policy file, a TOML document in UTF-8 with the keys of `docs/FORMATS.md`, "The policy file",
-/// which has the checks in the order in which they are made. The first that fails is the refusal: its number, 1 to 9,
-/// stands at each variant of `PolicyError`, and its place is the user, the key and the text where it failed, counted
-/// from 0. Domains and relations stand in the schema in the order of their keys as bytes.
+/// Reads the bytes of a policy file, a TOML document in UTF-8 with the keys of `docs/FORMATS.md`,
+/// "The policy file", which has the checks in the order in which they are made. The first that
+/// fails is the refusal: its number, 1 to 9, stands at each variant of `PolicyError`, and its place
+/// is the user, the key and the text where it failed, counted from 0. Domains and relations stand
+/// in the schema in the order of their keys as bytes.
 pub fn read_policy(alloc: Global, bytes: &[u8]) -> Result<Policy, PolicyError>
     // What is read is the policy that the bytes are.
     ensures read { IfOk result (λ policy. policy_in bytes.now ≡ Ok (policy_value_of policy)) }
     // Its schema is valid, each user keeps the limits, and names differ.
     ensures kept { IfOk result (λ policy. IsKeptPolicy (policy_value_of policy)) }
     // The same of each user in memory: he keeps the limits.
-    ensures limits { IfOk result (λ policy. All (λ user. KeepsLimits policy.schema (profile_of user)) policy.users.items) }
+    ensures limits { IfOk result (λ policy.
+        All (λ user. KeepsLimits policy.schema (profile_of user)) policy.users.items) }
     // The bytes are refused so, unless memory is wanting.
-    ensures refused { IfErr result (λ why. (why ≡ PolicyError.Memory) ⊎ (policy_in bytes.now ≡ Err why)) }
+    ensures refused { IfErr result
+        (λ why. (why ≡ PolicyError.Memory) ⊎ (policy_in bytes.now ≡ Err why)) }
 {
     law_policies_are_kept();
     match policy_in(alloc, bytes) {

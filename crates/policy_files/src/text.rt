@@ -3,7 +3,8 @@
 ghost use Rattle.std.specs.Prelude.{◌≡◌, ◌≤◌, [], length, map, Ok};
 ghost use Rattle.toml.specs.View.{view};
 ghost use Rattle.cqe_base.specs.Formula.{formula_of};
-ghost use Rattle.policy_files.specs.Users.{sentence_of, small_sentence, sentences_behind, sentences_of};
+ghost use Rattle.policy_files.specs.Users.{sentence_of, small_sentence, sentences_behind};
+ghost use Rattle.policy_files.specs.Users.{sentences_of};
 ghost use Rattle.policy_files.specs.Gives.{Gives};
 
 use crate::error::{PolicyError, Stop};
@@ -56,7 +57,8 @@ fn small_sentence(
     index: u32,
     sentence: Sentence,
 ) -> Result<Sentence, Stop>
-    ensures { Gives formula_of result (small_sentence schema.now user key.now index (Ok (formula_of sentence))) }
+    ensures { Gives formula_of result
+        (small_sentence schema.now user key.now index (Ok (formula_of sentence))) }
 {
     if nodes(&sentence, schema) > NODES {
         let place = text_place(alloc, user, key, index, None)?;
@@ -74,7 +76,8 @@ fn read_sentences(
     texts: &[Value],
 ) -> Result<Vec<Sentence>, Stop>
     requires { length texts.now ≤ 256 }
-    ensures { Gives (λ read. map formula_of read.items) result (sentences_behind schema.now user key.now [] (map view texts.now)) }
+    ensures { Gives (λ read. map formula_of read.items) result
+        (sentences_behind schema.now user key.now [] (map view texts.now)) }
 {
     let mut read = Vec::new(alloc);
     for text in texts {
@@ -96,7 +99,8 @@ pub fn sentences_of(
     value: &Value,
 ) -> Result<Vec<Sentence>, Stop>
     requires { greatest ≤ 256 }
-    ensures { Gives (λ read. map formula_of read.items) result (sentences_of schema.now user key.now least greatest (view value.now)) }
+    ensures { Gives (λ read. map formula_of read.items) result
+        (sentences_of schema.now user key.now least greatest (view value.now)) }
 {
     if !is_string_array(value) {
         let place = key_place(alloc, Some(user), key)?;

@@ -5,7 +5,9 @@ ghost use Rattle.std.specs.List.{list_all};
 ghost use Rattle.toml.specs.Data.{get};
 ghost use Rattle.toml.specs.View.{view, table_view};
 ghost use Rattle.cqe_base.specs.Memory.{declaration_of};
-ghost use Rattle.policy_files.specs.Tree.{elements, is_string, is_table, is_string_array, is_table_array, text_in, texts_in, are_string_arrays, declarations, natural};
+ghost use Rattle.policy_files.specs.Tree.{elements, is_string, is_table, is_string_array};
+ghost use Rattle.policy_files.specs.Tree.{is_table_array, text_in, texts_in, are_string_arrays};
+ghost use Rattle.policy_files.specs.Tree.{declarations, natural};
 
 use std::alloc::{AllocError, Global};
 use toml::{Table, Value};
@@ -104,7 +106,8 @@ pub fn are_string_arrays(table: &Table) -> bool
 
 /// The declarations that a table has, in the order of its keys as bytes.
 pub fn declarations(alloc: Global, table: &Table) -> Result<Vec<Declared>, AllocError>
-    ensures { IfOk result (λ declared. map declaration_of declared.items ≡ declarations (table_view table.now)) }
+    ensures { IfOk result (λ declared. map declaration_of declared.items
+        ≡ declarations (table_view table.now)) }
 {
     let mut declared = Vec::new(alloc);
     for (key, value) in table {
@@ -115,7 +118,11 @@ pub fn declarations(alloc: Global, table: &Table) -> Result<Vec<Declared>, Alloc
 
 /// The declaration of a key and its array.
 fn declaration(alloc: Global, key: &String, value: &Value) -> Result<Declared, AllocError>
-    ensures { IfOk result (λ declared. declaration_of declared ≡ record { name = string_bytes key.now; parts = texts_in (view value.now) }) }
+    ensures { IfOk result (λ declared. declaration_of declared ≡ record {
+      name =
+          string_bytes key.now;
+      parts = texts_in (view value.now);
+    }) }
 {
     let name = key.clone()?;
     let parts = texts_in(alloc, value)?;

@@ -6,7 +6,9 @@ ghost use Rattle.toml.specs.View.{view};
 ghost use Rattle.cqe_base.specs.Schema.{contains_text};
 ghost use Rattle.cqe_base.specs.Formula.{formula_of, nodes};
 ghost use Rattle.cqe_base.specs.History.{profile_of, view_size};
-ghost use Rattle.policy_files.specs.Users.{name_of, method_of, known_of, secrets_of, budget_of, token_of, with_small_view, user_of, names_of, users_behind};
+ghost use Rattle.policy_files.specs.Users.{name_of, method_of, known_of, secrets_of, budget_of};
+ghost use Rattle.policy_files.specs.Users.{token_of, with_small_view, user_of, names_of};
+ghost use Rattle.policy_files.specs.Users.{users_behind};
 ghost use Rattle.policy_files.specs.Memory.{policy_user_of};
 ghost use Rattle.policy_files.specs.Gives.{Gives};
 
@@ -56,7 +58,9 @@ fn name_of<'a>(
     user: u32,
     table: &'a Value,
 ) -> Result<&'a str, Stop>
-    ensures { Gives (λ name. name.now) result (name_of (names_of (map policy_user_of earlier.now)) user (get (codes "name") (view table.now))) }
+    ensures { Gives (λ name. name.now) result
+        (name_of (names_of (map policy_user_of earlier.now)) user
+        (get (codes "name") (view table.now))) }
 {
     let name = string_at(alloc, Some(user), table, "name")?;
     if !is_schema_name(name) {
@@ -72,7 +76,8 @@ fn name_of<'a>(
 
 /// The user's method.
 fn method_of(alloc: Global, user: u32, table: &Value) -> Result<Method, Stop>
-    ensures { Gives (λ method. method) result (method_of user (get (codes "method") (view table.now))) }
+    ensures { Gives (λ method. method) result
+        (method_of user (get (codes "method") (view table.now))) }
 {
     let word = string_at(alloc, Some(user), table, "method")?;
     match Method::named(word) {
@@ -86,7 +91,8 @@ fn method_of(alloc: Global, user: u32, table: &Value) -> Result<Method, Stop>
 
 /// What the user knows beforehand.
 fn known_of(alloc: Global, schema: &Schema, user: u32, table: &Value) -> Result<Vec<Sentence>, Stop>
-    ensures { Gives (λ read. map formula_of read.items) result (known_of schema.now user (get (codes "know") (view table.now))) }
+    ensures { Gives (λ read. map formula_of read.items) result
+        (known_of schema.now user (get (codes "know") (view table.now))) }
 {
     match value_at(table, "know") {
         Some(value) => sentences_of(alloc, schema, user, "know", 0, KNOWN, value),
@@ -101,7 +107,8 @@ fn secrets_of(
     user: u32,
     table: &Value,
 ) -> Result<Vec<Sentence>, Stop>
-    ensures { Gives (λ read. map formula_of read.items) result (secrets_of schema.now user (get (codes "secrets") (view table.now))) }
+    ensures { Gives (λ read. map formula_of read.items) result
+        (secrets_of schema.now user (get (codes "secrets") (view table.now))) }
 {
     match value_at(table, "secrets") {
         Some(value) => sentences_of(alloc, schema, user, "secrets", 1, SECRETS, value),
@@ -114,7 +121,8 @@ fn secrets_of(
 
 /// The user's budget.
 fn budget_of(alloc: Global, user: u32, table: &Value) -> Result<u64, Stop>
-    ensures { Gives (λ budget. budget) result (budget_of user (get (codes "budget") (view table.now))) }
+    ensures { Gives (λ budget. budget) result
+        (budget_of user (get (codes "budget") (view table.now))) }
 {
     let Some(value) = value_at(table, "budget") else {
         return Ok(BUDGET);
@@ -154,7 +162,8 @@ fn token_of(alloc: Global, user: u32, table: &Value) -> Result<Option<[u8; 32]>,
 
 /// The user of this number, if his view isn't too large.
 fn with_small_view(alloc: Global, schema: &Schema, number: u32, user: User) -> Result<User, Stop>
-    ensures { Gives policy_user_of result (with_small_view schema.now number (policy_user_of user)) }
+    ensures { Gives policy_user_of result
+        (with_small_view schema.now number (policy_user_of user)) }
 {
     if user.view_nodes(schema) > VIEW_NODES {
         let place = key_place(alloc, Some(number), "secrets")?;
@@ -172,7 +181,8 @@ fn user_of(
     number: u32,
     table: &Value,
 ) -> Result<User, Stop>
-    ensures { Gives policy_user_of result (user_of schema.now (names_of (map policy_user_of earlier.now)) number (view table.now)) }
+    ensures { Gives policy_user_of result
+        (user_of schema.now (names_of (map policy_user_of earlier.now)) number (view table.now)) }
 {
     only_keys(alloc, Some(number), table)?;
     let name = name_of(alloc, earlier, number, table)?;
@@ -195,7 +205,8 @@ fn user_of(
 /// The users of these tables.
 pub fn read_users(alloc: Global, schema: &Schema, tables: &[Value]) -> Result<Vec<User>, Stop>
     requires { length tables.now ≤ 256 }
-    ensures { Gives (λ users. map policy_user_of users.items) result (users_behind schema.now [] (map view tables.now)) }
+    ensures { Gives (λ users. map policy_user_of users.items) result
+        (users_behind schema.now [] (map view tables.now)) }
 {
     let mut users = Vec::new(alloc);
     for table in tables {

@@ -1,5 +1,6 @@
 -- Where two clauses clash, found by one walk along the second of them.
-use Rattle.std.proofs.Common.{◌≡◌, ℕ, ◌+◌, ◌≤◌, Bool, true, false, cond, not, ◌||◌, ◌&&◌, List, [], ◌∷◌, ◌++◌, Option, Some, None, drop, length, refl, sym, ap, subst, ◌∙◌, inl, inr, ⊎_elim, ◌⊎◌}
+use Rattle.std.proofs.Common.{◌≡◌, ℕ, ◌+◌, ◌≤◌, Bool, true, false, cond, not, ◌||◌, ◌&&◌, List, [], ◌∷◌, ◌++◌, Option, Some, None, drop, length, refl, sym, ap}
+use Rattle.std.proofs.Common.{subst, ◌∙◌, inl, inr, ⊎_elim, ◌⊎◌}
 use Rattle.std.specs.List.{filter}
 use Rattle.std.proofs.lemmas.List.{drop_all}
 use Rattle.std.proofs.lemmas.Bool.{or_cases, or_left, or_right, both_ways}
@@ -116,7 +117,8 @@ second_joins x y (z ∷ rest) apart has = by (has_literal (x ∷ []) z) refl (or
         → (has_literal rest y ≡ true → None ≡ only (union (x ∷ []) rest)) → None ≡ only (union (cond t (x ∷ []) (x ∷ z ∷ [])) rest)
     by false e h go = more_stay x z [] rest
     by true e (inr h) go = go h
-    by true e (inl s) go = absurd (apart (same_literal-true y z s ∙ ⊎_elim (λ k. same_literal-true z x k) (λ k. absurd (both_ways false refl k)) (or_cases _ _ e)))
+    by true e (inl s) go =
+        absurd (apart (same_literal-true y z s ∙ ⊎_elim (λ k. same_literal-true z x k) (λ k. absurd (both_ways false refl k)) (or_cases _ _ e)))
 
 pub two_found : (all : List Literal) (a b : Literal) → (a ≡ b → ⊥) → has_literal all a ≡ true → has_literal all b ≡ true → None ≡ only (union [] all)
 two_found [] a b apart ha hb = absurd (both_ways false refl ha)
@@ -131,13 +133,17 @@ two_found (x ∷ rest) a b apart ha hb = by (or_cases _ _ ha) (or_cases _ _ hb)
       | inr other ↦ second_joins x a rest other h
     ]
 
-module _ (first second : List Literal) (i : ℕ) (d : Literal) (found : Option Literal) (split : drop i second ≡ d ∷ drop (i + 1) second) (so_far : IsFound first second (drop i second) found) where
-  at_next : (l : Literal) → is_clash first second l ≡ (is_found found l || (has_literal first l && (same_literal (opposite l) d || has_literal (drop (i + 1) second) (opposite l))))
+module _ (first second : List Literal) (i : ℕ) (d : Literal) (found : Option Literal) (split : drop i second ≡ d ∷ drop (i + 1) second)
+    (so_far : IsFound first second (drop i second) found) where
+  at_next : (l : Literal)
+      → is_clash first second l ≡ (is_found found l || (has_literal first l && (same_literal (opposite l) d || has_literal (drop (i + 1) second) (opposite l))))
   at_next l = so_far l ∙ ap (λ rest. is_found found l || is_clash first rest l) split
 
   -- a literal whose opposite the first clause hasn't
   pub no_clash : has_literal first (opposite d) ≡ false → IsFound first second (drop (i + 1) second) found
-  no_clash none = λ l. at_next l ∙ passed_by (is_found found l) (has_literal first l) (same_literal (opposite l) d) _ (λ e. ap (has_literal first) (sym (same_literal-true (opposite d) l (sym (same_turned l d) ∙ e))) ∙ none)
+  no_clash none = λ l. at_next l
+      ∙ passed_by (is_found found l) (has_literal first l) (same_literal (opposite l) d) _ (λ e.
+      ap (has_literal first) (sym (same_literal-true (opposite d) l (sym (same_turned l d) ∙ e))) ∙ none)
 
   known : (o : Option Literal) (l : Literal) → is_other o (opposite d) ≡ false → is_found o l ≡ true → same_literal (opposite d) l ≡ true
   known None l other is = absurd (both_ways false refl is)
@@ -166,14 +172,16 @@ module _ (first second : List Literal) (i : ℕ) (d : Literal) (found : Option L
       by : (o : Option Literal) → found ≡ o → is_other o (opposite d) ≡ true → None ≡ only (clashes first second)
       by None is other = absurd (both_ways false refl other)
       by (Some f) is other =
-          let earlier : is_clash first second f ≡ true = so_far f ∙ ap (λ o. is_found o f || is_clash first (drop i second) f) is ∙ or_left _ _ (same_literal-same f) in
+          let earlier : is_clash first second f ≡ true =
+          so_far f ∙ ap (λ o. is_found o f || is_clash first (drop i second) f) is ∙ or_left _ _ (same_literal-same f) in
           two_found (filter (λ l. has_literal second (opposite l)) first) f (opposite d)
           (λ e. both_ways _ (is_not (same_literal f (opposite d)) other) (subst (λ m. same_literal f m ≡ true) e (same_literal-same f)))
           (has_filter (λ l. has_literal second (opposite l)) first f ∙ earlier)
           (has_filter (λ l. has_literal second (opposite l)) first (opposite d) ∙ clash_here has)
 
 -- at the end of the second clause
-pub all_walked : (first second : List Literal) (i : ℕ) (found : Option Literal) → length second ≤ i → IsFound first second (drop i second) found → found ≡ only (clashes first second)
+pub all_walked : (first second : List Literal) (i : ℕ) (found : Option Literal) → length second ≤ i → IsFound first second (drop i second) found
+    → found ≡ only (clashes first second)
 all_walked first second i found end so_far =
     only_found (filter (λ l. has_literal second (opposite l)) first) found (λ l.
     has_filter (λ l. has_literal second (opposite l)) first l

@@ -8,7 +8,8 @@ use Rattle.cqe_base.specs.Literal.{Literal}
 use Rattle.cqe_base.specs.Refutation.{is_empty_clause, ends_empty}
 
 -- lines end with the empty clause where the last one has it
-pub ends_empty-last : (xs : List Line) (n : ℕ) (x : Line) → n + 1 ≡ length xs → slice_get xs n ≡ Some x → ends_empty (map line_of xs) ≡ is_empty_clause x.clause.items
+pub ends_empty-last : (xs : List Line) (n : ℕ) (x : Line) → n + 1 ≡ length xs → slice_get xs n ≡ Some x
+    → ends_empty (map line_of xs) ≡ is_empty_clause x.clause.items
 ends_empty-last [] n x h e = cc
 ends_empty-last (y ∷ []) zero x h e = let same : y ≡ x = cc in ap (λ (z : Line). is_empty_clause z.clause.items) same
 ends_empty-last (y ∷ []) (suc n) x h e = absurd (omega arith)

@@ -2,7 +2,8 @@
 
 ghost use Rattle.std.specs.Prelude.{◌≡◌, length, nat_lt};
 ghost use Rattle.std.specs.List.{list_all};
-ghost use Rattle.cqe_base.specs.Literal.{variable_of, sign_at, literal_true, clause_true, clauses_true};
+ghost use Rattle.cqe_base.specs.Literal.{variable_of, sign_at, literal_true, clause_true};
+ghost use Rattle.cqe_base.specs.Literal.{clauses_true};
 ghost use Rattle.cqe_base.specs.Refutation.{covers, is_model};
 
 use clause_store::clauses::Clauses;

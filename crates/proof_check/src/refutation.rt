@@ -1,10 +1,12 @@
 //! Refutations, and when they are right.
 
-ghost use Rattle.std.specs.Prelude.{◌≡◌, ◌++◌, map, IfOk, OnOk, IsTrue, slice_get, Some, None, if◌then◌else◌};
+ghost use Rattle.std.specs.Prelude.{◌≡◌, ◌++◌, map, IfOk, OnOk, IsTrue, slice_get, Some, None};
+ghost use Rattle.std.specs.Prelude.{if◌then◌else◌};
 ghost use Rattle.std.specs.Option.{option_copied};
 ghost use Rattle.std.specs.List.{list_all};
 ghost use Rattle.cqe_base.specs.Literal.{has_literal};
-ghost use Rattle.cqe_base.specs.Refutation.{clashes, single_resolvent, chain_from, chain_result, same_literals, is_result, ends_empty, is_refutation};
+ghost use Rattle.cqe_base.specs.Refutation.{clashes, single_resolvent, chain_from, chain_result};
+ghost use Rattle.cqe_base.specs.Refutation.{same_literals, is_result, ends_empty, is_refutation};
 ghost use Rattle.cqe_base.specs.MachineLaws.{HaveNoModel};
 ghost use Rattle.clause_store.specs.PlainLines.{lines_of, line_of};
 ghost use Rattle.proof_check.specs.Clashing.{only, is_other};
@@ -16,14 +18,16 @@ use clause_store::refutation::{Line, Refutation};
 use cqe_base::machine_laws::law_refutation_is_sound;
 use std::alloc::{AllocError, Global};
 
-/// Whether the refutation is right: then no signs make every clause true. A literal of a chain is looked up by its mark, so
-/// that a step takes time by the literals of its two clauses; the marks take two bytes for each variable up to the greatest.
+/// Whether the refutation is right: then no signs make every clause true. A literal of a chain is
+/// looked up by its mark, so that a step takes time by the literals of its two clauses; the marks
+/// take two bytes for each variable up to the greatest.
 pub fn check_refutation(
     alloc: Global,
     clauses: &Clauses,
     refutation: &Refutation,
 ) -> Result<bool, AllocError>
-    ensures right { IfOk result (λ is_right. is_right ≡ is_refutation clauses.now (lines_of refutation.now)) }
+    ensures right { IfOk result (λ is_right. is_right
+        ≡ is_refutation clauses.now (lines_of refutation.now)) }
     ensures sound { IfOk result (λ is_right. IsTrue is_right → HaveNoModel clauses.now) }
 {
     law_refutation_is_sound();
@@ -32,7 +36,8 @@ pub fn check_refutation(
 
 /// Whether all lines are right and the last one has no literal.
 fn are_right(alloc: Global, clauses: &Clauses, refutation: &Refutation) -> Result<bool, AllocError>
-    ensures { IfOk result (λ all_right. all_right ≡ is_refutation clauses.now (lines_of refutation.now)) }
+    ensures { IfOk result (λ all_right. all_right
+        ≡ is_refutation clauses.now (lines_of refutation.now)) }
 {
     let mut derived = MarkedClause::new(alloc, 0)?;
     let mut wanted = MarkedClause::new(alloc, 0)?;
@@ -51,7 +56,8 @@ fn are_right(alloc: Global, clauses: &Clauses, refutation: &Refutation) -> Resul
     Ok(ends_empty(&refutation.lines))
 }
 
-/// Whether a line's clause has the literals of its chain's result. The marked clauses are room to work in.
+/// Whether a line's clause has the literals of its chain's result. The marked clauses are room to
+/// work in.
 fn is_right(
     derived: &mut MarkedClause,
     wanted: &mut MarkedClause,
@@ -59,7 +65,10 @@ fn is_right(
     lines: &[Line],
     line: &Line,
 ) -> Result<bool, AllocError>
-    ensures { IfOk result (λ is_right. is_right ≡ is_result line.now.clause.items (chain_result (clauses.now ++ map (λ l. l.clause.items) lines.now) line.now.chain.items)) }
+    ensures { IfOk result (λ is_right. is_right
+        ≡ is_result line.now.clause.items
+        (chain_result (clauses.now ++ map (λ l. l.clause.items) lines.now)
+        line.now.chain.items)) }
 {
     let Some((start, chain)) = line.chain.split_first() else {
         return Ok(false);
@@ -85,8 +94,8 @@ fn replace(marked: &mut MarkedClause, clause: &[Lit]) -> Result<(), AllocError>
     Ok(())
 }
 
-/// Resolves a clause with each next clause of a chain in turn, over the given clauses and those of earlier lines; false
-/// where a step has no resolvent.
+/// Resolves a clause with each next clause of a chain in turn, over the given clauses and those of
+/// earlier lines; false where a step has no resolvent.
 fn resolve_chain(
     clause: &mut MarkedClause,
     clauses: &Clauses,
@@ -94,7 +103,8 @@ fn resolve_chain(
     chain: &[u32],
 ) -> Result<bool, AllocError>
     ensures { IfOk result (λ resolved. (if resolved then Some clause.new.clause else None) ≡
-        chain_from (clauses.now ++ map (λ l. l.clause.items) lines.now) (Some clause.old.clause) chain.now) }
+        chain_from (clauses.now ++ map (λ l. l.clause.items) lines.now)
+        (Some clause.old.clause) chain.now) }
 {
     for number in chain {
         let Some(next) = clause_at(clauses, lines, *number as usize) else {
@@ -109,7 +119,8 @@ fn resolve_chain(
 
 /// The clause of this number among the given ones and those of earlier lines.
 fn clause_at<'a>(clauses: &'a Clauses, lines: &'a [Line], number: usize) -> Option<&'a [Lit]>
-    ensures { option_copied result ≡ slice_get (clauses.now ++ map (λ l. l.clause.items) lines.now) number }
+    ensures { option_copied result
+        ≡ slice_get (clauses.now ++ map (λ l. l.clause.items) lines.now) number }
 {
     if number < clauses.len() {
         Some(clauses.clause(number))
@@ -134,9 +145,11 @@ fn same_literals(first: &MarkedClause, second: &MarkedClause) -> bool
     has_all(second, first.literals()) && has_all(first, second.literals())
 }
 
-/// Resolves a clause with another, where they clash in exactly one variable; false where they don't.
+/// Resolves a clause with another, where they clash in exactly one variable; false where they
+/// don't.
 fn resolve_single(first: &mut MarkedClause, second: &[Lit]) -> Result<bool, AllocError>
-    ensures { IfOk result (λ resolved. (if resolved then Some first.new.clause else None) ≡ single_resolvent first.old.clause second.now) }
+    ensures { IfOk result (λ resolved. (if resolved then Some first.new.clause else None)
+        ≡ single_resolvent first.old.clause second.now) }
 {
     let Some(l) = single_clash(first, second) else {
         return Ok(false);

@@ -6,7 +6,8 @@ use std::io::{self, Read};
 use std::net::OpenStream;
 use std::time::Duration;
 
-/// A connection as a reader. Once its client has sent his first bytes, he may take longer for the later ones.
+/// A connection as a reader. Once its client has sent his first bytes, he may take longer for the
+/// later ones.
 #[derive(Drop)]
 pub struct ClientReader<S> {
     stream: S,

@@ -7,11 +7,12 @@ use outside::{Disk, Failed};
 use std::fs::{Metadata, OpenFile};
 use std::io::{self, ErrorKind, Read, Seek, SeekFrom, Write};
 
-/// An open file as a disk. A call that fails is counted and isn't tried again, and behind it no sync succeeds. A system may
-/// take what it couldn't write for written, so that its next sync says that all is well although bytes never reached the
-/// disk.
+/// An open file as a disk. A call that fails is counted and isn't tried again, and behind it no
+/// sync succeeds. A system may take what it couldn't write for written, so that its next sync says
+/// that all is well although bytes never reached the disk.
 ///
-/// What is no regular file, as a pipe or a device, has no length: that of the system would be 0, as of an empty file.
+/// What is no regular file, as a pipe or a device, has no length: that of the system would be 0, as
+/// of an empty file.
 ///
 /// One for reading fails at each write, before the system sees it.
 #[derive(Drop)]
@@ -139,8 +140,8 @@ fn length_of<F: OpenFile>(file: &F) -> io::Result<u64> {
     regular_length(&file.metadata()?)
 }
 
-/// How many bytes a file has, where it is a regular file. What the system says of another isn't how many bytes are read
-/// from it.
+/// How many bytes a file has, where it is a regular file. What the system says of another isn't how
+/// many bytes are read from it.
 pub(crate) fn regular_length(metadata: &Metadata) -> io::Result<u64>
     ensures regular { OnOk result (IsFile (file_type metadata.now)) }
     ensures length { IfOk result (λ n. n ≡ metadata_len metadata.now) }

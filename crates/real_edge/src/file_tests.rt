@@ -6,8 +6,9 @@ use std::fs::{self, Files, Metadata, OpenFile, OpenOptions};
 use std::io::{self, Read, Seek, SeekFrom, Write};
 use std::test::Fail;
 
-// A file of this length, of which somebody else may have the lock. Its sync fails once, if at all, and says behind it that
-// all is well, as a system does that has taken what it couldn't write for written.
+// A file of this length, of which somebody else may have the lock. Its sync fails once, if at all,
+// and says behind it that all is well, as a system does that has taken what it couldn't write for
+// written.
 #[derive(Drop)]
 struct Forgetful {
     length: u64,
@@ -77,7 +78,8 @@ fn unsupported<T>() -> io::Result<T> {
     Err(io::Error::from(io::ErrorKind::Unsupported))
 }
 
-// A system where each file has this length, where the sync of one path fails, and where another is locked.
+// A system where each file has this length, where the sync of one path fails, and where another is
+// locked.
 #[derive(Drop)]
 struct OneUnsynced {
     length: u64,

@@ -1,5 +1,6 @@
 //! The files of the system as a shelf. Clauses aren't told what they hold.
-ghost use Rattle.std.specs.Prelude.{◌≡◌, ◌≢◌, ◌≤◌, [], List, ℕ, Some, None, true, false, IfOk, IfErr, IfSome, OnOk, IsErrOf};
+ghost use Rattle.std.specs.Prelude.{◌≡◌, ◌≢◌, ◌≤◌, [], List, ℕ, Some, None, true, false, IfOk};
+ghost use Rattle.std.specs.Prelude.{IfErr, IfSome, OnOk, IsErrOf};
 ghost use Rattle.outside.specs.Faults.{Rose};
 ghost use Rattle.outside.specs.Places.{at_name};
 ghost use Rattle.outside.specs.Shelf.{SameNames, SameOthers};
@@ -22,17 +23,19 @@ struct Kept {
     faults: u64,
 }
 
-/// The files that a runtime reaches, each by its path, also as a disk. A call that fails is counted and isn't tried
-/// again. A disk that comes back is closed, and only its count is kept, so that a disk which failed is still known for one
-/// when it is taken again.
+/// The files that a runtime reaches, each by its path, also as a disk. A call that fails is counted
+/// and isn't tried again. A disk that comes back is closed, and only its count is kept, so that a
+/// disk which failed is still known for one when it is taken again.
 ///
-/// A disk is a regular file; a pipe or a device isn't given as one. Where its file is empty, it may just have been made:
-/// its directory is synced before it is given, since a crash may otherwise take the name of a file that was synced. That
-/// is the directory of its path, also where the path is a link to a file elsewhere.
+/// A disk is a regular file; a pipe or a device isn't given as one. Where its file is empty, it may
+/// just have been made:
+/// its directory is synced before it is given, since a crash may otherwise take the name of a file
+/// that was synced. That is the directory of its path, also where the path is a link to a file
+/// elsewhere.
 ///
-/// A disk that is given is locked until it is back, so that a second process, or a second name of the same file, doesn't
-/// write to it: where the lock is refused, taking the disk fails. The disks of a shelf for reading take no lock, and each
-/// write to one fails.
+/// A disk that is given is locked until it is back, so that a second process, or a second name of
+/// the same file, doesn't write to it: where the lock is refused, taking the disk fails. The disks
+/// of a shelf for reading take no lock, and each write to one fails.
 #[derive(Drop)]
 pub struct FileShelf<'r, R> {
     runtime: &'r R,
@@ -149,9 +152,14 @@ fn counted<T>(answer: Result<T, ShelfError>, faults: &mut u64) -> Result<T, Shel
 // Keeps the place of a disk that is given, and answers its count of faults.
 fn keep_place(alloc: Global, disks: &mut Places<Kept>, name: &str) -> Result<u64, ShelfError>
     ensures count { IfOk result (λ faults. faults ≡ faults_kept (at_name disks.old name.now)) }
-    ensures place { IfOk result (λ faults. at_name disks.new name.now ≡ Some (record { is_out = true; faults = faults })) }
+    ensures place { IfOk result (λ faults. at_name disks.new name.now ≡ Some (record {
+      is_out =
+          true;
+      faults = faults;
+    })) }
     ensures others { SameOthers name.now (at_name disks.old) (at_name disks.new) }
-    ensures refused { IfErr result (λ refusal. (refusal ≡ ShelfError.Memory) × SameNames (at_name disks.old) (at_name disks.new)) }
+    ensures refused { IfErr result (λ refusal. (refusal ≡ ShelfError.Memory)
+        × SameNames (at_name disks.old) (at_name disks.new)) }
 {
     let faults = match disks.get(name) {
         Some(kept) => kept.faults,
@@ -164,8 +172,8 @@ fn keep_place(alloc: Global, disks: &mut Places<Kept>, name: &str) -> Result<u64
     }
 }
 
-// The file of a path, for reading and writing. It is made where there is none, so that what can't be found is its
-// directory, and that is a failure.
+// The file of a path, for reading and writing. It is made where there is none, so that what can't
+// be found is its directory, and that is a failure.
 fn open_disk<R: Files>(runtime: &R, path: &str) -> Result<R::File, ShelfError>
     ensures { IfErr result (λ refusal. refusal ≢ ShelfError.Missing) }
 {
@@ -187,8 +195,8 @@ fn lock<F: Lockable>(file: &F) -> Result<(), ShelfError>
     }
 }
 
-// Refuses what is no regular file, and syncs the directory of an open file that has no bytes. Each opening does so until
-// it has some, since the one that made the file may have been cut off before.
+// Refuses what is no regular file, and syncs the directory of an open file that has no bytes. Each
+// opening does so until it has some, since the one that made the file may have been cut off before.
 fn settle_name<R: Files>(runtime: &R, path: &str, file: &R::File) -> Result<(), ShelfError>
     ensures { IfErr result (λ refusal. refusal ≢ ShelfError.Missing) }
 {
@@ -221,7 +229,8 @@ fn bytes_of<R: Files>(runtime: &R, alloc: Global, path: &str) -> Result<Vec<u8>,
 
 /// All bytes that a file has. An opened file isn't missing.
 pub(crate) fn read_whole<F: Read>(alloc: Global, file: &mut F) -> Result<Vec<u8>, ShelfError>
-    ensures whole { IfOk result (λ bytes. IfSome (F.remaining file.old) (λ held. bytes.items ≡ held)) }
+    ensures whole { IfOk result
+        (λ bytes. IfSome (F.remaining file.old) (λ held. bytes.items ≡ held)) }
     ensures opened { IfErr result (λ refusal. refusal ≢ ShelfError.Missing) }
 {
     let mut bytes = Vec::new(alloc);

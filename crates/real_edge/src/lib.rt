@@ -1,9 +1,10 @@
-//! The real outside: the standard streams as a source and as sinks, the files of the system as a shelf, an open file as a
-//! disk, whose sync is the system's, and TCP sockets as links, doors, sources and sinks.
+//! The real outside: the standard streams as a source and as sinks, the files of the system as a
+//! shelf, an open file as a disk, whose sync is the system's, and TCP sockets as links, doors,
+//! sources and sinks.
 //!
-//! Each object counts its faults, and fails only where its count rises. Nothing is told to clauses of what a real
-//! stream, file or socket holds, since nobody knows what it will give and what becomes of what it takes: that the bytes
-//! are the system's is tested and not proved.
+//! Each object counts its faults, and fails only where its count rises. Nothing is told to clauses
+//! of what a real stream, file or socket holds, since nobody knows what it will give and what
+//! becomes of what it takes: that the bytes are the system's is tested and not proved.
 //!
 //! Read `streams`, then `disks`, `locks` and `files`, then `waits`, `clients` and `sockets`.
 #![tactic(auto)]

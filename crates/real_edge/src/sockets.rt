@@ -1,4 +1,5 @@
-//! Sockets as connections: a listening socket as a door, and what opens such doors. Clauses aren't told what comes in.
+//! Sockets as connections: a listening socket as a door, and what opens such doors. Clauses aren't
+//! told what comes in.
 ghost use Rattle.std.specs.Prelude.{◌≡◌, ◌≤◌, [], None, All, length, vec_capacity, IfOk, IfNone};
 ghost use Rattle.outside.specs.Faults.{Rose};
 ghost use Rattle.real_edge.specs.Counts.{door_faults};
@@ -16,14 +17,15 @@ use std::net::{Net, OpenListener, OpenStream, Shutdown, SocketAddr, TcpListener}
 use std::thread;
 use std::time::{Clock, Duration};
 
-/// A listening socket as a door, through which no connection is the last. Each failure to take in a client is counted, and
-/// it is tried again after a pause that doubles up to a second: too few open files are a passing state. The door gives up
-/// where nobody could be taken in for a minute.
+/// A listening socket as a door, through which no connection is the last. Each failure to take in a
+/// client is counted, and it is tried again after a pause that doubles up to a second: too few open
+/// files are a passing state. The door gives up where nobody could be taken in for a minute.
 ///
-/// A client who says nothing, or takes nothing, for too long is a fault of his own connection's end: see `waits`. What was
-/// given is closed once it is done, behind at most 64 KiB that its client still sends: a connection that is closed while
-/// bytes of the client are unread is reset, and the last replies to him may be lost on their way. A client who doesn't
-/// close is waited for one second at each of at most 16 pieces.
+/// A client who says nothing, or takes nothing, for too long is a fault of his own connection's
+/// end: see `waits`. What was given is closed once it is done, behind at most 64 KiB that its
+/// client still sends: a connection that is closed while bytes of the client are unread is reset,
+/// and the last replies to him may be lost on their way. A client who doesn't close is waited for
+/// one second at each of at most 16 pieces.
 #[derive(Drop)]
 pub struct TcpDoor<'r, C, L> {
     clock: &'r C,
@@ -128,8 +130,8 @@ where
     }
 }
 
-// Ends a connection: its client is told that no further byte comes, and what he still sends is thrown away. No failure is
-// counted here, since every reply was written before.
+// Ends a connection: its client is told that no further byte comes, and what he still sends is
+// thrown away. No failure is counted here, since every reply was written before.
 fn hang_up<S: Read + OpenStream + Drop>(input: S, output: &S) {
     let bounded = input.set_read_timeout(Some(Duration::from_secs(LAST_WAIT)));
     if bounded.is_err() || output.shutdown(Shutdown::Write).is_err() {
@@ -145,7 +147,8 @@ fn hang_up<S: Read + OpenStream + Drop>(input: S, output: &S) {
     }
 }
 
-// Waits for a client, and gives both ends of its connection, for which it sets how long is waited for him.
+// Waits for a client, and gives both ends of its connection, for which it sets how long is waited
+// for him.
 fn both_ends<L: OpenListener>(listener: &L) -> io::Result<(L::Stream, L::Stream)>
 where
     L::Stream: OpenStream,
@@ -157,8 +160,8 @@ where
     Ok((stream, other))
 }
 
-/// What opens sockets that a runtime reaches, each by its address, as `127.0.0.1:7007`. The doors of one `listen` share
-/// one socket. A `listen` that fails is counted and isn't tried again.
+/// What opens sockets that a runtime reaches, each by its address, as `127.0.0.1:7007`. The doors
+/// of one `listen` share one socket. A `listen` that fails is counted and isn't tried again.
 #[derive(Drop)]
 pub struct TcpLinks<'r, R> {
     runtime: &'r R,

@@ -1,5 +1,5 @@
-//! The standard streams as a source and as sinks. They aren't told to clauses, since nobody knows what they will give
-//! and what becomes of what they take.
+//! The standard streams as a source and as sinks. They aren't told to clauses, since nobody knows
+//! what they will give and what becomes of what they take.
 ghost use Rattle.std.specs.Prelude.{◌≡◌, []};
 
 use outside::{Failed, Sink, Source};
@@ -59,8 +59,8 @@ impl<R: Read> Source for StreamSource<R> {
     }
 }
 
-/// A writer as a sink. A call that fails is counted and isn't tried again. Nothing is kept back between two calls, so
-/// nothing has to be flushed at the end.
+/// A writer as a sink. A call that fails is counted and isn't tried again. Nothing is kept back
+/// between two calls, so nothing has to be flushed at the end.
 #[derive(Drop)]
 pub struct StreamSink<W> {
     output: W,

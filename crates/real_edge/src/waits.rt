@@ -9,7 +9,8 @@ pub(crate) const LATER_BYTES: u64 = 600;
 /// Seconds for a write of which nobody takes a byte.
 pub(crate) const STUCK_WRITE: u64 = 60;
 
-/// How much of what a client still sends is read as his connection ends: so many pieces of so many bytes.
+/// How much of what a client still sends is read as his connection ends: so many pieces of so many
+/// bytes.
 pub(crate) const LAST_PIECES: usize = 16;
 
 pub(crate) const PIECE: usize = 4096;
@@ -17,8 +18,8 @@ pub(crate) const PIECE: usize = 4096;
 /// Seconds for each of these pieces.
 pub(crate) const LAST_WAIT: u64 = 1;
 
-/// How often taking in a client is tried again. The pauses before, which double from the first up to the longest, are 60
-/// seconds together.
+/// How often taking in a client is tried again. The pauses before, which double from the first up
+/// to the longest, are 60 seconds together.
 pub(crate) const TRIES_AGAIN: u32 = 69;
 
 /// Milliseconds of the first pause and of the longest.

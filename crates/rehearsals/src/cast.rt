@@ -1,8 +1,10 @@
 //! The programs that a call may name.
 //!
-//! `cqe` is the program itself. `dimacs` is the search machine alone. The others answer each line of the input by one line:
-//! `words` reads words of a command, `requests` lines of a session, `sentences FILE` sentences over the schema of a policy,
-//! `searches` and `ends` search clauses, `refutations` and `models` judge such, `forms` gives the clause forms of formulas.
+//! `cqe` is the program itself. `dimacs` is the search machine alone. The others answer each line
+//! of the input by one line:
+//! `words` reads words of a command, `requests` lines of a session, `sentences FILE` sentences over
+//! the schema of a policy, `searches` and `ends` search clauses, `refutations` and `models` judge
+//! such, `forms` gives the clause forms of formulas.
 use crate::forms::form_text;
 use crate::machine::{end_text, judged_model, judged_refutation, search_text};
 use crate::readers::{request_text, sentence_text_of, words_text};

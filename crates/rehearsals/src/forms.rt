@@ -80,7 +80,8 @@ fn wide_node(alloc: Global, stack: &mut Vec<Prop>, word: &str) -> Result<Option<
     }
 }
 
-/// The formula of words, each behind its parts: two digits are a fact, `and:3` and `or:3` are of three parts.
+/// The formula of words, each behind its parts: two digits are a fact, `and:3` and `or:3` are of
+/// three parts.
 fn formula(alloc: Global, words: &str) -> Result<Option<Prop>, AllocError> {
     let mut stack = Vec::new(alloc);
     for word in words.split_whitespace() {
@@ -142,8 +143,8 @@ fn push_clauses(text: &mut String, clauses: &Clauses) -> Result<(), AllocError> 
     Ok(())
 }
 
-/// How many variables the clause form of signed formulas takes, and its clauses. Formulas stand with a comma between them,
-/// each a sign and the words of a formula.
+/// How many variables the clause form of signed formulas takes, and its clauses. Formulas stand
+/// with a comma between them, each a sign and the words of a formula.
 pub fn form_text(alloc: Global, line: &str) -> Result<String, AllocError> {
     let mut former = Former::new(alloc)?;
     for signed in line.split(',') {

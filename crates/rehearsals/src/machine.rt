@@ -1,4 +1,5 @@
-//! Clauses as numbers: searched by both bodies of the machine, and refutations and models of them judged.
+//! Clauses as numbers: searched by both bodies of the machine, and refutations and models of them
+//! judged.
 use clause_solver::plain::search_plain;
 use clause_solver::{Found, is_searchable, search, search_with_cost};
 use clause_store::clauses::Clauses;
@@ -28,7 +29,8 @@ fn literal(word: &str) -> Option<Lit> {
     Lit::from_number(word.parse::<i32>().ok()?)
 }
 
-/// The clauses of these numbers, with a comma between them. No text is no clause, and a blank an empty one.
+/// The clauses of these numbers, with a comma between them. No text is no clause, and a blank an
+/// empty one.
 fn clauses(alloc: Global, text: &str) -> Result<Option<Clauses>, AllocError> {
     let mut clauses = Clauses::new(alloc);
     if text.is_empty() {
@@ -67,8 +69,8 @@ fn push_literals(text: &mut String, literals: &[Lit]) -> Result<(), AllocError> 
     Ok(())
 }
 
-/// What a search found: `model` and a digit for each variable, `refuted` and its lines with a comma between them, each a
-/// clause, `by` and a chain, or `spent`.
+/// What a search found: `model` and a digit for each variable, `refuted` and its lines with a comma
+/// between them, each a clause, `by` and a chain, or `spent`.
 fn found_text(alloc: Global, found: &Found) -> Result<String, AllocError> {
     match found {
         Found::Model(signs) => {
@@ -113,7 +115,8 @@ fn both(
     }
 }
 
-/// The whole cost of a search, and what both bodies find at this budget, if they find nothing at one less.
+/// The whole cost of a search, and what both bodies find at this budget, if they find nothing at
+/// one less.
 pub fn search_text(alloc: Global, line: &str) -> Result<String, AllocError> {
     let Some((variables, clauses)) = problem(alloc, line)? else {
         return String::from_str(alloc, "no clauses");

@@ -1,11 +1,14 @@
-//! Rehearsals: scenes that are read from standard input and played by the program itself over objects in memory.
+//! Rehearsals: scenes that are read from standard input and played by the program itself over
+//! objects in memory.
 //!
-//! A scene gives files, disks, words, input and clients, and says what has to come out: lines, complaint, status, and what
-//! the journals hold afterwards. `docs/REHEARSALS.md` has the format. For each scene it writes `NAME fits`, or what differs,
-//! and at the end how many fit; the stored run has all the scenes, and its output that all of them fit.
+//! A scene gives files, disks, words, input and clients, and says what has to come out: lines,
+//! complaint, status, and what the journals hold afterwards. `docs/REHEARSALS.md` has the format.
+//! For each scene it writes `NAME fits`, or what differs, and at the end how many fit; the stored
+//! run has all the scenes, and its output that all of them fit.
 //!
-//! It promises nothing: what is compared are values that were worked out by hand or by another program. It is safe and ends
-//! for every input. Read `scene`, then `book` (how scenes are read), then `stage` and `theatre` (how they are played).
+//! It promises nothing: what is compared are values that were worked out by hand or by another
+//! program. It is safe and ends for every input. Read `scene`, then `book` (how scenes are read),
+//! then `stage` and `theatre` (how they are played).
 #![tactic(auto)]
 
 mod book;

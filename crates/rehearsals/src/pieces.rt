@@ -12,7 +12,8 @@ enum Count<'t> {
     Text,
     /// So many times.
     Times(u32),
-    /// Once for each number from the first below the second, with the number in the place of each `#`.
+    /// Once for each number from the first below the second, with the number in the place of each
+    /// `#`.
     Numbered(u32, u32),
     /// As hexadecimal digits.
     Digits,
@@ -20,7 +21,8 @@ enum Count<'t> {
     Unknown(&'t str),
 }
 
-/// What is said between the mark of a line and its blank: `~` for no line feed, then `*N`, `#A..B`, `@` or nothing.
+/// What is said between the mark of a line and its blank: `~` for no line feed, then `*N`, `#A..B`,
+/// `@` or nothing.
 fn count_of(flags: &str) -> Count<'_> {
     if flags.is_empty() {
         return Count::Times(1);
@@ -68,8 +70,8 @@ fn byte_of(word: &[u8]) -> Option<u8> {
     }
 }
 
-/// Appends the bytes of a text, in which a backslash begins `\\`, `\t`, `\r`, `\n`, `\s` (a blank), `\e` (nothing) and
-/// `\x41`. It answers whether the text has that form.
+/// Appends the bytes of a text, in which a backslash begins `\\`, `\t`, `\r`, `\n`, `\s` (a blank),
+/// `\e` (nothing) and `\x41`. It answers whether the text has that form.
 pub fn push_text(bytes: &mut Vec<u8>, text: &str) -> Result<bool, AllocError> {
     let mut rest = text.as_bytes();
     for _ in 0..text.len() {
@@ -145,8 +147,8 @@ fn bytes_named<'t>(texts: &'t [Named], name: &str) -> Option<&'t [u8]> {
     None
 }
 
-/// Appends what a line stands for: the text behind its first blank, as the flags before that say. It answers whether the
-/// line has a form.
+/// Appends what a line stands for: the text behind its first blank, as the flags before that say.
+/// It answers whether the line has a form.
 pub fn push_piece(
     alloc: Global,
     bytes: &mut Vec<u8>,

@@ -53,7 +53,8 @@ fn shown(alloc: Global, bytes: &[u8]) -> Result<String, AllocError> {
     Ok(text)
 }
 
-/// A client who was served otherwise than he had to be; all but those that are left have to be served.
+/// A client who was served otherwise than he had to be; all but those that are left have to be
+/// served.
 fn unserved(
     alloc: Global,
     wanted: &[Client],

@@ -45,7 +45,8 @@ pub enum Step {
     Call(Call),
 }
 
-/// A scene: its steps over one shelf, played once for each size of the pieces in which streams give and take.
+/// A scene: its steps over one shelf, played once for each size of the pieces in which streams give
+/// and take.
 #[derive(Drop)]
 pub struct Scene {
     pub name: String,

@@ -60,7 +60,8 @@ impl Stage {
         }
     }
 
-    /// Calls the program with these words; its streams and those of its clients give and take pieces of this size.
+    /// Calls the program with these words; its streams and those of its clients give and take
+    /// pieces of this size.
     pub fn perform(
         &mut self,
         rt: &(impl Threads + Wait + Sync),

@@ -18,7 +18,8 @@ pub cut_starts : (ahead left : List ℕ) → ahead ≡ [] → is_cut_short 1 (te
 cut_starts ahead left none cut = sym (ap (λ a. is_cut_short 1 (text_lines (a ++ left))) none) ∙ cut
 
 -- where the next line is the end, or is refused whatever it says, everything was read
-pub passed : (number start : ℕ) (read : NextLine) (all before ahead left line : List ℕ) → (is_cut_short number (text_lines before) ≡ true → is_cut_short start (text_lines all) ≡ true)
+pub passed : (number start : ℕ) (read : NextLine) (all before ahead left line : List ℕ)
+    → (is_cut_short number (text_lines before) ≡ true → is_cut_short start (text_lines all) ≡ true)
     → (read ≡ next.End) ⊎ ((kind : ScriptKind) × (read ≡ next.Refused kind)) → ReadsLine number read before (ahead ++ left) line → IsReadThrough start all left
 passed number start read all before ahead left line cut (inl is) reads =
     let at_end : ReadsLine number next.End before (ahead ++ left) line = subst (λ r. ReadsLine number r before (ahead ++ left) line) is reads in

@@ -1,5 +1,7 @@
--- A script: its lines one after the other, each a step from what was said before, up to the first that is refused.
-use Rattle.std.specs.Prelude.{ℕ, ◌+◌, nat_lt, List, [], ◌∷◌, Bool, false, ◌||◌, Option, Some, None, is_some, Result, Ok, Err, if◌then◌else◌}
+-- A script: its lines one after the other, each a step from what was said before, up to the first
+-- that is refused.
+use Rattle.std.specs.Prelude.{ℕ, ◌+◌, nat_lt, List, [], ◌∷◌, Bool, false, ◌||◌, Option, Some, None}
+use Rattle.std.specs.Prelude.{is_some, Result, Ok, Err, if◌then◌else◌}
 use Rattle.cqe_base.specs.declared.text.ScriptKind.{ScriptKind}
 use Rattle.cqe_base.specs.declared.text.ScriptKind.TheVariants.{TooLong, TooMany}
 use Rattle.cqe_base.specs.declared.text.ScriptError.{ScriptError}
@@ -12,12 +14,14 @@ Step A = A → Text → Result A ScriptKind
 
 -- why a line of this number is refused whatever it says: it is too long, or one too many
 abbrev pub line_refusal : ℕ → TextLine → Option ScriptKind
-line_refusal number line = if is_too_long line then Some TooLong else if nat_lt 100000 number then Some TooMany else None
+line_refusal number line =
+    if is_too_long line then Some TooLong else if nat_lt 100000 number then Some TooMany else None
 
 -- one of these lines, of which the first has this number, is refused whatever it says
 abbrev pub is_cut_short : ℕ → List TextLine → Bool
 is_cut_short number [] = false
-is_cut_short number (line ∷ lines) = is_some (line_refusal number line) || is_cut_short (number + 1) lines
+is_cut_short number (line ∷ lines) =
+    is_some (line_refusal number line) || is_cut_short (number + 1) lines
 
 -- a refusal, or else what follows
 abbrev pub unless : {A : Type 0} → Option ScriptKind → Result A ScriptKind → Result A ScriptKind
@@ -30,7 +34,8 @@ module _ {A : Type 0} (step : Step A) where
   with_line number said line = unless (line_refusal number line) (step said (content line))
 
   -- what follows a line, unless it is refused
-  abbrev pub then_lines : ℕ → Result A ScriptKind → (A → Result A ScriptError) → Result A ScriptError
+  abbrev pub then_lines : ℕ → Result A ScriptKind → (A → Result A ScriptError)
+      → Result A ScriptError
   then_lines number (Err kind) rest = Err (record { kind = kind; line = number })
   then_lines number (Ok said) rest = rest said
 

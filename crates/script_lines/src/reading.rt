@@ -3,7 +3,8 @@
 ghost use Rattle.std.specs.Prelude.{◌≡◌, ◌≤◌, ◌+◌, ◌^◌, ◌<◌, IsTrue};
 ghost use Rattle.outside.specs.Faults.{Rose};
 ghost use Rattle.line_protocol.specs.Buffer.{unread};
-ghost use Rattle.script_lines.specs.Read.{ReadsLine, ReadsScript, ReadsRest, is_read_fault, is_next_fault};
+ghost use Rattle.script_lines.specs.Read.{ReadsLine, ReadsScript, ReadsRest, is_read_fault};
+ghost use Rattle.script_lines.specs.Read.{is_next_fault};
 
 use crate::{LineError, Script};
 use cqe_base::text::{ScriptError, ScriptKind};
@@ -38,11 +39,14 @@ pub enum NextLine {
 
 /// Reads the next line, which has this number. It is refused where it is too long or one too many.
 fn next_line<S: Source>(source: &mut S, buffer: &mut LineBuffer, number: u32) -> NextLine
-    ensures reads { S.tells → ReadsLine number result (unread buffer.old (S.left source.old)) (unread buffer.new (S.left source.new)) buffer.new.line }
+    ensures reads { S.tells
+        → ReadsLine number result (unread buffer.old (S.left source.old))
+        (unread buffer.new (S.left source.new)) buffer.new.line }
     ensures few { result ≡ NextLine.Line → number ≤ 100000 }
     ensures held { S.held source.new ≡ S.held source.old }
     ensures later { S.faults source.old ≤ S.faults source.new }
-    ensures cause { IsTrue (is_next_fault result) → Rose (S.faults source.old) (S.faults source.new) }
+    ensures cause { IsTrue (is_next_fault result)
+        → Rose (S.faults source.old) (S.faults source.new) }
 {
     match read_line(source, buffer) {
         LineOutcome::Line => {
@@ -58,7 +62,8 @@ fn next_line<S: Source>(source: &mut S, buffer: &mut LineBuffer, number: u32) ->
     }
 }
 
-/// Reads on behind a line that is refused, to the end, or to a line that is too long or one too many.
+/// Reads on behind a line that is refused, to the end, or to a line that is too long or one too
+/// many.
 fn pass_rest<S: Source, T: Drop>(
     source: &mut S,
     buffer: &mut LineBuffer,
@@ -66,10 +71,13 @@ fn pass_rest<S: Source, T: Drop>(
     error: ScriptError,
 ) -> Reading<T>
     requires { number ≤ 100001 }
-    ensures rest { S.tells → ReadsRest number error result (unread buffer.old (S.left source.old)) (S.left source.new) }
+    ensures rest { S.tells
+        → ReadsRest number error result (unread buffer.old (S.left source.old))
+        (S.left source.new) }
     ensures held { S.held source.new ≡ S.held source.old }
     ensures later { S.faults source.old ≤ S.faults source.new }
-    ensures cause { IsTrue (is_read_fault result) → Rose (S.faults source.old) (S.faults source.new) }
+    ensures cause { IsTrue (is_read_fault result)
+        → Rose (S.faults source.old) (S.faults source.new) }
 {
     for next in number..LINES + 2 {
         match next_line(source, buffer, next) {
@@ -81,17 +89,19 @@ fn pass_rest<S: Source, T: Drop>(
     Reading::Refused(error)
 }
 
-/// Reads a script whole, from a beginning on. It is refused at the first line that is, after the source was read to its
-/// end, or to a line that is too long or one too many.
+/// Reads a script whole, from a beginning on. It is refused at the first line that is, after the
+/// source was read to its end, or to a line that is too long or one too many.
 pub fn read_script<S: Source, T: Script + Drop>(
     alloc: Global,
     source: &mut S,
     start: T,
 ) -> Reading<T>
-    ensures reads { S.tells → ReadsScript T.step T.said (T.said start) result (S.left source.old) (S.left source.new) }
+    ensures reads { S.tells
+        → ReadsScript T.step T.said (T.said start) result (S.left source.old) (S.left source.new) }
     ensures held { S.held source.new ≡ S.held source.old }
     ensures later { S.faults source.old ≤ S.faults source.new }
-    ensures cause { IsTrue (is_read_fault result) → Rose (S.faults source.old) (S.faults source.new) }
+    ensures cause { IsTrue (is_read_fault result)
+        → Rose (S.faults source.old) (S.faults source.new) }
 {
     let mut script = start;
     let mut buffer = LineBuffer::new();

@@ -1,5 +1,6 @@
 -- The replies that are counted byte by byte are those of the lines.
-use Rattle.std.proofs.Common.{◌≡◌, ◌∙◌, sym, ap, refl, ℕ, zero, suc, ◌+◌, ◌/◌, ◌%◌, ◌==◌, Bool, true, false, not, ◌&&◌, List, [], ◌∷◌, ◌++◌, fold, Some, None, codes, decimal, if◌then◌else◌, arith, append_assoc}
+use Rattle.std.proofs.Common.{◌≡◌, ◌∙◌, sym, ap, refl, ℕ, zero, suc, ◌+◌, ◌/◌, ◌%◌, ◌==◌, Bool, true, false, not, ◌&&◌, List, [], ◌∷◌, ◌++◌, fold, Some, None}
+use Rattle.std.proofs.Common.{codes, decimal, if◌then◌else◌, arith, append_assoc}
 use Rattle.std.specs.Fmt.{digits, digits_onto, digit_glyph}
 use Rattle.std.specs.List.{list_all, range_with_len, AllByRecursion}
 use Rattle.std.proofs.Math.Nat.{mod-lt}
@@ -72,7 +73,8 @@ inside_first tally [] all = refl
 inside_first tally (b ∷ bytes) all =
     let parts = and_parts (is_inside b) (list_all is_inside bytes) all in
     let two = and_parts (not (b == 10)) (not (b == 32)) parts.0 in
-    ap (λ c. fold after_byte c bytes) (λ i. if not-true (b == 10) two.0 i then at 0 tally else if not-true (b == 32) two.1 i && true then at 1 tally else if not-true (b == 32) two.1 i && false then at 2 tally else at 0 tally)
+    ap (λ c. fold after_byte c bytes) (λ i. if not-true (b == 10) two.0 i then at 0 tally else if not-true (b == 32) two.1 i && true then at 1 tally
+    else if not-true (b == 32) two.1 i && false then at 2 tally else at 0 tally)
     ∙ inside_first tally bytes parts.1
 
 inside_second : (tally : Tally) (bytes : List ℕ) → list_all is_inside bytes ≡ true → fold after_byte (at 1 tally) bytes ≡ at 1 tally
@@ -80,14 +82,17 @@ inside_second tally [] all = refl
 inside_second tally (b ∷ bytes) all =
     let parts = and_parts (is_inside b) (list_all is_inside bytes) all in
     let two = and_parts (not (b == 10)) (not (b == 32)) parts.0 in
-    ap (λ c. fold after_byte c bytes) (λ i. if not-true (b == 10) two.0 i then at 0 tally else if not-true (b == 32) two.1 i && false then at 1 tally else if not-true (b == 32) two.1 i && true then at 2 tally else at 1 tally)
+    ap (λ c. fold after_byte c bytes) (λ i. if not-true (b == 10) two.0 i then at 0 tally else if not-true (b == 32) two.1 i && false then at 1 tally
+    else if not-true (b == 32) two.1 i && true then at 2 tally else at 1 tally)
     ∙ inside_second tally bytes parts.1
 
 behind_reply : (tally : Tally) (bytes : List ℕ) → list_all is_other bytes ≡ true → fold after_byte (at 3 tally) (bytes ++ 10 ∷ []) ≡ at 0 tally
 behind_reply tally [] all = refl
 behind_reply tally (b ∷ bytes) all =
     let parts = and_parts (is_other b) (list_all is_other bytes) all in
-    ap (λ c. fold after_byte c (bytes ++ 10 ∷ [])) ((λ i. if not-true (b == 10) parts.0 i then at 0 tally else if (b == 32) && false then at 1 tally else if (b == 32) && false then at 2 tally else at 3 tally) ∙ never (b == 32))
+    ap (λ c. fold after_byte c (bytes ++ 10 ∷ []))
+    ((λ i. if not-true (b == 10) parts.0 i then at 0 tally else if (b == 32) && false then at 1 tally else if (b == 32) && false then at 2 tally
+    else at 3 tally) ∙ never (b == 32))
     ∙ behind_reply tally bytes parts.1
   where
     never : (t : Bool) → (if t && false then at 1 tally else if t && false then at 2 tally else at 3 tally) ≡ at 3 tally
@@ -104,7 +109,8 @@ reply_counted tally (marked Refused) = refl
 reply_counted tally (marked Undecided) = refl
 reply_counted tally (no_sentence kind place) =
     behind_reply (with_first tally 101) (codes "rror 20 " ++ decimal kind ++ codes " " ++ decimal place)
-    (list_all-append is_other (decimal kind ++ codes " ") (decimal place) ∙ (λ i. (list_all-append is_other (decimal kind) (codes " ") ∙ (λ j. decimal_other kind j && true)) i && decimal_other place i))
+    (list_all-append is_other (decimal kind ++ codes " ") (decimal place)
+    ∙ (λ i. (list_all-append is_other (decimal kind) (codes " ") ∙ (λ j. decimal_other kind j && true)) i && decimal_other place i))
 reply_counted tally history_full = refl
 reply_counted tally too_large = refl
 reply_counted tally user_closed = refl
@@ -121,7 +127,8 @@ words_counted tally name session rest plain =
     fold-append after_byte (at 0 tally) (name ++ codes " " ++ decimal session) (codes " ")
     ∙ ap (λ c. fold after_byte c (codes " ")) (
     fold-append after_byte (at 0 tally) (name ++ codes " ") (decimal session)
-    ∙ ap (λ c. fold after_byte c (decimal session)) (fold-append after_byte (at 0 tally) name (codes " ") ∙ ap (λ c. fold after_byte c (codes " ")) (inside_first tally name plain))
+    ∙ ap (λ c. fold after_byte c (decimal session)) (fold-append after_byte (at 0 tally) name (codes " ")
+    ∙ ap (λ c. fold after_byte c (codes " ")) (inside_first tally name plain))
     ∙ inside_second tally (decimal session) (decimal_inside session)))
 
 line_counted : (tally : Tally) (line : Line) → IsPlain line → fold after_byte (at 0 tally) (line_text line ++ 10 ∷ []) ≡ at 0 (with_line tally line)
@@ -129,11 +136,13 @@ line_counted tally (reply_line name session (Some told)) plain =
     ap (fold after_byte (at 0 tally)) (append_assoc (name ++ codes " " ++ decimal session ++ codes " ") (reply_text told) (10 ∷ []))
     ∙ words_counted tally name session (reply_text told ++ 10 ∷ []) plain ∙ reply_counted tally told
 line_counted tally (reply_line name session None) plain =
-    ap (fold after_byte (at 0 tally)) (append_assoc (name ++ codes " " ++ decimal session) (codes " error 23") (10 ∷ []) ∙ sym (append_assoc (name ++ codes " " ++ decimal session) (codes " ") (codes "error 23\n")))
+    ap (fold after_byte (at 0 tally)) (append_assoc (name ++ codes " " ++ decimal session) (codes " error 23") (10 ∷ [])
+    ∙ sym (append_assoc (name ++ codes " " ++ decimal session) (codes " ") (codes "error 23\n")))
     ∙ words_counted tally name session (codes "error 23\n") plain
 line_counted tally restart_line plain = refl
 
-lines_counted : (lines : List Line) (tally : Tally) → AllByRecursion IsPlain lines → fold after_byte (at 0 tally) (line_bytes lines) ≡ at 0 (fold with_line tally lines)
+lines_counted : (lines : List Line) (tally : Tally) → AllByRecursion IsPlain lines
+    → fold after_byte (at 0 tally) (line_bytes lines) ≡ at 0 (fold with_line tally lines)
 lines_counted [] tally plain = refl
 lines_counted (line ∷ lines) tally plain =
     fold-append after_byte (at 0 tally) (line_text line ++ 10 ∷ []) (line_bytes lines)

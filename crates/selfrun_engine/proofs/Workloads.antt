@@ -1,5 +1,6 @@
 -- The workload, from the making of its journals to the tally of its replies.
-use Rattle.std.proofs.Common.{◌≡◌, ◌∙◌, sym, ap, subst, refl, ℕ, zero, suc, ◌+◌, ◌%◌, ◌<◌, ◌≤◌, Bool, true, false, List, [], ◌∷◌, ◌++◌, map, length, Option, Some, None, Result, Ok, arith}
+use Rattle.std.proofs.Common.{◌≡◌, ◌∙◌, sym, ap, subst, refl, ℕ, zero, suc, ◌+◌, ◌%◌, ◌<◌, ◌≤◌, Bool, true, false, List, [], ◌∷◌, ◌++◌, map, length, Option}
+use Rattle.std.proofs.Common.{Some, None, Result, Ok, arith}
 use Rattle.std.specs.Prelude.{find, cond, bytes_eq, slice_get, String, string_bytes}
 use Rattle.std.specs.declared.alloc.Global.{Global}
 use Rattle.std.specs.List.{flat_map, list_all, range_with_len, AllByRecursion}
@@ -55,21 +56,27 @@ names_differ policy kept = ap has_duplicate (names_are policy.users.items) ∙ k
 
 module _ {D : Type 0} (reads : D → List ℕ) (image : D → List ℕ → Type 0) (header directory : List ℕ) (old new : List ℕ → Option D) where
   -- what holds of the name at each place holds of all users
-  by_place : (P : Text → Type 0) (users : List User) → ((i : ℕ) (name : Text) → i < length (user_names users) → slice_get (user_names users) i ≡ Some name → P name) → AllByRecursion (λ (u : NamedUser). P u.name) (map named_user users)
+  by_place : (P : Text → Type 0) (users : List User)
+      → ((i : ℕ) (name : Text) → i < length (user_names users) → slice_get (user_names users) i ≡ Some name → P name)
+      → AllByRecursion (λ (u : NamedUser). P u.name) (map named_user users)
   by_place P [] each = tt
-  by_place P (user ∷ users) each = (each 0 (string_bytes user.name) (omega arith) refl, by_place P users (λ i name low at. each (suc i) name (omega (arith, low)) at))
+  by_place P (user ∷ users) each =
+      (each 0 (string_bytes user.name) (omega arith) refl, by_place P users (λ i name low at. each (suc i) name (omega (arith, low)) at))
 
   -- a journal that was made where there was no disk has no record
-  pub all_empty : (users : List User) → ((name : List ℕ) → old name ≡ None) → Readies reads image header directory (user_names users) old new (length (user_names users)) (length (user_names users))
+  pub all_empty : (users : List User) → ((name : List ℕ) → old name ≡ None)
+      → Readies reads image header directory (user_names users) old new (length (user_names users)) (length (user_names users))
       → AllByRecursion (λ (u : NamedUser). records (bytes_on reads (new (journal_name directory u.name))) ≡ []) (map named_user users)
   all_empty users none ready = by_place (λ name. records (bytes_on reads (new (journal_name directory name))) ≡ []) users (λ i name low at.
       let one = ready.are i name low at in
-      ap (λ d. records (bytes_on reads d)) one.stands ∙ ((journals_are_walked header [] (reads one.disk)).0 (one.made.empty (ap (bytes_on reads) (none (journal_name directory name)))).1).are)
+      ap (λ d. records (bytes_on reads d)) one.stands
+      ∙ ((journals_are_walked header [] (reads one.disk)).0 (one.made.empty (ap (bytes_on reads) (none (journal_name directory name)))).1).are)
 
 -- ---- the asks of the script
 
 -- a user of the workload has the name of a number below their count
-has_user : (seed k a n : ℕ) → a ≤ k → k < a + n → (user : NamedUser) × (find (λ u. bytes_eq u.name (user_name k)) (map without_entries (map (workload_user seed) (range_with_len a n))) ≡ Some user)
+has_user : (seed k a n : ℕ) → a ≤ k → k < a + n → (user : NamedUser)
+    × (find (λ u. bytes_eq u.name (user_name k)) (map without_entries (map (workload_user seed) (range_with_len a n))) ≡ Some user)
 has_user seed k a zero low high = absurd (omega (arith, low, high))
 has_user seed k a (suc n) low high = by (bytes_eq (user_name a) (user_name k)) refl (λ later. has_user seed k (a + 1) n later (omega (arith, high)))
   where
@@ -86,12 +93,14 @@ has_user seed k a (suc n) low high = by (bytes_eq (user_name a) (user_name k)) r
         → (user : NamedUser) × (cond (bytes_eq (user_name a) (user_name k)) (Some first) (find (λ u. bytes_eq u.name (user_name k)) rest) ≡ Some user)
     by true is later = (first, ap (λ t. cond t (Some first) (find (λ u. bytes_eq u.name (user_name k)) rest)) is)
     by false is later =
-        let further = later (apart (λ same. let clash : true ≡ false = sym ((bytes_eq-Decides (user_name a) (user_name k)).1 (ap user_name same)) ∙ is in cc)) in
+        let further = later (apart (λ same. let clash : true ≡ false = sym ((bytes_eq-Decides (user_name a) (user_name k)).1 (ap user_name same)) ∙ is in
+        cc)) in
         (further.0, ap (λ t. cond t (Some first) (find (λ u. bytes_eq u.name (user_name k)) rest)) is ∙ further.1)
 
 of_users : (seed users : ℕ) → 0 < users → (numbers : List ℕ) → AllByRecursion (IsOfUser (workload_users seed users)) (map (workload_ask seed users) numbers)
 of_users seed users some [] = tt
-of_users seed users some (t ∷ numbers) = (has_user seed (t % users) 0 users (omega arith) (let less = mod-lt t {m = users} some in omega (arith, less)), of_users seed users some numbers)
+of_users seed users some (t ∷ numbers) =
+    (has_user seed (t % users) 0 users (omega arith) (let less = mod-lt t {m = users} some in omega (arith, less)), of_users seed users some numbers)
 
 -- the name of an ask is one word
 abbrev IsPlainItem : BatchItem → Type 0
@@ -102,13 +111,15 @@ plain_asks : (seed users : ℕ) (numbers : List ℕ) → AllByRecursion IsPlainI
 plain_asks seed users [] = tt
 plain_asks seed users (t ∷ numbers) = (decimal_inside (t % users), plain_asks seed users numbers)
 
-plain_lines : (schema : DatabaseSchema) (world : FactSet) (users : List NamedUser) (earlier events : List ScriptEvent) (items : List BatchItem) → AreEventsOf items events → AllByRecursion IsPlainItem items
+plain_lines : (schema : DatabaseSchema) (world : FactSet) (users : List NamedUser) (earlier events : List ScriptEvent) (items : List BatchItem)
+    → AreEventsOf items events → AllByRecursion IsPlainItem items
     → AllByRecursion IsPlain (lines_after schema world users earlier events)
 plain_lines schema world users earlier [] items of plain = tt
 plain_lines schema world users earlier (event ∷ events) [] of plain = absurd of
 plain_lines schema world users earlier (script_ask name session text ending ∷ events) (asked one ∷ items) of plain =
     (ap (list_all is_inside) of.0.0 ∙ plain.0, plain_lines schema world users (earlier ++ script_ask name session text ending ∷ []) events items of.1 plain.1)
-plain_lines schema world users earlier (script_restart found opened ∷ events) (restarted ∷ items) of plain = (tt, plain_lines schema world users (earlier ++ script_restart found opened ∷ []) events items of.1 plain.1)
+plain_lines schema world users earlier (script_restart found opened ∷ events) (restarted ∷ items) of plain =
+    (tt, plain_lines schema world users (earlier ++ script_restart found opened ∷ []) events items of.1 plain.1)
 plain_lines schema world users earlier (script_stop name text ∷ events) (asked one ∷ items) of plain = absurd of.0
 plain_lines schema world users earlier (script_restart found opened ∷ events) (asked one ∷ items) of plain = absurd of.0
 plain_lines schema world users earlier (script_opening found opened ∷ events) (asked one ∷ items) of plain = absurd of.0
@@ -139,36 +150,47 @@ module _ (seed users asks : ℕ) (some : 0 < users) where
     of_script = output.of_items;
     all_kept = output.all_kept;
     all_opened = output.all_opened;
-    counts = is ∙ ap tally_in output.lines ∙ tally_is (transcript workload_schema (workload_world seed) (workload_users seed users) (with_opening output.found output.opened output.events))
-        (plain_lines workload_schema (workload_world seed) (workload_users seed users) (script_opening output.found output.opened ∷ []) output.events (workload_script seed users asks) output.of_items (plain_asks seed users (range_with_len 0 asks)));
+    counts = is ∙ ap tally_in output.lines
+        ∙ tally_is (transcript workload_schema (workload_world seed) (workload_users seed users) (with_opening output.found output.opened output.events))
+        (plain_lines workload_schema (workload_world seed) (workload_users seed users) (script_opening output.found output.opened ∷ []) output.events
+        (workload_script seed users asks) output.of_items (plain_asks seed users (range_with_len 0 asks)));
   }
 
   -- the tally of the lines of a batch over what the workload's files say
-  pub tally_from : (policy : Policy) (world : FactSet) (script bytes : List ℕ) (tally : Tally) → policy_value_of policy ≡ workload_policy seed users → world ≡ workload_world seed
+  pub tally_from : (policy : Policy) (world : FactSet) (script bytes : List ℕ) (tally : Tally) → policy_value_of policy ≡ workload_policy seed users
+      → world ≡ workload_world seed
       → batch_of script ≡ Ok (workload_script seed users asks) → tally ≡ tally_in bytes
-      → ((items : List BatchItem) → batch_of script ≡ Ok items → AllByRecursion (IsOfUser (map named_user policy.users.items)) items → IsOutput policy.schema world (map named_user policy.users.items) items bytes)
+      → ((items : List BatchItem) → batch_of script ≡ Ok items → AllByRecursion (IsOfUser (map named_user policy.users.items)) items
+      → IsOutput policy.schema world (map named_user policy.users.items) items bytes)
       → IsTally seed users asks tally
   tally_from policy world script bytes tally value same_world read is output =
-      let named : map named_user policy.users.items ≡ workload_users seed users = same_users policy.users.items ∙ ap (λ (p : PolicyValue). map without_entries p.users) value in
-      let written = output (workload_script seed users asks) read (subst (λ us. AllByRecursion (IsOfUser us) (workload_script seed users asks)) (sym named) (of_users seed users some (range_with_len 0 asks))) in
+      let named : map named_user policy.users.items ≡ workload_users seed users =
+      same_users policy.users.items ∙ ap (λ (p : PolicyValue). map without_entries p.users) value in
+      let written = output (workload_script seed users asks) read
+      (subst (λ us. AllByRecursion (IsOfUser us) (workload_script seed users asks)) (sym named) (of_users seed users some (range_with_len 0 asks))) in
       counted tally bytes is
       (subst (λ us. IsOutput workload_schema (workload_world seed) us (workload_script seed users asks) bytes) named
       (subst (λ w. IsOutput workload_schema w (map named_user policy.users.items) (workload_script seed users asks) bytes) same_world
-      (subst (λ s. IsOutput s world (map named_user policy.users.items) (workload_script seed users asks) bytes) (ap (λ (p : PolicyValue). p.schema) value) written)))
+      (subst (λ s. IsOutput s world (map named_user policy.users.items) (workload_script seed users asks) bytes)
+      (ap (λ (p : PolicyValue). p.schema) value) written)))
 
   -- the same, by what was read of the workload's files
   pub tallied : (policy : Policy) (world : FactSet) (given given' facts facts' script bytes : List ℕ) (tally : Tally)
       → given' ≡ given → policy_in given ≡ Ok (workload_policy seed users) → policy_in given' ≡ Ok (policy_value_of policy)
       → facts' ≡ facts → facts_of workload_schema facts ≡ Ok (workload_world seed) → facts_of policy.schema facts' ≡ Ok world
       → batch_of script ≡ Ok (workload_script seed users asks) → tally ≡ tally_in bytes
-      → ((items : List BatchItem) → batch_of script ≡ Ok items → AllByRecursion (IsOfUser (map named_user policy.users.items)) items → IsOutput policy.schema world (map named_user policy.users.items) items bytes)
+      → ((items : List BatchItem) → batch_of script ≡ Ok items → AllByRecursion (IsOfUser (map named_user policy.users.items)) items
+      → IsOutput policy.schema world (map named_user policy.users.items) items bytes)
       → IsTally seed users asks tally
   tallied policy world given given' facts facts' script bytes tally same says read same_facts states stated said is output =
-      let value : policy_value_of policy ≡ workload_policy seed users = one_policy (policy_value_of policy) (workload_policy seed users) (policy_in given') read (ap policy_in same ∙ says) in
+      let value : policy_value_of policy ≡ workload_policy seed users =
+      one_policy (policy_value_of policy) (workload_policy seed users) (policy_in given') read (ap policy_in same ∙ says) in
       let schema : policy.schema ≡ workload_schema = ap (λ (p : PolicyValue). p.schema) value in
-      let here : world ≡ workload_world seed = one_world world (workload_world seed) (facts_of policy.schema facts') stated ((λ i. facts_of (schema i) (same_facts i)) ∙ states) in
+      let here : world ≡ workload_world seed =
+      one_world world (workload_world seed) (facts_of policy.schema facts') stated ((λ i. facts_of (schema i) (same_facts i)) ∙ states) in
       tally_from policy world script bytes tally value here said is output
 
 -- lines, and their texts
-pub texts_are : (lines : List (String Global)) (texts : List Text) → map string_bytes lines ≡ texts → flat_map string_bytes lines ≡ flat_map (λ line. line) texts
+pub texts_are : (lines : List (String Global)) (texts : List Text) → map string_bytes lines ≡ texts
+    → flat_map string_bytes lines ≡ flat_map (λ line. line) texts
 texts_are lines texts are = sym (flat_map-map (λ line. line) string_bytes lines) ∙ ap (flat_map (λ line. line)) are

@@ -24,7 +24,8 @@ abbrev pub workload_users : ℕ → ℕ → List NamedUser
 workload_users seed users = map without_entries (workload_policy seed users).users
 
 module _ (seed users asks : ℕ) where
-  -- The tally of a run: of the replies in the lines of the transcript of the workload's script, from empty histories. Each user's journal was opened, and no append failed.
+  -- The tally of a run: of the replies in the lines of the transcript of the workload's script,
+  -- from empty histories. Each user's journal was opened, and no append failed.
   pub record IsTally (tally : Tally) : Type 0 where
     pub found : Text → Bool
     pub opened : Text → Bool
@@ -32,10 +33,14 @@ module _ (seed users asks : ℕ) where
     pub of_script : AreEventsOf (workload_script seed users asks) events
     pub all_kept : AllByRecursion IsKeptOrWant events
     pub all_opened : AllByRecursion (λ user. opened user.name ≡ true) (workload_users seed users)
-    pub counts : tally ≡ tally_of (transcript workload_schema (workload_world seed) (workload_users seed users) (with_opening found opened events))
+    pub counts : tally
+        ≡ tally_of (transcript workload_schema (workload_world seed) (workload_users seed users)
+        (with_opening found opened events))
 
   -- what each end says of the output before and after
   abbrev pub IsEnd : SelfrunEnd → List ℕ → List ℕ → Type 0
-  IsEnd Done old new = (tally : Tally) × IsTally tally × (new ≡ old ++ summary seed users asks tally)
-  IsEnd WriteFault old new = (tally : Tally) × IsTally tally × AppendsPart old new (summary seed users asks tally)
+  IsEnd Done old new =
+      (tally : Tally) × IsTally tally × (new ≡ old ++ summary seed users asks tally)
+  IsEnd WriteFault old new =
+      (tally : Tally) × IsTally tally × AppendsPart old new (summary seed users asks tally)
   IsEnd Memory old new = new ≡ old

@@ -32,9 +32,12 @@ summary_line word number = word ++ (codes " " ++ (decimal number ++ codes "\n"))
 -- the eight lines of the summary
 abbrev pub summary_lines : ℕ → ℕ → ℕ → Tally → List Text
 summary_lines seed users asks tally =
-    summary_line (codes "seed") seed ∷ summary_line (codes "users") users ∷ summary_line (codes "asks") asks
-    ∷ summary_line (codes "yes") tally.yes ∷ summary_line (codes "no") tally.no ∷ summary_line (codes "refused") tally.refused
-    ∷ summary_line (codes "undecided") tally.undecided ∷ summary_line (codes "errors") tally.errors ∷ []
+    summary_line (codes "seed") seed ∷ summary_line (codes "users") users
+    ∷ summary_line (codes "asks") asks
+    ∷ summary_line (codes "yes") tally.yes ∷ summary_line (codes "no") tally.no
+    ∷ summary_line (codes "refused") tally.refused
+    ∷ summary_line (codes "undecided") tally.undecided ∷ summary_line (codes "errors") tally.errors
+    ∷ []
 
 -- the summary
 abbrev pub summary : ℕ → ℕ → ℕ → Tally → Text

@@ -7,6 +7,7 @@ pub enum SelfrunEnd {
     Done,
     /// A write failed, and a beginning of the summary was written.
     WriteFault,
-    /// Memory was wanting, for the run or for an object in memory that it runs over. Nothing was written.
+    /// Memory was wanting, for the run or for an object in memory that it runs over. Nothing was
+    /// written.
     Memory,
 }

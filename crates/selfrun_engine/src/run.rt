@@ -35,9 +35,10 @@ use std::sync::Wait;
 use user_desk::DeskError;
 use workload::{Workload, make};
 
-/// Makes the workload of a seed, for 1 to 256 users and 1 to 10,000 asks, runs it over objects in memory, and writes the
-/// summary: eight lines with the seed, how many users and asks there are, how often each mark came, and how often another
-/// reply. Want of memory in one of the objects ends the run as any other want of memory does.
+/// Makes the workload of a seed, for 1 to 256 users and 1 to 10,000 asks, runs it over objects in
+/// memory, and writes the summary: eight lines with the seed, how many users and asks there are,
+/// how often each mark came, and how often another reply. Want of memory in one of the objects ends
+/// the run as any other want of memory does.
 pub fn run_selfrun<R: Wait, K: Sink>(
     rt: &R,
     alloc: Global,
@@ -50,7 +51,8 @@ pub fn run_selfrun<R: Wait, K: Sink>(
     requires few_users { users ≤ 256 }
     requires some_ask { 1 ≤ asks }
     requires few_asks { asks ≤ 10000 }
-    ensures ends { K.tells → IsEnd seed users asks result (K.written sink.old) (K.written sink.new) }
+    ensures ends { K.tells
+        → IsEnd seed users asks result (K.written sink.old) (K.written sink.new) }
     ensures later { K.faults sink.old ≤ K.faults sink.new }
     ensures cause { result ≡ SelfrunEnd.WriteFault → Rose (K.faults sink.old) (K.faults sink.new) }
 {
@@ -98,8 +100,8 @@ fn run<R: Wait>(
 // The directory of the journals on the shelf in memory.
 const JOURNALS: &str = "journals";
 
-// The lines of a script over the users of a policy, whose journals are made on a shelf in memory. Where a call of one of
-// the objects in memory fails, memory was wanting.
+// The lines of a script over the users of a policy, whose journals are made on a shelf in memory.
+// Where a call of one of the objects in memory fails, memory was wanting.
 fn answers<R: Wait>(
     rt: &R,
     alloc: Global,
@@ -108,10 +110,13 @@ fn answers<R: Wait>(
     header: &Header,
     script: Vec<u8>,
 ) -> Result<MemorySink, AllocError>
-    requires limits { All (λ user. KeepsLimits policy.now.schema (profile_of user)) policy.now.users.items }
+    requires limits { All
+        (λ user. KeepsLimits policy.now.schema (profile_of user)) policy.now.users.items }
     requires names { has_duplicate (user_names policy.now.users.items) ≡ false }
-    ensures { IfOk result (λ output. (items : List BatchItem) → batch_of script.items ≡ Ok items → AllByRecursion (IsOfUser (map named_user policy.now.users.items)) items
-        → IsOutput policy.now.schema world.now (map named_user policy.now.users.items) items (sink_written output)) }
+    ensures { IfOk result (λ output. (items : List BatchItem) → batch_of script.items ≡ Ok items
+        → AllByRecursion (IsOfUser (map named_user policy.now.users.items)) items
+        → IsOutput policy.now.schema world.now (map named_user policy.now.users.items) items
+        (sink_written output)) }
 {
     let users = policy.users.as_slice();
     let mut shelf = MemoryShelf::new(alloc);

@@ -13,7 +13,8 @@ pub(crate) fn summary_lines(
     asks: u32,
     tally: &Tally,
 ) -> Result<Vec<String>, AllocError>
-    ensures { IfOk result (λ lines. map string_bytes lines.items ≡ summary_lines seed users asks tally.now) }
+    ensures { IfOk result (λ lines. map string_bytes lines.items
+        ≡ summary_lines seed users asks tally.now) }
 {
     let mut lines = Vec::new(alloc);
     lines.push(line(alloc, "seed", seed)?)?;

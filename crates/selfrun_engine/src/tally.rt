@@ -12,15 +12,16 @@ pub struct Tally {
     pub errors: u64,
 }
 
-/// What was read of lines, byte by byte: the replies of those that ended, and of the last one how many blanks came before
-/// its reply, which begins behind the second one; 3 once it began.
+/// What was read of lines, byte by byte: the replies of those that ended, and of the last one how
+/// many blanks came before its reply, which begins behind the second one; 3 once it began.
 #[derive(Clone, Copy)]
 pub(crate) struct Counter {
     blanks: u8,
     tally: Tally,
 }
 
-/// The replies in these lines, each of which has a name, a session and a reply, and a line feed at its end.
+/// The replies in these lines, each of which has a name, a session and a reply, and a line feed at
+/// its end.
 pub(crate) fn tally_in(lines: &[u8]) -> Tally
     ensures { result ≡ tally_in lines.now }
 {

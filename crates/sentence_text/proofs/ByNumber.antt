@@ -31,6 +31,7 @@ none_at (x ∷ xs) zero le = absurd (omega arith)
 none_at (x ∷ xs) (suc i) le = none_at xs i (omega arith)
 
 -- a relation that isn't there has no columns
-pub no_columns : (relations : List Relation) (schema : DatabaseSchema) (r : ℕ) → map relation_schema_of relations ≡ schema.relations → length relations ≤ r → [] ≡ column_domains schema r
+pub no_columns : (relations : List Relation) (schema : DatabaseSchema) (r : ℕ) → map relation_schema_of relations ≡ schema.relations → length relations ≤ r
+    → [] ≡ column_domains schema r
 no_columns relations schema r is le =
     rw (← is, slice_get-map relation_schema_of relations r, none_at relations r le) refl

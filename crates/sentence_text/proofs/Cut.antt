@@ -1,5 +1,6 @@
 -- Where a text may be cut, and what is left of it.
-use Rattle.std.proofs.Common.{true, false, ◌≡◌, ℕ, zero, suc, ◌+◌, ◌<◌, List, [], ◌∷◌, length, take, drop, refl, arith, ap, sym, subst, ◌∙◌, length-drop, add-one}
+use Rattle.std.proofs.Common.{true, false, ◌≡◌, ℕ, zero, suc, ◌+◌, ◌<◌, List, [], ◌∷◌, length, take, drop, refl, arith, ap, sym, subst, ◌∙◌, length-drop}
+use Rattle.std.proofs.Common.{add-one}
 use Rattle.std.specs.Prelude.{◌==◌}
 use Rattle.std.specs.List.{prefix_len}
 use Rattle.std.proofs.lemmas.List.Sums.{prefix_len-le-length}
@@ -16,7 +17,8 @@ cut_behind_ascii text zero utf8 ascii = IsCharBoundary-start text utf8
 cut_behind_ascii text (suc n) utf8 ascii = rw (← add-one n) (IsCharBoundary-after_ascii text n utf8 (omega (arith, ascii.0)) (ascii.1 n (omega arith)))
 
 -- what is left behind the blanks has the same tokens and the same end
-module _ (text rest : List ℕ) (place blanks at : ℕ) (moved : at ≡ place + blanks) (count : blanks ≡ prefix_len is_blank text) (back : rest ≡ drop blanks text) where
+module _ (text rest : List ℕ) (place blanks at : ℕ) (moved : at ≡ place + blanks) (count : blanks ≡ prefix_len is_blank text)
+    (back : rest ≡ drop blanks text) where
   same_behind : rest ≡ drop (prefix_len is_blank text) text
   same_behind = back ∙ ap (λ n. drop n text) count
 
@@ -33,7 +35,8 @@ module _ (text rest : List ℕ) (place blanks at : ℕ) (moved : at ≡ place + 
   behind_blanks-end = rw (same_behind, moved, count) (sym (blanks-end place text))
 
 -- what is left behind the token at the front, and the blanks after it
-module _ (text after rest : List ℕ) (place n blanks at : ℕ) (some : 0 < n) (moved : at ≡ place + n + blanks) (long : n ≡ token_length text) (cut : after ≡ drop n text) (count : blanks ≡ prefix_len is_blank after) (back : rest ≡ drop blanks after) where
+module _ (text after rest : List ℕ) (place n blanks at : ℕ) (some : 0 < n) (moved : at ≡ place + n + blanks) (long : n ≡ token_length text)
+    (cut : after ≡ drop n text) (count : blanks ≡ prefix_len is_blank after) (back : rest ≡ drop blanks after) where
   some_token : 0 < token_length text
   some_token = subst (λ k. 0 < k) long some
 
@@ -73,7 +76,8 @@ unfolding end_from
 refusal_at_empty place [] h = let same : (place == place + 0) ≡ true = grind (arith, nat_tests) in rw same refl
 refusal_at_empty place (b ∷ text) h = absurd (omega (arith, h))
 
-pub refusal_at_bad : (place : ℕ) (text : List ℕ) → 0 < length text → tokens_from place 0 text ≡ [] → prefix_len is_blank text ≡ 0 → refusal_at_end (end_from place 0 text) (place + length text) ≡ bad_character place
+pub refusal_at_bad : (place : ℕ) (text : List ℕ) → 0 < length text → tokens_from place 0 text ≡ [] → prefix_len is_blank text ≡ 0
+    → refusal_at_end (end_from place 0 text) (place + length text) ≡ bad_character place
 refusal_at_bad place text some none start =
     let differ : (place == place + length text) ≡ false = grind (arith, nat_tests) in
     rw (end_where_none place text none start, differ) refl

@@ -1,5 +1,6 @@
 -- The length of a token is that of the longest one.
-use Rattle.std.proofs.Common.{◌≡◌, ℕ, zero, suc, ◌+◌, ◌<◌, ◌≤◌, inl, inr, Bool, true, false, cond, List, [], ◌∷◌, ◌++◌, length, take, drop, refl, sym, subst, arith, length-take, one-add}
+use Rattle.std.proofs.Common.{◌≡◌, ℕ, zero, suc, ◌+◌, ◌<◌, ◌≤◌, inl, inr, Bool, true, false, cond, List, [], ◌∷◌, ◌++◌, length, take, drop, refl, sym, subst}
+use Rattle.std.proofs.Common.{arith, length-take, one-add}
 use Rattle.std.specs.Prelude.{◌||◌, codes, nat_eq}
 use Rattle.std.specs.List.{prefix_len, list_all, starts_with}
 use Rattle.std.specs.Char.{is_ascii_alphabetic}
@@ -14,7 +15,8 @@ prefix-all : (xs : List ℕ) → list_all is_name_byte (take (prefix_len is_name
 prefix-all [] = refl
 prefix-all (x ∷ xs) = at (is_name_byte x) refl (prefix-all xs)
   where
-    at : (b : Bool) → is_name_byte x ≡ b → list_all is_name_byte (take (prefix_len is_name_byte xs) xs) ≡ true → list_all is_name_byte (take (cond b (1 + prefix_len is_name_byte xs) 0) (x ∷ xs)) ≡ true
+    at : (b : Bool) → is_name_byte x ≡ b → list_all is_name_byte (take (prefix_len is_name_byte xs) xs) ≡ true
+        → list_all is_name_byte (take (cond b (1 + prefix_len is_name_byte xs) 0) (x ∷ xs)) ≡ true
     at true e others = rw (one-add (prefix_len is_name_byte xs), e) others
     at false e others = refl
 
@@ -49,10 +51,14 @@ mark-is text =
     let P : ℕ → Type 0 = λ n. 0 < n → IsOneOf (take n text) marks in
     cond_holds P (begins "<->" text) 3 _ (λ h _. inr (inr (inr (inr (inr (inr (inr (inr (inl (starts-is (codes "<->") text h))))))))))
     (cond_holds P (begins "->" text || begins "!=" text) 2 _
-    (or_holds (begins "->" text) _ (λ h _. inr (inr (inr (inr (inr (inr (inr (inl (starts-is (codes "->") text h))))))))) (λ h _. inr (inr (inr (inr (inr (inr (inl (starts-is (codes "!=") text h)))))))))
+    (or_holds (begins "->" text) _ (λ h _. inr (inr (inr (inr (inr (inr (inr (inl (starts-is (codes "->") text h))))))))) (λ h _.
+    inr (inr (inr (inr (inr (inr (inl (starts-is (codes "!=") text h)))))))))
     (cond_holds P (begins "(" text || begins ")" text || begins "," text || begins ":" text || begins "." text || begins "=" text) 1 0
-    (or_holds _ (begins "=" text) (or_holds _ (begins "." text) (or_holds _ (begins ":" text) (or_holds _ (begins "," text) (or_holds (begins "(" text) (begins ")" text)
-    (λ h _. inl (starts-is (codes "(") text h)) (λ h _. inr (inl (starts-is (codes ")") text h)))) (λ h _. inr (inr (inl (starts-is (codes ",") text h))))) (λ h _. inr (inr (inr (inl (starts-is (codes ":") text h)))))) (λ h _. inr (inr (inr (inr (inl (starts-is (codes ".") text h))))))) (λ h _. inr (inr (inr (inr (inr (inl (starts-is (codes "=") text h))))))))
+    (or_holds _ (begins "=" text)
+    (or_holds _ (begins "." text) (or_holds _ (begins ":" text) (or_holds _ (begins "," text) (or_holds (begins "(" text) (begins ")" text)
+    (λ h _. inl (starts-is (codes "(") text h)) (λ h _. inr (inl (starts-is (codes ")") text h)))) (λ h _. inr (inr (inl (starts-is (codes ",") text h)))))
+    (λ h _. inr (inr (inr (inl (starts-is (codes ":") text h)))))) (λ h _. inr (inr (inr (inr (inl (starts-is (codes ".") text h))))))) (λ h _.
+    inr (inr (inr (inr (inr (inl (starts-is (codes "=") text h))))))))
     (λ none. absurd (omega arith))))
 
 token-is : (text : List ℕ) → 0 < token_length text → IsTokenText (take (token_length text) text)
@@ -60,7 +66,8 @@ unfolding token_length
 token-is [] some = absurd (omega arith)
 token-is (b ∷ text) some = at (is_ascii_alphabetic b) refl some
   where
-    at : (t : Bool) → is_ascii_alphabetic b ≡ t → 0 < cond t (1 + prefix_len is_name_byte text) (mark_length (b ∷ text)) → IsTokenText (take (cond t (1 + prefix_len is_name_byte text) (mark_length (b ∷ text))) (b ∷ text))
+    at : (t : Bool) → is_ascii_alphabetic b ≡ t → 0 < cond t (1 + prefix_len is_name_byte text) (mark_length (b ∷ text))
+        → IsTokenText (take (cond t (1 + prefix_len is_name_byte text) (mark_length (b ∷ text))) (b ∷ text))
     at true e some = rw one-add (inl (rw e (prefix-all text)))
     at false e some = inr (mark-is (b ∷ text) some)
 

@@ -33,13 +33,20 @@ module _ (s : Symbol) (join : Formula → Formula → Formula) (operand : Reader
           at [] h = cc
           at (t ∷ ts) h = omega arith
 
-      pub chain-more : (b : Formula) (after : List Token) → operand (drop 1 ts) ≡ Ok (b, after) → length after < length ts → ChainGoesOn a ts total → ChainGoesOn (join a b) after total
+      pub chain-more : (b : Formula) (after : List Token) → operand (drop 1 ts) ≡ Ok (b, after) → length after < length ts → ChainGoesOn a ts total
+          → ChainGoesOn (join a b) after total
       unfolding chain
       chain-more b after read shorter c = at c.bound c.enough c.rest
         where
           at : (n : ℕ) → length ts ≤ n → chain s join operand n a ts ≡ total → ChainGoesOn (join a b) after total
           at zero enough e = absurd (omega (arith, some))
-          at (suc n) enough e = record { bound = n; enough = omega arith; rest = (let one : chain s join operand (suc n) a ts ≡ chain s join operand n (join a b) after = rw (next, read, chain) refl in sym one ∙ e) }
+          at (suc n) enough e =
+              record {
+                bound = n;
+                enough = omega arith;
+                rest =
+                    (let one : chain s join operand (suc n) a ts ≡ chain s join operand n (join a b) after = rw (next, read, chain) refl in sym one ∙ e);
+              }
 
       pub chain-stops : (e : Refusal) → operand (drop 1 ts) ≡ Err e → ChainGoesOn a ts total → total ≡ Err e
       unfolding chain
@@ -50,10 +57,12 @@ module _ (s : Symbol) (join : Formula → Formula → Formula) (operand : Reader
           at (suc n) enough h = let one : chain s join operand (suc n) a ts ≡ Err e = rw (next, refused, chain) refl in sym h ∙ one
 
 -- the first operand
-pub both-begins : (unary : Reader Formula) (ts after : List Token) (a : Formula) → unary ts ≡ Ok (a, after) → ChainGoesOn And conjunction unary a after (both unary ts)
+pub both-begins : (unary : Reader Formula) (ts after : List Token) (a : Formula) → unary ts ≡ Ok (a, after)
+    → ChainGoesOn And conjunction unary a after (both unary ts)
 unfolding both
 both-begins unary ts after a read = record { bound = length after; enough = omega arith; rest = rw read refl }
 
-pub either-begins : (unary : Reader Formula) (ts after : List Token) (a : Formula) → both unary ts ≡ Ok (a, after) → ChainGoesOn Or disjunction (both unary) a after (either unary ts)
+pub either-begins : (unary : Reader Formula) (ts after : List Token) (a : Formula) → both unary ts ≡ Ok (a, after)
+    → ChainGoesOn Or disjunction (both unary) a after (either unary ts)
 unfolding either
 either-begins unary ts after a read = record { bound = length after; enough = omega arith; rest = rw read refl }

@@ -1,5 +1,6 @@
 -- In a valid schema each name stands for what has it.
-use Rattle.std.proofs.Common.{◌≡◌, ℕ, zero, suc, ◌+◌, ◌<◌, ◌⊎◌, inl, inr, Bool, true, false, List, [], ◌∷◌, ◌++◌, map, length, Option, Some, None, refl, sym, ap, subst, ◌∙◌, arith, one-add, add-zero, zero-add}
+use Rattle.std.proofs.Common.{◌≡◌, ℕ, zero, suc, ◌+◌, ◌<◌, ◌⊎◌, inl, inr, Bool, true, false, List, [], ◌∷◌, ◌++◌, map, length, Option, Some, None, refl, sym}
+use Rattle.std.proofs.Common.{ap, subst, ◌∙◌, arith, one-add, add-zero, zero-add}
 use Rattle.std.specs.Prelude.{◌||◌, not, nat_eq, nat_lt, bytes_eq, codes, position, slice_get, option_map, option_and_then, unwrap_or, IsSome}
 use Rattle.std.specs.List.{position_or_len, flat_map, list_all, list_any}
 use Rattle.std.specs.Option.{option_or}
@@ -10,7 +11,8 @@ use Rattle.std.proofs.lemmas.Bool.Decides.{nat_tests}
 use Rattle.std.proofs.lemmas.Fmt.{decimal_digit}
 use Rattle.cqe_base.specs.declared.sentence.Constant.{Constant}
 use Rattle.cqe_base.specs.declared.text.Symbol.TheVariants.{Name}
-use Rattle.cqe_base.specs.Schema.{DatabaseSchema, NamedDomain, RelationSchema, Text, is_identifier, is_schema_name, is_valid_schema, schema_names, contains_text, has_duplicate, keywords, printed_variables, domain_named, relation_named, constant_named, constant_in}
+use Rattle.cqe_base.specs.Schema.{DatabaseSchema, NamedDomain, RelationSchema, Text, is_identifier, is_schema_name, is_valid_schema, schema_names}
+use Rattle.cqe_base.specs.Schema.{contains_text, has_duplicate, keywords, printed_variables, domain_named, relation_named, constant_named, constant_in}
 use Rattle.cqe_base.specs.Tokens.{IsOneOf, symbol_of}
 use Rattle.cqe_base.specs.Canonical.{variable_name, domain_name, relation_name, constant_name}
 use Rattle.cqe_base.proofs.Lists.{some_at, text_is}
@@ -55,7 +57,8 @@ found-at p xs i e lt = let t : nat_lt i (length xs) ≡ true = grind (arith, nat
 found-nowhere : {X : Type 0} (p : X → Bool) (xs : List X) → position_or_len p xs ≡ length xs → position p xs ≡ None
 found-nowhere p xs e = let t : nat_lt (length xs) (length xs) ≡ false = grind (arith, nat_tests) in rw (e, t) refl
 
-first-at : {X : Type 0} (f : X → Text) (xs : List X) (i : ℕ) (x : X) → AreDistinct (map f xs) → slice_get xs i ≡ Some x → (position_or_len (λ y. bytes_eq (f y) (f x)) xs ≡ i) × (i < length xs)
+first-at : {X : Type 0} (f : X → Text) (xs : List X) (i : ℕ) (x : X) → AreDistinct (map f xs) → slice_get xs i ≡ Some x
+    → (position_or_len (λ y. bytes_eq (f y) (f x)) xs ≡ i) × (i < length xs)
 first-at f [] i x distinct e = absurd (cc)
 first-at f (y ∷ ys) zero x distinct e =
     let same : x ≡ y = cc in
@@ -100,40 +103,53 @@ one_of-at-itself [] i x e = absurd (cc)
 one_of-at-itself (y ∷ ys) zero x e = inl (cc)
 one_of-at-itself (y ∷ ys) (suc i) x e = inr (one_of-at-itself ys i x e)
 
-one_of-constants : (ds : List NamedDomain) (k i : ℕ) (d : NamedDomain) (c : Text) → slice_get ds k ≡ Some d → slice_get d.constants i ≡ Some c → IsOneOf c (flat_map (λ d. d.constants) ds)
+one_of-constants : (ds : List NamedDomain) (k i : ℕ) (d : NamedDomain) (c : Text) → slice_get ds k ≡ Some d → slice_get d.constants i ≡ Some c
+    → IsOneOf c (flat_map (λ d. d.constants) ds)
 one_of-constants [] k i d c e f = absurd (cc)
-one_of-constants (y ∷ ds) zero i d c e f = let same : d ≡ y = cc in one_of-left c y.constants (flat_map (λ d. d.constants) ds) (subst (λ (z : NamedDomain). IsOneOf c z.constants) same (one_of-at-itself d.constants i c f))
+one_of-constants (y ∷ ds) zero i d c e f = let same : d ≡ y = cc in
+    one_of-left c y.constants (flat_map (λ d. d.constants) ds) (subst (λ (z : NamedDomain). IsOneOf c z.constants) same (one_of-at-itself d.constants i c f))
 one_of-constants (y ∷ ds) (suc k) i d c e f = one_of-right c y.constants (flat_map (λ d. d.constants) ds) (one_of-constants ds k i d c e f)
 
 map-itself : (xs : List (Text)) → map (λ x. x) xs ≡ xs
 map-itself [] = refl
 map-itself (x ∷ xs) = ap (λ (ys : List (Text)). x ∷ ys) (map-itself xs)
 
-constant-found : (ds : List NamedDomain) (number k i : ℕ) (d : NamedDomain) (c : Text) → AreDistinct (flat_map (λ d. d.constants) ds) → slice_get ds k ≡ Some d → slice_get d.constants i ≡ Some c
+constant-found : (ds : List NamedDomain) (number k i : ℕ) (d : NamedDomain) (c : Text) → AreDistinct (flat_map (λ d. d.constants) ds) → slice_get ds k ≡ Some d
+    → slice_get d.constants i ≡ Some c
     → constant_in number ds c ≡ Some (record { domain = number + k; index = i })
 constant-found [] number k i d c distinct e f = absurd (cc)
 constant-found (y ∷ ds) number zero i d c distinct e f =
     let same : d ≡ y = cc in
     let f' : slice_get y.constants i ≡ Some c = subst (λ (z : NamedDomain). slice_get z.constants i ≡ Some c) same f in
-    let distinct' : AreDistinct (map (λ x. x) y.constants) = subst AreDistinct (sym (map-itself y.constants)) (distinct-left y.constants (flat_map (λ d. d.constants) ds) distinct) in
+    let distinct' : AreDistinct (map (λ x. x) y.constants) =
+    subst AreDistinct (sym (map-itself y.constants)) (distinct-left y.constants (flat_map (λ d. d.constants) ds) distinct) in
     let first = first-at (λ x. x) y.constants i c distinct' f' in
     let here = found-at (λ n. bytes_eq n c) y.constants i first.0 first.1 in
-    ap (λ (o : Option ℕ). option_or (option_map (λ (i : ℕ). record { domain = number; index = i }) o) (constant_in (number + 1) ds c)) here ∙ ap (λ (n : ℕ). Some (record { domain = n; index = i })) (sym (add-zero number))
+    ap (λ (o : Option ℕ). option_or (option_map (λ (i : ℕ). record {
+      domain =
+          number;
+      index = i;
+    }) o) (constant_in (number + 1) ds c)) here ∙ ap (λ (n : ℕ). Some (record { domain = n; index = i })) (sym (add-zero number))
 constant-found (y ∷ ds) number (suc k) i d c distinct e f =
     let there = one_of-constants ds k i d c e f in
-    let none = found-nowhere (λ n. bytes_eq n c) y.constants (absent y.constants c (distinct-apart c y.constants (flat_map (λ d. d.constants) ds) distinct there)) in
+    let none =
+    found-nowhere (λ n. bytes_eq n c) y.constants (absent y.constants c (distinct-apart c y.constants (flat_map (λ d. d.constants) ds) distinct there)) in
     let n : number + 1 + k ≡ number + suc k = omega arith in
     ap (λ (o : Option ℕ). option_or (option_map (λ (i : ℕ). record { domain = number; index = i }) o) (constant_in (number + 1) ds c)) none
-    ∙ (constant-found ds (number + 1) k i d c (distinct-right y.constants (flat_map (λ d. d.constants) ds) distinct) e f ∙ ap (λ (n : ℕ). Some (record { domain = n; index = i })) n)
+    ∙ (constant-found ds (number + 1) k i d c (distinct-right y.constants (flat_map (λ d. d.constants) ds) distinct) e f
+    ∙ ap (λ (n : ℕ). Some (record { domain = n; index = i })) n)
 
-constant-at : (schema : DatabaseSchema) (c : Constant) → IsConstantOf schema c → (d : NamedDomain) × (name : Text) × (slice_get schema.domains c.domain ≡ Some d) × (slice_get d.constants c.index ≡ Some name)
+constant-at : (schema : DatabaseSchema) (c : Constant) → IsConstantOf schema c → (d : NamedDomain) × (name : Text)
+    × (slice_get schema.domains c.domain ≡ Some d) × (slice_get d.constants c.index ≡ Some name)
 constant-at schema c h = at (slice_get schema.domains c.domain) refl h
   where
-    inner : (d : NamedDomain) (o : Option (Text)) → slice_get schema.domains c.domain ≡ Some d → slice_get d.constants c.index ≡ o → IsSome o → (d : NamedDomain) × (name : Text) × (slice_get schema.domains c.domain ≡ Some d) × (slice_get d.constants c.index ≡ Some name)
+    inner : (d : NamedDomain) (o : Option (Text)) → slice_get schema.domains c.domain ≡ Some d → slice_get d.constants c.index ≡ o → IsSome o
+        → (d : NamedDomain) × (name : Text) × (slice_get schema.domains c.domain ≡ Some d) × (slice_get d.constants c.index ≡ Some name)
     inner d (Some name) e f k = (d, name, e, f)
     inner d None e f k = absurd (cc)
 
-    at : (o : Option NamedDomain) → slice_get schema.domains c.domain ≡ o → IsSome (option_and_then (λ d. slice_get d.constants c.index) o) → (d : NamedDomain) × (name : Text) × (slice_get schema.domains c.domain ≡ Some d) × (slice_get d.constants c.index ≡ Some name)
+    at : (o : Option NamedDomain) → slice_get schema.domains c.domain ≡ o → IsSome (option_and_then (λ d. slice_get d.constants c.index) o) → (d : NamedDomain)
+        × (name : Text) × (slice_get schema.domains c.domain ≡ Some d) × (slice_get d.constants c.index ≡ Some name)
     at (Some d) e k = inner d (slice_get d.constants c.index) e refl k
     at None e k = absurd (cc)
 
@@ -142,7 +158,8 @@ record HasDistinctNames (schema : DatabaseSchema) : Type 0 where
   domains : AreDistinct (map (λ d. d.name) schema.domains)
   relations : AreDistinct (map (λ r. r.name) schema.relations)
   constants : AreDistinct (flat_map (λ d. d.constants) schema.domains)
-  each : (name : Text) → IsOneOf name (map (λ d. d.name) schema.domains) ⊎ IsOneOf name (map (λ r. r.name) schema.relations) ⊎ IsOneOf name (flat_map (λ d. d.constants) schema.domains) → IsSchemaName name
+  each : (name : Text) → IsOneOf name (map (λ d. d.name) schema.domains) ⊎ IsOneOf name (map (λ r. r.name) schema.relations)
+      ⊎ IsOneOf name (flat_map (λ d. d.constants) schema.domains) → IsSchemaName name
 
 -- different names are found
 names-are_found : (schema : DatabaseSchema) → HasDistinctNames schema → HasProperNames schema
@@ -163,9 +180,12 @@ names-are_found schema names = record {
       );
   constants = λ c h.
       let s = constant-at schema c h in
-      let is : constant_name schema c ≡ s.1 = ap (λ (o : Option NamedDomain). unwrap_or (option_and_then (λ d. slice_get d.constants c.index) o) []) s.2 ∙ ap (λ (o : Option Text). unwrap_or o []) s.3 in (
+      let is : constant_name schema c ≡ s.1 =
+      ap (λ (o : Option NamedDomain). unwrap_or (option_and_then (λ d. slice_get d.constants c.index) o) []) s.2
+      ∙ ap (λ (o : Option Text). unwrap_or o []) s.3 in (
         subst IsSchemaName (sym is) (names.each s.1 (inr (inr (one_of-constants schema.domains c.domain c.index s.0 s.1 s.2 s.3)))),
-        subst (λ w. constant_named schema w ≡ Some c) (sym is) (constant-found schema.domains 0 c.domain c.index s.0 s.1 names.constants s.2 s.3 ∙ ap (λ (n : ℕ). Some (record { domain = n; index = c.index })) (zero-add c.domain)),
+        subst (λ w. constant_named schema w ≡ Some c) (sym is) (constant-found schema.domains 0 c.domain c.index s.0 s.1 names.constants s.2 s.3
+            ∙ ap (λ (n : ℕ). Some (record { domain = n; index = c.index })) (zero-add c.domain)),
       );
 }
 
@@ -197,7 +217,8 @@ no-letter : (b c : ℕ) → is_ascii_alphabetic b ≡ true → is_ascii_alphabet
 no-letter b c letter other = at (nat_eq b c) refl
   where
     at : (t : Bool) → nat_eq b c ≡ t → t ≡ false
-    at true e = let same : b ≡ c = grind (arith, nat_tests) in let l : is_ascii_alphabetic c ≡ true = subst (λ b. is_ascii_alphabetic b ≡ true) same letter in absurd (cc)
+    at true e = let same : b ≡ c = grind (arith, nat_tests) in let l : is_ascii_alphabetic c ≡ true = subst (λ b. is_ascii_alphabetic b ≡ true) same letter in
+        absurd (cc)
     at false e = refl
 
 name-symbol : (text : Text) → is_identifier text ≡ true → contains_text keywords text ≡ false → symbol_of text ≡ Name
@@ -256,7 +277,10 @@ printed-variable (suc (suc (suc (suc (suc (suc (suc zero))))))) lt = inr (inr (i
 printed-variable (suc (suc (suc (suc (suc (suc (suc (suc i)))))))) lt = absurd (omega arith)
 
 no-variable : (name : Text) → contains_text printed_variables name ≡ false → (i : ℕ) → i < 8 → bytes_eq (variable_name i) name ≡ false
-no-variable name none i lt = other-name (variable_name i) name (λ same. not-among name printed_variables none (subst (λ n. IsOneOf n printed_variables) (sym (variable_name-digit i (omega arith)) ∙ same) (printed-variable i lt)))
+no-variable name none i lt =
+    other-name (variable_name i) name (λ same.
+    not-among name printed_variables none
+    (subst (λ n. IsOneOf n printed_variables) (sym (variable_name-digit i (omega arith)) ∙ same) (printed-variable i lt)))
 
 schema-name : (name : Text) → is_schema_name name ≡ true → IsSchemaName name
 schema-name name h =

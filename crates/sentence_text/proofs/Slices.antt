@@ -1,5 +1,6 @@
 -- The tokens of a text are slices of it, and the bytes of a text that tokens and blanks make up are ASCII.
-use Rattle.std.proofs.Common.{◌≡◌, ℕ, zero, suc, ◌+◌, ◌<◌, ◌≤◌, Bool, true, false, [], ◌∷◌, length, get_or, take, drop, drop-cons, refl, sym, ap, subst, ◌∙◌, arith, length-take, length-drop, add-one}
+use Rattle.std.proofs.Common.{◌≡◌, ℕ, zero, suc, ◌+◌, ◌<◌, ◌≤◌, Bool, true, false, [], ◌∷◌, length, get_or, take, drop, drop-cons, refl, sym, ap, subst, ◌∙◌}
+use Rattle.std.proofs.Common.{arith, length-take, length-drop, add-one}
 use Rattle.std.specs.Prelude.{nat_lt}
 use Rattle.std.specs.List.{prefix_len}
 use Rattle.std.specs.Str.{IsAscii}
@@ -16,7 +17,8 @@ use Rattle.sentence_text.proofs.TokenLaws.{blank-ascii, blank-tokens, blank-end,
 use Rattle.sentence_text.proofs.LongestToken.{token_length-longest}
 
 -- what stands at a place, and behind it
-at_place : (source : Text) (place b : ℕ) (rest : Text) → b ∷ rest ≡ drop place source → (place < length source) × (get_or source place 0 ≡ b) × (rest ≡ drop (place + 1) source)
+at_place : (source : Text) (place b : ℕ) (rest : Text) → b ∷ rest ≡ drop place source → (place < length source) × (get_or source place 0 ≡ b)
+    × (rest ≡ drop (place + 1) source)
 at_place source place b rest is =
     let lt : place < length source = omega (arith, ap length is, length-drop place source) in
     let split : b ∷ rest ≡ get_or source place 0 ∷ drop (place + 1) source = rw add-one (is ∙ drop-cons source place 0 lt) in
@@ -33,7 +35,8 @@ module _ (source : Text) where
     where
       at : (t : Bool) → nat_lt k place ≡ t → is_blank (get_or source k 0) ≡ true
       at true e = let before : k < place = grind (arith, nat_tests) in blanks k le before
-      at false e = let here : k ≡ place = grind (arith, nat_tests) in subst (λ n. is_blank (get_or source n 0) ≡ true) (sym here) (subst (λ c. is_blank c ≡ true) (sym is) blank)
+      at false e = let here : k ≡ place = grind (arith, nat_tests) in
+          subst (λ n. is_blank (get_or source n 0) ≡ true) (sym here) (subst (λ c. is_blank c ≡ true) (sym is) blank)
 
   no_blanks : (place : ℕ) → AreBlanks source place place
   no_blanks place k le lt = absurd (omega arith)
@@ -52,38 +55,52 @@ module _ (source : Text) where
         blanks = blanks;
         some = omega (arith, size, some);
         slice = subst (λ k. take n text ≡ take k (drop place source)) (sym size) (ap (take n) is);
-        longest = subst (λ k. IsLongestToken (drop place source) k) (sym size) (subst (λ t. IsLongestToken t n) is (subst (IsLongestToken text) (sym long) (token_length-longest text)));
+        longest = subst (λ k. IsLongestToken (drop place source) k) (sym size)
+            (subst (λ t. IsLongestToken t n) is (subst (IsLongestToken text) (sym long) (token_length-longest text)));
       } in
-      let behind : HasTokens source (place + length (take n text)) (tokens_from (place + n) 0 (drop n text)) (end_from (place + n) 0 (drop n text)) = subst (λ k. HasTokens source (place + k) (tokens_from (place + n) 0 (drop n text)) (end_from (place + n) 0 (drop n text))) (sym size) later in
+      let behind : HasTokens source (place + length (take n text)) (tokens_from (place + n) 0 (drop n text)) (end_from (place + n) 0 (drop n text)) =
+      subst (λ k. HasTokens source (place + k) (tokens_from (place + n) 0 (drop n text)) (end_from (place + n) 0 (drop n text))) (sym size) later in
       rw (tokens-next place text has, end-next place text has, ← long) (token, behind)
 
   -- no token is at the front
-  none_here : (from place b : ℕ) (rest : Text) → b ∷ rest ≡ drop place source → token_length (b ∷ rest) ≡ 0 → is_blank b ≡ false → from ≤ place → AreBlanks source from place → FromHere from place (b ∷ rest)
+  none_here : (from place b : ℕ) (rest : Text) → b ∷ rest ≡ drop place source → token_length (b ∷ rest) ≡ 0 → is_blank b ≡ false → from ≤ place
+      → AreBlanks source from place → FromHere from place (b ∷ rest)
   none_here from place b rest is none blank le blanks =
       let here = at_place source place b rest is in
       let byte : is_blank (get_or source place 0) ≡ false = subst (λ c. is_blank c ≡ false) (sym here.1) blank in
-      let longest : IsLongestToken (drop place source) 0 = subst (λ t. IsLongestToken t 0) is (subst (IsLongestToken (b ∷ rest)) none (token_length-longest (b ∷ rest))) in
-      rw (no_tokens place (b ∷ rest) none (no_blank b rest blank), end-here place (b ∷ rest) none (no_blank b rest blank)) (le, blanks, at_byte here.0 byte longest)
+      let longest : IsLongestToken (drop place source) 0 =
+      subst (λ t. IsLongestToken t 0) is (subst (IsLongestToken (b ∷ rest)) none (token_length-longest (b ∷ rest))) in
+      rw (
+        no_tokens place (b ∷ rest) none (no_blank b rest blank),
+        end-here place (b ∷ rest) none (no_blank b rest blank),
+      ) (le, blanks, at_byte here.0 byte longest)
 
-  from_here : (fuel place from : ℕ) (text : Text) → length text ≤ fuel → text ≡ drop place source → place ≤ length source → from ≤ place → AreBlanks source from place → FromHere from place text
+  from_here : (fuel place from : ℕ) (text : Text) → length text ≤ fuel → text ≡ drop place source → place ≤ length source → from ≤ place
+      → AreBlanks source from place → FromHere from place text
   unfolding tokens_from end_from
   from_here fuel place from [] fits is within le blanks = (le, blanks, at_end (omega (arith, ap length is, length-drop place source)))
   from_here zero place from (b ∷ rest) fits is within le blanks = absurd (omega arith)
   from_here (suc fuel) place from (b ∷ rest) fits is within le blanks = at (is_blank b) refl (from_here fuel)
     where
-      longer : (n : ℕ) → token_length (b ∷ rest) ≡ n → is_blank b ≡ false → ((place from : ℕ) (text : Text) → length text ≤ fuel → text ≡ drop place source → place ≤ length source → from ≤ place → AreBlanks source from place → FromHere from place text) → FromHere from place (b ∷ rest)
+      longer : (n : ℕ) → token_length (b ∷ rest) ≡ n → is_blank b ≡ false
+          → ((place from : ℕ) (text : Text) → length text ≤ fuel → text ≡ drop place source → place ≤ length source → from ≤ place → AreBlanks source from place
+          → FromHere from place text) → FromHere from place (b ∷ rest)
       longer zero none blank later = none_here from place b rest is none blank le blanks
       longer (suc m) long blank later =
           let within_text = (token_length-ascii (b ∷ rest)).0 in
           let shorter : length (drop (suc m) (b ∷ rest)) ≤ fuel = omega (arith, length-drop (suc m) (b ∷ rest), fits) in
           let behind : drop (suc m) (b ∷ rest) ≡ drop (place + suc m) source = ap (drop (suc m)) is ∙ drop-drop (suc m) place source in
           token_here from place (suc m) (b ∷ rest) (sym long) (omega arith) is le blanks
-          (later (place + suc m) (place + suc m) (drop (suc m) (b ∷ rest)) shorter behind (omega (arith, within_text, long, ap length is, length-drop place source)) (omega arith) (no_blanks (place + suc m)))
+          (later (place + suc m) (place + suc m) (drop (suc m) (b ∷ rest)) shorter behind
+          (omega (arith, within_text, long, ap length is, length-drop place source)) (omega arith) (no_blanks (place + suc m)))
 
-      at : (t : Bool) → is_blank b ≡ t → ((place from : ℕ) (text : Text) → length text ≤ fuel → text ≡ drop place source → place ≤ length source → from ≤ place → AreBlanks source from place → FromHere from place text) → FromHere from place (b ∷ rest)
+      at : (t : Bool) → is_blank b ≡ t
+          → ((place from : ℕ) (text : Text) → length text ≤ fuel → text ≡ drop place source → place ≤ length source → from ≤ place → AreBlanks source from place
+          → FromHere from place text) → FromHere from place (b ∷ rest)
       at true blank later =
           let here = at_place source place b rest is in
-          rw (blank-tokens place b rest blank, blank-end place b rest blank) (later (place + 1) from rest (omega arith) here.2 (omega (arith, here.0)) (omega arith) (more_blanks from place b blanks here.1 blank))
+          rw (blank-tokens place b rest blank, blank-end place b rest blank)
+          (later (place + 1) from rest (omega arith) here.2 (omega (arith, here.0)) (omega arith) (more_blanks from place b blanks here.1 blank))
       at false blank later = longer (token_length (b ∷ rest)) refl blank later
 
 -- the tokens of a text are slices of it, one behind the other, up to its end or the first byte that begins none
@@ -106,18 +123,22 @@ whole-ascii fuel place [] fits whole = λ i. omega arith
 whole-ascii zero place (b ∷ rest) fits whole = absurd (omega arith)
 whole-ascii (suc fuel) place (b ∷ rest) fits whole = at (is_blank b) refl (whole-ascii fuel)
   where
-    longer : (n : ℕ) → token_length (b ∷ rest) ≡ n → is_blank b ≡ false → ((place : ℕ) (text : Text) → length text ≤ fuel → end_from place 0 text ≡ place + length text → IsAscii text) → IsAscii (b ∷ rest)
+    longer : (n : ℕ) → token_length (b ∷ rest) ≡ n → is_blank b ≡ false
+        → ((place : ℕ) (text : Text) → length text ≤ fuel → end_from place 0 text ≡ place + length text → IsAscii text) → IsAscii (b ∷ rest)
     longer zero none blank later = absurd (omega (arith, end-here place (b ∷ rest) none (no_blank b rest blank), whole))
     longer (suc m) long blank later =
         let within_text = (token_length-ascii (b ∷ rest)).0 in
         let has : 0 < token_length (b ∷ rest) = omega (arith, long) in
         let size : length (drop (suc m) (b ∷ rest)) + suc m ≡ length (b ∷ rest) = omega (arith, length-drop (suc m) (b ∷ rest), within_text, long) in
-        let next : end_from (place + suc m) 0 (drop (suc m) (b ∷ rest)) ≡ end_from place 0 (b ∷ rest) = subst (λ k. end_from (place + k) 0 (drop k (b ∷ rest)) ≡ end_from place 0 (b ∷ rest)) long (sym (end-next place (b ∷ rest) has)) in
+        let next : end_from (place + suc m) 0 (drop (suc m) (b ∷ rest)) ≡ end_from place 0 (b ∷ rest) =
+        subst (λ k. end_from (place + k) 0 (drop k (b ∷ rest)) ≡ end_from place 0 (b ∷ rest)) long (sym (end-next place (b ∷ rest) has)) in
         let ascii : IsAsciiUpTo (suc m) (b ∷ rest) = subst (λ k. IsAsciiUpTo k (b ∷ rest)) long (token_length-ascii (b ∷ rest)) in
         let behind = later (place + suc m) (drop (suc m) (b ∷ rest)) (omega (arith, size, fits)) (omega (arith, next, whole, size)) in
-        subst IsAscii (take-append-drop (suc m) (b ∷ rest)) (IsAscii-append (take (suc m) (b ∷ rest)) (drop (suc m) (b ∷ rest)) (front-ascii (suc m) (b ∷ rest) ascii) behind)
+        subst IsAscii (take-append-drop (suc m) (b ∷ rest))
+        (IsAscii-append (take (suc m) (b ∷ rest)) (drop (suc m) (b ∷ rest)) (front-ascii (suc m) (b ∷ rest) ascii) behind)
 
-    at : (t : Bool) → is_blank b ≡ t → ((place : ℕ) (text : Text) → length text ≤ fuel → end_from place 0 text ≡ place + length text → IsAscii text) → IsAscii (b ∷ rest)
+    at : (t : Bool) → is_blank b ≡ t → ((place : ℕ) (text : Text) → length text ≤ fuel → end_from place 0 text ≡ place + length text → IsAscii text)
+        → IsAscii (b ∷ rest)
     at true blank later = one-ascii b rest (blank-ascii b blank) (later (place + 1) rest (omega arith) (omega (arith, blank-end place b rest blank, whole)))
     at false blank later = longer (token_length (b ∷ rest)) refl blank later
 

@@ -1,5 +1,6 @@
 -- Tokens one after the other.
-use Rattle.std.proofs.Common.{◌≡◌, ℕ, zero, suc, ◌+◌, ◌-◌, ◌<◌, ◌≤◌, Bool, true, false, cond, List, [], ◌∷◌, length, get_or, take, drop, refl, sym, ap, subst, ◌∙◌, arith, add-zero, one-add, sub-one, rules, tests, length-take, get_or-take}
+use Rattle.std.proofs.Common.{◌≡◌, ℕ, zero, suc, ◌+◌, ◌-◌, ◌<◌, ◌≤◌, Bool, true, false, cond, List, [], ◌∷◌, length, get_or, take, drop, refl, sym, ap, subst}
+use Rattle.std.proofs.Common.{◌∙◌, arith, add-zero, one-add, sub-one, rules, tests, length-take, get_or-take}
 use Rattle.std.specs.Prelude.{◌==◌, ◌||◌, ◌&&◌, not, codes, nat_eq}
 use Rattle.std.specs.List.{prefix_len, starts_with}
 use Rattle.std.specs.Char.{is_ascii_alphabetic}
@@ -45,10 +46,13 @@ mark_length-ascii text =
     let P : ℕ → Type 0 = λ n. IsAsciiUpTo n text in
     cond_holds P (begins "<->" text) 3 _ (starts_with-ascii (codes "<->") text (omega arith, (omega arith, (omega arith, tt))))
     (cond_holds P (begins "->" text || begins "!=" text) 2 _
-    (or_holds (begins "->" text) _ (starts_with-ascii (codes "->") text (omega arith, (omega arith, tt))) (starts_with-ascii (codes "!=") text (omega arith, (omega arith, tt))))
+    (or_holds (begins "->" text) _ (starts_with-ascii (codes "->") text (omega arith, (omega arith, tt)))
+    (starts_with-ascii (codes "!=") text (omega arith, (omega arith, tt))))
     (cond_holds P (begins "(" text || begins ")" text || begins "," text || begins ":" text || begins "." text || begins "=" text) 1 0
-    (or_holds _ (begins "=" text) (or_holds _ (begins "." text) (or_holds _ (begins ":" text) (or_holds _ (begins "," text) (or_holds (begins "(" text) (begins ")" text)
-    (one-ascii 40 text (omega arith)) (one-ascii 41 text (omega arith))) (one-ascii 44 text (omega arith))) (one-ascii 58 text (omega arith))) (one-ascii 46 text (omega arith))) (one-ascii 61 text (omega arith)))
+    (or_holds _ (begins "=" text)
+    (or_holds _ (begins "." text) (or_holds _ (begins ":" text) (or_holds _ (begins "," text) (or_holds (begins "(" text) (begins ")" text)
+    (one-ascii 40 text (omega arith)) (one-ascii 41 text (omega arith))) (one-ascii 44 text (omega arith))) (one-ascii 58 text (omega arith)))
+    (one-ascii 46 text (omega arith))) (one-ascii 61 text (omega arith)))
     (omega arith, λ k lt. absurd (omega arith))))
 
 pub blank-ascii : (b : ℕ) → is_blank b ≡ true → b < 128
@@ -76,7 +80,9 @@ cons-ascii b n text lt ascii = (omega (arith, ascii.0), λ k below. cons-at k be
 pub token_length-ascii : (text : List ℕ) → IsAsciiUpTo (token_length text) text
 unfolding token_length
 token_length-ascii [] = (omega arith, λ k lt. absurd (omega arith))
-token_length-ascii (b ∷ text) = cond_holds (λ n. IsAsciiUpTo n (b ∷ text)) (is_ascii_alphabetic b) _ _ (λ h. cons-ascii b _ text (letter-ascii b h) (prefix-ascii is_name_byte name_byte-ascii text)) (mark_length-ascii (b ∷ text))
+token_length-ascii (b ∷ text) =
+    cond_holds (λ n. IsAsciiUpTo n (b ∷ text)) (is_ascii_alphabetic b) _ _ (λ h.
+    cons-ascii b _ text (letter-ascii b h) (prefix-ascii is_name_byte name_byte-ascii text)) (mark_length-ascii (b ∷ text))
 
 -- the bytes of a token are passed
 tokens_from-inside : (place n : ℕ) (text : List ℕ) → tokens_from place n text ≡ tokens_from (place + n) 0 (drop n text)
@@ -129,7 +135,8 @@ blanks-pass F one place (b ∷ text) = at_first (is_blank b) refl (blanks-pass F
     at_first false h others = ap (λ k. F k (b ∷ text)) (sym (add-zero place))
 
 -- blanks are passed
-pub blanks-tokens : (place : ℕ) (text : List ℕ) → tokens_from place 0 text ≡ tokens_from (place + prefix_len is_blank text) 0 (drop (prefix_len is_blank text) text)
+pub blanks-tokens : (place : ℕ) (text : List ℕ)
+    → tokens_from place 0 text ≡ tokens_from (place + prefix_len is_blank text) 0 (drop (prefix_len is_blank text) text)
 blanks-tokens = blanks-pass (λ place text. tokens_from place 0 text) blank-tokens
 
 pub blanks-end : (place : ℕ) (text : List ℕ) → end_from place 0 text ≡ end_from (place + prefix_len is_blank text) 0 (drop (prefix_len is_blank text) text)
@@ -140,7 +147,8 @@ pub no_blank_left : (text : List ℕ) → prefix_len is_blank (drop (prefix_len 
 no_blank_left [] = refl
 no_blank_left (b ∷ text) = at_first (is_blank b) refl (no_blank_left text)
   where
-    at_first : (t : Bool) → is_blank b ≡ t → prefix_len is_blank (drop (prefix_len is_blank text) text) ≡ 0 → prefix_len is_blank (drop (cond t (1 + prefix_len is_blank text) 0) (b ∷ text)) ≡ 0
+    at_first : (t : Bool) → is_blank b ≡ t → prefix_len is_blank (drop (prefix_len is_blank text) text) ≡ 0
+        → prefix_len is_blank (drop (cond t (1 + prefix_len is_blank text) 0) (b ∷ text)) ≡ 0
     at_first true h others = rw one-add others
     at_first false h others = rw h refl
 
@@ -167,7 +175,8 @@ starts_unblank b text h = at (is_blank b) h
 
 -- the token at the front is the first, and the others are behind it
 pub tokens-next : (place : ℕ) (text : List ℕ) → 0 < token_length text
-    → tokens_from place 0 text ≡ record { text = take (token_length text) text; start = place } ∷ tokens_from (place + token_length text) 0 (drop (token_length text) text)
+    → tokens_from place 0 text
+    ≡ record { text = take (token_length text) text; start = place } ∷ tokens_from (place + token_length text) 0 (drop (token_length text) text)
 unfolding tokens_from token_length
 tokens-next place [] h = absurd (omega arith)
 tokens-next place (b ∷ text) h =
@@ -175,9 +184,12 @@ tokens-next place (b ∷ text) h =
     let t : Token = record { text = take n (b ∷ text); start = place } in
     let e : place + 1 + (n - 1) ≡ place + n = omega arith in
     let d : drop (n - 1) text ≡ drop n (b ∷ text) = drop-less n b text h in
-    rw (not_blank b text h, not_zero n h) (ap (λ (ts : List Token). t ∷ ts) (tokens_from-inside (place + 1) (n - 1) text ∙ (ap (λ k. tokens_from k 0 (drop (n - 1) text)) e ∙ ap (tokens_from (place + n) 0) d)))
+    rw (not_blank b text h, not_zero n h)
+    (ap (λ (ts : List Token). t ∷ ts) (tokens_from-inside (place + 1) (n - 1) text
+    ∙ (ap (λ k. tokens_from k 0 (drop (n - 1) text)) e ∙ ap (tokens_from (place + n) 0) d)))
 
-pub end-next : (place : ℕ) (text : List ℕ) → 0 < token_length text → end_from place 0 text ≡ end_from (place + token_length text) 0 (drop (token_length text) text)
+pub end-next : (place : ℕ) (text : List ℕ) → 0 < token_length text
+    → end_from place 0 text ≡ end_from (place + token_length text) 0 (drop (token_length text) text)
 unfolding end_from token_length
 end-next place [] h = absurd (omega arith)
 end-next place (b ∷ text) h =
@@ -185,7 +197,8 @@ end-next place (b ∷ text) h =
     let e : place + 1 + (n - 1) ≡ place + n = omega arith in
     let d : drop (n - 1) text ≡ drop n (b ∷ text) = drop-less n b text h in
     let long : n ≤ 1 + length text = omega (arith, (token_length-ascii (b ∷ text)).0) in
-    rw (not_blank b text h, not_zero n h) (end_from-inside (place + 1) (n - 1) text (omega arith) ∙ (ap (λ k. end_from k 0 (drop (n - 1) text)) e ∙ ap (end_from (place + n) 0) d))
+    rw (not_blank b text h, not_zero n h) (end_from-inside (place + 1) (n - 1) text (omega arith)
+    ∙ (ap (λ k. end_from k 0 (drop (n - 1) text)) e ∙ ap (end_from (place + n) 0) d))
 
 -- where no token is at the front, there is none
 pub no_tokens : (place : ℕ) (text : List ℕ) → token_length text ≡ 0 → prefix_len is_blank text ≡ 0 → tokens_from place 0 text ≡ []
@@ -204,5 +217,6 @@ unfolding end_from
 end_from-le place inside [] = omega arith
 end_from-le place zero (b ∷ text) =
     let n = token_length (b ∷ text) in
-    cond_holds (λ k. k ≤ place + length (b ∷ text)) (not (is_blank b) && (n == 0)) place _ (λ h. omega arith) (omega (arith, end_from-le (place + 1) (n - 1) text))
+    cond_holds (λ k. k ≤ place + length (b ∷ text)) (not (is_blank b) && (n == 0)) place _ (λ h. omega arith)
+    (omega (arith, end_from-le (place + 1) (n - 1) text))
 end_from-le place (suc inside) (b ∷ text) = omega (arith, end_from-le (place + 1) inside text)

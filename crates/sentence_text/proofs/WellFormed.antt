@@ -1,11 +1,14 @@
 -- A sentence of a schema, with the scope from the inside.
-use Rattle.std.proofs.Common.{◌≡◌, ℕ, zero, suc, ◌<◌, ◌⊎◌, inl, inr, Bool, true, false, cond, List, [], ◌∷◌, ◌++◌, length, length-append, Option, Some, None, refl, sym, ap, subst, ◌∙◌, arith}
+use Rattle.std.proofs.Common.{◌≡◌, ℕ, zero, suc, ◌<◌, ◌⊎◌, inl, inr, Bool, true, false, cond, List, [], ◌∷◌, ◌++◌, length, length-append, Option, Some, None}
+use Rattle.std.proofs.Common.{refl, sym, ap, subst, ◌∙◌, arith}
 use Rattle.std.specs.Prelude.{◌&&◌, nat_lt, nat_eq, slice_get, option_map, option_and_then, unwrap_or, IsSome}
 use Rattle.std.proofs.lemmas.Bool.Decides.{nat_tests}
 use Rattle.cqe_base.specs.declared.sentence.Term.{Term}
 use Rattle.cqe_base.specs.declared.sentence.Term.TheVariants as terms
 use Rattle.cqe_base.specs.Schema.{DatabaseSchema, NamedDomain, RelationSchema, domain_size, columns_of}
-use Rattle.cqe_base.specs.Formula.{Formula, verum, falsum, atom, equality, inequality, negation, conjunction, disjunction, implication, biconditional, universal, existential, term_domain, is_domain, have_one_domain, have_domains, fit_relation, may_quantify, is_well_formed, is_sentence_of}
+use Rattle.cqe_base.specs.Formula.{Formula, verum, falsum, atom, equality, inequality, negation, conjunction, disjunction, implication, biconditional}
+use Rattle.cqe_base.specs.Formula.{universal, existential, term_domain, is_domain, have_one_domain, have_domains, fit_relation, may_quantify, is_well_formed}
+use Rattle.cqe_base.specs.Formula.{is_sentence_of}
 use Rattle.cqe_base.specs.Reading.{column_domains}
 use Rattle.cqe_base.proofs.Truths.{and_first, and_second}
 use Rattle.sentence_text.proofs.ProperNames.{IsConstantOf}
@@ -68,7 +71,8 @@ unfolding flipped
 variable-flipped [] i d h = absurd (cc)
 variable-flipped (e ∷ outer) i d h = at (variable-flipped outer i d) (last-or_earlier (flipped outer) e i d h)
   where
-    at : (slice_get (flipped outer) i ≡ Some d → IsVariableOf outer i d) → ((i ≡ length (flipped outer)) × (e ≡ d)) ⊎ (slice_get (flipped outer) i ≡ Some d) → ((i ≡ length outer) × (e ≡ d)) ⊎ IsVariableOf outer i d
+    at : (slice_get (flipped outer) i ≡ Some d → IsVariableOf outer i d) → ((i ≡ length (flipped outer)) × (e ≡ d)) ⊎ (slice_get (flipped outer) i ≡ Some d)
+        → ((i ≡ length outer) × (e ≡ d)) ⊎ IsVariableOf outer i d
     at earlier (inl p) = inl (p.0 ∙ flipped-length outer, p.1)
     at earlier (inr p) = inr (earlier p)
 
@@ -80,7 +84,8 @@ some-below [] i lt = absurd (omega arith)
 some-below (x ∷ xs) zero lt = refl
 some-below (x ∷ xs) (suc i) lt = some-below xs i (omega arith)
 
-constant-there : (domains : List NamedDomain) (d i : ℕ) → i < unwrap_or (option_map (λ domain. length domain.constants) (slice_get domains d)) 0 → IsSome (option_and_then (λ domain. slice_get domain.constants i) (slice_get domains d))
+constant-there : (domains : List NamedDomain) (d i : ℕ) → i < unwrap_or (option_map (λ domain. length domain.constants) (slice_get domains d)) 0
+    → IsSome (option_and_then (λ domain. slice_get domain.constants i) (slice_get domains d))
 constant-there [] d i lt = absurd (omega arith)
 constant-there (domain ∷ domains) zero i lt = some-below domain.constants i lt
 constant-there (domain ∷ domains) (suc d) i lt = constant-there domains d i lt
@@ -88,7 +93,8 @@ constant-there (domain ∷ domains) (suc d) i lt = constant-there domains d i lt
 same-domain : (e d : ℕ) → nat_eq e d ≡ true → e ≡ d
 same-domain e d h = grind (arith, nat_tests)
 
-relation-there : (relations : List RelationSchema) (r : ℕ) (ds : List ℕ) → option_map (λ relation. relation.columns) (slice_get relations r) ≡ Some ds → r < length relations
+relation-there : (relations : List RelationSchema) (r : ℕ) (ds : List ℕ) → option_map (λ relation. relation.columns) (slice_get relations r) ≡ Some ds
+    → r < length relations
 relation-there [] r ds h = absurd (cc)
 relation-there (x ∷ relations) zero ds h = omega arith
 relation-there (x ∷ relations) (suc r) ds h = omega (arith, relation-there relations r ds h)
@@ -106,27 +112,37 @@ module _ (schema : DatabaseSchema) where
   domain-is None d h = absurd (cc)
   domain-is (Some e) d h = ap (λ d. Some d) (same-domain e d h)
 
-  terms-of_domains : (scope : List ℕ) (columns : List Term) (ds : List ℕ) → have_domains schema (flipped scope) columns ds ≡ true → AreOfDomains schema scope columns ds
+  terms-of_domains : (scope : List ℕ) (columns : List Term) (ds : List ℕ) → have_domains schema (flipped scope) columns ds ≡ true
+      → AreOfDomains schema scope columns ds
   terms-of_domains scope [] [] h = tt
   terms-of_domains scope [] (d ∷ ds) h = absurd (cc)
   terms-of_domains scope (a ∷ others) [] h = absurd (cc)
-  terms-of_domains scope (a ∷ others) (d ∷ ds) h = (term-of_domain scope a d (domain-is (term_domain schema (flipped scope) a) d (and_first _ _ h)), terms-of_domains scope others ds (and_second _ _ h))
+  terms-of_domains scope (a ∷ others) (d ∷ ds) h =
+      (term-of_domain scope a d (domain-is (term_domain schema (flipped scope) a) d (and_first _ _ h)), terms-of_domains scope others ds (and_second _ _ h))
 
-  atom-of_schema : (scope : List ℕ) (r : ℕ) (columns : List Term) → fit_relation schema (flipped scope) columns (columns_of schema r) ≡ true → (r < length schema.relations) × AreOfDomains schema scope columns (column_domains schema r)
+  atom-of_schema : (scope : List ℕ) (r : ℕ) (columns : List Term) → fit_relation schema (flipped scope) columns (columns_of schema r) ≡ true
+      → (r < length schema.relations) × AreOfDomains schema scope columns (column_domains schema r)
   atom-of_schema scope r columns h = at (columns_of schema r) refl h
     where
-      at : (o : Option (List ℕ)) → columns_of schema r ≡ o → fit_relation schema (flipped scope) columns o ≡ true → (r < length schema.relations) × AreOfDomains schema scope columns (column_domains schema r)
+      at : (o : Option (List ℕ)) → columns_of schema r ≡ o → fit_relation schema (flipped scope) columns o ≡ true → (r < length schema.relations)
+          × AreOfDomains schema scope columns (column_domains schema r)
       at None e k = absurd (cc)
-      at (Some ds) e k = (relation-there schema.relations r ds e, subst (λ (o : Option (List ℕ)). AreOfDomains schema scope columns (unwrap_or o [])) (sym e) (terms-of_domains scope columns ds k))
+      at (Some ds) e k = (
+        relation-there schema.relations r ds e,
+        subst (λ (o : Option (List ℕ)). AreOfDomains schema scope columns (unwrap_or o [])) (sym e) (terms-of_domains scope columns ds k),
+      )
 
-  sides-of_schema : (scope : List ℕ) (a b : Term) → have_one_domain (term_domain schema (flipped scope) a) (term_domain schema (flipped scope) b) ≡ true → (d : ℕ) × IsOfDomain schema scope a d × IsOfDomain schema scope b d
+  sides-of_schema : (scope : List ℕ) (a b : Term) → have_one_domain (term_domain schema (flipped scope) a) (term_domain schema (flipped scope) b) ≡ true
+      → (d : ℕ) × IsOfDomain schema scope a d × IsOfDomain schema scope b d
   sides-of_schema scope a b h = at (term_domain schema (flipped scope) a) refl h
     where
-      at : (o : Option ℕ) → term_domain schema (flipped scope) a ≡ o → have_one_domain o (term_domain schema (flipped scope) b) ≡ true → (d : ℕ) × IsOfDomain schema scope a d × IsOfDomain schema scope b d
+      at : (o : Option ℕ) → term_domain schema (flipped scope) a ≡ o → have_one_domain o (term_domain schema (flipped scope) b) ≡ true → (d : ℕ)
+          × IsOfDomain schema scope a d × IsOfDomain schema scope b d
       at None e k = absurd (cc)
       at (Some d) e k = (d, term-of_domain scope a d e, term-of_domain scope b d (domain-is (term_domain schema (flipped scope) b) d k))
 
-  quantified : (d : ℕ) (a : Formula) (scope : List ℕ) → (may_quantify schema (flipped scope) d && is_well_formed schema (flipped (d ∷ scope)) a) ≡ true → (is_well_formed schema (flipped (d ∷ scope)) a ≡ true → IsOfSchema schema (d ∷ scope) a)
+  quantified : (d : ℕ) (a : Formula) (scope : List ℕ) → (may_quantify schema (flipped scope) d && is_well_formed schema (flipped (d ∷ scope)) a) ≡ true
+      → (is_well_formed schema (flipped (d ∷ scope)) a ≡ true → IsOfSchema schema (d ∷ scope) a)
       → (d < length schema.domains) × (length scope < 8) × IsOfSchema schema (d ∷ scope) a
   quantified d a scope h body =
       let may = and_first _ _ h in

@@ -8,7 +8,8 @@ use Rattle.sentence_text.specs.declared.scope.Scope.{Scope, Outermost, Within'}
 -- the enclosing quantifiers, the innermost first
 abbrev pub binders : Scope → List Binder
 binders Outermost = []
-binders (Within' variable domain _ outer) = record { variable = variable.now; domain = domain } ∷ binders outer
+binders (Within' variable domain _ outer) =
+    record { variable = variable.now; domain = domain } ∷ binders outer
 
 -- what a term with its domain in memory is
 abbrev pub typed_term : TypedTerm → Reading.TypedTerm

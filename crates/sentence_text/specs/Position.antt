@@ -24,9 +24,10 @@ abbrev pub Refuses : {A : Type 0} → ReadError → Result A Refusal → Type 0
 Refuses errors.Memory reading = Unit {0}
 Refuses (errors.Text e) reading = reading ≡ Err e
 
--- what a call of a reader returned, seen by view, is what its definition gives, and the tokens that are left are
--- those that it leaves; its error is a refusal so
-abbrev pub Reads : {X A : Type 0} → (X → A) → Result X ReadError → List Token → Result (A × List Token) Refusal → Type 0
+-- what a call of a reader returned, seen by view, is what its definition gives, and the tokens that
+-- are left are those that it leaves; its error is a refusal so
+abbrev pub Reads : {X A : Type 0} → (X → A) → Result X ReadError → List Token
+    → Result (A × List Token) Refusal → Type 0
 Reads view (Ok x) rest reading = reading ≡ Ok (view x, rest)
 Reads view (Err e) rest reading = Refuses e reading
 

@@ -48,7 +48,8 @@ pub record IsSameSource (old new : Remainder) : Type 0 where
 
 -- an iterator over tokens gives the first one that is still to come, and stays over the same text
 abbrev pub PassesToken : Remainder → Option Token → Remainder → Type 0
-PassesToken old token new = YieldsFirstBy token_of upcoming_tokens old token new × IsSameSource old new
+PassesToken old token new =
+    YieldsFirstBy token_of upcoming_tokens old token new × IsSameSource old new
 
 -- the tokens with the next one in front
 abbrev pub with_next : Option Token → List Tokens.Token → List Tokens.Token

@@ -1,5 +1,5 @@
-//! Why a sentence could not be read. The kinds of refusal are numbered as the table of `docs/FORMATS.md`, "Sentences",
-//! has them.
+//! Why a sentence could not be read. The kinds of refusal are numbered as the table of
+//! `docs/FORMATS.md`, "Sentences", has them.
 
 ghost use Rattle.std.specs.Prelude.{◌≡◌};
 ghost use Rattle.sentence_text.specs.declared.error.ReadError.TheVariants.{Memory};
@@ -25,11 +25,12 @@ pub const TOO_DEEP: u8 = 5;
 /// A comma or a term comes after the last column, or a `)` before it.
 pub const WRONG_COLUMNS: u8 = 6;
 
-/// Why a text gives no sentence. Want of memory says nothing of the text: the same call may succeed later.
+/// Why a text gives no sentence. Want of memory says nothing of the text: the same call may succeed
+/// later.
 #[derive(Debug, Drop)]
 pub enum ReadError {
-    /// The text is no sentence of the schema: the kind, which is one of the numbers above, and the place, the byte,
-    /// counted from 0, at which that shows.
+    /// The text is no sentence of the schema: the kind, which is one of the numbers above, and the
+    /// place, the byte, counted from 0, at which that shows.
     Text(TextError),
     /// Memory is wanting.
     Memory,

@@ -41,12 +41,14 @@ fn fact_in(sentence: &Sentence) -> Option<Fact>
     }
 }
 
-/// The fact that a text states: a sentence that is a relation of constants, without parentheses around it.
+/// The fact that a text states: a sentence that is a relation of constants, without parentheses
+/// around it.
 #[tactic(auto, unfolding(cqe_base::specs::FactText::stated_fact))]
 pub fn stated_fact(alloc: Global, schema: &Schema, text: &str) -> Result<Option<Fact>, AllocError>
     requires { length text.now ≤ 4096 }
     ensures found { IfOk result (λ found. found ≡ stated_fact schema.now text.now) }
-    ensures of_schema { IfOk result (λ found. IfSome found (λ fact. is_fact_of schema.now fact ≡ true)) }
+    ensures of_schema { IfOk result
+        (λ found. IfSome found (λ fact. is_fact_of schema.now fact ≡ true)) }
 {
     law_grounded_facts_are_of_schema();
     schema.known();

@@ -1,6 +1,7 @@
 //! Laws of the sentence language. Each function computes nothing: its clauses are the law.
 
-ghost use Rattle.sentence_text.specs.Laws.{SentencesRead, TextsMeanOneSentence, TokensAreSlices, CanonicalFormsRead, SentencesAreAscii};
+ghost use Rattle.sentence_text.specs.Laws.{SentencesRead, TextsMeanOneSentence, TokensAreSlices};
+ghost use Rattle.sentence_text.specs.Laws.{CanonicalFormsRead, SentencesAreAscii};
 
 use cqe_base::laws::law_reading;
 
@@ -10,7 +11,8 @@ pub fn law_sentences_read()
     ensures one { TextsMeanOneSentence }
 {}
 
-/// The tokens of a text are slices of it, one behind the other, each the longest that begins where it begins.
+/// The tokens of a text are slices of it, one behind the other, each the longest that begins where
+/// it begins.
 pub fn law_tokens()
     ensures { TokensAreSlices }
 {}

@@ -3,10 +3,13 @@
 ghost use Rattle.std.specs.Prelude.{◌≡◌, ◌^◌, ◌<◌, ◌≤◌, [], length, take, drop};
 ghost use Rattle.std.specs.Iterator.{YieldsFirstBy, item_count};
 ghost use Rattle.std.specs.List.{prefix_len};
-ghost use Rattle.cqe_base.specs.Tokens.{IsAsciiUpTo, is_blank, mark_length, token_length, tokens, end_of_tokens, symbol_of};
+ghost use Rattle.cqe_base.specs.Tokens.{IsAsciiUpTo, is_blank, mark_length, token_length, tokens};
+ghost use Rattle.cqe_base.specs.Tokens.{end_of_tokens, symbol_of};
 ghost use Rattle.cqe_base.specs.Schema.{is_name_byte};
 ghost use Rattle.sentence_text.specs.Slices.{HasTokens};
-ghost use Rattle.sentence_text.specs.Upcoming.{IsSameSource, PassesToken, upcoming_tokens, upcoming_end, upcoming_place, upcoming_refusal, text_end, token_of};
+ghost use Rattle.sentence_text.specs.Upcoming.{IsSameSource, PassesToken, upcoming_tokens};
+ghost use Rattle.sentence_text.specs.Upcoming.{upcoming_end, upcoming_place, upcoming_refusal};
+ghost use Rattle.sentence_text.specs.Upcoming.{text_end, token_of};
 
 use crate::error::{BAD_CHARACTER, UNEXPECTED};
 use crate::token::Token;
@@ -41,7 +44,8 @@ pub fn tokens(text: &str) -> TokenIter<'_>
     ensures tokens { upcoming_tokens result ≡ tokens text.now }
     ensures tokens_end { upcoming_end result ≡ end_of_tokens text.now }
     ensures text_end { text_end result ≡ length text.now }
-    // They are slices of the text, one behind the other, each the longest token that begins where it begins.
+    // They are slices of the text, one behind the other, each the longest token that begins where
+    // it begins.
     ensures slices { HasTokens text.now 0 (upcoming_tokens result) (upcoming_end result) }
 {
     let blanks = blank_count(text);

@@ -1,14 +1,16 @@
 //! The grammar of sentences, read from left to right.
 
 ghost use Rattle.std.specs.Prelude.{◌≡◌, ◌<◌, ◌≤◌, ◌^◌, [], length, true, OnOk, IfOk, Ok, Err};
-ghost use Rattle.cqe_base.specs.Formula.{Formula, formula_of, is_sentence_of, universal, existential, equality, inequality};
+ghost use Rattle.cqe_base.specs.Formula.{Formula, formula_of, is_sentence_of, universal};
+ghost use Rattle.cqe_base.specs.Formula.{existential, equality, inequality};
 ghost use Rattle.cqe_base.specs.Grammar.{IsSentence};
 ghost use Rattle.cqe_base.specs.Reading;
 ghost use Rattle.cqe_base.specs.Reading.{reading};
 ghost use Rattle.cqe_base.specs.Refusals.{Refused};
 ghost use Rattle.sentence_text.specs.Binders.{binders, typed_term};
 ghost use Rattle.sentence_text.specs.Upcoming.{token_of};
-ghost use Rattle.sentence_text.specs.Position.{IsSameText, Passes, Reads, Gives, IfRefused, sign_of, quantifier_of};
+ghost use Rattle.sentence_text.specs.Position.{IsSameText, Passes, Reads, Gives, IfRefused};
+ghost use Rattle.sentence_text.specs.Position.{sign_of, quantifier_of};
 
 use crate::error::{BAD_CHARACTER, ReadError, TOO_DEEP, UNKNOWN_NAME, WRONG_COLUMNS, WRONG_DOMAIN};
 use crate::lexer::symbol_of;
@@ -26,7 +28,8 @@ impl Reader<'_> {
     /// No token is left, and no byte that begins none.
     #[tactic(auto, unfolding(cqe_base::specs::Reading::at_end))]
     fn end(&self) -> Result<(), ReadError>
-        ensures { Passes result self.now.tokens (Reading.at_end self.now.schema self.now.refusal self.now.tokens) }
+        ensures { Passes result self.now.tokens
+            (Reading.at_end self.now.schema self.now.refusal self.now.tokens) }
     {
         let refusal = self.unexpected();
         if self.peek().is_some() || refusal.kind == BAD_CHARACTER {
@@ -58,7 +61,8 @@ impl Reader<'_> {
     fn term(&mut self, scope: &Scope<'_>, domain: u32) -> Result<Term, ReadError>
         requires { length (binders scope.now) ≤ 8 }
         ensures read { Reads (λ a. a) result self.new.tokens
-            (Reading.term_of self.old.schema self.old.refusal (binders scope.now) domain self.old.tokens) }
+            (Reading.term_of self.old.schema self.old.refusal
+            (binders scope.now) domain self.old.tokens) }
         ensures same { IsSameText self.old self.new }
         ensures shorter { OnOk result (length self.new.tokens < length self.old.tokens) }
     {
@@ -99,7 +103,8 @@ impl Reader<'_> {
         requires depth { length (binders scope.now) ≤ 8 }
         requires few { length domains.now ≤ 6 }
         ensures read { Reads (λ terms. terms) result self.new.tokens
-            (Reading.columns self.old.schema self.old.refusal (binders scope.now) domains.now self.old.tokens) }
+            (Reading.columns self.old.schema self.old.refusal
+            (binders scope.now) domains.now self.old.tokens) }
         ensures same { IsSameText self.old self.new }
         ensures no_longer { OnOk result (length self.new.tokens ≤ length self.old.tokens) }
     {
@@ -134,7 +139,8 @@ impl Reader<'_> {
         requires depth { length (binders scope.now) ≤ 8 }
         requires few { length domains.now ≤ 6 }
         ensures read { Reads (λ terms. terms) result self.new.tokens
-            (Reading.arguments self.old.schema self.old.refusal (binders scope.now) domains.now self.old.tokens) }
+            (Reading.arguments self.old.schema self.old.refusal
+            (binders scope.now) domains.now self.old.tokens) }
         ensures same { IsSameText self.old self.new }
         ensures no_longer { OnOk result (length self.new.tokens ≤ length self.old.tokens) }
     {
@@ -157,7 +163,8 @@ impl Reader<'_> {
         requires depth { length (binders scope.now) ≤ 8 }
         requires open { 0 < length self.old.tokens }
         ensures read { Reads formula_of result self.new.tokens
-            (Reading.relation_atom self.old.schema self.old.refusal (binders scope.now) (token_of token.entry) self.old.tokens) }
+            (Reading.relation_atom self.old.schema self.old.refusal (binders scope.now)
+            (token_of token.entry) self.old.tokens) }
         ensures same { IsSameText self.old self.new }
         ensures no_longer { OnOk result (length self.new.tokens ≤ length self.old.tokens) }
     {
@@ -193,7 +200,8 @@ impl Reader<'_> {
     fn comparison(&mut self, scope: &Scope<'_>, token: Token<'_>) -> Result<Sentence, ReadError>
         requires { length (binders scope.now) ≤ 8 }
         ensures read { Reads formula_of result self.new.tokens
-            (Reading.comparison self.old.schema self.old.refusal (binders scope.now) (token_of token.entry) self.old.tokens) }
+            (Reading.comparison self.old.schema self.old.refusal (binders scope.now)
+            (token_of token.entry) self.old.tokens) }
         ensures same { IsSameText self.old self.new }
         ensures no_longer { OnOk result (length self.new.tokens ≤ length self.old.tokens) }
     {
@@ -212,7 +220,8 @@ impl Reader<'_> {
     fn named(&mut self, scope: &Scope<'_>, token: Token<'_>) -> Result<Sentence, ReadError>
         requires { length (binders scope.now) ≤ 8 }
         ensures read { Reads formula_of result self.new.tokens
-            (Reading.named self.old.schema self.old.refusal (binders scope.now) (token_of token.entry) self.old.tokens) }
+            (Reading.named self.old.schema self.old.refusal (binders scope.now)
+            (token_of token.entry) self.old.tokens) }
         ensures same { IsSameText self.old self.new }
         ensures no_longer { OnOk result (length self.new.tokens ≤ length self.old.tokens) }
     {
@@ -227,8 +236,10 @@ impl Reader<'_> {
     #[tactic(auto, unfolding(cqe_base::specs::Reading::inside))]
     fn enter(&self, room: u32, token: Token<'_>) -> Result<u32, ReadError>
         ensures value { Gives
-            (λ inner. Reading.level_with self.now.schema self.now.refusal (Reading.inside self.now.schema self.now.refusal inner))
-            result (Reading.enter (Reading.inside self.now.schema self.now.refusal room) (token_of token.entry)) }
+            (λ inner. Reading.level_with self.now.schema self.now.refusal
+            (Reading.inside self.now.schema self.now.refusal inner))
+            result (Reading.enter (Reading.inside self.now.schema self.now.refusal room)
+            (token_of token.entry)) }
         ensures less { IfOk result (λ inner. inner < room) }
     {
         if room == 0 {
@@ -255,7 +266,8 @@ impl Reader<'_> {
     /// A quantified sentence ends only before a `)` or where the tokens end.
     #[tactic(auto, unfolding(cqe_base::specs::Reading::ends_quantified))]
     fn end_quantified(&self) -> Result<(), ReadError>
-        ensures { Passes result self.now.tokens (Reading.ends_quantified self.now.schema self.now.refusal self.now.tokens) }
+        ensures { Passes result self.now.tokens
+            (Reading.ends_quantified self.now.schema self.now.refusal self.now.tokens) }
     {
         match self.peek() {
             Some(token) if symbol_of(token.text) != Symbol::Close => Err(unexpected(token)),
@@ -276,7 +288,8 @@ impl Reader<'_> {
         requires { length (binders scope.now) ≤ 8 }
         ensures read { Reads formula_of result self.new.tokens
             (Reading.quantified self.old.schema self.old.refusal (quantifier_of universal)
-            (Reading.inside self.old.schema self.old.refusal room) (binders scope.now) (token_of token.entry) self.old.tokens) }
+            (Reading.inside self.old.schema self.old.refusal room) (binders scope.now)
+            (token_of token.entry) self.old.tokens) }
         ensures same { IsSameText self.old self.new }
         ensures no_longer { OnOk result (length self.new.tokens ≤ length self.old.tokens) }
     {
@@ -309,7 +322,8 @@ impl Reader<'_> {
         requires { length (binders scope.now) ≤ 8 }
         ensures read { Reads formula_of result self.new.tokens
             (Reading.unary self.old.schema self.old.refusal
-            (Reading.inside self.old.schema self.old.refusal room) (binders scope.now) self.old.tokens) }
+            (Reading.inside self.old.schema self.old.refusal room)
+            (binders scope.now) self.old.tokens) }
         ensures same { IsSameText self.old self.new }
         ensures shorter { OnOk result (length self.new.tokens < length self.old.tokens) }
     {
@@ -342,7 +356,8 @@ impl Reader<'_> {
         requires { length (binders scope.now) ≤ 8 }
         ensures read { Reads formula_of result self.new.tokens
             (Reading.both (Reading.unary self.old.schema self.old.refusal
-            (Reading.inside self.old.schema self.old.refusal room) (binders scope.now)) self.old.tokens) }
+            (Reading.inside self.old.schema self.old.refusal room) (binders scope.now))
+            self.old.tokens) }
         ensures same { IsSameText self.old self.new }
         ensures shorter { OnOk result (length self.new.tokens < length self.old.tokens) }
     {
@@ -365,7 +380,8 @@ impl Reader<'_> {
         requires { length (binders scope.now) ≤ 8 }
         ensures read { Reads formula_of result self.new.tokens
             (Reading.either (Reading.unary self.old.schema self.old.refusal
-            (Reading.inside self.old.schema self.old.refusal room) (binders scope.now)) self.old.tokens) }
+            (Reading.inside self.old.schema self.old.refusal room) (binders scope.now))
+            self.old.tokens) }
         ensures same { IsSameText self.old self.new }
         ensures shorter { OnOk result (length self.new.tokens < length self.old.tokens) }
     {
@@ -388,7 +404,8 @@ impl Reader<'_> {
         requires { length (binders scope.now) ≤ 8 }
         ensures read { Reads formula_of result self.new.tokens
             (Reading.implied self.old.schema self.old.refusal
-            (Reading.inside self.old.schema self.old.refusal room) (binders scope.now) self.old.tokens) }
+            (Reading.inside self.old.schema self.old.refusal room)
+            (binders scope.now) self.old.tokens) }
         ensures same { IsSameText self.old self.new }
         ensures shorter { OnOk result (length self.new.tokens < length self.old.tokens) }
     {
@@ -414,7 +431,8 @@ impl Reader<'_> {
         requires { length (binders scope.now) ≤ 8 }
         ensures read { Reads formula_of result self.new.tokens
             (Reading.sentence self.old.schema self.old.refusal
-            (Reading.level_with self.old.schema self.old.refusal (Reading.inside self.old.schema self.old.refusal room))
+            (Reading.level_with self.old.schema self.old.refusal
+            (Reading.inside self.old.schema self.old.refusal room))
             (binders scope.now) self.old.tokens) }
         ensures same { IsSameText self.old self.new }
         ensures shorter { OnOk result (length self.new.tokens < length self.old.tokens) }
@@ -432,7 +450,8 @@ impl Reader<'_> {
     }
 }
 
-/// Reads a text as a sentence of the schema. A text that is none is refused at the first token that can't stand where it is.
+/// Reads a text as a sentence of the schema. A text that is none is refused at the first token that
+/// can't stand where it is.
 pub fn read_sentence(alloc: Global, schema: &Schema, text: &str) -> Result<Sentence, ReadError>
     requires { length text.now ≤ 4096 }
     // What is read is the sentence that the text is.
@@ -440,11 +459,13 @@ pub fn read_sentence(alloc: Global, schema: &Schema, text: &str) -> Result<Sente
     // The grammar derives it, and it is a closed sentence of the schema.
     ensures derived { IfOk result (λ s. IsSentence schema.now text.now (formula_of s)) }
     ensures of_schema { IfOk result (λ s. is_sentence_of schema.now (formula_of s) ≡ true) }
-    // A refusal has the kind and the place that the text is refused with, and the table of refusals has it.
+    // A refusal has the kind and the place that the text is refused with, and the table of refusals
+    // has it.
     ensures refused { IfRefused result (λ e. reading schema.now text.now ≡ Err e) }
     ensures table { IfRefused result (λ e. Refused schema.now text.now e) }
     // A text that the grammar derives isn't refused.
-    ensures complete { (a : Formula) → IsSentence schema.now text.now a → IfRefused result (λ e. ⊥) }
+    ensures complete { (a : Formula) → IsSentence schema.now text.now a
+        → IfRefused result (λ e. ⊥) }
 {
     law_reading();
     law_refusals();

@@ -1,9 +1,12 @@
 //! The canonical form of a sentence.
 
-ghost use Rattle.std.specs.Prelude.{◌≡◌, ◌+◌, ◌<◌, ◌≤◌, ◌++◌, string_bytes, OnOk, IfOk, Ok, true, codes};
+ghost use Rattle.std.specs.Prelude.{◌≡◌, ◌+◌, ◌<◌, ◌≤◌, ◌++◌, string_bytes, OnOk, IfOk, Ok, true};
+ghost use Rattle.std.specs.Prelude.{codes};
 ghost use Rattle.cqe_base.specs.Formula.{formula_of, nesting, is_sentence_of};
 ghost use Rattle.cqe_base.specs.Reading.{reading};
-ghost use Rattle.cqe_base.specs.Canonical.{canonical, enclosing_constructs, domain_name, canonical_within, term_text, terms_text, more_terms, variable_name};
+ghost use Rattle.cqe_base.specs.Canonical.{canonical, enclosing_constructs, domain_name};
+ghost use Rattle.cqe_base.specs.Canonical.{canonical_within, term_text, terms_text, more_terms};
+ghost use Rattle.cqe_base.specs.Canonical.{variable_name};
 
 use crate::names::{constant_name, domain_name, relation_name};
 use cqe_base::laws::law_nesting;
@@ -18,10 +21,12 @@ pub fn print_sentence(
     sentence: &Sentence,
 ) -> Result<String, AllocError>
     requires { is_sentence_of schema.now (formula_of sentence.now) ≡ true }
-    ensures text { IfOk result (λ text. string_bytes text ≡ canonical schema.now (formula_of sentence.now)) }
+    ensures text { IfOk result (λ text. string_bytes text
+        ≡ canonical schema.now (formula_of sentence.now)) }
     // It reads as the sentence, where at most 64 constructs enclose a place of it.
     ensures read_back { enclosing_constructs (formula_of sentence.now) ≤ 64
-        → IfOk result (λ text. reading schema.now (string_bytes text) ≡ Ok (formula_of sentence.now)) }
+        → IfOk result (λ text. reading schema.now (string_bytes text)
+        ≡ Ok (formula_of sentence.now)) }
 {
     schema.known();
     law_nesting();
@@ -31,7 +36,8 @@ pub fn print_sentence(
 /// The same, of which one clause says all.
 fn print_exactly(alloc: Global, schema: &Schema, sentence: &Sentence) -> Result<String, AllocError>
     requires { nesting (formula_of sentence.now) ≤ 8 }
-    ensures { IfOk result (λ text. string_bytes text ≡ canonical schema.now (formula_of sentence.now)) }
+    ensures { IfOk result (λ text. string_bytes text
+        ≡ canonical schema.now (formula_of sentence.now)) }
 {
     let mut printer = Printer {
         alloc,
@@ -52,7 +58,8 @@ struct Printer<'a> {
 
 impl Printer<'_> {
     fn push(&mut self, part: &str) -> Result<(), AllocError>
-        ensures text { OnOk result (string_bytes self.new.text ≡ string_bytes self.old.text ++ part.now) }
+        ensures text { OnOk result
+            (string_bytes self.new.text ≡ string_bytes self.old.text ++ part.now) }
         ensures same { self.new.schema ≡ self.old.schema }
     {
         self.text.push_str(part)
@@ -60,7 +67,8 @@ impl Printer<'_> {
 
     /// The variable of the i-th enclosing quantifier, counted from outside and from 0.
     fn variable(&mut self, i: u8) -> Result<(), AllocError>
-        ensures text { OnOk result (string_bytes self.new.text ≡ string_bytes self.old.text ++ variable_name i) }
+        ensures text { OnOk result (string_bytes self.new.text
+            ≡ string_bytes self.old.text ++ variable_name i) }
         ensures same { self.new.schema ≡ self.old.schema }
     {
         let name = format!(in self.alloc; "v{}", u32::from(i) + 1)?;
@@ -68,7 +76,8 @@ impl Printer<'_> {
     }
 
     fn term(&mut self, term: Term) -> Result<(), AllocError>
-        ensures text { OnOk result (string_bytes self.new.text ≡ string_bytes self.old.text ++ term_text self.old.schema.now term) }
+        ensures text { OnOk result (string_bytes self.new.text
+            ≡ string_bytes self.old.text ++ term_text self.old.schema.now term) }
         ensures same { self.new.schema ≡ self.old.schema }
     {
         match term {
@@ -82,7 +91,8 @@ impl Printer<'_> {
 
     /// The terms of an atom, with `, ` between them.
     fn terms(&mut self, terms: &[Term]) -> Result<(), AllocError>
-        ensures text { OnOk result (string_bytes self.new.text ≡ string_bytes self.old.text ++ terms_text self.old.schema.now terms.now) }
+        ensures text { OnOk result (string_bytes self.new.text
+            ≡ string_bytes self.old.text ++ terms_text self.old.schema.now terms.now) }
         ensures same { self.new.schema ≡ self.old.schema }
     {
         let Some((first, others)) = terms.split_first() else {
@@ -99,7 +109,10 @@ impl Printer<'_> {
     /// A quantifier, up to what it binds.
     #[tactic(auto, using(crate::proofs::Appended::appended))]
     fn quantifier(&mut self, opening: &str, depth: u8, domain: u32) -> Result<(), AllocError>
-        ensures text { OnOk result (string_bytes self.new.text ≡ string_bytes self.old.text ++ (opening.now ++ variable_name depth ++ codes ": " ++ domain_name self.old.schema.now domain ++ codes " . ")) }
+        ensures text { OnOk result (string_bytes self.new.text
+            ≡ string_bytes self.old.text
+            ++ (opening.now ++ variable_name depth ++ codes ": "
+            ++ domain_name self.old.schema.now domain ++ codes " . ")) }
         ensures same { self.new.schema ≡ self.old.schema }
     {
         self.push(opening)?;
@@ -114,7 +127,9 @@ impl Printer<'_> {
     #[tactic(auto, using(crate::proofs::Appended::appended))]
     fn sentence(&mut self, sentence: &Sentence, depth: u8) -> Result<(), AllocError>
         requires { depth + nesting (formula_of sentence.now) ≤ 8 }
-        ensures text { OnOk result (string_bytes self.new.text ≡ string_bytes self.old.text ++ canonical_within self.old.schema.now depth (formula_of sentence.now)) }
+        ensures text { OnOk result (string_bytes self.new.text
+            ≡ string_bytes self.old.text
+            ++ canonical_within self.old.schema.now depth (formula_of sentence.now)) }
         ensures same { self.new.schema ≡ self.old.schema }
     {
         match sentence {

@@ -114,7 +114,8 @@ impl<'a> Reader<'a> {
 
     /// The next token, which is passed.
     pub fn token(&mut self) -> Result<Token<'a>, ReadError>
-        ensures read { Reads token_of result self.new.tokens (first self.old.refusal self.old.tokens) }
+        ensures read { Reads token_of result self.new.tokens
+            (first self.old.refusal self.old.tokens) }
         ensures same { IsSameText self.old self.new }
         ensures shorter { OnOk result (length self.new.tokens < length self.old.tokens) }
     {
@@ -130,7 +131,8 @@ impl<'a> Reader<'a> {
     /// Passes a token of this symbol.
     #[tactic(auto, unfolding(cqe_base::specs::Reading::pass))]
     pub fn pass(&mut self, symbol: Symbol) -> Result<(), ReadError>
-        ensures read { Passes result self.new.tokens (pass self.old.schema self.old.refusal symbol self.old.tokens) }
+        ensures read { Passes result self.new.tokens
+            (pass self.old.schema self.old.refusal symbol self.old.tokens) }
         ensures same { IsSameText self.old self.new }
         ensures shorter { OnOk result (length self.new.tokens < length self.old.tokens) }
     {
@@ -144,7 +146,8 @@ impl<'a> Reader<'a> {
     /// A name, which is passed.
     #[tactic(auto, unfolding(cqe_base::specs::Reading::name))]
     pub fn name(&mut self) -> Result<Token<'a>, ReadError>
-        ensures read { Reads token_of result self.new.tokens (name self.old.schema self.old.refusal self.old.tokens) }
+        ensures read { Reads token_of result self.new.tokens
+            (name self.old.schema self.old.refusal self.old.tokens) }
         ensures same { IsSameText self.old self.new }
         ensures shorter { OnOk result (length self.new.tokens < length self.old.tokens) }
     {

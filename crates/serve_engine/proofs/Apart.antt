@@ -35,8 +35,10 @@ first_same x y xs ys same = (cc, cc)
 
 module _ {O : Type 0} (told : Type 0) (given_of left_of faults_of : O → ℕ) (back_of : O → List Visit) where
   -- connections that stand in one way and so in another
-  pub served_still : (stands stands' : Visit → SessionMarks → Type 0) → ((visit : Visit) (marks : SessionMarks) → stands visit marks → stands' visit marks) → (total : ℕ) (marks : told → List SessionMarks) (doors others : List O)
-      → AreServedDoors told given_of left_of faults_of back_of stands total marks doors others → AreServedDoors told given_of left_of faults_of back_of stands' total marks doors others
+  pub served_still : (stands stands' : Visit → SessionMarks → Type 0) → ((visit : Visit) (marks : SessionMarks) → stands visit marks → stands' visit marks)
+      → (total : ℕ) (marks : told → List SessionMarks) (doors others : List O)
+      → AreServedDoors told given_of left_of faults_of back_of stands total marks doors others
+      → AreServedDoors told given_of left_of faults_of back_of stands' total marks doors others
   served_still stands stands' still total marks [] [] is = is
   served_still stands stands' still total marks (d ∷ doors) (e ∷ others) is =
       let door = is.6 in (
@@ -49,7 +51,14 @@ module _ {O : Type 0} (told : Type 0) (given_of left_of faults_of : O → ℕ) (
         record {
           given = door.given;
           left = door.left;
-          back = λ t. let visits = door.back t in record { visits = visits.visits; behind = visits.behind; many = visits.many; stand = zip_still stands stands' still visits.visits (is.3 t) visits.stand };
+          back = λ t. let visits = door.back t in
+              record {
+                visits = visits.visits;
+                behind = visits.behind;
+                many = visits.many;
+                stand =
+                    zip_still stands stands' still visits.visits (is.3 t) visits.stand;
+              };
           faults = door.faults;
         },
         served_still stands stands' still is.1 is.4 doors others is.7,
@@ -58,7 +67,8 @@ module _ {O : Type 0} (told : Type 0) (given_of left_of faults_of : O → ℕ) (
   served_still stands stands' still total marks (d ∷ doors) [] is = absurd is
 
   -- doors that gave nothing
-  pub none_served : (stands : Visit → SessionMarks → Type 0) (doors : List O) → AreServedDoors told given_of left_of faults_of back_of stands 0 (λ t. []) doors doors
+  pub none_served : (stands : Visit → SessionMarks → Type 0) (doors : List O)
+      → AreServedDoors told given_of left_of faults_of back_of stands 0 (λ t. []) doors doors
   none_served stands [] = (refl, λ t. refl)
   none_served stands (d ∷ doors) = (
     0,
@@ -79,13 +89,15 @@ module _ {O : Type 0} (told : Type 0) (given_of left_of faults_of : O → ℕ) (
 -- ---- seats
 
 -- a pass more that has all shares
-pub shares_more : {D : Type 0} (passes : List (Pass Item (Fixed D))) (pass : Pass Item (Fixed D)) → AllByRecursion (λ pass. shares pass ≡ 65) passes → shares pass ≡ 65 → AllByRecursion (λ pass. shares pass ≡ 65) (passes ++ pass ∷ [])
+pub shares_more : {D : Type 0} (passes : List (Pass Item (Fixed D))) (pass : Pass Item (Fixed D)) → AllByRecursion (λ pass. shares pass ≡ 65) passes
+    → shares pass ≡ 65 → AllByRecursion (λ pass. shares pass ≡ 65) (passes ++ pass ∷ [])
 shares_more [] pass all this = (this, tt)
 shares_more (p ∷ passes) pass all this = (all.0, shares_more passes pass all.1 this)
 
 module _ {D : Type 0} {g h : _} where
   -- a pass and its counter more
-  pub passes_more : (passes : List (Pass Item (Fixed D))) (counters : List (CounterOf (TicketedDesk D g) Item (Fixed D) h)) (pass : Pass Item (Fixed D)) (counter : CounterOf (TicketedDesk D g) Item (Fixed D) h)
+  pub passes_more : (passes : List (Pass Item (Fixed D))) (counters : List (CounterOf (TicketedDesk D g) Item (Fixed D) h)) (pass : Pass Item (Fixed D))
+      (counter : CounterOf (TicketedDesk D g) Item (Fixed D) h)
       → ArePasses passes counters → IsPassOf pass counter → ArePasses (passes ++ pass ∷ []) (counters ++ counter ∷ [])
   passes_more [] [] pass counter all this = (this, tt)
   passes_more (p ∷ passes) (c ∷ counters) pass counter all this = (all.0, passes_more passes counters pass counter all.1 this)
@@ -93,7 +105,8 @@ module _ {D : Type 0} {g h : _} where
   passes_more (p ∷ passes) [] pass counter all this = absurd all
 
   -- the passes of seats that were just opened have all turns
-  pub apart_turns : (seats : List (DeskSeat D g h)) → All (λ seat. turns (seat_pass seat) ≡ 65 * 2 ^ 57) seats → AllByRecursion (λ pass. 65 * 2 ^ 57 ≤ turns pass) (map seat_pass seats)
+  pub apart_turns : (seats : List (DeskSeat D g h)) → All (λ seat. turns (seat_pass seat) ≡ 65 * 2 ^ 57) seats
+      → AllByRecursion (λ pass. 65 * 2 ^ 57 ≤ turns pass) (map seat_pass seats)
   apart_turns [] all = tt
   apart_turns (seat ∷ seats) all =
       let this = All-head (λ (s : DeskSeat D g h). turns (seat_pass s) ≡ 65 * 2 ^ 57) seat seats all in
@@ -111,9 +124,11 @@ module _ {D : Type 0} {g h : _} where
       (omega (arith, this), apart_opened seats (All-tail IsFresh seat seats all))
 
   -- and nothing of their own
-  pub apart_own : (seats : List (DeskSeat D g h)) → All (λ seat. mine (seat_pass seat) ≡ []) seats → (weight : AnsweredQuery → ℕ) (place : ℕ) → own_weight weight place (map seat_pass seats) ≡ 0
+  pub apart_own : (seats : List (DeskSeat D g h)) → All (λ seat. mine (seat_pass seat) ≡ []) seats → (weight : AnsweredQuery → ℕ) (place : ℕ)
+      → own_weight weight place (map seat_pass seats) ≡ 0
   apart_own [] all weight place = refl
-  apart_own (seat ∷ seats) all weight zero = ap (λ ps. sum_by weight (history_of ps)) (All-head (λ (s : DeskSeat D g h). mine (seat_pass s) ≡ []) seat seats all)
+  apart_own (seat ∷ seats) all weight zero =
+      ap (λ ps. sum_by weight (history_of ps)) (All-head (λ (s : DeskSeat D g h). mine (seat_pass s) ≡ []) seat seats all)
   apart_own (seat ∷ seats) all weight (suc place) = apart_own seats (All-tail (λ (s : DeskSeat D g h). mine (seat_pass s) ≡ []) seat seats all) weight place
 
   -- seats that were put together of the same, by passes that have seen more
@@ -139,19 +154,26 @@ module _ {D : Type 0} {g h : _} where
   -- seats as they were
   pub seats_same : (seats : List (DeskSeat D g h)) → AreSeatsOn seats seats
   seats_same [] = tt
-  seats_same (seat ∷ seats) = (record { user_is = refl; journal_is = refl; refusal_is = refl; kept_is = refl; first_is = refl; on = ([], sym (append-nil (seen (seat_pass seat)))) }, seats_same seats)
+  seats_same (seat ∷ seats) = (
+    record { user_is = refl; journal_is = refl; refusal_is = refl; kept_is = refl; first_is = refl; on = ([], sym (append-nil (seen (seat_pass seat)))) },
+    seats_same seats,
+  )
 
   members_are : (seats : List (DeskSeat D g h)) → members_of (map kept_by (map seat_counter seats)) (map seat_pass seats) ≡ map seat_member seats
   members_are [] = refl
   members_are (seat ∷ seats) = ap (λ (ms : List Member). seat_member seat ∷ ms) (members_are seats)
 
-  all_in : (schema : DatabaseSchema) (world : FactSet) (seats : List (DeskSeat D g h)) → AreAllIn schema world seats → AreIn schema world (map kept_by (map seat_counter seats))
+  all_in : (schema : DatabaseSchema) (world : FactSet) (seats : List (DeskSeat D g h)) → AreAllIn schema world seats
+      → AreIn schema world (map kept_by (map seat_counter seats))
   all_in schema world [] is = tt
   all_in schema world (seat ∷ seats) is = ((is.0, is.1), all_in schema world seats is.2)
 
   -- what was served by the desks' passes was served at the seats
-  pub served_at : (users : List User) (seats : List (DeskSeat D g h)) (fixeds : List (Fixed D)) (passes : List (Pass Item (Fixed D))) → fixeds ≡ map kept_by (map seat_counter seats) → passes ≡ map seat_pass seats → (visit : Visit) (marks : SessionMarks)
-      → ((schema : DatabaseSchema) (world : FactSet) → AreIn schema world fixeds → Served schema world users (members_of fixeds passes) visit marks) → IsServedAt users seats visit marks
+  pub served_at : (users : List User) (seats : List (DeskSeat D g h)) (fixeds : List (Fixed D)) (passes : List (Pass Item (Fixed D)))
+      → fixeds ≡ map kept_by (map seat_counter seats) → passes ≡ map seat_pass seats → (visit : Visit) (marks : SessionMarks)
+      → ((schema : DatabaseSchema) (world : FactSet) → AreIn schema world fixeds → Served schema world users (members_of fixeds passes) visit marks)
+      → IsServedAt users seats visit marks
   served_at users seats fixeds passes fixed_is pass_is visit marks served schema world within =
-      subst (λ ms. Served schema world users ms visit marks) (ap (λ fs. members_of fs passes) fixed_is ∙ ap (members_of (map kept_by (map seat_counter seats))) pass_is ∙ members_are seats)
+      subst (λ ms. Served schema world users ms visit marks) (ap (λ fs. members_of fs passes) fixed_is
+      ∙ ap (members_of (map kept_by (map seat_counter seats))) pass_is ∙ members_are seats)
       (served schema world (subst (AreIn schema world) (sym fixed_is) (all_in schema world seats within)))

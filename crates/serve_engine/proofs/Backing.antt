@@ -9,13 +9,15 @@ use Rattle.serve_engine.specs.Doors.{SomeFailed}
 
 module _ {O : Type 0} where
   -- one more door counts what it counts more
-  pub sum_more : (f : O → ℕ) (doors : List O) (door : O) (old mid new : ℕ) → mid ≡ old + sum_by f doors → new ≡ mid + f door → new ≡ old + sum_by f (doors ++ door ∷ [])
+  pub sum_more : (f : O → ℕ) (doors : List O) (door : O) (old mid new : ℕ) → mid ≡ old + sum_by f doors → new ≡ mid + f door
+      → new ≡ old + sum_by f (doors ++ door ∷ [])
   sum_more f doors door old mid new so_far is =
       let more = sum_by-append f doors (door ∷ []) in
       omega (arith, so_far, is, more)
 
   -- and what it brings stands behind
-  pub flat_more : {A : Type 0} (f : O → List A) (doors : List O) (door : O) (old mid new : List A) → mid ≡ old ++ flat_map f doors → new ≡ mid ++ f door → new ≡ old ++ flat_map f (doors ++ door ∷ [])
+  pub flat_more : {A : Type 0} (f : O → List A) (doors : List O) (door : O) (old mid new : List A) → mid ≡ old ++ flat_map f doors → new ≡ mid ++ f door
+      → new ≡ old ++ flat_map f (doors ++ door ∷ [])
   flat_more f doors door old mid new so_far is =
       is ∙ ap (λ l. l ++ f door) so_far ∙ append_assoc old (flat_map f doors) (f door)
       ∙ ap (λ l. old ++ l) (ap (λ l. flat_map f doors ++ l) (sym (append-nil (f door))) ∙ sym (flat_map-append f doors (door ∷ [])))
@@ -31,7 +33,8 @@ module _ {O : Type 0} where
       by (inr last) = inr last
 
   -- where one of the doors failed, the count rose, which doesn't fall
-  pub failed_more : (faults : O → ℕ) (doors : List O) (door : O) (first mid now : ℕ) → first ≤ mid → mid ≤ now → (SomeFailed faults doors → Rose first mid) → (faults door ≢ 0 → Rose mid now) → SomeFailed faults (doors ++ door ∷ []) → Rose first now
+  pub failed_more : (faults : O → ℕ) (doors : List O) (door : O) (first mid now : ℕ) → first ≤ mid → mid ≤ now → (SomeFailed faults doors → Rose first mid)
+      → (faults door ≢ 0 → Rose mid now) → SomeFailed faults (doors ++ door ∷ []) → Rose first now
   failed_more faults doors door first mid now before after so_far this failed = by (failed_before faults doors door failed)
     where
       by : SomeFailed faults doors ⊎ (faults door ≢ 0) → Rose first now

@@ -1,5 +1,6 @@
 -- The connections of links, by those of the doors that they opened and took back.
-use Rattle.std.proofs.Common.{◌≡◌, ◌⊎◌, inl, inr, ℕ, ◌+◌, ◌≤◌, Bool, true, false, List, [], ◌∷◌, ◌++◌, length, refl, sym, ap, subst, ◌∙◌, append-nil, arith, length-append}
+use Rattle.std.proofs.Common.{◌≡◌, ◌⊎◌, inl, inr, ℕ, ◌+◌, ◌≤◌, Bool, true, false, List, [], ◌∷◌, ◌++◌, length, refl, sym, ap, subst, ◌∙◌, append-nil, arith}
+use Rattle.std.proofs.Common.{length-append}
 use Rattle.std.specs.Prelude.{Option, All, ◌==◌, if◌then◌else◌}
 use Rattle.std.specs.List.{AllZip, sum_by, flat_map}
 use Rattle.std.proofs.lemmas.List.Sums.{sum_by-append}
@@ -27,7 +28,8 @@ sum_none f (x ∷ xs) none =
     omega (arith, rest, this, both)
 
 -- at the end no connection is at hand, or the greatest number was reached
-pub at_end : {O : Type 0} (left_of : O → ℕ) (others : List O) {at_hand : ℕ} (at_hand' : ℕ) → at_hand ≡ 0 → at_hand' ≡ at_hand + sum_by left_of others → (a b : ℕ) → {c d : ℕ} → (c ≤ d → a ≤ b)
+pub at_end : {O : Type 0} (left_of : O → ℕ) (others : List O) {at_hand : ℕ} (at_hand' : ℕ) → at_hand ≡ 0 → at_hand' ≡ at_hand + sum_by left_of others
+    → (a b : ℕ) → {c d : ℕ} → (c ≤ d → a ≤ b)
     → All (λ door. left_of door ≡ 0) others ⊎ (c ≤ d) → (at_hand' ≡ 0) ⊎ (a ≤ b)
 at_end left_of others at_hand' none is a b more (inl empty) = let nothing = sum_none left_of others empty in inl (omega (arith, none, is, nothing))
 at_end left_of others at_hand' none is a b more (inr most) = inr (more most)
@@ -68,7 +70,8 @@ module _ {O : Type 0} (given_of : O → ℕ) (back_of : O → List Visit) where
   pub new_back : (doors : List O) → AreNew doors → flat_map back_of doors ≡ []
   new_back [] new = refl
   new_back (d ∷ doors) new =
-      ap (λ l. l ++ flat_map back_of doors) (All-head (λ door. (given_of door ≡ 0) × (back_of door ≡ [])) d doors new).1 ∙ new_back doors (All-tail (λ door. (given_of door ≡ 0) × (back_of door ≡ [])) d doors new)
+      ap (λ l. l ++ flat_map back_of doors) (All-head (λ door. (given_of door ≡ 0) × (back_of door ≡ [])) d doors new).1
+      ∙ new_back doors (All-tail (λ door. (given_of door ≡ 0) × (back_of door ≡ [])) d doors new)
 
   module _ (told : Type 0) (t : told) (left_of faults_of : O → ℕ) (stands : Visit → SessionMarks → Type 0) where
     -- what doors that had given nothing have back: one visit for each connection that they gave, which stands so with its marks
@@ -77,7 +80,8 @@ module _ {O : Type 0} (given_of : O → ℕ) (back_of : O → List Visit) where
       stand : AllZip stands (flat_map back_of others) (marks t)
       gave : sum_by given_of others ≡ total
 
-    have : (total : ℕ) (marks : told → List SessionMarks) (doors others : List O) → AreNew doors → AreServedDoors told given_of left_of faults_of back_of stands total marks doors others → Have total marks others
+    have : (total : ℕ) (marks : told → List SessionMarks) (doors others : List O) → AreNew doors
+        → AreServedDoors told given_of left_of faults_of back_of stands total marks doors others → Have total marks others
     have total marks [] [] new is = record { many = sym is.0; stand = subst (AllZip stands []) (sym (is.1 t)) tt; gave = sym is.0 }
     have total marks (d ∷ doors) (e ∷ others) new is =
         let rest : Have is.1 is.4 others = have is.1 is.4 doors others (All-tail (λ door. (given_of door ≡ 0) × (back_of door ≡ [])) d doors new) is.7 in
@@ -96,18 +100,23 @@ module _ {O : Type 0} (given_of : O → ℕ) (back_of : O → List Visit) where
         record {
           many = omega (arith, both, count, long, all, more);
           stand = subst (AllZip stands (back_of e ++ flat_map back_of others)) (sym (is.5 t))
-              (zip_both stands (back_of e) (flat_map back_of others) (is.3 t) (is.4 t) (subst (λ vs. AllZip stands vs (is.3 t)) (sym behind) visits.stand) rest.stand);
+              (zip_both stands (back_of e) (flat_map back_of others) (is.3 t) (is.4 t)
+              (subst (λ vs. AllZip stands vs (is.3 t)) (sym behind) visits.stand) rest.stand);
           gave = omega (arith, here, none, both, gave, first);
         }
     have total marks [] (e ∷ others) new is = absurd is
     have total marks (d ∷ doors) [] new is = absurd is
 
-module _ (schema : DatabaseSchema) (world : FactSet) (header : List ℕ) (journals : Journals) (users : List User) {O : Type 0} (told : Type 0) (t : told) (given_of left_of faults_of : O → ℕ) (back_of : O → List Visit)
-    (doors others : List O) (new : AreNew given_of back_of doors) (given given' : ℕ) (back back' : List Visit) (gave : given' ≡ given + sum_by given_of others) (came : back' ≡ back ++ flat_map back_of others) where
-  serves_all : (refusals : List (Option DeskError)) (is_broken : Bool) → ServesDoors schema world header journals users told given_of left_of faults_of back_of doors others refusals is_broken
+module _ (schema : DatabaseSchema) (world : FactSet) (header : List ℕ) (journals : Journals) (users : List User) {O : Type 0} (told : Type 0) (t : told)
+    (given_of left_of faults_of : O → ℕ) (back_of : O → List Visit)
+    (doors others : List O) (new : AreNew given_of back_of doors) (given given' : ℕ) (back back' : List Visit) (gave : given' ≡ given + sum_by given_of others)
+    (came : back' ≡ back ++ flat_map back_of others) where
+  serves_all : (refusals : List (Option DeskError)) (is_broken : Bool)
+      → ServesDoors schema world header journals users told given_of left_of faults_of back_of doors others refusals is_broken
       → Serves schema world header journals users given given' back back' refusals is_broken
   serves_all refusals is_broken serves =
-      let has : Have given_of back_of told t left_of faults_of (Served schema world users serves.members) serves.total serves.marks others = have given_of back_of told t left_of faults_of (Served schema world users serves.members) serves.total serves.marks doors others new serves.served in
+      let has : Have given_of back_of told t left_of faults_of (Served schema world users serves.members) serves.total serves.marks others =
+      have given_of back_of told t left_of faults_of (Served schema world users serves.members) serves.total serves.marks doors others new serves.served in
       record {
         members = serves.members;
         each_user = serves.each_user;
@@ -119,7 +128,8 @@ module _ (schema : DatabaseSchema) (world : FactSet) (header : List ℕ) (journa
         all_told = serves.all_told t;
       }
 
-  serves_nobody : ServesNoDoor schema world header journals users told given_of left_of faults_of back_of doors others → ServesNobody journals given given' back back'
+  serves_nobody : ServesNoDoor schema world header journals users told given_of left_of faults_of back_of doors others
+      → ServesNobody journals given given' back back'
   serves_nobody none =
       let nothing = ap (sum_by given_of) none.doors_same ∙ new_given given_of back_of doors new in
       record {
@@ -129,20 +139,25 @@ module _ (schema : DatabaseSchema) (world : FactSet) (header : List ℕ) (journa
       }
 
   either : ServesNoDoor schema world header journals users told given_of left_of faults_of back_of doors others
-      ⊎ ((refusals : List (Option DeskError)) × (is_broken : Bool) × ServesDoors schema world header journals users told given_of left_of faults_of back_of doors others refusals is_broken)
-      → ServesNobody journals given given' back back' ⊎ ((refusals : List (Option DeskError)) × (is_broken : Bool) × Serves schema world header journals users given given' back back' refusals is_broken)
+      ⊎ ((refusals : List (Option DeskError)) × (is_broken : Bool)
+      × ServesDoors schema world header journals users told given_of left_of faults_of back_of doors others refusals is_broken)
+      → ServesNobody journals given given' back back'
+      ⊎ ((refusals : List (Option DeskError)) × (is_broken : Bool) × Serves schema world header journals users given given' back back' refusals is_broken)
   either (inl none) = inl (serves_nobody none)
   either (inr some) = inr (some.0, some.1, serves_all some.0 some.1 some.2)
 
   none : ServesNoDoor schema world header journals users told given_of left_of faults_of back_of doors others
-      ⊎ ((refusals : List (Option DeskError)) × (is_broken : Bool) × (served : ServesDoors schema world header journals users told given_of left_of faults_of back_of doors others refusals is_broken) × (served.total ≡ 0))
+      ⊎ ((refusals : List (Option DeskError)) × (is_broken : Bool)
+      × (served : ServesDoors schema world header journals users told given_of left_of faults_of back_of doors others refusals is_broken)
+      × (served.total ≡ 0))
       → ServesNone schema world header journals users given given' back back'
   unfolding serves_all
   none (inl nobody) = inl (serves_nobody nobody)
   none (inr (refusals, is_broken, served, zero)) = inr (refusals, is_broken, serves_all refusals is_broken served, zero)
 
   -- each end, of the doors and so of the links
-  pub ends_of : (end : ServeEnd) → EndsAt schema world header journals users told given_of left_of faults_of back_of doors others end → Ends schema world header journals users given given' back back' end
+  pub ends_of : (end : ServeEnd) → EndsAt schema world header journals users told given_of left_of faults_of back_of doors others end
+      → Ends schema world header journals users given given' back back' end
   ends_of (Done refusals is_broken) is = serves_all refusals.items is_broken is
   ends_of LinksFault is = either is
   ends_of ShelfFault is = serves_nobody is

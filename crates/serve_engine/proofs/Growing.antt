@@ -15,8 +15,10 @@ use Rattle.serve_engine.specs.Served.{Member, SessionMarks, IsLater, RepliedAt, 
 
 module _ (schema : DatabaseSchema) (world : FactSet) where
   -- replies by a history are replies by a longer one
-  replied_longer : (user : UserProfile) (standing : Standing) (history more : History) (broke broke' : Bool) {least : ℕ} {asks : List (Text × Reply)} {entries : History} {fails : Bool} → (broke ≡ true → broke' ≡ true)
-      → Replied schema world user standing history broke least false asks entries fails → Replied schema world user standing (history ++ more) broke' least false asks entries (fails || false)
+  replied_longer : (user : UserProfile) (standing : Standing) (history more : History)
+      (broke broke' : Bool) {least : ℕ} {asks : List (Text × Reply)} {entries : History} {fails : Bool} → (broke ≡ true → broke' ≡ true)
+      → Replied schema world user standing history broke least false asks entries fails
+      → Replied schema world user standing (history ++ more) broke' least false asks entries (fails || false)
   replied_longer user standing history more broke broke' {least} {asks} {entries} {fails} on chain =
       let longer = length-append history more in
       let both = replied_then schema world user standing history more broke broke' on chain (nothing (omega (arith, longer)) on) in
@@ -29,23 +31,30 @@ module _ (schema : DatabaseSchema) (world : FactSet) where
       → Replied schema world after.profile after.standing after.history after.broke (length after.opening) false asks entries (fails || false)
   replied_later before after {asks} {entries} {fails} later chain =
       let longer = replied_longer before.profile before.standing before.history later.further.0 before.broke after.broke later.broke chain in
-      subst (λ u. Replied schema world u after.standing after.history after.broke (length after.opening) false asks entries (fails || false)) (sym later.profile)
-      (subst (λ s. Replied schema world before.profile s after.history after.broke (length after.opening) false asks entries (fails || false)) (sym later.standing)
-      (subst (λ h. Replied schema world before.profile before.standing h after.broke (length after.opening) false asks entries (fails || false)) (sym later.further.1)
-      (subst (λ o. Replied schema world before.profile before.standing (before.history ++ later.further.0) after.broke (length o) false asks entries (fails || false)) (sym later.opening) longer)))
+      subst (λ u. Replied schema world u after.standing after.history after.broke (length after.opening) false asks entries (fails || false))
+      (sym later.profile)
+      (subst (λ s. Replied schema world before.profile s after.history after.broke (length after.opening) false asks entries (fails || false))
+      (sym later.standing)
+      (subst (λ h. Replied schema world before.profile before.standing h after.broke (length after.opening) false asks entries (fails || false))
+      (sym later.further.1)
+      (subst (λ o. Replied schema world before.profile before.standing (before.history ++ later.further.0) after.broke (length o) false asks entries
+      (fails || false)) (sym later.opening) longer)))
 
-  at_later : {place : ℕ} {before : List Member} {asks : List (Text × Reply)} {entries : History} (after : List Member) → AllZip IsLater before after → RepliedAt schema world place before asks entries → RepliedAt schema world place after asks entries
+  at_later : {place : ℕ} {before : List Member} {asks : List (Text × Reply)} {entries : History} (after : List Member) → AllZip IsLater before after
+      → RepliedAt schema world place before asks entries → RepliedAt schema world place after asks entries
   at_later [] all (here chain) = absurd all
   at_later [] all (further deep) = absurd all
   at_later (m ∷ after) all (here {member = member} chain) = here (replied_later member m all.0 chain)
   at_later (m ∷ after) all (further deep) = further (at_later after all.1 deep)
 
-  to_later : (who : Option ℕ) (asks : List (Text × Reply)) (entries : History) (before after : List Member) → AllZip IsLater before after → RepliedTo schema world who before asks entries → RepliedTo schema world who after asks entries
+  to_later : (who : Option ℕ) (asks : List (Text × Reply)) (entries : History) (before after : List Member) → AllZip IsLater before after
+      → RepliedTo schema world who before asks entries → RepliedTo schema world who after asks entries
   to_later None asks entries before after all replied = replied
   to_later (Some place) asks entries before after all replied = at_later after all replied
 
   -- A connection that was served stays so while histories grow and appends fail.
-  pub served_later : (users : List User) (before after : List Member) (visit : Visit) (marks : SessionMarks) → AllZip IsLater before after → Served schema world users before visit marks → Served schema world users after visit marks
+  pub served_later : (users : List User) (before after : List Member) (visit : Visit) (marks : SessionMarks) → AllZip IsLater before after
+      → Served schema world users before visit marks → Served schema world users after visit marks
   served_later users before after visit marks all served = record {
     lines = served.lines;
     asks = served.asks;

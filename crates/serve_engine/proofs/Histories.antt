@@ -1,5 +1,6 @@
 -- Each user's one history, from the opening of his journal to the disk that is back.
-use Rattle.std.proofs.Common.{◌≡◌, ◌⊎◌, inl, inr, ℕ, suc, ◌+◌, ◌*◌, ◌^◌, ◌≤◌, Bool, true, false, List, [], ◌∷◌, ◌++◌, length, map, refl, sym, ap, subst, ◌∙◌, arith}
+use Rattle.std.proofs.Common.{◌≡◌, ◌⊎◌, inl, inr, ℕ, suc, ◌+◌, ◌*◌, ◌^◌, ◌≤◌, Bool, true, false, List, [], ◌∷◌, ◌++◌, length, map, refl, sym, ap, subst, ◌∙◌}
+use Rattle.std.proofs.Common.{arith}
 use Rattle.std.specs.Prelude.{Option, Some, None, Vec, is_some, ◌||◌, string_bytes, All}
 use Rattle.std.specs.declared.alloc.Global.{Global}
 use Rattle.std.specs.List.{AllByRecursion, list_any, sum_by}
@@ -31,7 +32,8 @@ use Rattle.desk_counter.specs.Sole.{pairs_of_sole}
 use Rattle.desk_counter.proofs.Pairs.{history_all}
 use Rattle.turnstile.specs.Passes.{mine, turns}
 use Rattle.desk_counter.specs.Counters.{first_history}
-use Rattle.desk_crew.specs.Crew.{IsFresh, IsClosed, refusal_of, seat_user, seat_journal, seat_kept, seat_standing, seat_history, seat_disk, seat_broke, seat_state}
+use Rattle.desk_crew.specs.Crew.{IsFresh, IsClosed, refusal_of, seat_user, seat_journal, seat_kept, seat_standing, seat_history, seat_disk, seat_broke}
+use Rattle.desk_crew.specs.Crew.{seat_state}
 use Rattle.desk_crew.specs.Seats.{DeskSeat}
 use Rattle.desk_crew.specs.Shelved.{Journals, journals, journals_on, AreLater, IsSeatOf, AreSeatsOf, IsBack, AreBack}
 use Rattle.session_core.specs.Members.{AreDesksOf, HasSeenLegal, HaveSeenLegal}
@@ -47,7 +49,8 @@ use Rattle.serve_engine.specs.Sharing.{seat_counter, seat_pass, seat_member, IsS
 
 module _ (schema : DatabaseSchema) (world : FactSet) (user : UserProfile) (header bytes : List ℕ) (T : Type 0) (t : T) where
   -- a cause that is told is one for all, and a count that rose within a longer time rose in it
-  sealed_wide : (first before now last : ℕ) → first ≤ before → now ≤ last → (why : DeskError) → IsSealedBy schema world user T header bytes before now why → IsSealedBy schema world user (Unit {0}) header bytes first last why
+  sealed_wide : (first before now last : ℕ) → first ≤ before → now ≤ last → (why : DeskError) → IsSealedBy schema world user T header bytes before now why
+      → IsSealedBy schema world user (Unit {0}) header bytes first last why
   sealed_wide first before now last a b (Journal journal_error.Memory) is = is
   sealed_wide first before now last a b (Journal journal_error.DiskFault) is = rose_wide first before now last a b is
   sealed_wide first before now last a b (Journal journal_error.NotAJournal) is = λ u. is t
@@ -58,20 +61,23 @@ module _ (schema : DatabaseSchema) (world : FactSet) (user : UserProfile) (heade
   sealed_wide first before now last a b (Size number) is = λ u. is t
   sealed_wide first before now last a b (NotAdmitted admission) is = λ u. is t
 
-  standing_wide : (entries : History) (first before now last : ℕ) → first ≤ before → now ≤ last → (standing : Standing) → IsStanding schema world user T header bytes entries before now standing
+  standing_wide : (entries : History) (first before now last : ℕ) → first ≤ before → now ≤ last → (standing : Standing)
+      → IsStanding schema world user T header bytes entries before now standing
       → IsStanding schema world user (Unit {0}) header bytes entries first last standing
   standing_wide entries first before now last a b Open is = (is.0, λ u. is.1 t)
   standing_wide entries first before now last a b (Closed admission) is = (is.0, is.1, is.2, λ u. is.3 t)
   standing_wide entries first before now last a b (Sealed why) is = (is.0, sealed_wide first before now last a b why is.1)
 
 -- only a user who is admitted is served
-open_admits : (schema : DatabaseSchema) (world : FactSet) (user : UserProfile) (T : Type 0) (header bytes : List ℕ) (entries : History) (before now : ℕ) (standing : Standing) → IsStanding schema world user T header bytes entries before now standing → is_open standing ≡ true
+open_admits : (schema : DatabaseSchema) (world : FactSet) (user : UserProfile) (T : Type 0) (header bytes : List ℕ) (entries : History) (before now : ℕ)
+    (standing : Standing) → IsStanding schema world user T header bytes entries before now standing → is_open standing ≡ true
     → admitted schema world user ≡ true
 open_admits schema world user T header bytes entries before now Open is serves = is.0
 open_admits schema world user T header bytes entries before now (Closed admission) is serves = absurd cc
 open_admits schema world user T header bytes entries before now (Sealed why) is serves = absurd cc
 
-module _ (schema : DatabaseSchema) (world : FactSet) (header directory : List ℕ) {D : Type 0} {g h : _} (T S : Type 0) (t : T) (s : S) (reads : D → List ℕ) (image : D → List ℕ → Type 0) (faults : D → ℕ)
+module _ (schema : DatabaseSchema) (world : FactSet) (header directory : List ℕ) {D : Type 0} {g h : _} (T S : Type 0) (t : T) (s : S) (reads : D → List ℕ)
+    (image : D → List ℕ → Type 0) (faults : D → ℕ)
     (read_is_image : (d : D) → T → image d (reads d)) (disk disk' : Text → Option D) (count count' : Text → ℕ) where
   abbrev Opened : User → DeskSeat D g h → Type 0
   Opened user seat = IsSeatOf S reads image faults T schema world header directory disk count user seat
@@ -80,9 +86,11 @@ module _ (schema : DatabaseSchema) (world : FactSet) (header directory : List �
   Back seat = IsBack S reads image faults disk' count' seat
 
   -- a desk whose journal was refused, or at which nothing was appended, leaves the disk of its opening
-  left_alone : (seat : DeskSeat D g h) (after : D) → IsClosed S image faults seat.desk after → (is_sealed (seat_standing seat) ≡ true) ⊎ ((seat_history seat ≡ (seat_kept seat).opening) × (seat_broke seat ≡ false)) → after ≡ (seat_kept seat).disk
+  left_alone : (seat : DeskSeat D g h) (after : D) → IsClosed S image faults seat.desk after → (is_sealed (seat_standing seat) ≡ true)
+      ⊎ ((seat_history seat ≡ (seat_kept seat).opening) × (seat_broke seat ≡ false)) → after ≡ (seat_kept seat).disk
   left_alone seat after closed (inl sealed) = closed.shut sealed
-  left_alone seat after closed (inr (same, unbroken)) = closed.still (record { count = ap length same; none = none_flies (flying (pairs_of_sole seat.desk)) unbroken })
+  left_alone seat after closed (inr (same, unbroken)) =
+      closed.still (record { count = ap length same; none = none_flies (flying (pairs_of_sole seat.desk)) unbroken })
     where
       none_flies : (in_flight : Option AnsweredQuery) → is_some in_flight ≡ false → in_flight ≡ None
       none_flies None none = refl
@@ -110,13 +118,16 @@ module _ (schema : DatabaseSchema) (world : FactSet) (header directory : List �
         let while : faults (seat_kept new).disk ≤ faults back.left.closed = closed.later in
         let disks : faults (seat_kept new).disk ≡ faults (seat_disk old) = ap (λ (f : Fixed D). faults f.disk) kept in
         let ends : faults back.left.closed ≤ faults back.now = left.later in
-        let read_was : reads opened.taken ≡ bytes_on reads (disk name) = taken_reads reads image (disk (seat_journal old)) opened.taken (opened.from s) ∙ ap (λ n. bytes_on reads (disk n)) opened.journal_is in
+        let read_was : reads opened.taken ≡ bytes_on reads (disk name) =
+        taken_reads reads image (disk (seat_journal old)) opened.taken (opened.from s) ∙ ap (λ n. bytes_on reads (disk n)) opened.journal_is in
         let standing : Standing = seat_standing new in
         let standing_is : seat_standing old ≡ standing = ap (λ (f : Fixed D). f.standing) (sym kept) in
         let opening : seat_history old ≡ (seat_kept new).opening = sym is.opening_is ∙ ap (λ (f : Fixed D). f.opening) (sym kept) in
         let legal : IsLegal schema world (seat_kept new).user (seat_history new) =
-        subst (λ w. IsLegal schema w (seat_kept new).user (seat_history new)) world_is (subst (λ d. IsLegal d (seat_kept new).world (seat_kept new).user (seat_history new)) schema_is closed.legal) in
-        let holds : is_sealed standing ≡ false → (c : List ℕ) → image back.left.closed c → Holds schema world (seat_kept new).user header (seat_state new) c = λ served c here.
+        subst (λ w. IsLegal schema w (seat_kept new).user (seat_history new)) world_is
+        (subst (λ d. IsLegal d (seat_kept new).world (seat_kept new).user (seat_history new)) schema_is closed.legal) in
+        let holds : is_sealed standing ≡ false → (c : List ℕ) → image back.left.closed c → Holds schema world (seat_kept new).user header (seat_state new) c =
+        λ served c here.
         subst (λ hd. Holds schema world (seat_kept new).user hd (seat_state new) c) header_is
         (subst (λ w. Holds schema w (seat_kept new).user (seat_kept new).header (seat_state new) c) world_is
         (subst (λ d. Holds d (seat_kept new).world (seat_kept new).user (seat_kept new).header (seat_state new) c) schema_is (closed.holds s served c here))) in
@@ -125,30 +136,54 @@ module _ (schema : DatabaseSchema) (world : FactSet) (header directory : List �
           standing = standing;
           standing_is = refl;
           refusal_is = is.refusal ∙ ap refusal_of standing_is;
-          cause = standing_wide schema world (seat_kept new).user header (bytes_on reads (disk name)) T t (seat_kept new).opening (count name) (faults opened.taken) (faults (seat_disk old)) (count' name) (omega (arith, before)) (omega (arith, while, disks, ends, counted)) standing
-              (subst (λ (st : Standing). IsStanding schema world (seat_kept new).user T header (bytes_on reads (disk name)) (seat_kept new).opening (faults opened.taken) (faults (seat_disk old)) st) standing_is
-              (subst (λ (e : History). IsStanding schema world (seat_kept new).user T header (bytes_on reads (disk name)) e (faults opened.taken) (faults (seat_disk old)) (seat_standing old)) opening
-              (subst (λ b. IsStanding schema world (seat_kept new).user T header b (seat_history old) (faults opened.taken) (faults (seat_disk old)) (seat_standing old)) read_was
-              (subst (λ (p : UserProfile). IsStanding schema world p T header (reads opened.taken) (seat_history old) (faults opened.taken) (faults (seat_disk old)) (seat_standing old)) (ap profile_of opened.user_is ∙ sym user_is) is.standing))));
-          goes_on = (history_of on.on.0, ap history_of on.on.1 ∙ history_all (pairs_of_sole old.desk) on.on.0 ∙ ap (λ (e : History). e ++ history_of on.on.0) opening);
+          cause = standing_wide schema world (seat_kept new).user header (bytes_on reads (disk name)) T t (seat_kept new).opening (count name)
+              (faults opened.taken) (faults (seat_disk old)) (count' name) (omega (arith, before)) (omega (arith, while, disks, ends, counted)) standing
+              (subst (λ (st : Standing).
+              IsStanding schema world (seat_kept new).user T header (bytes_on reads (disk name)) (seat_kept new).opening (faults opened.taken)
+              (faults (seat_disk old)) st) standing_is
+              (subst (λ (e : History).
+              IsStanding schema world (seat_kept new).user T header (bytes_on reads (disk name)) e (faults opened.taken) (faults (seat_disk old))
+              (seat_standing old)) opening
+              (subst (λ b. IsStanding schema world (seat_kept new).user T header b (seat_history old) (faults opened.taken) (faults (seat_disk old))
+              (seat_standing old)) read_was
+              (subst (λ (p : UserProfile).
+              IsStanding schema world p T header (reads opened.taken) (seat_history old) (faults opened.taken) (faults (seat_disk old)) (seat_standing old))
+              (ap profile_of opened.user_is ∙ sym user_is) is.standing))));
+          goes_on = (
+            history_of on.on.0,
+            ap history_of on.on.1 ∙ history_all (pairs_of_sole old.desk) on.on.0 ∙ ap (λ (e : History). e ++ history_of on.on.0) opening,
+          );
           legal = legal;
-          hides = λ admits. hide schema world (seat_kept new).user (seat_history new) valid (subst (λ (p : UserProfile). is_user_of schema p ≡ true) (sym user_is) limits.sentences) admits legal;
+          hides = λ admits.
+              hide schema world (seat_kept new).user (seat_history new) valid
+              (subst (λ (p : UserProfile). is_user_of schema p ≡ true) (sym user_is) limits.sentences) admits legal;
           in_flight = flying (pairs_of_sole new.desk);
           broke_is = refl;
-          reads = λ served. subst (λ o. Holds schema world (seat_kept new).user header (seat_state new) (bytes_on reads o)) (sym held) (holds served (reads back.now) (left.images (reads back.now) (read_is_image back.now t)));
+          reads = λ served.
+              subst (λ o. Holds schema world (seat_kept new).user header (seat_state new) (bytes_on reads o)) (sym held)
+              (holds served (reads back.now) (left.images (reads back.now) (read_is_image back.now t)));
           stands = λ served c here. holds served c (left.images c (subst (λ o. image_on image o c) held here));
           idle = λ shut. let none = closed.idle shut in (none.0, ap (λ (o : Option AnsweredQuery). is_some o) none.1);
           kept = λ why. (
-            ap (bytes_on reads) held ∙ left.reads_same ∙ ap reads (left_alone new back.left.closed closed why) ∙ ap (λ (f : Fixed D). reads f.disk) kept ∙ opened.left.reads_same ∙ read_was,
-            λ c here. subst (λ n. image_on image (disk n) c) opened.journal_is (taken_images reads image (disk (seat_journal old)) opened.taken c (opened.from s)
-                (opened.left.images c (subst (λ (f : Fixed D). image f.disk c) kept (subst (λ d. image d c) (left_alone new back.left.closed closed why) (left.images c (subst (λ o. image_on image o c) held here)))))),
+            ap (bytes_on reads) held ∙ left.reads_same ∙ ap reads (left_alone new back.left.closed closed why) ∙ ap (λ (f : Fixed D). reads f.disk) kept
+                ∙ opened.left.reads_same ∙ read_was,
+            λ c here. subst (λ n. image_on image (disk n) c) opened.journal_is
+                (taken_images reads image (disk (seat_journal old)) opened.taken c (opened.from s)
+                (opened.left.images c
+                (subst (λ (f : Fixed D). image f.disk c) kept
+                (subst (λ d. image d c) (left_alone new back.left.closed closed why) (left.images c (subst (λ o. image_on image o c) held here)))))),
           );
-          failed = λ broke. rose_wide (count name) (faults (seat_kept new).disk) (faults back.left.closed) (count' name) (omega (arith, before, begins, disks)) (omega (arith, ends, counted)) (closed.cause broke);
+          failed = λ broke.
+              rose_wide (count name) (faults (seat_kept new).disk) (faults back.left.closed) (count' name) (omega (arith, before, begins, disks))
+              (omega (arith, ends, counted)) (closed.cause broke);
         }
 
     -- all users
-    pub have_served : (users : List User) (olds news : List (DeskSeat D g h)) → All (λ user. KeepsLimits schema (profile_of user)) users → AreSeatsOf S reads image faults T schema world header directory disk count users olds → AreSeatsOn olds news
-        → AreBack S reads image faults disk' count' news → HaveServed schema world header (journals_on reads image directory disk disk' count count') users (map seat_member news) (map (λ seat. seat.refusal) olds)
+    pub have_served : (users : List User) (olds news : List (DeskSeat D g h)) → All (λ user. KeepsLimits schema (profile_of user)) users
+        → AreSeatsOf S reads image faults T schema world header directory disk count users olds → AreSeatsOn olds news
+        → AreBack S reads image faults disk' count' news
+        → HaveServed schema world header (journals_on reads image directory disk disk' count count') users (map seat_member news)
+        (map (λ seat. seat.refusal) olds)
     have_served [] [] [] limits opened on back = tt
     have_served (user ∷ users) (old ∷ olds) (new ∷ news) limits opened on back = (
       has_served user old new (All-head (λ u. KeepsLimits schema (profile_of u)) user users limits) opened.0 on.0 back.0,
@@ -165,7 +200,8 @@ module _ (schema : DatabaseSchema) (world : FactSet) (header directory : List �
     OwnFrom place seats = (weight : AnsweredQuery → ℕ) (k : ℕ) → own_weight weight k (map seat_pass seats) ≡ told_weight weight (place + k) told
 
     -- as they do from the first place on, where they had nothing as the seats were opened
-    pub own_from : (olds news : List (DeskSeat D g h)) → ((weight : AnsweredQuery → ℕ) (k : ℕ) → own_weight weight k (map seat_pass olds) ≡ 0) → OwnMore (map seat_pass olds) (map seat_pass news) told → OwnFrom 0 news
+    pub own_from : (olds news : List (DeskSeat D g h)) → ((weight : AnsweredQuery → ℕ) (k : ℕ) → own_weight weight k (map seat_pass olds) ≡ 0)
+        → OwnMore (map seat_pass olds) (map seat_pass news) told → OwnFrom 0 news
     own_from olds news none more weight k =
         let before = none weight k in
         let after = more weight k in
@@ -173,18 +209,22 @@ module _ (schema : DatabaseSchema) (world : FactSet) (header directory : List �
         omega (arith, before, after, same)
 
     -- so behind each user's opening history there is what he was told
-    pub all_told : (place : ℕ) (users : List User) (olds news : List (DeskSeat D g h)) → AreSeatsOf S reads image faults T schema world header directory disk count users olds → AreSeatsOn olds news → AreBack S reads image faults disk' count' news
+    pub all_told : (place : ℕ) (users : List User) (olds news : List (DeskSeat D g h))
+        → AreSeatsOf S reads image faults T schema world header directory disk count users olds → AreSeatsOn olds news
+        → AreBack S reads image faults disk' count' news
         → OwnFrom place news → AreAllTold place (map seat_member news) told
     all_told place [] [] [] opened on back own = tt
     all_told place (user ∷ users) (old ∷ olds) (new ∷ news) opened on back own =
         let added : seat_history new ≡ first_history (seat_counter new) ++ history_of (mine (seat_pass new)) = back.0.left.is_closed.added in
-        let opening : first_history (seat_counter new) ≡ (seat_kept new).opening = on.0.first_is ∙ opened.0.opened.first_is ∙ sym opened.0.opened.opening_is ∙ ap (λ (f : Fixed D). f.opening) (sym on.0.kept_is) in (
+        let opening : first_history (seat_counter new) ≡ (seat_kept new).opening =
+        on.0.first_is ∙ opened.0.opened.first_is ∙ sym opened.0.opened.opening_is ∙ ap (λ (f : Fixed D). f.opening) (sym on.0.kept_is) in (
           λ weight.
               (let whole = ap (sum_by weight) added ∙ sum_by-append weight (first_history (seat_counter new)) (history_of (mine (seat_pass new))) in
               let first = ap (sum_by weight) opening in
               let here = own weight 0 ∙ ap (λ k. told_weight weight k told) (let e : place + 0 ≡ place = omega arith in e) in
               omega (arith, whole, first, here)),
-          all_told (suc place) users olds news opened.1 on.1 back.1 (λ weight k. own weight (suc k) ∙ ap (λ n. told_weight weight n told) (let e : place + suc k ≡ suc place + k = omega arith in e)),
+          all_told (suc place) users olds news opened.1 on.1 back.1 (λ weight k. own weight (suc k)
+              ∙ ap (λ n. told_weight weight n told) (let e : place + suc k ≡ suc place + k = omega arith in e)),
         )
     all_told place [] (old ∷ olds) news opened on back own = absurd opened
     all_told place (user ∷ users) [] news opened on back own = absurd opened
@@ -192,7 +232,8 @@ module _ (schema : DatabaseSchema) (world : FactSet) (header directory : List �
     all_told place (user ∷ users) (old ∷ olds) [] opened on back own = absurd on
 
   -- all desks are in the one world
-  pub all_in_world : (users : List User) (olds news : List (DeskSeat D g h)) → AreSeatsOf S reads image faults T schema world header directory disk count users olds → AreSeatsOn olds news → AreAllIn schema world news
+  pub all_in_world : (users : List User) (olds news : List (DeskSeat D g h))
+      → AreSeatsOf S reads image faults T schema world header directory disk count users olds → AreSeatsOn olds news → AreAllIn schema world news
   all_in_world [] [] [] opened on = tt
   all_in_world (user ∷ users) (old ∷ olds) (new ∷ news) opened on =
       let served = opened.0.opened.served in (
@@ -214,14 +255,17 @@ module _ {D : Type 0} {g h : _} where
   -- the journals are the same, and so are the disks as the desks were opened
   pub journals_on_same : (olds news : List (DeskSeat D g h)) → AreSeatsOn olds news → journals news ≡ journals olds
   journals_on_same [] [] on = refl
-  journals_on_same (old ∷ olds) (new ∷ news) on = ap (λ n. n ∷ journals news) on.0.journal_is ∙ ap (λ ns. seat_journal old ∷ ns) (journals_on_same olds news on.1)
+  journals_on_same (old ∷ olds) (new ∷ news) on =
+      ap (λ n. n ∷ journals news) on.0.journal_is ∙ ap (λ ns. seat_journal old ∷ ns) (journals_on_same olds news on.1)
   journals_on_same [] (new ∷ news) on = absurd on
   journals_on_same (old ∷ olds) [] on = absurd on
 
-  pub later_on_seats : (faults : D → ℕ) (count : Text → ℕ) (olds news : List (DeskSeat D g h)) → AreSeatsOn olds news → AreLater faults count olds → AreLater faults count news
+  pub later_on_seats : (faults : D → ℕ) (count : Text → ℕ) (olds news : List (DeskSeat D g h)) → AreSeatsOn olds news → AreLater faults count olds
+      → AreLater faults count news
   later_on_seats faults count [] [] on later = tt
   later_on_seats faults count (old ∷ olds) (new ∷ news) on later = (
-    subst (λ d. count (seat_journal new) ≤ faults d) (ap (λ (f : Fixed D). f.disk) (sym on.0.kept_is)) (subst (λ n. count n ≤ faults (seat_disk old)) (sym on.0.journal_is) later.0),
+    subst (λ d. count (seat_journal new) ≤ faults d) (ap (λ (f : Fixed D). f.disk) (sym on.0.kept_is))
+        (subst (λ n. count n ≤ faults (seat_disk old)) (sym on.0.journal_is) later.0),
     later_on_seats faults count olds news on.1 later.1,
   )
   later_on_seats faults count [] (new ∷ news) on later = absurd on
@@ -231,14 +275,16 @@ module _ {D : Type 0} {g h : _} where
 
 module _ {O : Type 0} (told : Type 0) (given_of left_of faults_of : O → ℕ) (back_of : O → List Visit) (stands : Visit → SessionMarks → Type 0) where
   -- as many doors come back
-  pub doors_many : (total : ℕ) (marks : told → List SessionMarks) (doors others : List O) → AreServedDoors told given_of left_of faults_of back_of stands total marks doors others → length others ≡ length doors
+  pub doors_many : (total : ℕ) (marks : told → List SessionMarks) (doors others : List O)
+      → AreServedDoors told given_of left_of faults_of back_of stands total marks doors others → length others ≡ length doors
   doors_many total marks [] [] is = refl
   doors_many total marks (d ∷ doors) (e ∷ others) is = ap suc (doors_many is.1 is.4 doors others is.7)
   doors_many total marks [] (e ∷ others) is = absurd is
   doors_many total marks (d ∷ doors) [] is = absurd is
 
   -- together they have given so many more
-  pub doors_gave : told → (total : ℕ) (marks : told → List SessionMarks) (doors others : List O) → AreServedDoors told given_of left_of faults_of back_of stands total marks doors others → sum_by given_of others ≡ sum_by given_of doors + total
+  pub doors_gave : told → (total : ℕ) (marks : told → List SessionMarks) (doors others : List O)
+      → AreServedDoors told given_of left_of faults_of back_of stands total marks doors others → sum_by given_of others ≡ sum_by given_of doors + total
   doors_gave t total marks [] [] is = let none = is.0 in omega (arith, none)
   doors_gave t total marks (d ∷ doors) (e ∷ others) is =
       let rest = doors_gave t is.1 is.4 doors others is.7 in
@@ -251,7 +297,9 @@ module _ {O : Type 0} (told : Type 0) (given_of left_of faults_of : O → ℕ) (
   doors_gave t total marks (d ∷ doors) [] is = absurd is
 
   -- where serving came to its end, no door has a connection left, or the limit was reached
-  pub ended_at : told → (ends_of : O → ℕ) (limit total : ℕ) (marks : told → List SessionMarks) (doors others : List O) (went : Outcome) (refusals : Vec (Option DeskError) Global) (is_broken : Bool) → AreServedDoors told given_of left_of faults_of back_of stands total marks doors others
+  pub ended_at : told
+      → (ends_of : O → ℕ) (limit total : ℕ) (marks : told → List SessionMarks) (doors others : List O) (went : Outcome)
+      (refusals : Vec (Option DeskError) Global) (is_broken : Bool) → AreServedDoors told given_of left_of faults_of back_of stands total marks doors others
       → HasOutcome told left_of ends_of faults_of limit went total others → IsDone (end_of went refusals is_broken)
       → All (λ door. left_of door ≡ 0) others ⊎ (sum_by given_of doors + limit ≤ sum_by given_of others + sum_by (λ door. one_if_any (ends_of door)) others)
   ended_at t ends_of limit total marks doors others outcome.Served refusals is_broken served has done = by (has t)
@@ -263,7 +311,8 @@ module _ {O : Type 0} (told : Type 0) (given_of left_of faults_of : O → ℕ) (
   ended_at t ends_of limit total marks doors others outcome.LinksFailed refusals is_broken served has done = absurd done
   ended_at t ends_of limit total marks doors others outcome.Memory refusals is_broken served has done = absurd done
 
-  pub failed_at : (ends_of : O → ℕ) (limit total : ℕ) (others : List O) (went : Outcome) (refusals : Vec (Option DeskError) Global) (is_broken : Bool) → HasOutcome told left_of ends_of faults_of limit went total others → end_of went refusals is_broken ≡ LinksFault
+  pub failed_at : (ends_of : O → ℕ) (limit total : ℕ) (others : List O) (went : Outcome) (refusals : Vec (Option DeskError) Global) (is_broken : Bool)
+      → HasOutcome told left_of ends_of faults_of limit went total others → end_of went refusals is_broken ≡ LinksFault
       → SomeFailed faults_of others
   failed_at ends_of limit total others outcome.Served refusals is_broken has is = absurd cc
   failed_at ends_of limit total others outcome.LinksFailed refusals is_broken has is = has
@@ -275,45 +324,62 @@ broken_end outcome.Served refusals is_broken is = is
 broken_end outcome.LinksFailed refusals is_broken is = absurd is
 broken_end outcome.Memory refusals is_broken is = absurd is
 
-module _ (schema : DatabaseSchema) (world : FactSet) (header : List ℕ) (journals : Journals) (users : List User) {O : Type 0} (told : Type 0) (given_of left_of faults_of : O → ℕ) (back_of : O → List Visit) (doors doors' : List O) where
+module _ (schema : DatabaseSchema) (world : FactSet) (header : List ℕ) (journals : Journals) (users : List User) {O : Type 0} (told : Type 0)
+    (given_of left_of faults_of : O → ℕ) (back_of : O → List Visit) (doors doors' : List O) where
   -- each end of desks that were opened
-  pub ends_at : (ends_of : O → ℕ) (went : Outcome) (refusals : Vec (Option DeskError) Global) (is_broken : Bool) (serves : ServesDoors schema world header journals users told given_of left_of faults_of back_of doors doors' refusals.items is_broken) (limit : ℕ)
-      → HasOutcome told left_of ends_of faults_of limit went serves.total doors' → EndsAt schema world header journals users told given_of left_of faults_of back_of doors doors' (end_of went refusals is_broken)
+  pub ends_at : (ends_of : O → ℕ) (went : Outcome) (refusals : Vec (Option DeskError) Global) (is_broken : Bool)
+      (serves : ServesDoors schema world header journals users told given_of left_of faults_of back_of doors doors' refusals.items is_broken) (limit : ℕ)
+      → HasOutcome told left_of ends_of faults_of limit went serves.total doors'
+      → EndsAt schema world header journals users told given_of left_of faults_of back_of doors doors' (end_of went refusals is_broken)
   ends_at ends_of outcome.Served refusals is_broken serves limit has = serves
   ends_at ends_of outcome.LinksFailed refusals is_broken serves limit has = inr (refusals.items, is_broken, serves)
   ends_at ends_of outcome.Memory refusals is_broken serves limit has = inr (refusals.items, is_broken, serves, has)
 
-module _ {D : Type 0} {g h : _} (told disk_told : Type 0) (reads : D → List ℕ) (image : D → List ℕ → Type 0) (faults : D → ℕ) (schema : DatabaseSchema) (world : FactSet) (header directory : List ℕ) (disk : Text → Option D) (count : Text → ℕ) where
+module _ {D : Type 0} {g h : _} (told disk_told : Type 0) (reads : D → List ℕ) (image : D → List ℕ → Type 0) (faults : D → ℕ) (schema : DatabaseSchema)
+    (world : FactSet) (header directory : List ℕ) (disk : Text → Option D) (count : Text → ℕ) where
   -- what holds of each seat that was just opened holds of all
-  each : (P : DeskSeat D g h → Type 0) → ((user : User) (seat : DeskSeat D g h) → IsSeatOf told reads image faults disk_told schema world header directory disk count user seat → P seat) → (users : List User) (seats : List (DeskSeat D g h))
+  each : (P : DeskSeat D g h → Type 0)
+      → ((user : User) (seat : DeskSeat D g h) → IsSeatOf told reads image faults disk_told schema world header directory disk count user seat → P seat)
+      → (users : List User) (seats : List (DeskSeat D g h))
       → AreSeatsOf told reads image faults disk_told schema world header directory disk count users seats → AllByRecursion P seats
   each P holds [] [] opened = tt
   each P holds (user ∷ users) (seat ∷ seats) opened = (holds user seat opened.0, each P holds users seats opened.1)
   each P holds [] (seat ∷ seats) opened = absurd opened
   each P holds (user ∷ users) [] opened = absurd opened
 
-  pub seats_fresh : (users : List User) (seats : List (DeskSeat D g h)) → AreSeatsOf told reads image faults disk_told schema world header directory disk count users seats → All IsFresh seats
+  pub seats_fresh : (users : List User) (seats : List (DeskSeat D g h))
+      → AreSeatsOf told reads image faults disk_told schema world header directory disk count users seats → All IsFresh seats
   seats_fresh users seats opened = All-from_recursion IsFresh seats (each IsFresh (λ user seat is. is.opened.fresh) users seats opened)
 
-  pub seats_turns : (users : List User) (seats : List (DeskSeat D g h)) → AreSeatsOf told reads image faults disk_told schema world header directory disk count users seats → All (λ (seat : DeskSeat D g h). turns (seat_pass seat) ≡ 65 * 2 ^ 57) seats
+  pub seats_turns : (users : List User) (seats : List (DeskSeat D g h))
+      → AreSeatsOf told reads image faults disk_told schema world header directory disk count users seats
+      → All (λ (seat : DeskSeat D g h). turns (seat_pass seat) ≡ 65 * 2 ^ 57) seats
   seats_turns users seats opened =
-      All-from_recursion (λ (seat : DeskSeat D g h). turns (seat_pass seat) ≡ 65 * 2 ^ 57) seats (each (λ (seat : DeskSeat D g h). turns (seat_pass seat) ≡ 65 * 2 ^ 57) (λ user seat is. is.opened.turns_are) users seats opened)
+      All-from_recursion (λ (seat : DeskSeat D g h). turns (seat_pass seat) ≡ 65 * 2 ^ 57) seats
+      (each (λ (seat : DeskSeat D g h). turns (seat_pass seat) ≡ 65 * 2 ^ 57) (λ user seat is. is.opened.turns_are) users seats opened)
 
-  pub seats_own : (users : List User) (seats : List (DeskSeat D g h)) → AreSeatsOf told reads image faults disk_told schema world header directory disk count users seats → All (λ (seat : DeskSeat D g h). mine (seat_pass seat) ≡ []) seats
-  seats_own users seats opened = All-from_recursion (λ (seat : DeskSeat D g h). mine (seat_pass seat) ≡ []) seats (each (λ (seat : DeskSeat D g h). mine (seat_pass seat) ≡ []) (λ user seat is. is.opened.mine_is) users seats opened)
+  pub seats_own : (users : List User) (seats : List (DeskSeat D g h))
+      → AreSeatsOf told reads image faults disk_told schema world header directory disk count users seats
+      → All (λ (seat : DeskSeat D g h). mine (seat_pass seat) ≡ []) seats
+  seats_own users seats opened =
+      All-from_recursion (λ (seat : DeskSeat D g h). mine (seat_pass seat) ≡ []) seats
+      (each (λ (seat : DeskSeat D g h). mine (seat_pass seat) ≡ []) (λ user seat is. is.opened.mine_is) users seats opened)
 
   -- each seat's desk is that of the user at its place
-  pub seats_desks : (users : List User) (seats : List (DeskSeat D g h)) → AreSeatsOf told reads image faults disk_told schema world header directory disk count users seats → AreDesksOf users (map seat_kept seats)
+  pub seats_desks : (users : List User) (seats : List (DeskSeat D g h))
+      → AreSeatsOf told reads image faults disk_told schema world header directory disk count users seats → AreDesksOf users (map seat_kept seats)
   seats_desks [] [] opened = refl
   seats_desks (user ∷ users) (seat ∷ seats) opened =
       let this : (seat_kept seat).user ≡ profile_of user = opened.0.opened.served.user_is ∙ ap profile_of opened.0.user_is in
-      ap (λ (p : UserProfile). p ∷ map (λ (f : Fixed D). f.user) (map seat_kept seats)) this ∙ ap (λ (ps : List UserProfile). profile_of user ∷ ps) (seats_desks users seats opened.1)
+      ap (λ (p : UserProfile). p ∷ map (λ (f : Fixed D). f.user) (map seat_kept seats)) this
+      ∙ ap (λ (ps : List UserProfile). profile_of user ∷ ps) (seats_desks users seats opened.1)
   seats_desks [] (seat ∷ seats) opened = absurd opened
   seats_desks (user ∷ users) [] opened = absurd opened
 
   module _ (valid : is_valid_schema schema ≡ true) where
     -- what the pass of a seat that was just opened has seen is legal
-    seat_legal : (user : User) (seat : DeskSeat D g h) → KeepsLimits schema (profile_of user) → IsSeatOf told reads image faults disk_told schema world header directory disk count user seat → HasSeenLegal (seat_kept seat) (seat_pass seat)
+    seat_legal : (user : User) (seat : DeskSeat D g h) → KeepsLimits schema (profile_of user)
+        → IsSeatOf told reads image faults disk_told schema world header directory disk count user seat → HasSeenLegal (seat_kept seat) (seat_pass seat)
     seat_legal user seat limits is =
         let kept = seat_kept seat in
         let served = is.opened.served in
@@ -321,13 +387,18 @@ module _ {D : Type 0} {g h : _} (told disk_told : Type 0) (reads : D → List �
         record {
           valid = ap is_valid_schema served.schema_is ∙ valid;
           user_of = ap (λ s. is_user_of s kept.user) served.schema_is ∙ ap (is_user_of schema) user_is ∙ limits.sentences;
-          admits = λ serves. ap (λ s. admitted s kept.world kept.user) served.schema_is ∙ ap (λ w. admitted schema w kept.user) served.world_is ∙ ap (admitted schema world) served.user_is
-              ∙ open_admits schema world (profile_of (seat_user seat)) disk_told header (reads is.taken) (seat_history seat) (faults is.taken) (faults (seat_disk seat)) kept.standing is.opened.standing serves;
+          admits = λ serves. ap (λ s. admitted s kept.world kept.user) served.schema_is ∙ ap (λ w. admitted schema w kept.user) served.world_is
+              ∙ ap (admitted schema world) served.user_is
+              ∙ open_admits schema world (profile_of (seat_user seat)) disk_told header (reads is.taken) (seat_history seat) (faults is.taken)
+              (faults (seat_disk seat)) kept.standing is.opened.standing serves;
           legal = subst (λ s. IsLegal s kept.world kept.user (seat_history seat)) (sym served.schema_is)
-              (subst (λ w. IsLegal schema w kept.user (seat_history seat)) (sym served.world_is) (subst (λ p. IsLegal schema world p (seat_history seat)) (sym served.user_is) is.opened.legal));
+              (subst (λ w. IsLegal schema w kept.user (seat_history seat)) (sym served.world_is)
+              (subst (λ p. IsLegal schema world p (seat_history seat)) (sym served.user_is) is.opened.legal));
         }
 
-    pub seats_legal : (users : List User) (seats : List (DeskSeat D g h)) → All (λ user. KeepsLimits schema (profile_of user)) users → AreSeatsOf told reads image faults disk_told schema world header directory disk count users seats → HaveSeenLegal (map seat_kept seats) (map seat_pass seats)
+    pub seats_legal : (users : List User) (seats : List (DeskSeat D g h)) → All (λ user. KeepsLimits schema (profile_of user)) users
+        → AreSeatsOf told reads image faults disk_told schema world header directory disk count users seats
+        → HaveSeenLegal (map seat_kept seats) (map seat_pass seats)
     seats_legal [] [] limits opened = tt
     seats_legal (user ∷ users) (seat ∷ seats) limits opened = (
       seat_legal user seat (All-head (λ u. KeepsLimits schema (profile_of u)) user users limits) opened.0,

@@ -22,7 +22,8 @@ some_or x (Some y) = y
 
 module _ {D : Type 0} {g h : _} where
   -- the passes are at the counters where each is
-  pub are_passes : (passes : List (Pass Item (Fixed D))) (counters : List (CounterOf (TicketedDesk D g) Item (Fixed D) h)) → length passes ≡ length counters → AtEach fixed_in passes counters → ArePasses passes counters
+  pub are_passes : (passes : List (Pass Item (Fixed D))) (counters : List (CounterOf (TicketedDesk D g) Item (Fixed D) h)) → length passes ≡ length counters
+      → AtEach fixed_in passes counters → ArePasses passes counters
   are_passes [] [] many each = tt
   are_passes [] (c ∷ counters) many each = absurd (omega (arith, many))
   are_passes (p ∷ passes) [] many each = absurd (omega (arith, many))
@@ -34,7 +35,8 @@ module _ {D : Type 0} {g h : _} where
 
   -- and each is where they are
   pub at_each : (passes : List (Pass Item (Fixed D))) (counters : List (CounterOf (TicketedDesk D g) Item (Fixed D) h)) → ArePasses passes counters
-      → (k : ℕ) (pass : Pass Item (Fixed D)) (counter : CounterOf (TicketedDesk D g) Item (Fixed D) h) → k < length passes → IsPassBy fixed_in (slice_index_or passes k pass) (slice_index_or counters k counter)
+      → (k : ℕ) (pass : Pass Item (Fixed D)) (counter : CounterOf (TicketedDesk D g) Item (Fixed D) h) → k < length passes
+      → IsPassBy fixed_in (slice_index_or passes k pass) (slice_index_or counters k counter)
   at_each [] [] are k pass counter low = absurd (omega (arith, low))
   at_each (p ∷ passes) (c ∷ counters) are zero pass counter low = (are.0.place, are.0.ready, are.0.kept)
   at_each (p ∷ passes) (c ∷ counters) are (suc k) pass counter low = at_each passes counters are.1 k pass counter (omega (arith, low))
@@ -42,7 +44,8 @@ module _ {D : Type 0} {g h : _} where
   at_each (p ∷ passes) [] are k pass counter low = absurd are
 
   -- each pass has seen the opening of its desk where they have
-  pub each_opened : (passes : List (Pass Item (Fixed D))) (counters : List (CounterOf (TicketedDesk D g) Item (Fixed D) h)) → ArePasses passes counters → HaveSeenOpenings (map kept_by counters) passes
+  pub each_opened : (passes : List (Pass Item (Fixed D))) (counters : List (CounterOf (TicketedDesk D g) Item (Fixed D) h)) → ArePasses passes counters
+      → HaveSeenOpenings (map kept_by counters) passes
       → (k : ℕ) (pass : Pass Item (Fixed D)) → k < length passes → HasSeenOpening (slice_index_or passes k pass)
   each_opened [] [] are openings k pass low = absurd (omega (arith, low))
   each_opened (p ∷ passes) (c ∷ counters) are openings zero pass low =
@@ -52,24 +55,30 @@ module _ {D : Type 0} {g h : _} where
   each_opened (p ∷ passes) [] are openings k pass low = absurd are
 
   -- and they have where each has
-  pub have_opened : (passes : List (Pass Item (Fixed D))) (counters : List (CounterOf (TicketedDesk D g) Item (Fixed D) h)) → ArePasses passes counters → All HasSeenOpening passes → HaveSeenOpenings (map kept_by counters) passes
+  pub have_opened : (passes : List (Pass Item (Fixed D))) (counters : List (CounterOf (TicketedDesk D g) Item (Fixed D) h)) → ArePasses passes counters
+      → All HasSeenOpening passes → HaveSeenOpenings (map kept_by counters) passes
   have_opened [] [] are all = tt
-  have_opened (p ∷ passes) (c ∷ counters) are all = (all 0 p (omega arith) (kept_by c) are.0.kept, have_opened passes counters are.1 (λ k pass low. all (suc k) pass (omega (arith, low))))
+  have_opened (p ∷ passes) (c ∷ counters) are all =
+      (all 0 p (omega arith) (kept_by c) are.0.kept, have_opened passes counters are.1 (λ k pass low. all (suc k) pass (omega (arith, low))))
   have_opened [] (c ∷ counters) are all = absurd are
   have_opened (p ∷ passes) [] are all = absurd are
 
   -- each pass has seen what is legal where they have
-  pub each_legal : (passes : List (Pass Item (Fixed D))) (counters : List (CounterOf (TicketedDesk D g) Item (Fixed D) h)) → ArePasses passes counters → HaveSeenLegal (map kept_by counters) passes
+  pub each_legal : (passes : List (Pass Item (Fixed D))) (counters : List (CounterOf (TicketedDesk D g) Item (Fixed D) h)) → ArePasses passes counters
+      → HaveSeenLegal (map kept_by counters) passes
       → (k : ℕ) (pass : Pass Item (Fixed D)) → k < length passes → SeesLegally (slice_index_or passes k pass)
   each_legal [] [] are legal k pass low = absurd (omega (arith, low))
-  each_legal (p ∷ passes) (c ∷ counters) are legal zero pass low = λ desk is. subst (λ (f : Fixed D). HasSeenLegal f p) (ap (some_or (kept_by c)) (sym are.0.kept ∙ is)) legal.0
+  each_legal (p ∷ passes) (c ∷ counters) are legal zero pass low =
+      λ desk is. subst (λ (f : Fixed D). HasSeenLegal f p) (ap (some_or (kept_by c)) (sym are.0.kept ∙ is)) legal.0
   each_legal (p ∷ passes) (c ∷ counters) are legal (suc k) pass low = each_legal passes counters are.1 legal.1 k pass (omega (arith, low))
   each_legal [] (c ∷ counters) are legal k pass low = absurd are
   each_legal (p ∷ passes) [] are legal k pass low = absurd are
 
   -- and they have where each has
-  pub have_legal : (passes : List (Pass Item (Fixed D))) (counters : List (CounterOf (TicketedDesk D g) Item (Fixed D) h)) → ArePasses passes counters → All SeesLegally passes → HaveSeenLegal (map kept_by counters) passes
+  pub have_legal : (passes : List (Pass Item (Fixed D))) (counters : List (CounterOf (TicketedDesk D g) Item (Fixed D) h)) → ArePasses passes counters
+      → All SeesLegally passes → HaveSeenLegal (map kept_by counters) passes
   have_legal [] [] are all = tt
-  have_legal (p ∷ passes) (c ∷ counters) are all = (all 0 p (omega arith) (kept_by c) are.0.kept, have_legal passes counters are.1 (λ k pass low. all (suc k) pass (omega (arith, low))))
+  have_legal (p ∷ passes) (c ∷ counters) are all =
+      (all 0 p (omega arith) (kept_by c) are.0.kept, have_legal passes counters are.1 (λ k pass low. all (suc k) pass (omega (arith, low))))
   have_legal [] (c ∷ counters) are all = absurd are
   have_legal (p ∷ passes) [] are all = absurd are

@@ -47,7 +47,8 @@ module _ {D : Type 0} where
       let this : 1 ≤ turns p / 2 ^ 26 = omega (arith, room, left) in
       (omega (arith, this), turns_enough passes (omega (arith, room, right)))
 
-  at_room : {place : ℕ} {fixeds : List (Fixed D)} {old new : List (Pass Item (Fixed D))} {asks : List (Text × Reply)} → length asks ≤ 100000 → AsksAt place fixeds old new asks → room_in old ≤ room_in new + 1
+  at_room : {place : ℕ} {fixeds : List (Fixed D)} {old new : List (Pass Item (Fixed D))} {asks : List (Text × Reply)} → length asks ≤ 100000
+      → AsksAt place fixeds old new asks → room_in old ≤ room_in new + 1
   at_room few (desks.here {old = p} {new = q} {rest = rest} {asks = asks} is) =
       least_falls (turns p / 2 ^ 26) (turns q / 2 ^ 26) (room_in rest) (room_in rest) (room_falls (turns p) (turns q) (length asks) few is.used) (omega arith)
   at_room few (desks.further {same = p} {old = old} {new = new} deep) =
@@ -59,7 +60,8 @@ module _ {D : Type 0} where
   room_enough (p ∷ passes) all = let this : 2 ^ 31 ≤ turns p / 2 ^ 26 = omega (arith, all.0) in le-min this (room_enough passes all.1)
 
   -- behind a session there is room for one less at most
-  pub of_room : (who : Option ℕ) (fixeds : List (Fixed D)) (old new : List (Pass Item (Fixed D))) (asks : List (Text × Reply)) → length asks ≤ 100000 → AsksOf who fixeds old new asks → room_in old ≤ room_in new + 1
+  pub of_room : (who : Option ℕ) (fixeds : List (Fixed D)) (old new : List (Pass Item (Fixed D))) (asks : List (Text × Reply)) → length asks ≤ 100000
+      → AsksOf who fixeds old new asks → room_in old ≤ room_in new + 1
   of_room None fixeds old new asks few is = let same = ap room_in is.0 in omega (arith, same)
   of_room (Some place) fixeds old new asks few is = at_room few is
 
@@ -69,12 +71,14 @@ module _ {D : Type 0} where
   abbrev pub SeesMore : Pass Item (Fixed D) → Pass Item (Fixed D) → Type 0
   SeesMore pass other = IsPrefix (seen pass) (seen other)
 
-  at_passes : {place : ℕ} {fixeds : List (Fixed D)} {old new : List (Pass Item (Fixed D))} {asks : List (Text × Reply)} → AsksAt place fixeds old new asks → AllZip IsPassLater old new
+  at_passes : {place : ℕ} {fixeds : List (Fixed D)} {old new : List (Pass Item (Fixed D))} {asks : List (Text × Reply)} → AsksAt place fixeds old new asks
+      → AllZip IsPassLater old new
   at_passes (desks.here {rest = rest} is) = (record { same_shares = is.same_shares; later = is.later }, same_passes rest)
   at_passes (desks.further {same = p} deep) = (record { same_shares = refl; later = ([], sym (append-nil (seen p))) }, at_passes deep)
 
   -- each pass has seen all that it had
-  pub of_passes : (who : Option ℕ) (fixeds : List (Fixed D)) (old new : List (Pass Item (Fixed D))) (asks : List (Text × Reply)) → AsksOf who fixeds old new asks → AllZip IsPassLater old new
+  pub of_passes : (who : Option ℕ) (fixeds : List (Fixed D)) (old new : List (Pass Item (Fixed D))) (asks : List (Text × Reply))
+      → AsksOf who fixeds old new asks → AllZip IsPassLater old new
   of_passes None fixeds old new asks is = subst (λ ps. AllZip IsPassLater old ps) (sym is.0) (same_passes old)
   of_passes (Some place) fixeds old new asks is = at_passes is
 
@@ -85,7 +89,8 @@ module _ {D : Type 0} where
   sees_more (p ∷ old) [] later = absurd later
 
   -- passes that have seen more have seen the openings of their desks
-  pub openings_later : (fixeds : List (Fixed D)) (old new : List (Pass Item (Fixed D))) → AllZip SeesMore old new → HaveSeenOpenings fixeds old → HaveSeenOpenings fixeds new
+  pub openings_later : (fixeds : List (Fixed D)) (old new : List (Pass Item (Fixed D))) → AllZip SeesMore old new → HaveSeenOpenings fixeds old
+      → HaveSeenOpenings fixeds new
   openings_later [] [] [] later openings = tt
   openings_later (f ∷ fixeds) (p ∷ old) (q ∷ new) later openings =
       let more = later.0.0 in
@@ -97,7 +102,8 @@ module _ {D : Type 0} where
   openings_later (f ∷ fixeds) (p ∷ old) [] later openings = absurd later
 
   -- and by them each user is the same later
-  pub members_later : (fixeds : List (Fixed D)) (old new : List (Pass Item (Fixed D))) → AllZip SeesMore old new → AllZip IsLater (members_of fixeds old) (members_of fixeds new)
+  pub members_later : (fixeds : List (Fixed D)) (old new : List (Pass Item (Fixed D))) → AllZip SeesMore old new
+      → AllZip IsLater (members_of fixeds old) (members_of fixeds new)
   members_later [] old new later = tt
   members_later (f ∷ fixeds) [] [] later = tt
   members_later (f ∷ fixeds) (p ∷ old) (q ∷ new) later =
@@ -117,18 +123,22 @@ module _ {D : Type 0} where
   -- ---- replies
 
   module _ (schema : DatabaseSchema) (world : FactSet) where
-    at_replied : {place : ℕ} {fixeds : List (Fixed D)} {old new : List (Pass Item (Fixed D))} {asks : List (Text × Reply)} → AreIn schema world fixeds → HaveSeenOpenings fixeds old → (is : AsksAt place fixeds old new asks)
+    at_replied : {place : ℕ} {fixeds : List (Fixed D)} {old new : List (Pass Item (Fixed D))} {asks : List (Text × Reply)} → AreIn schema world fixeds
+        → HaveSeenOpenings fixeds old → (is : AsksAt place fixeds old new asks)
         → RepliedAt schema world place (members_of fixeds new) asks (entries_at is)
     at_replied within openings (desks.here {fixed = f} {old = p} {new = q} {asks = asks} is) =
         let never : false ≡ true → has_broke (seen p) ≡ true = λ e. absurd cc in
         here
-        (subst (λ s. Replied s world f.user (standing_of f.standing) (history_of (seen q)) (has_broke (seen q)) (length f.opening) false asks is.entries is.fails) within.0.0
-        (subst (λ w. Replied f.schema w f.user (standing_of f.standing) (history_of (seen q)) (has_broke (seen q)) (length f.opening) false asks is.entries is.fails) within.0.1
+        (subst (λ s. Replied s world f.user (standing_of f.standing) (history_of (seen q)) (has_broke (seen q))
+        (length f.opening) false asks is.entries is.fails) within.0.0
+        (subst (λ w. Replied f.schema w f.user (standing_of f.standing) (history_of (seen q)) (has_broke (seen q))
+        (length f.opening) false asks is.entries is.fails) within.0.1
         (from_earlier f.schema f.world f.user (standing_of f.standing) (history_of (seen q)) (has_broke (seen q)) openings.0 never is.replied)))
     at_replied within openings (desks.further deep) = further (at_replied within.1 openings.1 deep)
 
     -- what was asked was replied to by the history of who asked
-    pub of_replied : (who : Option ℕ) (fixeds : List (Fixed D)) (old new : List (Pass Item (Fixed D))) (asks : List (Text × Reply)) → AreIn schema world fixeds → HaveSeenOpenings fixeds old → (is : AsksOf who fixeds old new asks)
+    pub of_replied : (who : Option ℕ) (fixeds : List (Fixed D)) (old new : List (Pass Item (Fixed D))) (asks : List (Text × Reply)) → AreIn schema world fixeds
+        → HaveSeenOpenings fixeds old → (is : AsksOf who fixeds old new asks)
         → RepliedTo schema world who (members_of fixeds new) asks (entries_of who fixeds old new asks is)
     of_replied None fixeds old new asks within openings is = (is.1, refl)
     of_replied (Some place) fixeds old new asks within openings is = at_replied within openings is

@@ -49,7 +49,8 @@ module _ {D : Type 0} {g h : _} where
     pub those_on : AllZip SeesMore others news
     pub have : AllHave (n + m) news
 
-  pub have_met : (n m : ℕ) (counters : List (CounterOf (TicketedDesk D g) Item (Fixed D) h)) (olds others news : List (Pass Item (Fixed D))) → AllHave n olds → AllHave m others → AreMet counters olds others news → HaveMet n m counters olds others news
+  pub have_met : (n m : ℕ) (counters : List (CounterOf (TicketedDesk D g) Item (Fixed D) h)) (olds others news : List (Pass Item (Fixed D))) → AllHave n olds
+      → AllHave m others → AreMet counters olds others news → HaveMet n m counters olds others news
   have_met n m [] [] [] [] first second met = record { on = tt; those_on = tt; have = tt }
   have_met n m (c ∷ counters) (o ∷ olds) (t ∷ others) (p ∷ news) first second met =
       let rest = have_met n m counters olds others news first.1 second.1 met.1 in
@@ -75,7 +76,8 @@ module _ {D : Type 0} {g h : _} where
     pub parts_have : AllHave 1 parts
     pub parts_may : AllMay (2 ^ 57) parts
 
-  pub have_split : (n t : ℕ) (counters : List (CounterOf (TicketedDesk D g) Item (Fixed D) h)) (olds news parts : List (Pass Item (Fixed D))) → AllHave n olds → AllMay t olds → AreSplit counters olds news parts → HaveSplit n t counters olds news parts
+  pub have_split : (n t : ℕ) (counters : List (CounterOf (TicketedDesk D g) Item (Fixed D) h)) (olds news parts : List (Pass Item (Fixed D))) → AllHave n olds
+      → AllMay t olds → AreSplit counters olds news parts → HaveSplit n t counters olds news parts
   have_split n t [] [] [] [] have may split = record { on = tt; those_on = tt; have = tt; may = tt; parts_have = tt; parts_may = tt }
   have_split n t (c ∷ counters) (o ∷ olds) (p ∷ news) (q ∷ parts) have may split =
       let rest = have_split n t counters olds news parts have.1 may.1 split.1 in

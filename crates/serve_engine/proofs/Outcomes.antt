@@ -1,5 +1,6 @@
 -- What workers did at their doors, and how they served together.
-use Rattle.std.proofs.Common.{◌≡◌, ◌≤◌, ◌≢◌, ◌⊎◌, inl, inr, ℕ, ◌+◌, ◌==◌, ◌||◌, Bool, true, false, List, [], ◌∷◌, ◌++◌, length, map, All, sum_by, refl, sym, ◌∙◌, subst, arith, eqb-true}
+use Rattle.std.proofs.Common.{◌≡◌, ◌≤◌, ◌≢◌, ◌⊎◌, inl, inr, ℕ, ◌+◌, ◌==◌, ◌||◌, Bool, true, false, List, [], ◌∷◌, ◌++◌, length, map, All, sum_by, refl, sym}
+use Rattle.std.proofs.Common.{◌∙◌, subst, arith, eqb-true}
 use Rattle.std.specs.Prelude.{Option, Some, None, IsSome, if◌then◌else◌}
 use Rattle.std.specs.List.{AllByRecursion, AllZip, list_any}
 use Rattle.std.proofs.lemmas.List.Sums.{sum_by-cons, sum_by-append}
@@ -45,12 +46,16 @@ module _ {D : Type 0} where
 
   module _ {g h : _} (counters : CountersOf (TicketedDesk D g) Item (Fixed D) h) where
     -- what was served by some passes is served by those that have seen more
-    stay : (at : CountersOf (TicketedDesk D g) Item (Fixed D) h) (passes final : Passes D) (visits : List Visit) (marks : List SessionMarks) → at ≡ counters → AreOn passes final
+    stay : (at : CountersOf (TicketedDesk D g) Item (Fixed D) h) (passes final : Passes D) (visits : List Visit) (marks : List SessionMarks) → at ≡ counters
+        → AreOn passes final
         → AllZip (IsServedBy at passes) visits marks → AllZip (IsServedBy counters final) visits marks
     stay at passes final visits marks same on stand =
-        let still = λ (visit : Visit) (mark : SessionMarks) (stood : IsServedBy at passes visit mark) (schema : DatabaseSchema) (world : FactSet) (within : AreIn schema world (fixeds_of counters)).
-        served_later schema world (users_of counters) (members_of (fixeds_of counters) (passes_in passes)) (members_of (fixeds_of counters) (passes_in final)) visit mark
-        (members_later (fixeds_of counters) (passes_in passes) (passes_in final) on) (subst (λ c. IsServedBy c passes visit mark) same stood schema world within) in
+        let still = λ (visit : Visit) (mark : SessionMarks) (stood : IsServedBy at passes visit mark)
+        (schema : DatabaseSchema) (world : FactSet) (within : AreIn schema world (fixeds_of counters)).
+        served_later schema world (users_of counters) (members_of (fixeds_of counters) (passes_in passes))
+        (members_of (fixeds_of counters) (passes_in final)) visit mark
+        (members_later (fixeds_of counters) (passes_in passes) (passes_in final) on)
+        (subst (λ c. IsServedBy c passes visit mark) same stood schema world within) in
         zip_still (IsServedBy at passes) (IsServedBy counters final) still visits marks stand
 
 module _ {O : Type 0} (told : Type 0) (left_of faults_of : O → ℕ) where
@@ -59,7 +64,8 @@ module _ {O : Type 0} (told : Type 0) (left_of faults_of : O → ℕ) where
   Ended at_limit true doors = SomeFailed faults_of doors
   Ended at_limit false doors = (told → AllByRecursion (λ door. left_of door ≡ 0) doors) ⊎ at_limit
 
-  at_end : (at_limit : Type 0) (any : Bool) (door : O) (doors : List O) → (told → left_of door ≡ 0) → Ended at_limit any doors → Ended at_limit any (door ∷ doors)
+  at_end : (at_limit : Type 0) (any : Bool) (door : O) (doors : List O) → (told → left_of door ≡ 0) → Ended at_limit any doors
+      → Ended at_limit any (door ∷ doors)
   at_end at_limit true door doors none others = inr others
   at_end at_limit false door doors none (inl all) = inl (λ t. (none t, all t))
   at_end at_limit false door doors none (inr limit) = inr limit
@@ -89,7 +95,8 @@ neither false b is = (refl, is)
 module _ {D G O : Type 0} {g h : _} (told : Type 0) (given_of left_of ends_of faults_of : O → ℕ) (back_of : O → List Visit) where
   -- a worker before he served and after he ended
   abbrev pub Was : Worker (SessionJobOf (TicketedDesk D g) D G h) O → Worker (SessionJobOf (TicketedDesk D g) D G h) O → Type 0
-  Was = IsServed told given_of left_of ends_of faults_of back_of (λ job. room_in (passes_in (job_passes job))) job_runs (λ first job visits. AreServedBy (job_counters job) (job_passes first) (job_passes job) visits)
+  Was = IsServed told given_of left_of ends_of faults_of back_of (λ job. room_in (passes_in (job_passes job))) job_runs (λ first job visits.
+      AreServedBy (job_counters job) (job_passes first) (job_passes job) visits)
       (λ before after. (job_counters after ≡ job_counters before) × ArePassesLater (job_passes before) (job_passes after))
 
   pub as_long : (before after : List (Worker (SessionJobOf (TicketedDesk D g) D G h) O)) → AllZip Was before after → length before ≡ length after
@@ -103,14 +110,17 @@ module _ {D G O : Type 0} {g h : _} (told : Type 0) (given_of left_of ends_of fa
   all_told t (b ∷ before) [] was = []
 
   -- are what the passes of workers have of their own that hadn't begun
-  all_own : (counters : CountersOf (TicketedDesk D g) Item (Fixed D) h) (first : Passes D) (t : told) (weight : AnsweredQuery → ℕ) (place : ℕ) (before after : List (Worker (SessionJobOf (TicketedDesk D g) D G h) O)) → AllByRecursion (IsFresh counters first) before
-      → (was : AllZip Was before after) → sum_by (λ worker. own_weight weight place (passes_in (job_passes worker.job))) after ≡ told_weight weight place (all_told t before after was)
+  all_own : (counters : CountersOf (TicketedDesk D g) Item (Fixed D) h) (first : Passes D) (t : told) (weight : AnsweredQuery → ℕ) (place : ℕ)
+      (before after : List (Worker (SessionJobOf (TicketedDesk D g) D G h) O)) → AllByRecursion (IsFresh counters first) before
+      → (was : AllZip Was before after)
+      → sum_by (λ worker. own_weight weight place (passes_in (job_passes worker.job))) after ≡ told_weight weight place (all_told t before after was)
   all_own counters first t weight place [] [] fresh was = refl
   all_own counters first t weight place (b ∷ before) (a ∷ after) fresh was =
       let none = fresh.0.parts.none_own weight place in
       let here = (was.0.back t).stand.own weight place in
       let rest = all_own counters first t weight place before after fresh.1 was.1 in
-      let one = sum_by-cons (λ (worker : Worker (SessionJobOf (TicketedDesk D g) D G h) O). own_weight weight place (passes_in (job_passes worker.job))) a after in
+      let one =
+      sum_by-cons (λ (worker : Worker (SessionJobOf (TicketedDesk D g) D G h) O). own_weight weight place (passes_in (job_passes worker.job))) a after in
       let both = sum_by-append (λ marks. sum_by weight (entries_told place marks)) (was.0.back t).stand.visit_marks (all_told t before after was.1) in
       omega (arith, none, here, rest, one, both)
   all_own counters first t weight place [] (a ∷ after) fresh was = absurd was
@@ -120,7 +130,8 @@ module _ {D G O : Type 0} {g h : _} (told : Type 0) (given_of left_of ends_of fa
     -- ---- the jobs
 
     -- the workers' passes can be joined again
-    pub are_back : (first : Passes D) (before after : List (Worker (SessionJobOf (TicketedDesk D g) D G h) O)) → AllByRecursion (IsFresh counters first) before → AllZip Was before after → AllByRecursion (IsBack counters) after
+    pub are_back : (first : Passes D) (before after : List (Worker (SessionJobOf (TicketedDesk D g) D G h) O)) → AllByRecursion (IsFresh counters first) before
+        → AllZip Was before after → AllByRecursion (IsBack counters) after
     are_back first [] [] fresh was = tt
     are_back first (b ∷ before) (a ∷ after) fresh was = (
       record {
@@ -134,8 +145,10 @@ module _ {D G O : Type 0} {g h : _} (told : Type 0) (given_of left_of ends_of fa
 
     -- ---- the doors
 
-    one_served : (first final : Passes D) (before after : Worker (SessionJobOf (TicketedDesk D g) D G h) O) → IsFresh counters first before → AreOn (job_passes after.job) final → (was : Was before after)
-        → IsServedDoor told given_of left_of faults_of back_of (IsServedBy counters final) (job_runs after.job) (λ t. (was.back t).stand.visit_marks) before.door after.door
+    one_served : (first final : Passes D) (before after : Worker (SessionJobOf (TicketedDesk D g) D G h) O) → IsFresh counters first before
+        → AreOn (job_passes after.job) final → (was : Was before after)
+        → IsServedDoor told given_of left_of faults_of back_of (IsServedBy counters final) (job_runs after.job)
+        (λ t. (was.back t).stand.visit_marks) before.door after.door
     one_served first final before after fresh on was = record {
       given = was.given;
       left = was.left;
@@ -143,15 +156,18 @@ module _ {D G O : Type 0} {g h : _} (told : Type 0) (given_of left_of ends_of fa
         visits = v.visits;
         behind = v.behind;
         many = v.many;
-        stand = stay counters (job_counters after.job) (job_passes after.job) final v.visits v.stand.visit_marks (was.keeps.0 ∙ fresh.counters_are) on v.stand.each;
+        stand =
+            stay counters (job_counters after.job) (job_passes after.job) final v.visits v.stand.visit_marks (was.keeps.0 ∙ fresh.counters_are) on v.stand.each;
       };
       faults = was.faults;
     }
 
     -- the doors' connections are served by the passes that are joined in the end
-    pub all_served : (first final : Passes D) (before after : List (Worker (SessionJobOf (TicketedDesk D g) D G h) O)) → AllByRecursion (IsFresh counters first) before
+    pub all_served : (first final : Passes D) (before after : List (Worker (SessionJobOf (TicketedDesk D g) D G h) O))
+        → AllByRecursion (IsFresh counters first) before
         → AllByRecursion (λ worker. AreOn (job_passes worker.job) final) after → (was : AllZip Was before after)
-        → AreServedDoors told given_of left_of faults_of back_of (IsServedBy counters final) (sum_by (λ worker. job_runs worker.job) after) (λ t. all_told t before after was) (map (λ worker. worker.door) before) (map (λ worker. worker.door) after)
+        → AreServedDoors told given_of left_of faults_of back_of (IsServedBy counters final) (sum_by (λ worker. job_runs worker.job) after)
+        (λ t. all_told t before after was) (map (λ worker. worker.door) before) (map (λ worker. worker.door) after)
     all_served first final [] [] fresh on was = (refl, λ t. refl)
     all_served first final (b ∷ before) (a ∷ after) fresh on was = (
       job_runs a.job,
@@ -168,8 +184,10 @@ module _ {D G O : Type 0} {g h : _} (told : Type 0) (given_of left_of ends_of fa
 
   -- ---- the outcome
 
-  have_ended : (at_limit : Type 0) (before after : List (Worker (SessionJobOf (TicketedDesk D g) D G h) O)) → AllByRecursion (λ worker. faults_of worker.door ≡ 0) before
-      → AllByRecursion (λ worker. worker.ended ≡ Some LimitReached → at_limit) after → AllZip Was before after → Ended told left_of faults_of at_limit (list_any (λ worker. has_failed worker.ended) after) (map (λ worker. worker.door) after)
+  have_ended : (at_limit : Type 0) (before after : List (Worker (SessionJobOf (TicketedDesk D g) D G h) O))
+      → AllByRecursion (λ worker. faults_of worker.door ≡ 0) before
+      → AllByRecursion (λ worker. worker.ended ≡ Some LimitReached → at_limit) after → AllZip Was before after
+      → Ended told left_of faults_of at_limit (list_any (λ worker. has_failed worker.ended) after) (map (λ worker. worker.door) after)
   have_ended at_limit [] [] whole reached was = inl (λ t. tt)
   have_ended at_limit (b ∷ before) (a ∷ after) whole reached was = by_end a.ended refl was.0.ended (have_ended at_limit before after whole.1 reached.1 was.1)
     where
@@ -179,20 +197,26 @@ module _ {D G O : Type 0} {g h : _} (told : Type 0) (given_of left_of ends_of fa
       any : Bool
       any = list_any (λ worker. has_failed worker.ended) after
 
-      by_end : (end : Option WorkerEnd) → a.ended ≡ end → IsSome a.ended → Ended told left_of faults_of at_limit any doors → Ended told left_of faults_of at_limit (has_failed a.ended || any) (a.door ∷ doors)
+      by_end : (end : Option WorkerEnd) → a.ended ≡ end → IsSome a.ended → Ended told left_of faults_of at_limit any doors
+          → Ended told left_of faults_of at_limit (has_failed a.ended || any) (a.door ∷ doors)
       by_end None is some rest = absurd (none_isnt a.ended is some)
       by_end (Some LinksEnded) is some rest =
-          subst (λ end. Ended told left_of faults_of at_limit (has_failed end || any) (a.door ∷ doors)) (sym is) (at_end told left_of faults_of at_limit any a.door doors (was.0.at_end is).1 rest)
+          subst (λ end. Ended told left_of faults_of at_limit (has_failed end || any) (a.door ∷ doors)) (sym is)
+          (at_end told left_of faults_of at_limit any a.door doors (was.0.at_end is).1 rest)
       by_end (Some LimitReached) is some rest =
-          subst (λ end. Ended told left_of faults_of at_limit (has_failed end || any) (a.door ∷ doors)) (sym is) (at_most told left_of faults_of at_limit any a.door doors (reached.0 is) rest)
+          subst (λ end. Ended told left_of faults_of at_limit (has_failed end || any) (a.door ∷ doors)) (sym is)
+          (at_most told left_of faults_of at_limit any a.door doors (reached.0 is) rest)
       by_end (Some LinksHaveFailed) is some rest =
-          subst (λ end. Ended told left_of faults_of at_limit (has_failed end || any) (a.door ∷ doors)) (sym is) (inl (rose (faults_of b.door) (faults_of a.door) whole.0 (was.0.at_failure is)))
+          subst (λ end. Ended told left_of faults_of at_limit (has_failed end || any) (a.door ∷ doors)) (sym is)
+          (inl (rose (faults_of b.door) (faults_of a.door) whole.0 (was.0.at_failure is)))
   have_ended at_limit [] (a ∷ after) whole reached was = absurd was
   have_ended at_limit (b ∷ before) [] whole reached was = absurd was
 
   -- where no links failed, each number that was lost was drawn at a door that answered that no further connection comes
-  lost_at_ends : (before after : List (Worker (SessionJobOf (TicketedDesk D g) D G h) O)) → AllByRecursion (λ worker. ends_of worker.door ≡ 0) before → AllZip Was before after
-      → list_any (λ worker. has_failed worker.ended) after ≡ false → sum_by (λ worker. lost worker.ended) after ≤ sum_by (λ door. one_if_any (ends_of door)) (map (λ worker. worker.door) after)
+  lost_at_ends : (before after : List (Worker (SessionJobOf (TicketedDesk D g) D G h) O)) → AllByRecursion (λ worker. ends_of worker.door ≡ 0) before
+      → AllZip Was before after
+      → list_any (λ worker. has_failed worker.ended) after ≡ false
+      → sum_by (λ worker. lost worker.ended) after ≤ sum_by (λ door. one_if_any (ends_of door)) (map (λ worker. worker.door) after)
   lost_at_ends [] [] unended was none = omega arith
   lost_at_ends (b ∷ before) (a ∷ after) unended was none =
       let two = neither (has_failed a.ended) (list_any (λ worker. has_failed worker.ended) after) none in
@@ -211,38 +235,54 @@ module _ {D G O : Type 0} {g h : _} (told : Type 0) (given_of left_of ends_of fa
   lost_at_ends (b ∷ before) [] unended was none = absurd was
 
   -- how the workers served together
-  pub has_outcome : (limit : ℕ) (before after : List (Worker (SessionJobOf (TicketedDesk D g) D G h) O)) → AllByRecursion (λ worker. faults_of worker.door ≡ 0) before → AllByRecursion (λ worker. ends_of worker.door ≡ 0) before
-      → AllByRecursion (λ worker. worker.ended ≡ Some LimitReached → limit ≤ sum_by (λ other. job_runs other.job) after + sum_by (λ other. lost other.ended) after) after → AllZip Was before after
+  pub has_outcome : (limit : ℕ) (before after : List (Worker (SessionJobOf (TicketedDesk D g) D G h) O))
+      → AllByRecursion (λ worker. faults_of worker.door ≡ 0) before → AllByRecursion (λ worker. ends_of worker.door ≡ 0) before
+      → AllByRecursion (λ worker. worker.ended ≡ Some LimitReached
+      → limit ≤ sum_by (λ other. job_runs other.job) after + sum_by (λ other. lost other.ended) after) after → AllZip Was before after
       → HasOutcome told left_of ends_of faults_of limit (outcome_of after) (sum_by (λ worker. job_runs worker.job) after) (map (λ worker. worker.door) after)
   has_outcome limit before after whole unended reached was =
-      of_any (list_any (λ worker. has_failed worker.ended) after) refl (have_ended (limit ≤ sum_by (λ other. job_runs other.job) after + sum_by (λ other. lost other.ended) after) before after whole reached was)
+      of_any (list_any (λ worker. has_failed worker.ended) after) refl
+      (have_ended (limit ≤ sum_by (λ other. job_runs other.job) after + sum_by (λ other. lost other.ended) after) before after whole reached was)
     where
       of_any : (any : Bool) → list_any (λ worker. has_failed worker.ended) after ≡ any
-          → Ended told left_of faults_of (limit ≤ sum_by (λ other. job_runs other.job) after + sum_by (λ other. lost other.ended) after) any (map (λ worker. worker.door) after)
-          → HasOutcome told left_of ends_of faults_of limit (if any then LinksFailed else Served) (sum_by (λ worker. job_runs worker.job) after) (map (λ worker. worker.door) after)
+          → Ended told left_of faults_of (limit
+          ≤ sum_by (λ other. job_runs other.job) after + sum_by (λ other. lost other.ended) after) any (map (λ worker. worker.door) after)
+          → HasOutcome told left_of ends_of faults_of limit (if any then LinksFailed else Served) (sum_by (λ worker. job_runs worker.job) after)
+          (map (λ worker. worker.door) after)
       of_any true is failed = failed
       of_any false is (inl all) = λ t. inl (All-from_recursion (λ door. left_of door ≡ 0) (map (λ worker. worker.door) after) (all t))
       of_any false is (inr most) = λ t. let ends = lost_at_ends before after unended was is in inr (omega (arith, most, ends))
 
   -- all that is said of doors whose workers served them
-  pub served_together : (counters : CountersOf (TicketedDesk D g) Item (Fixed D) h) (first final : Passes D) (limit : ℕ) (outcome : Outcome) (doors others : List O) (before after : List (Worker (SessionJobOf (TicketedDesk D g) D G h) O))
-      → map (λ worker. worker.door) before ≡ doors → others ≡ map (λ worker. worker.door) after → outcome ≡ outcome_of after → All (λ door. faults_of door ≡ 0) doors → All (λ door. ends_of door ≡ 0) doors
+  pub served_together : (counters : CountersOf (TicketedDesk D g) Item (Fixed D) h) (first final : Passes D) (limit : ℕ) (outcome : Outcome)
+      (doors others : List O) (before after : List (Worker (SessionJobOf (TicketedDesk D g) D G h) O))
+      → map (λ worker. worker.door) before ≡ doors → others ≡ map (λ worker. worker.door) after → outcome ≡ outcome_of after
+      → All (λ door. faults_of door ≡ 0) doors → All (λ door. ends_of door ≡ 0) doors
       → All (IsFresh counters first) before → All (λ worker. AreOn (job_passes worker.job) final) after
-      → All (λ worker. worker.ended ≡ Some LimitReached → limit ≤ sum_by (λ other. job_runs other.job) after + sum_by (λ other. lost other.ended) after) after → AllZip Was before after → sum_by (λ other. job_runs other.job) after ≤ limit
-      → ((weight : AnsweredQuery → ℕ) (place : ℕ) → own_weight weight place (passes_in final) ≡ own_weight weight place (passes_in first) + sum_by (λ worker. own_weight weight place (passes_in (job_passes worker.job))) after)
-      → (total : ℕ) × (marks : told → List SessionMarks) × AreServedDoors told given_of left_of faults_of back_of (IsServedBy counters final) total marks doors others × HasOutcome told left_of ends_of faults_of limit outcome total others × (total ≤ limit)
+      → All (λ worker. worker.ended ≡ Some LimitReached → limit ≤ sum_by (λ other. job_runs other.job) after + sum_by (λ other. lost other.ended) after) after
+      → AllZip Was before after → sum_by (λ other. job_runs other.job) after ≤ limit
+      → ((weight : AnsweredQuery → ℕ) (place : ℕ)
+      → own_weight weight place (passes_in final)
+      ≡ own_weight weight place (passes_in first) + sum_by (λ worker. own_weight weight place (passes_in (job_passes worker.job))) after)
+      → (total : ℕ) × (marks : told → List SessionMarks)
+      × AreServedDoors told given_of left_of faults_of back_of (IsServedBy counters final) total marks doors others
+      × HasOutcome told left_of ends_of faults_of limit outcome total others × (total ≤ limit)
       × ((t : told) → OwnMore (passes_in first) (passes_in final) (marks t))
   served_together counters first final limit outcome doors others before after doors_are others_are outcome_is whole unended fresh on reached was below own =
       let total = sum_by (λ (worker : Worker (SessionJobOf (TicketedDesk D g) D G h) O). job_runs worker.job) after in
       let marks : told → List SessionMarks = λ t. all_told t before after was in
-      let served = all_served counters first final before after (recursion_from_All (IsFresh counters first) before fresh) (recursion_from_All (λ worker. AreOn (job_passes worker.job) final) after on) was in
+      let served = all_served counters first final before after (recursion_from_All (IsFresh counters first) before fresh)
+      (recursion_from_All (λ worker. AreOn (job_passes worker.job) final) after on) was in
       let ended = has_outcome limit before after (by_door faults_of whole) (by_door ends_of unended)
-      (recursion_from_All (λ worker. worker.ended ≡ Some LimitReached → limit ≤ sum_by (λ other. job_runs other.job) after + sum_by (λ other. lost other.ended) after) after reached) was in (
+      (recursion_from_All (λ worker. worker.ended ≡ Some LimitReached
+      → limit ≤ sum_by (λ other. job_runs other.job) after + sum_by (λ other. lost other.ended) after) after reached) was in (
         total,
         marks,
         subst (λ ds. AreServedDoors told given_of left_of faults_of back_of (IsServedBy counters final) total marks ds others) doors_are
-            (subst (λ ds. AreServedDoors told given_of left_of faults_of back_of (IsServedBy counters final) total marks (map (λ worker. worker.door) before) ds) (sym others_are) served),
-        subst (λ o. HasOutcome told left_of ends_of faults_of limit o total others) (sym outcome_is) (subst (λ ds. HasOutcome told left_of ends_of faults_of limit (outcome_of after) total ds) (sym others_are) ended),
+            (subst (λ ds. AreServedDoors told given_of left_of faults_of back_of (IsServedBy counters final) total marks
+            (map (λ worker. worker.door) before) ds) (sym others_are) served),
+        subst (λ o. HasOutcome told left_of ends_of faults_of limit o total others) (sym outcome_is)
+            (subst (λ ds. HasOutcome told left_of ends_of faults_of limit (outcome_of after) total ds) (sym others_are) ended),
         below,
         λ t weight place.
             let all = own weight place in
@@ -250,9 +290,11 @@ module _ {D G O : Type 0} {g h : _} (told : Type 0) (given_of left_of ends_of fa
             omega (arith, all, here),
       )
     where
-      at_workers : (f : O → ℕ) (crew : List (Worker (SessionJobOf (TicketedDesk D g) D G h) O)) → AllByRecursion (λ door. f door ≡ 0) (map (λ worker. worker.door) crew) → AllByRecursion (λ worker. f worker.door ≡ 0) crew
+      at_workers : (f : O → ℕ) (crew : List (Worker (SessionJobOf (TicketedDesk D g) D G h) O))
+          → AllByRecursion (λ door. f door ≡ 0) (map (λ worker. worker.door) crew) → AllByRecursion (λ worker. f worker.door ≡ 0) crew
       at_workers f [] all = tt
       at_workers f (w ∷ crew) all = (all.0, at_workers f crew all.1)
 
       by_door : (f : O → ℕ) → All (λ door. f door ≡ 0) doors → AllByRecursion (λ worker. f worker.door ≡ 0) before
-      by_door f all = at_workers f before (recursion_from_All (λ door. f door ≡ 0) (map (λ worker. worker.door) before) (subst (All (λ door. f door ≡ 0)) (sym doors_are) all))
+      by_door f all = at_workers f before
+          (recursion_from_All (λ door. f door ≡ 0) (map (λ worker. worker.door) before) (subst (All (λ door. f door ≡ 0)) (sym doors_are) all))

@@ -31,39 +31,47 @@ told_at weight place other entries = sum_by weight (if other == place then entri
 
 module _ {D : Type 0} where
   -- the entries of the marks of asks
-  abbrev pub entries_at : {place : ℕ} {fixeds : List (Fixed D)} {old new : List (Pass Item (Fixed D))} {asks : List (Text × Reply)} → AsksAt place fixeds old new asks → History
+  abbrev pub entries_at : {place : ℕ} {fixeds : List (Fixed D)} {old new : List (Pass Item (Fixed D))} {asks : List (Text × Reply)}
+      → AsksAt place fixeds old new asks → History
   entries_at (here is) = is.entries
   entries_at (further deep) = entries_at deep
 
-  abbrev pub entries_of : (who : Option ℕ) (fixeds : List (Fixed D)) (old new : List (Pass Item (Fixed D))) (asks : List (Text × Reply)) → AsksOf who fixeds old new asks → History
+  abbrev pub entries_of : (who : Option ℕ) (fixeds : List (Fixed D)) (old new : List (Pass Item (Fixed D))) (asks : List (Text × Reply))
+      → AsksOf who fixeds old new asks → History
   entries_of None fixeds old new asks is = []
   entries_of (Some place) fixeds old new asks is = entries_at is
 
   -- what a session comes to
-  abbrev pub marks_of : (who : Option ℕ) (fixeds : List (Fixed D)) (old new : List (Pass Item (Fixed D))) (asks : List (Text × Reply)) → AsksOf who fixeds old new asks → SessionMarks
+  abbrev pub marks_of : (who : Option ℕ) (fixeds : List (Fixed D)) (old new : List (Pass Item (Fixed D))) (asks : List (Text × Reply))
+      → AsksOf who fixeds old new asks → SessionMarks
   marks_of who fixeds old new asks is = record { who = who; entries = entries_of who fixeds old new asks is }
 
-  at_own : (weight : AnsweredQuery → ℕ) (place : ℕ) {other : ℕ} {fixeds : List (Fixed D)} {old new : List (Pass Item (Fixed D))} {asks : List (Text × Reply)} (is : AsksAt other fixeds old new asks)
+  at_own : (weight : AnsweredQuery → ℕ) (place : ℕ) {other : ℕ} {fixeds : List (Fixed D)} {old new : List (Pass Item (Fixed D))} {asks : List (Text × Reply)}
+      (is : AsksAt other fixeds old new asks)
       → own_weight weight place new ≡ own_weight weight place old + told_at weight place other (entries_at is)
   at_own weight zero (here {old = p} is) = ap (sum_by weight) is.own ∙ sum_by-append weight (history_of (mine p)) is.entries
   at_own weight (suc place) (here is) = let none = ap (λ (b : Bool). sum_by weight (if b then is.entries else [])) (eqb-zero-suc place) in omega (arith, none)
-  at_own weight zero (further {place = other} deep) = let none = ap (λ (b : Bool). sum_by weight (if b then entries_at deep else [])) (eqb-suc-zero other) in omega (arith, none)
+  at_own weight zero (further {place =
+      other} deep) = let none = ap (λ (b : Bool). sum_by weight (if b then entries_at deep else [])) (eqb-suc-zero other) in omega (arith, none)
   at_own weight (suc place) (further {place = other} deep) =
       let same = ap (λ (b : Bool). sum_by weight (if b then entries_at deep else [])) (eqb-suc-suc other place) in
       let rest = at_own weight place deep in
       omega (arith, same, rest)
 
   -- each pass has more of its own what the session told
-  pub of_own : (weight : AnsweredQuery → ℕ) (place : ℕ) (who : Option ℕ) (fixeds : List (Fixed D)) (old new : List (Pass Item (Fixed D))) (asks : List (Text × Reply)) (is : AsksOf who fixeds old new asks)
+  pub of_own : (weight : AnsweredQuery → ℕ) (place : ℕ) (who : Option ℕ) (fixeds : List (Fixed D)) (old new : List (Pass Item (Fixed D)))
+      (asks : List (Text × Reply)) (is : AsksOf who fixeds old new asks)
       → own_weight weight place new ≡ own_weight weight place old + sum_by weight (entries_told place (marks_of who fixeds old new asks is))
   of_own weight place None fixeds old new asks is = let same = ap (own_weight weight place) is.0 in omega (arith, same)
   of_own weight place (Some other) fixeds old new asks is = at_own weight place is
 
-one_more : (weight : AnsweredQuery → ℕ) (z : ℕ × Item) (zs : Entries Item) → sum_by weight (history_of (z ∷ zs)) ≡ sum_by weight (history_of (z ∷ [])) + sum_by weight (history_of zs)
+one_more : (weight : AnsweredQuery → ℕ) (z : ℕ × Item) (zs : Entries Item)
+    → sum_by weight (history_of (z ∷ zs)) ≡ sum_by weight (history_of (z ∷ [])) + sum_by weight (history_of zs)
 one_more weight z zs = ap (sum_by weight) (history_all (z ∷ []) zs) ∙ sum_by-append weight (history_of (z ∷ [])) (history_of zs)
 
 -- two histories that are put together weigh what both do
-weigh_both : (weight : AnsweredQuery → ℕ) (xs ys zs : Entries Item) → Interleaves xs ys zs → sum_by weight (history_of zs) ≡ sum_by weight (history_of xs) + sum_by weight (history_of ys)
+weigh_both : (weight : AnsweredQuery → ℕ) (xs ys zs : Entries Item) → Interleaves xs ys zs
+    → sum_by weight (history_of zs) ≡ sum_by weight (history_of xs) + sum_by weight (history_of ys)
 weigh_both weight xs ys [] both =
     let first = ap (λ ps. sum_by weight (history_of ps)) both.0 in
     let second = ap (λ ps. sum_by weight (history_of ps)) both.1 in
@@ -83,7 +91,8 @@ weigh_both weight xs ys (z ∷ zs) (inr that) =
 
 module _ {D : Type 0} {g h : _} where
   -- passes that met have of their own what both had
-  pub own_met : (weight : AnsweredQuery → ℕ) (place : ℕ) (counters : List (CounterOf (TicketedDesk D g) Item (Fixed D) h)) (olds others news : List (Pass Item (Fixed D))) → AreMet counters olds others news
+  pub own_met : (weight : AnsweredQuery → ℕ) (place : ℕ) (counters : List (CounterOf (TicketedDesk D g) Item (Fixed D) h))
+      (olds others news : List (Pass Item (Fixed D))) → AreMet counters olds others news
       → own_weight weight place news ≡ own_weight weight place olds + own_weight weight place others
   own_met weight place [] [] [] [] met = refl
   own_met weight zero (c ∷ counters) (o ∷ olds) (t ∷ others) (p ∷ news) met = weigh_both weight (mine o) (mine t) (mine p) met.0.mine_is
@@ -96,7 +105,8 @@ module _ {D : Type 0} {g h : _} where
   own_met weight place (c ∷ counters) (o ∷ olds) (t ∷ others) [] met = absurd met
 
   -- where passes were split, the rest has of its own what they had, and the parts have nothing
-  pub own_split : (weight : AnsweredQuery → ℕ) (place : ℕ) (counters : List (CounterOf (TicketedDesk D g) Item (Fixed D) h)) (olds news parts : List (Pass Item (Fixed D))) → AreSplit counters olds news parts
+  pub own_split : (weight : AnsweredQuery → ℕ) (place : ℕ) (counters : List (CounterOf (TicketedDesk D g) Item (Fixed D) h))
+      (olds news parts : List (Pass Item (Fixed D))) → AreSplit counters olds news parts
       → (own_weight weight place news ≡ own_weight weight place olds) × (own_weight weight place parts ≡ 0)
   own_split weight place [] [] [] [] split = (refl, refl)
   own_split weight zero (c ∷ counters) (o ∷ olds) (p ∷ news) (q ∷ parts) split = (

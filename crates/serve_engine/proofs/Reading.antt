@@ -10,7 +10,8 @@ module _ {X Y : Type 0} (f : X → Y) where
   grown ys new read x added so_far = added ∙ ap (λ (l : List Y). l ++ f x ∷ []) so_far ∙ sym (map-append f read (x ∷ []))
 
   -- so there is still room in a list with room for all
-  pub room_left : (ys : List Y) (all read left rest : List X) (x : X) (len room : ℕ) → ys ≡ map f read → read ++ left ≡ all → left ≡ x ∷ rest → len ≡ length ys → length all ≤ room → len < room
+  pub room_left : (ys : List Y) (all read left rest : List X) (x : X) (len room : ℕ) → ys ≡ map f read → read ++ left ≡ all → left ≡ x ∷ rest → len ≡ length ys
+      → length all ≤ room → len < room
   room_left ys all read left rest x len room so_far is next counted enough =
       let less = read_more all read left rest x is next in
       let many = ap length so_far ∙ length-map read f in
@@ -27,13 +28,15 @@ taken_first (y ∷ ys) x rest some is removed = ap (λ z. z ∷ ys) (sym is) ∙
 
 module _ {X Y : Type 0} (f : X → Y) where
   -- one more was put together, and of what was left the first is gone
-  pub returned : (xs new : List X) (x : X) (left rest all : List Y) (y : Y) → new ≡ xs ++ x ∷ [] → f x ≡ y → left ≡ y ∷ rest → map f xs ++ left ≡ all → map f new ++ rest ≡ all
+  pub returned : (xs new : List X) (x : X) (left rest all : List Y) (y : Y) → new ≡ xs ++ x ∷ [] → f x ≡ y → left ≡ y ∷ rest → map f xs ++ left ≡ all
+      → map f new ++ rest ≡ all
   returned xs new x left rest all y added is next so_far =
       ap (λ (l : List X). map f l ++ rest) added ∙ ap (λ (l : List Y). l ++ rest) (map-append f xs (x ∷ []) ∙ ap (λ z. map f xs ++ z ∷ []) is)
       ∙ append_assoc (map f xs) (y ∷ []) rest ∙ ap (λ (l : List Y). map f xs ++ l) (sym next) ∙ so_far
 
   pub regrown : (xs new : List X) (x : X) (ys : List Y) (y : Y) → new ≡ xs ++ x ∷ [] → f x ≡ y → map f xs ≡ ys → map f new ≡ ys ++ y ∷ []
-  regrown xs new x ys y added is so_far = ap (map f) added ∙ map-append f xs (x ∷ []) ∙ ap (λ z. map f xs ++ z ∷ []) is ∙ ap (λ (l : List Y). l ++ y ∷ []) so_far
+  regrown xs new x ys y added is so_far =
+      ap (map f) added ∙ map-append f xs (x ∷ []) ∙ ap (λ z. map f xs ++ z ∷ []) is ∙ ap (λ (l : List Y). l ++ y ∷ []) so_far
 
   -- in the end nothing is left
   pub returned_all : (xs : List X) (left all : List Y) → length left ≡ 0 → map f xs ++ left ≡ all → map f xs ≡ all

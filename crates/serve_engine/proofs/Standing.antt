@@ -30,15 +30,19 @@ module _ {X Y : Type 0} where
   zip_both P (x ∷ xs) xs' [] ys' first second = absurd first
 
 -- behind connections that stand with passes one more does, where the passes have more of their own what it told
-pub served_more : {D : Type 0} {g h : _} (counters : CountersOf (TicketedDesk D g) Item (Fixed D) h) (first old new : Passes D) (visits : List Visit) (visit : Visit) (marks : SessionMarks) → AreServedBy counters first old visits
+pub served_more : {D : Type 0} {g h : _} (counters : CountersOf (TicketedDesk D g) Item (Fixed D) h) (first old new : Passes D) (visits : List Visit)
+    (visit : Visit) (marks : SessionMarks) → AreServedBy counters first old visits
     → AllZip IsLater (members_of (fixeds_of counters) (passes_in old)) (members_of (fixeds_of counters) (passes_in new)) → IsServedBy counters new visit marks
-    → ((weight : AnsweredQuery → ℕ) (place : ℕ) → own_weight weight place (passes_in new) ≡ own_weight weight place (passes_in old) + sum_by weight (entries_told place marks))
+    → ((weight : AnsweredQuery → ℕ) (place : ℕ)
+    → own_weight weight place (passes_in new) ≡ own_weight weight place (passes_in old) + sum_by weight (entries_told place marks))
     → AreServedBy counters first new (visits ++ visit ∷ [])
 served_more counters first old new visits visit marks stood later served own = record {
   visit_marks = stood.visit_marks ++ marks ∷ [];
   each = zip_both (IsServedBy counters new) visits (visit ∷ []) stood.visit_marks (marks ∷ [])
       (zip_still (IsServedBy counters old) (IsServedBy counters new)
-      (λ v m is schema world within. served_later schema world (users_of counters) (members_of (fixeds_of counters) (passes_in old)) (members_of (fixeds_of counters) (passes_in new)) v m later (is schema world within))
+      (λ v m is schema world within.
+      served_later schema world (users_of counters) (members_of (fixeds_of counters) (passes_in old))
+      (members_of (fixeds_of counters) (passes_in new)) v m later (is schema world within))
       visits stood.visit_marks stood.each)
       (served, tt);
   own = λ weight place.

@@ -28,7 +28,8 @@ not_risen before now none (inl rose) = let is = eqb-true now 0 none in omega (ar
 not_risen before now none (inr full) = let is = eqb-true now 0 none in omega (arith, is, full)
 
 -- the lines that were answered are the first that a session hears
-first_lines : (ended : Ended) (bytes : List ℕ) (lines : List HeardLine) → Hears ended bytes lines → (rest : List HeardLine) × (session_lines bytes ≡ lines ++ rest)
+first_lines : (ended : Ended) (bytes : List ℕ) (lines : List HeardLine) → Hears ended bytes lines → (rest : List HeardLine)
+    × (session_lines bytes ≡ lines ++ rest)
 first_lines Quit bytes lines hears = ([], sym hears.0 ∙ sym (append-nil lines))
 first_lines InputEnd bytes lines hears = ([], sym hears.0 ∙ sym (append-nil lines))
 first_lines TooLong bytes lines hears = ([], sym hears.0 ∙ sym (append-nil lines))
@@ -37,7 +38,8 @@ first_lines ReadFault bytes lines hears = (hears.0, hears.1)
 first_lines WriteFault bytes lines hears = hears
 
 -- and all of them where no end failed
-all_lines : (ended : Ended) (bytes : List ℕ) (lines : List HeardLine) → (ended ≡ ReadFault → ⊥) → (ended ≡ WriteFault → ⊥) → Hears ended bytes lines → lines ≡ session_lines bytes
+all_lines : (ended : Ended) (bytes : List ℕ) (lines : List HeardLine) → (ended ≡ ReadFault → ⊥) → (ended ≡ WriteFault → ⊥) → Hears ended bytes lines
+    → lines ≡ session_lines bytes
 all_lines Quit bytes lines no_read no_write hears = hears.0
 all_lines InputEnd bytes lines no_read no_write hears = hears.0
 all_lines TooLong bytes lines no_read no_write hears = hears.0
@@ -64,11 +66,15 @@ all_written ReadFault after texts no_write writes = writes
 all_written WriteFault after texts no_write writes = absurd (no_write refl)
 
 -- A session over ends that were untouched is a connection that was served by the users as their passes are then.
-pub session_served : {D : Type 0} (S K : Type 0) (users : List User) (fixeds : List (Fixed D)) (ended : Ended) (held held' left : List ℕ) (old new : List (Pass Item (Fixed D))) (before after : List ℕ) (sources sinks sources' sinks' : ℕ)
+pub session_served : {D : Type 0} (S K : Type 0) (users : List User) (fixeds : List (Fixed D)) (ended : Ended) (held held' left : List ℕ)
+    (old new : List (Pass Item (Fixed D))) (before after : List ℕ) (sources sinks sources' sinks' : ℕ)
     → (session : Session S K users fixeds ended left old new before after) → AreUntouchedEnds S K held left before sources sinks → held' ≡ held
     → (ended ≡ ReadFault → Rose sources sources') → (ended ≡ WriteFault → Rose sinks sinks')
-    → (schema : DatabaseSchema) (world : FactSet) → AreIn schema world fixeds → HaveSeenOpenings fixeds old → Served schema world users (members_of fixeds new) (visit_of held' after sources' sinks') (marks_of session.who fixeds old new session.asks session.desks)
-session_served {D} S K users fixeds ended held held' left old new before after sources sinks sources' sinks' session untouched same read_cause write_cause schema world within openings =
+    → (schema : DatabaseSchema) (world : FactSet) → AreIn schema world fixeds → HaveSeenOpenings fixeds old
+    → Served schema world users (members_of fixeds new) (visit_of held' after sources' sinks')
+    (marks_of session.who fixeds old new session.asks session.desks)
+session_served {D} S K users fixeds ended held held' left old new before after sources sinks sources' sinks' session untouched same read_cause write_cause
+    schema world within openings =
     let hears = subst (λ b. Hears ended b session.lines) (untouched.untaken ∙ sym same) (session.hears untouched.told.0) in
     let writes = subst (λ b. Writes ended b after session.texts) untouched.unwritten (session.writes untouched.told.1) in
     record {
@@ -78,7 +84,8 @@ session_served {D} S K users fixeds ended held held' left old new before after s
       talks = session.talks;
       replied = of_replied schema world session.who fixeds old new session.asks within openings session.desks;
       heard = first_lines ended held' session.lines hears;
-      all_heard = λ source sink. all_lines ended held' session.lines (λ e. not_risen sources sources' source (read_cause e)) (λ e. not_risen sinks sinks' sink (write_cause e)) hears;
+      all_heard = λ source sink.
+          all_lines ended held' session.lines (λ e. not_risen sources sources' source (read_cause e)) (λ e. not_risen sinks sinks' sink (write_cause e)) hears;
       wrote = first_written ended after session.texts writes;
       all_written = λ sink. all_written ended after session.texts (λ e. not_risen sinks sinks' sink (write_cause e)) writes;
     }

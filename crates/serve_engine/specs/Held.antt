@@ -12,13 +12,16 @@ use Rattle.desk_counter.specs.Shared.{IsPassBy}
 use Rattle.session_core.specs.Members.{HasSeenLegal}
 
 -- at each place the pass is of the counter there
-abbrev pub AtEach : {V I F : Type 0} {h : _} → (V → F) → List (Pass I F) → List (CounterOf V I F h) → Type 0
+abbrev pub AtEach : {V I F : Type 0} {h : _} → (V → F) → List (Pass I F) → List (CounterOf V I F h)
+    → Type 0
 AtEach {V} {I} {F} {h} kept passes counters =
-    (k : ℕ) (pass : Pass I F) (counter : CounterOf V I F h) → k < length passes → IsPassBy kept (slice_index_or passes k pass) (slice_index_or counters k counter)
+    (k : ℕ) (pass : Pass I F) (counter : CounterOf V I F h) → k < length passes
+    → IsPassBy kept (slice_index_or passes k pass) (slice_index_or counters k counter)
 
 -- the pass has seen no fewer entries than its desk had at the opening
 abbrev pub HasSeenOpening : {D : Type 0} → Pass Item (Fixed D) → Type 0
-HasSeenOpening {D} pass = (desk : Fixed D) → fixed pass ≡ Some desk → length desk.opening ≤ length (history_of (seen pass))
+HasSeenOpening {D} pass = (desk : Fixed D) → fixed pass ≡ Some desk
+    → length desk.opening ≤ length (history_of (seen pass))
 
 -- what the pass has seen of its desk is legal
 abbrev pub SeesLegally : {D : Type 0} → Pass Item (Fixed D) → Type 0

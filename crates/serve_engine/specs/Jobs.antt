@@ -17,7 +17,8 @@ use Rattle.serve_engine.specs.Members.{AreServedBy}
 
 module _ {D G : Type 0} {g h : _} where
   -- the counters at which it serves
-  abbrev pub job_counters : SessionJobOf (TicketedDesk D g) D G h → CountersOf (TicketedDesk D g) Item (Fixed D) h
+  abbrev pub job_counters : SessionJobOf (TicketedDesk D g) D G h
+      → CountersOf (TicketedDesk D g) Item (Fixed D) h
   job_counters job = job.counters.now
 
   -- its passes

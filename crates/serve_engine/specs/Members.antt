@@ -1,5 +1,6 @@
 -- The users at their desks, as the passes of one worker know them.
-use Rattle.std.specs.Prelude.{◌≡◌, ℕ, zero, suc, ◌+◌, ◌/◌, ◌^◌, ◌≤◌, min, List, [], ◌∷◌, length, sum_by}
+use Rattle.std.specs.Prelude.{◌≡◌, ℕ, zero, suc, ◌+◌, ◌/◌, ◌^◌, ◌≤◌, min, List, [], ◌∷◌, length}
+use Rattle.std.specs.Prelude.{sum_by}
 use Rattle.std.specs.List.{AllByRecursion, AllZip}
 use Rattle.outside.specs.Visits.{Visit}
 use Rattle.cqe_base.specs.Schema.{DatabaseSchema}
@@ -37,11 +38,13 @@ module _ {D : Type 0} where
 
   -- all desks are of this schema and this world
   abbrev pub AreIn : DatabaseSchema → FactSet → List (Fixed D) → Type 0
-  AreIn schema world fixeds = AllByRecursion (λ fixed. (fixed.schema ≡ schema) × (fixed.world ≡ world)) fixeds
+  AreIn schema world fixeds =
+      AllByRecursion (λ fixed. (fixed.schema ≡ schema) × (fixed.world ≡ world)) fixeds
 
   -- each pass has seen no fewer entries than its desk had at the opening
   abbrev pub HaveSeenOpenings : List (Fixed D) → List (Pass Item (Fixed D)) → Type 0
-  HaveSeenOpenings fixeds passes = AllZip (λ fixed pass. length fixed.opening ≤ length (history_of (seen pass))) fixeds passes
+  HaveSeenOpenings fixeds passes =
+      AllZip (λ fixed pass. length fixed.opening ≤ length (history_of (seen pass))) fixeds passes
 
   -- A pass after sessions: it has as many shares, and has seen all that it had, and maybe more.
   pub record IsPassLater (before after : Pass Item (Fixed D)) : Type 0 where
@@ -63,20 +66,29 @@ module _ {D : Type 0} where
   own_weight weight zero (pass ∷ passes) = sum_by weight (history_of (mine pass))
   own_weight weight (suc place) (pass ∷ passes) = own_weight weight place passes
 
-  -- However entries are weighed, each pass has more of its own what the marks weigh that were told to the user at its place.
-  abbrev pub OwnMore : List (Pass Item (Fixed D)) → List (Pass Item (Fixed D)) → List SessionMarks → Type 0
-  OwnMore before after visit_marks = (weight : AnsweredQuery → ℕ) (place : ℕ) → own_weight weight place after ≡ own_weight weight place before + sum_by (λ marks. sum_by weight (entries_told place marks)) visit_marks
+  -- However entries are weighed, each pass has more of its own what the marks weigh that were told
+  -- to the user at its place.
+  abbrev pub OwnMore : List (Pass Item (Fixed D)) → List (Pass Item (Fixed D)) → List SessionMarks
+      → Type 0
+  OwnMore before after visit_marks = (weight : AnsweredQuery → ℕ) (place : ℕ)
+      → own_weight weight place after
+      ≡ own_weight weight place before
+      + sum_by (λ marks. sum_by weight (entries_told place marks)) visit_marks
 
 module _ {D : Type 0} {g h : _} where
-  -- A finished connection is served by the users of these desks, as the passes know them, wherever all desks are in one
-  -- world.
-  abbrev pub IsServedBy : CountersOf (TicketedDesk D g) Item (Fixed D) h → Passes D → Visit → SessionMarks → Type 0
-  IsServedBy counters passes visit marks = (schema : DatabaseSchema) (world : FactSet) → AreIn schema world (fixeds_of counters)
-      → Served schema world (users_of counters) (members_of (fixeds_of counters) (passes_in passes)) visit marks
+  -- A finished connection is served by the users of these desks, as the passes know them, wherever
+  -- all desks are in one world.
+  abbrev pub IsServedBy : CountersOf (TicketedDesk D g) Item (Fixed D) h → Passes D → Visit
+      → SessionMarks → Type 0
+  IsServedBy counters passes visit marks =
+      (schema : DatabaseSchema) (world : FactSet) → AreIn schema world (fixeds_of counters)
+      → Served schema world (users_of counters)
+      (members_of (fixeds_of counters) (passes_in passes)) visit marks
 
-  -- Finished connections are served so, each with its marks, and what the passes have more of their own are the entries of
-  -- these.
-  pub record AreServedBy (counters : CountersOf (TicketedDesk D g) Item (Fixed D) h) (before passes : Passes D) (visits : List Visit) : Type 0 where
+  -- Finished connections are served so, each with its marks, and what the passes have more of their
+  -- own are the entries of these.
+  pub record AreServedBy (counters : CountersOf (TicketedDesk D g) Item (Fixed D) h)
+      (before passes : Passes D) (visits : List Visit) : Type 0 where
     pub visit_marks : List SessionMarks
     pub each : AllZip (IsServedBy counters passes) visits visit_marks
     pub own : OwnMore (passes_in before) (passes_in passes) visit_marks

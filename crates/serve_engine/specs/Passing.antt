@@ -26,15 +26,19 @@ module _ {D : Type 0} where
 
   -- each has seen all that the one at its place in the first list has
   abbrev pub AreOn : Passes D → Passes D → Type 0
-  AreOn before after = AllZip (λ earlier later. IsPrefix (seen earlier) (seen later)) (passes_in before) (passes_in after)
+  AreOn before after =
+      AllZip (λ earlier later. IsPrefix (seen earlier) (seen later)) (passes_in before)
+      (passes_in after)
 
   -- what each has of its own weighs the same
   abbrev pub OwnAlike : Passes D → Passes D → Type 0
-  OwnAlike before after = (weight : AnsweredQuery → ℕ) (place : ℕ) → own_weight weight place (passes_in after) ≡ own_weight weight place (passes_in before)
+  OwnAlike before after = (weight : AnsweredQuery → ℕ) (place : ℕ)
+      → own_weight weight place (passes_in after) ≡ own_weight weight place (passes_in before)
 
   -- none has entries of its own
   abbrev pub NoneOwn : Passes D → Type 0
-  NoneOwn passes = (weight : AnsweredQuery → ℕ) (place : ℕ) → own_weight weight place (passes_in passes) ≡ 0
+  NoneOwn passes =
+      (weight : AnsweredQuery → ℕ) (place : ℕ) → own_weight weight place (passes_in passes) ≡ 0
 
   -- passes for one worker, which were split off from these
   pub record AreParts (before part : Passes D) : Type 0 where
@@ -45,13 +49,15 @@ module _ {D : Type 0} where
 
 module _ {D G O : Type 0} {g h : _} where
   -- a worker's job is at these counters, with such passes, and it hasn't begun
-  pub record IsFresh (counters : CountersOf (TicketedDesk D g) Item (Fixed D) h) (before : Passes D) (worker : Worker (SessionJobOf (TicketedDesk D g) D G h) O) : Type 0 where
+  pub record IsFresh (counters : CountersOf (TicketedDesk D g) Item (Fixed D) h) (before : Passes D)
+      (worker : Worker (SessionJobOf (TicketedDesk D g) D G h) O) : Type 0 where
     pub counters_are : job_counters worker.job ≡ counters
     pub parts : AreParts before (job_passes worker.job)
     pub none : job_runs worker.job ≡ 0
     pub running : worker.ended ≡ None
 
   -- a worker's job is at these counters, and its passes have one share
-  pub record IsBack (counters : CountersOf (TicketedDesk D g) Item (Fixed D) h) (worker : Worker (SessionJobOf (TicketedDesk D g) D G h) O) : Type 0 where
+  pub record IsBack (counters : CountersOf (TicketedDesk D g) Item (Fixed D) h)
+      (worker : Worker (SessionJobOf (TicketedDesk D g) D G h) O) : Type 0 where
     pub counters_are : job_counters worker.job ≡ counters
     pub shares_are : HaveShares 1 (job_passes worker.job)

@@ -1,5 +1,6 @@
 -- What a finished connection is to the users who are served.
-use Rattle.std.specs.Prelude.{◌≡◌, ◌⊎◌, ℕ, zero, suc, ◌==◌, Bool, true, false, List, [], ◌∷◌, ◌++◌, length, Option, Some, None, if◌then◌else◌}
+use Rattle.std.specs.Prelude.{◌≡◌, ◌⊎◌, ℕ, zero, suc, ◌==◌, Bool, true, false, List, [], ◌∷◌, ◌++◌}
+use Rattle.std.specs.Prelude.{length, Option, Some, None, if◌then◌else◌}
 use Rattle.std.specs.List.{AllZip}
 use Rattle.outside.specs.Visits.{Visit}
 use Rattle.cqe_base.specs.Schema.{DatabaseSchema, Text}
@@ -11,8 +12,8 @@ use Rattle.session_core.specs.Heard.{HeardLine, session_lines}
 use Rattle.session_core.specs.Talks.{Talks, written_lines, IsCut}
 use Rattle.session_core.specs.Replied.{Replied}
 
--- A user while connections are served: who he is, how his desk stands, the entries at its opening, all its entries, and
--- whether an append failed.
+-- A user while connections are served: who he is, how his desk stands, the entries at its opening,
+-- all its entries, and whether an append failed.
 pub record Member : Type 0 where
   pub profile : UserProfile
   pub standing : Standing
@@ -20,7 +21,8 @@ pub record Member : Type 0 where
   pub history : History
   pub broke : Bool
 
--- The same user later: his history has all that it had, and maybe further entries, and an append may have failed.
+-- The same user later: his history has all that it had, and maybe further entries, and an append
+-- may have failed.
 pub record IsLater (before after : Member) : Type 0 where
   pub profile : after.profile ≡ before.profile
   pub standing : after.standing ≡ before.standing
@@ -28,7 +30,8 @@ pub record IsLater (before after : Member) : Type 0 where
   pub further : (entries : History) × (after.history ≡ before.history ++ entries)
   pub broke : before.broke ≡ true → after.broke ≡ true
 
--- What a connection comes to: who is logged in in the end, by his place, and the entries of the marks that he was told.
+-- What a connection comes to: who is logged in in the end, by his place, and the entries of the
+-- marks that he was told.
 pub record SessionMarks : Type 0 where
   pub who : Option ℕ
   pub entries : History
@@ -43,37 +46,45 @@ abbrev pub entries_told : ℕ → SessionMarks → History
 entries_told place marks = if is_user_at place marks.who then marks.entries else []
 
 module _ (schema : DatabaseSchema) (world : FactSet) where
-  -- The asks of a connection, with their replies, were replied to by the history of the user at this place: the first by no
-  -- fewer entries than there were at the opening. The last list are the entries of the marks.
+  -- The asks of a connection, with their replies, were replied to by the history of the user at
+  -- this place: the first by no fewer entries than there were at the opening. The last list are the
+  -- entries of the marks.
   pub data RepliedAt : ℕ → List Member → List (Text × Reply) → History → Type 0 where
     here : {member : Member} {others : List Member} {asks : List (Text × Reply)}
         {entries : History} {fails : Bool}
         → Replied schema world member.profile member.standing member.history member.broke
         (length member.opening) false asks entries fails
         → RepliedAt zero (member ∷ others) asks entries
-    further : {place : ℕ} {member : Member} {others : List Member} {asks : List (Text × Reply)} {entries : History} → RepliedAt place others asks entries → RepliedAt (suc place) (member ∷ others) asks entries
+    further : {place : ℕ} {member : Member} {others : List Member} {asks : List (Text × Reply)}
+        {entries : History} → RepliedAt place others asks entries
+        → RepliedAt (suc place) (member ∷ others) asks entries
 
   -- the asks of who is logged in in the end: without a login there are none
   abbrev pub RepliedTo : Option ℕ → List Member → List (Text × Reply) → History → Type 0
   RepliedTo None members asks entries = (asks ≡ []) × (entries ≡ [])
   RepliedTo (Some place) members asks entries = RepliedAt place members asks entries
 
-  -- A finished connection is served, and comes to these marks: its lines were answered one after the other, and what was
-  -- asked was replied to by the one history of the user who logged in. The lines are those that a session hears of all bytes
-  -- that came in; where an end failed, the first of these. What was written is a line for each answer; where the sink failed,
-  -- maybe of the last one only a part.
-  pub record Served (users : List User) (members : List Member) (visit : Visit) (marks : SessionMarks) : Type 0 where
+  -- A finished connection is served, and comes to these marks: its lines were answered one after
+  -- the other, and what was asked was replied to by the one history of the user who logged in. The
+  -- lines are those that a session hears of all bytes that came in; where an end failed, the first
+  -- of these. What was written is a line for each answer; where the sink failed, maybe of the last
+  -- one only a part.
+  pub record Served (users : List User) (members : List Member) (visit : Visit)
+      (marks : SessionMarks) : Type 0 where
     pub lines : List HeardLine
     pub asks : List (Text × Reply)
     pub texts : List Text
     pub talks : Talks users None lines marks.who asks texts
     pub replied : RepliedTo marks.who members asks marks.entries
     pub heard : (rest : List HeardLine) × (session_lines visit.held ≡ lines ++ rest)
-    pub all_heard : visit.source_whole ≡ true → visit.sink_whole ≡ true → lines ≡ session_lines visit.held
+    pub all_heard : visit.source_whole ≡ true → visit.sink_whole ≡ true
+        → lines ≡ session_lines visit.held
     pub wrote : (visit.written ≡ written_lines texts) ⊎ IsCut texts visit.written
     pub all_written : visit.sink_whole ≡ true → visit.written ≡ written_lines texts
 
 -- A connection that was served stays so where each user is the same later.
 abbrev pub ServedStay : Type 0
-ServedStay = (schema : DatabaseSchema) (world : FactSet) (users : List User) (before after : List Member) (visit : Visit) (marks : SessionMarks)
-    → AllZip IsLater before after → Served schema world users before visit marks → Served schema world users after visit marks
+ServedStay = (schema : DatabaseSchema) (world : FactSet) (users : List User)
+    (before after : List Member) (visit : Visit) (marks : SessionMarks)
+    → AllZip IsLater before after → Served schema world users before visit marks
+    → Served schema world users after visit marks

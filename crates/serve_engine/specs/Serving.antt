@@ -1,5 +1,6 @@
 -- What serving connections means for the users and for the connections.
-use Rattle.std.specs.Prelude.{◌≡◌, ◌⊎◌, ℕ, suc, ◌+◌, Bool, true, false, List, [], ◌∷◌, ◌++◌, sum_by, Option, Vec, is_some, string_bytes}
+use Rattle.std.specs.Prelude.{◌≡◌, ◌⊎◌, ℕ, suc, ◌+◌, Bool, true, false, List, [], ◌∷◌, ◌++◌, sum_by}
+use Rattle.std.specs.Prelude.{Option, Vec, is_some, string_bytes}
 use Rattle.std.specs.declared.alloc.Global.{Global}
 use Rattle.std.specs.List.{AllZip, list_any}
 use Rattle.outside.specs.Faults.{Rose}
@@ -23,56 +24,79 @@ use Rattle.serve_engine.specs.Served.{Member, SessionMarks, entries_told, Served
 use Rattle.serve_engine.specs.declared.serving.Outcome.{Outcome}
 use Rattle.serve_engine.specs.declared.serving.Outcome.TheVariants as outcome
 use Rattle.serve_engine.specs.declared.run.ServeEnd.{ServeEnd}
-use Rattle.serve_engine.specs.declared.run.ServeEnd.TheVariants.{Done, LinksFault, ShelfFault, Memory}
+use Rattle.serve_engine.specs.declared.run.ServeEnd.TheVariants.{Done, LinksFault, ShelfFault}
+use Rattle.serve_engine.specs.declared.run.ServeEnd.TheVariants.{Memory}
 
 -- No connection was given, and all journals are as they were.
-pub record ServesNobody (journals : Journals) (given given' : ℕ) (back back' : List Visit) : Type 0 where
+pub record ServesNobody (journals : Journals) (given given' : ℕ) (back back' : List Visit) :
+    Type 0 where
   pub given_same : given' ≡ given
   pub back_same : back' ≡ back
   pub kept : AreKept journals
 
--- Of each user, from this place on: however entries are weighed, his history weighs what it did at the opening, and what
--- the entries of the marks weigh that connections told him. So behind the opening each of these stands once, and no other.
+-- Of each user, from this place on: however entries are weighed, his history weighs what it did at
+-- the opening, and what the entries of the marks weigh that connections told him. So behind the
+-- opening each of these stands once, and no other.
 abbrev pub AreAllTold : ℕ → List Member → List SessionMarks → Type 0
 AreAllTold place [] visit_marks = Unit {0}
 AreAllTold place (member ∷ members) visit_marks =
-    ((weight : AnsweredQuery → ℕ) → sum_by weight member.history ≡ sum_by weight member.opening + sum_by (λ marks. sum_by weight (entries_told place marks)) visit_marks)
+    ((weight : AnsweredQuery → ℕ)
+    → sum_by weight member.history
+    ≡ sum_by weight member.opening
+    + sum_by (λ marks. sum_by weight (entries_told place marks)) visit_marks)
     × AreAllTold (suc place) members visit_marks
 
 module _ (schema : DatabaseSchema) (world : FactSet) (header : List ℕ) (journals : Journals) where
-  -- A user over all connections: how his journal was opened, what his one history is, and how his disk came back.
+  -- A user over all connections: how his journal was opened, what his one history is, and how his
+  -- disk came back.
   pub record HasServed (user : User) (member : Member) (refusal : Option DeskError) : Type 0 where
     pub profile_is : member.profile ≡ profile_of user
-    -- the bytes of his journal and its count show his standing; they stand for his opening history, or are refused
+    -- the bytes of his journal and its count show his standing; they stand for his opening history,
+    -- or are refused
     pub standing : Standing
     pub standing_is : member.standing ≡ standing_of standing
     pub refusal_is : refusal ≡ refusal_of standing
-    pub cause : IsStanding schema world member.profile (Unit {0}) header (journals.bytes (string_bytes user.name)) member.opening (journals.before (string_bytes user.name)) (journals.now (string_bytes user.name)) standing
+    pub cause : IsStanding schema world member.profile (Unit {0}) header
+        (journals.bytes (string_bytes user.name)) member.opening
+        (journals.before (string_bytes user.name))
+        (journals.now (string_bytes user.name)) standing
     -- his history goes on from there and is legal; and where he is admitted, it hides
     pub goes_on : (entries : History) × (member.history ≡ member.opening ++ entries)
     pub legal : IsLegal schema world member.profile member.history
-    pub hides : admitted schema world member.profile ≡ true → Hides schema world member.profile member.history
-    -- unless his journal was refused, his disk reads as his history, and so does what a crash may leave of it; where an append failed, as that or as that with the entry in flight
+    pub hides : admitted schema world member.profile ≡ true
+        → Hides schema world member.profile member.history
+    -- unless his journal was refused, his disk reads as his history, and so does what a crash may
+    -- leave of it; where an append failed, as that or as that with the entry in flight
     pub in_flight : Option AnsweredQuery
     pub broke_is : member.broke ≡ is_some in_flight
-    pub reads : is_sealed standing ≡ false → Holds schema world member.profile header (shown member.history member.standing in_flight) (journals.reads (string_bytes user.name))
-    pub stands : is_sealed standing ≡ false → (c : List ℕ) → journals.image (string_bytes user.name) c → Holds schema world member.profile header (shown member.history member.standing in_flight) c
+    pub reads : is_sealed standing ≡ false
+        → Holds schema world member.profile header (shown member.history member.standing in_flight)
+        (journals.reads (string_bytes user.name))
+    pub stands : is_sealed standing ≡ false → (c : List ℕ)
+        → journals.image (string_bytes user.name) c
+        → Holds schema world member.profile header
+        (shown member.history member.standing in_flight) c
     -- only where he is served has he entries, or did an append fail
     pub idle : is_open standing ≡ false → (member.history ≡ []) × (member.broke ≡ false)
     -- where it was refused, or nothing was appended, it is as it was
-    pub kept : (is_sealed standing ≡ true) ⊎ ((member.history ≡ member.opening) × (member.broke ≡ false)) → IsKept journals (string_bytes user.name)
+    pub kept : (is_sealed standing ≡ true)
+        ⊎ ((member.history ≡ member.opening) × (member.broke ≡ false))
+        → IsKept journals (string_bytes user.name)
     -- an append failed only where the count of his disk's faults rose
-    pub failed : member.broke ≡ true → Rose (journals.before (string_bytes user.name)) (journals.now (string_bytes user.name))
+    pub failed : member.broke ≡ true
+        → Rose (journals.before (string_bytes user.name)) (journals.now (string_bytes user.name))
 
   -- all users, each with the refusal of his journal, if it was refused
   abbrev pub HaveServed : List User → List Member → List (Option DeskError) → Type 0
   HaveServed [] [] [] = Unit {0}
-  HaveServed (user ∷ users) (member ∷ members) (refusal ∷ refusals) = HasServed user member refusal × HaveServed users members refusals
+  HaveServed (user ∷ users) (member ∷ members) (refusal ∷ refusals) =
+      HasServed user member refusal × HaveServed users members refusals
   HaveServed users members refusals = ⊥
 
   module _ (users : List User) (given given' : ℕ) (back back' : List Visit) where
-    -- Connections were served: each that was given is back, and is served by the users' histories as they are in the end; and
-    -- these have nothing behind their openings but what the connections told.
+    -- Connections were served: each that was given is back, and is served by the users' histories
+    -- as they are in the end; and these have nothing behind their openings but what the connections
+    -- told.
     pub record Serves (refusals : List (Option DeskError)) (is_broken : Bool) : Type 0 where
       pub members : List Member
       pub each_user : HaveServed users members refusals
@@ -80,17 +104,21 @@ module _ (schema : DatabaseSchema) (world : FactSet) (header : List ℕ) (journa
       pub count : ℕ
       pub given_is : given' ≡ given + count
       pub visit_marks : List SessionMarks
-      pub visits : HasVisits (λ visits. AllZip (Served schema world users members) visits visit_marks) count back back'
+      pub visits : HasVisits (λ visits.
+          AllZip (Served schema world users members) visits visit_marks) count back back'
       pub all_told : AreAllTold 0 members visit_marks
 
     -- no connection was served: no journal was opened, or all were and are closed again
     abbrev pub ServesNone : Type 0
-    ServesNone = ServesNobody journals given given' back back' ⊎ ((refusals : List (Option DeskError)) × (is_broken : Bool) × (served : Serves refusals is_broken) × (served.count ≡ 0))
+    ServesNone = ServesNobody journals given given' back back'
+        ⊎ ((refusals : List (Option DeskError)) × (is_broken : Bool)
+        × (served : Serves refusals is_broken) × (served.count ≡ 0))
 
     -- what each end says
     abbrev pub Ends : ServeEnd → Type 0
     Ends (Done refusals is_broken) = Serves refusals.items is_broken
-    Ends LinksFault = ServesNobody journals given given' back back' ⊎ ((refusals : List (Option DeskError)) × (is_broken : Bool) × Serves refusals is_broken)
+    Ends LinksFault = ServesNobody journals given given' back back'
+        ⊎ ((refusals : List (Option DeskError)) × (is_broken : Bool) × Serves refusals is_broken)
     Ends ShelfFault = ServesNobody journals given given' back back'
     Ends Memory = ServesNone
 
@@ -115,7 +143,8 @@ module _ (schema : DatabaseSchema) (world : FactSet) (header : List ℕ) (journa
   LeavesJournals users Memory = AreKept journals ⊎ LeavesSome users
 
   -- The same of the doors through which they came.
-  module _ (users : List User) {O : Type 0} (told : Type 0) (given_of left_of faults_of : O → ℕ) (back_of : O → List Visit) (doors doors' : List O) where
+  module _ (users : List User) {O : Type 0} (told : Type 0) (given_of left_of faults_of : O → ℕ)
+      (back_of : O → List Visit) (doors doors' : List O) where
     -- connections were served, each of the doors' among them
     pub record ServesDoors (refusals : List (Option DeskError)) (is_broken : Bool) : Type 0 where
       pub members : List Member
@@ -123,7 +152,8 @@ module _ (schema : DatabaseSchema) (world : FactSet) (header : List ℕ) (journa
       pub broken_is : is_broken ≡ list_any (λ member. member.broke) members
       pub total : ℕ
       pub marks : told → List SessionMarks
-      pub served : AreServedDoors told given_of left_of faults_of back_of (Served schema world users members) total marks doors doors'
+      pub served : AreServedDoors told given_of left_of faults_of back_of
+          (Served schema world users members) total marks doors doors'
       pub all_told : (t : told) → AreAllTold 0 members (marks t)
 
     -- the doors are as they were, and so are all journals
@@ -134,9 +164,13 @@ module _ (schema : DatabaseSchema) (world : FactSet) (header : List ℕ) (journa
     -- what each end says
     abbrev pub EndsAt : ServeEnd → Type 0
     EndsAt (Done refusals is_broken) = ServesDoors refusals.items is_broken
-    EndsAt LinksFault = ServesNoDoor ⊎ ((refusals : List (Option DeskError)) × (is_broken : Bool) × ServesDoors refusals is_broken)
+    EndsAt LinksFault = ServesNoDoor
+        ⊎ ((refusals : List (Option DeskError)) × (is_broken : Bool)
+        × ServesDoors refusals is_broken)
     EndsAt ShelfFault = ServesNoDoor
-    EndsAt Memory = ServesNoDoor ⊎ ((refusals : List (Option DeskError)) × (is_broken : Bool) × (served : ServesDoors refusals is_broken) × (served.total ≡ 0))
+    EndsAt Memory = ServesNoDoor
+        ⊎ ((refusals : List (Option DeskError)) × (is_broken : Bool)
+        × (served : ServesDoors refusals is_broken) × (served.total ≡ 0))
 
 -- the end of a serving that came to its end
 abbrev pub IsDone : ServeEnd → Type 0

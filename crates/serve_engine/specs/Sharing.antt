@@ -41,7 +41,8 @@ module _ {D : Type 0} {g h : _} where
     broke = seat_broke seat;
   }
 
-  -- A seat before and after: the same user with the same journal at the same desk, whose pass has seen all that it had.
+  -- A seat before and after: the same user with the same journal at the same desk, whose pass has
+  -- seen all that it had.
   pub record IsSeatOn (before after : DeskSeat D g h) : Type 0 where
     pub user_is : seat_user after ≡ seat_user before
     pub journal_is : seat_journal after ≡ seat_journal before
@@ -59,8 +60,11 @@ module _ {D : Type 0} {g h : _} where
   -- all desks are of this schema and this world
   abbrev pub AreAllIn : DatabaseSchema → FactSet → List (DeskSeat D g h) → Type 0
   AreAllIn schema world [] = Unit {0}
-  AreAllIn schema world (seat ∷ seats) = ((seat_kept seat).schema ≡ schema) × ((seat_kept seat).world ≡ world) × AreAllIn schema world seats
+  AreAllIn schema world (seat ∷ seats) = ((seat_kept seat).schema ≡ schema)
+      × ((seat_kept seat).world ≡ world) × AreAllIn schema world seats
 
-  -- A finished connection is served by the users at these seats, wherever all desks are in one world.
+  -- A finished connection is served by the users at these seats, wherever all desks are in one
+  -- world.
   abbrev pub IsServedAt : List User → List (DeskSeat D g h) → Visit → SessionMarks → Type 0
-  IsServedAt users seats visit marks = (schema : DatabaseSchema) (world : FactSet) → AreAllIn schema world seats → Served schema world users (map seat_member seats) visit marks
+  IsServedAt users seats visit marks = (schema : DatabaseSchema) (world : FactSet)
+      → AreAllIn schema world seats → Served schema world users (map seat_member seats) visit marks

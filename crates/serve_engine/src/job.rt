@@ -10,8 +10,8 @@ use std::alloc::Global;
 use std::sync::Wait;
 use worker_pool::Job;
 
-/// What a worker does with each connection. It stands for a `SessionJob` wherever a thread is to take it, since it says
-/// nothing of what is under the counters.
+/// What a worker does with each connection. It stands for a `SessionJob` wherever a thread is to
+/// take it, since it says nothing of what is under the counters.
 #[derive(Drop)]
 pub struct SessionJobOf<'a, 'w, V: Owned<Item = Item, Fixed = Fixed<D>>, D, G> {
     counters: &'a CountersOf<'w, V>,
@@ -69,7 +69,8 @@ impl<'a, 'w, D: Disk, G: Gate, Src: Source, Snk: Sink> Job<Src, Snk>
     ghost use Rattle.worker_pool.specs.Jobs.{AreUntouchedEnds};
     ghost use Rattle.session_core.specs.Members.{passes_in, users_of, fixeds_of};
     ghost use Rattle.serve_engine.specs.Members.{AreServedBy, ArePassesLater, room_in};
-    ghost use Rattle.serve_engine.specs.Jobs.{job_counters, job_passes, job_runs, RunsSession, ServesOn};
+    ghost use Rattle.serve_engine.specs.Jobs.{job_counters, job_passes, job_runs, RunsSession};
+    ghost use Rattle.serve_engine.specs.Jobs.{ServesOn};
     ghost use Rattle.serve_engine.specs.Keeping.{nothing_served, same_passes, later_passes};
 
     ghost tells = { ⊥ };
@@ -80,7 +81,8 @@ impl<'a, 'w, D: Disk, G: Gate, Src: Source, Snk: Sink> Job<Src, Snk>
 
     ghost numbers = { λ job. [] };
 
-    ghost stands = { λ first job visits. AreServedBy (job_counters job) (job_passes first) (job_passes job) visits };
+    ghost stands = { λ first job visits.
+        AreServedBy (job_counters job) (job_passes first) (job_passes job) visits };
 
     ghost stands_none = { λ job. nothing_served (job_counters job) (job_passes job) };
 

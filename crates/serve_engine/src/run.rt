@@ -1,5 +1,6 @@
 //! Serving from the first listening to the last journal that is back.
-ghost use Rattle.std.specs.Prelude.{◌≡◌, ◌⊎◌, ◌≤◌, ◌+◌, ◌++◌, ◌∷◌, ◌^◌, [], false, All, length, map, sum_by};
+ghost use Rattle.std.specs.Prelude.{◌≡◌, ◌⊎◌, ◌≤◌, ◌+◌, ◌++◌, ◌∷◌, ◌^◌, [], false, All, length};
+ghost use Rattle.std.specs.Prelude.{map, sum_by};
 ghost use Rattle.std.specs.List.{flat_map};
 ghost use Rattle.outside.specs.Faults.{Rose};
 ghost use Rattle.outside.specs.Shelf.{SameNames};
@@ -12,7 +13,8 @@ ghost use Rattle.log_journal.specs.Names.{journal_name};
 ghost use Rattle.desk_crew.specs.Crew.{named_user};
 ghost use Rattle.desk_crew.specs.Shelved.{journals_on, SameBeside, NoneOut, NoneFell, SomeRose};
 ghost use Rattle.serve_engine.specs.Doors.{SomeFailed};
-ghost use Rattle.serve_engine.specs.Serving.{Ends, EndsAt, LeavesJournals, IsDone, IsBroken, end_of};
+ghost use Rattle.serve_engine.specs.Serving.{Ends, EndsAt, LeavesJournals, IsDone, IsBroken};
+ghost use Rattle.serve_engine.specs.Serving.{end_of};
 ghost use Rattle.serve_engine.specs.declared.run.ServeEnd.{ServeEnd};
 
 use crate::serving::Outcome;
@@ -40,8 +42,9 @@ pub struct Listening<'a> {
 /// How serving ends.
 #[derive(Debug, Drop)]
 pub enum ServeEnd {
-    /// The links ended, or the greatest number of connections was reached. Of each user, in order, there is the refusal
-    /// of his journal, if it was refused; and it says whether an append failed.
+    /// The links ended, or the greatest number of connections was reached. Of each user, in order,
+    /// there is the refusal of his journal, if it was refused; and it says whether an append
+    /// failed.
     Done(Vec<Option<DeskError>>, bool),
     /// The links failed: they didn't listen, or a door failed.
     LinksFault,
@@ -51,10 +54,10 @@ pub enum ServeEnd {
     Memory,
 }
 
-/// Serves the connections that come in at an address: opens the journals of all users, and answers each connection by a
-/// session, side by side with the others, up to the end of the links or the greatest number. A user's sessions are all
-/// answered by his one history. All disks and all doors are given back on every path. It may wait, for clients and at
-/// the desks.
+/// Serves the connections that come in at an address: opens the journals of all users, and answers
+/// each connection by a session, side by side with the others, up to the end of the links or the
+/// greatest number. A user's sessions are all answered by his one history. All disks and all doors
+/// are given back on every path. It may wait, for clients and at the desks.
 pub fn run_serve<R: Threads + Wait + Sync, F: Shelf, L: Links, G: Gate + Sync>(
     rt: &R,
     alloc: Global,
@@ -66,8 +69,10 @@ pub fn run_serve<R: Threads + Wait + Sync, F: Shelf, L: Links, G: Gate + Sync>(
 ) -> ServeEnd
 where
     F::D: Send,
-    requires limits { All (λ user. KeepsLimits registry.now.schema.now (profile_of user)) registry.now.users.now }
-    requires names { has_duplicate (map (λ user. user.name) (map named_user registry.now.users.now)) ≡ false }
+    requires limits { All
+        (λ user. KeepsLimits registry.now.schema.now (profile_of user)) registry.now.users.now }
+    requires names { has_duplicate (map (λ user. user.name) (map named_user registry.now.users.now))
+        ≡ false }
     requires inside { NoneOut (F.is_out shelf.old) }
     requires some { 1 ≤ listening.workers }
     requires few { listening.workers ≤ 64 }
@@ -76,9 +81,11 @@ where
     // Each connection that was given is served, and each journal is as its user's one history says.
     ensures ends { F.tells → L.tells → Ends registry.now.schema.now registry.now.world.now
         (header_bytes registry.now.header.now)
-        (journals_on F.D.reads F.D.image registry.now.directory.now (F.disk shelf.old) (F.disk shelf.new)
+        (journals_on F.D.reads F.D.image registry.now.directory.now (F.disk shelf.old)
+        (F.disk shelf.new)
         (F.disk_faults shelf.old) (F.disk_faults shelf.new))
-        registry.now.users.now (L.given links.old) (L.given links.new) (L.back links.old) (L.back links.new) result }
+        registry.now.users.now (L.given links.old) (L.given links.new) (L.back links.old)
+        (L.back links.new) result }
 
     // The same of the journals alone, where the connections aren't told.
     ensures journals { F.tells → LeavesJournals registry.now.schema.now registry.now.world.now
@@ -90,26 +97,31 @@ where
     // It listens at that address alone, with a door for each worker, and before it opens a journal.
     ensures listens { L.tells → (L.listened links.new ≡ L.listened links.old)
         ⊎ (L.listened links.new
-        ≡ L.listened links.old ++ place_of listening.entry.address.now listening.entry.workers ∷ []) }
+        ≡ L.listened links.old ++ place_of listening.entry.address.now listening.entry.workers
+        ∷ []) }
     ensures heard { L.tells → IsDone result
         → L.listened links.new
-        ≡ L.listened links.old ++ place_of listening.entry.address.now listening.entry.workers ∷ [] }
+        ≡ L.listened links.old ++ place_of listening.entry.address.now listening.entry.workers
+        ∷ [] }
 
-    ensures unheard { L.tells → L.listened links.new ≡ L.listened links.old → shelf.new ≡ shelf.old }
+    ensures unheard { L.tells → L.listened links.new ≡ L.listened links.old
+        → shelf.new ≡ shelf.old }
 
     // There are no more of them than the greatest number.
     ensures limited { L.tells → L.given links.new ≤ L.given links.old + listening.entry.sessions }
 
-    // It comes to its end where no connection is left, or these reach the greatest number, together with the doors that
-    // answered that no further one comes. Each worker has one door.
+    // It comes to its end where no connection is left, or these reach the greatest number, together
+    // with the doors that answered that no further one comes. Each worker has one door.
     ensures few_ended { L.ended links.new ≤ L.ended links.old + listening.entry.workers }
     ensures ended { L.tells → IsDone result
         → (L.at_hand links.new ≡ 0)
-        ⊎ (L.given links.old + listening.entry.sessions + L.ended links.old ≤ L.given links.new + L.ended links.new) }
+        ⊎ (L.given links.old + listening.entry.sessions + L.ended links.old
+        ≤ L.given links.new + L.ended links.new) }
 
     // No disk but the users' journals is touched, and all are back.
     ensures disks { SameBeside (map (journal_name registry.now.directory.now)
-        (map (λ user. user.name) (map named_user registry.now.users.now))) (F.disk shelf.old) (F.disk shelf.new) }
+        (map (λ user. user.name) (map named_user registry.now.users.now))) (F.disk shelf.old)
+        (F.disk shelf.new) }
     ensures inside { NoneOut (F.is_out shelf.new) }
     ensures files { SameNames (F.file shelf.old) (F.file shelf.new) }
     ensures looked { F.looked shelf.new ≡ F.looked shelf.old }
@@ -117,9 +129,12 @@ where
     ensures out { L.out links.new ≡ L.out links.old }
     ensures shelf_later { F.faults shelf.old ≤ F.faults shelf.new }
     ensures links_later { L.faults links.old ≤ L.faults links.new }
-    ensures shelf_cause { result ≡ ServeEnd.ShelfFault → Rose (F.faults shelf.old) (F.faults shelf.new) }
-    ensures links_cause { result ≡ ServeEnd.LinksFault → Rose (L.faults links.old) (L.faults links.new) }
-    ensures disk_cause { IsBroken result → SomeRose (F.disk_faults shelf.old) (F.disk_faults shelf.new) }
+    ensures shelf_cause { result ≡ ServeEnd.ShelfFault
+        → Rose (F.faults shelf.old) (F.faults shelf.new) }
+    ensures links_cause { result ≡ ServeEnd.LinksFault
+        → Rose (L.faults links.old) (L.faults links.new) }
+    ensures disk_cause { IsBroken result
+        → SomeRose (F.disk_faults shelf.old) (F.disk_faults shelf.new) }
 {
     let doors = match links.listen(alloc, listening.address, listening.workers) {
         Ok(doors) => doors,
@@ -131,8 +146,8 @@ where
     end
 }
 
-/// Opens the journals of all users, serves the connections of doors at their desks, and gives the journals back. The
-/// doors come back on every path.
+/// Opens the journals of all users, serves the connections of doors at their desks, and gives the
+/// journals back. The doors come back on every path.
 fn serve_opened<R: Threads + Wait + Sync, F: Shelf, O: Door + Drop + Send, G: Gate + Sync>(
     rt: &R,
     alloc: Global,
@@ -144,8 +159,10 @@ fn serve_opened<R: Threads + Wait + Sync, F: Shelf, O: Door + Drop + Send, G: Ga
 ) -> (ServeEnd, Vec<O>)
 where
     F::D: Send,
-    requires limits { All (λ user. KeepsLimits registry.now.schema.now (profile_of user)) registry.now.users.now }
-    requires names { has_duplicate (map (λ user. user.name) (map named_user registry.now.users.now)) ≡ false }
+    requires limits { All
+        (λ user. KeepsLimits registry.now.schema.now (profile_of user)) registry.now.users.now }
+    requires names { has_duplicate (map (λ user. user.name) (map named_user registry.now.users.now))
+        ≡ false }
     requires inside { NoneOut (F.is_out shelf.old) }
     requires some { 1 ≤ length doors.items }
     requires few { length doors.items ≤ 64 }
@@ -154,9 +171,11 @@ where
     requires unended { All (λ door. O.ends door ≡ 0) doors.items }
     ensures ends { F.tells → EndsAt registry.now.schema.now registry.now.world.now
         (header_bytes registry.now.header.now)
-        (journals_on F.D.reads F.D.image registry.now.directory.now (F.disk shelf.old) (F.disk shelf.new)
+        (journals_on F.D.reads F.D.image registry.now.directory.now (F.disk shelf.old)
+        (F.disk shelf.new)
         (F.disk_faults shelf.old) (F.disk_faults shelf.new))
-        registry.now.users.now O.tells O.given O.left O.faults O.back doors.items result.1.items result.0 }
+        registry.now.users.now O.tells O.given O.left O.faults O.back doors.items result.1.items
+        result.0 }
     ensures ended { O.tells → IsDone result.0
         → All (λ door. O.left door ≡ 0) result.1.items
         ⊎ (sum_by O.given doors.items + limit ≤ sum_by O.given result.1.items
@@ -165,14 +184,17 @@ where
     ensures failed { result.0 ≡ ServeEnd.LinksFault → SomeFailed O.faults result.1.items }
     ensures doors { length result.1.items ≡ length doors.items }
     ensures disks { SameBeside (map (journal_name registry.now.directory.now)
-        (map (λ user. user.name) (map named_user registry.now.users.now))) (F.disk shelf.old) (F.disk shelf.new) }
+        (map (λ user. user.name) (map named_user registry.now.users.now))) (F.disk shelf.old)
+        (F.disk shelf.new) }
     ensures inside { NoneOut (F.is_out shelf.new) }
     ensures files { SameNames (F.file shelf.old) (F.file shelf.new) }
     ensures looked { F.looked shelf.new ≡ F.looked shelf.old }
     ensures counts { NoneFell (F.disk_faults shelf.old) (F.disk_faults shelf.new) }
     ensures shelf_later { F.faults shelf.old ≤ F.faults shelf.new }
-    ensures shelf_cause { result.0 ≡ ServeEnd.ShelfFault → Rose (F.faults shelf.old) (F.faults shelf.new) }
-    ensures disk_cause { IsBroken result.0 → SomeRose (F.disk_faults shelf.old) (F.disk_faults shelf.new) }
+    ensures shelf_cause { result.0 ≡ ServeEnd.ShelfFault
+        → Rose (F.faults shelf.old) (F.faults shelf.new) }
+    ensures disk_cause { IsBroken result.0
+        → SomeRose (F.disk_faults shelf.old) (F.disk_faults shelf.new) }
 {
     law_hides();
     law_legal_grows();
@@ -193,8 +215,8 @@ where
     (end_of(outcome, refusals, is_broken), doors)
 }
 
-/// The end of serving with this outcome. Where the links ended or the limit was reached it has the refusals, and
-/// whether an append failed.
+/// The end of serving with this outcome. Where the links ended or the limit was reached it has the
+/// refusals, and whether an append failed.
 fn end_of(outcome: Outcome, refusals: Vec<Option<DeskError>>, is_broken: bool) -> ServeEnd
     ensures { result ≡ end_of outcome refusals is_broken }
 {
@@ -210,12 +232,15 @@ fn take_back_all<L: Links>(links: &mut L, doors: Vec<L::D>)
     requires { length doors.items ≤ L.out links.old }
     ensures out { L.out links.old ≡ L.out links.new + length doors.items }
     ensures given { L.tells → L.given links.new ≡ L.given links.old + sum_by L.D.given doors.items }
-    ensures ended { L.ended links.new ≡ L.ended links.old + sum_by (λ door. one_if_any (L.D.ends door)) doors.items }
-    ensures at_hand { L.tells → L.at_hand links.new ≡ L.at_hand links.old + sum_by L.D.left doors.items }
+    ensures ended { L.ended links.new
+        ≡ L.ended links.old + sum_by (λ door. one_if_any (L.D.ends door)) doors.items }
+    ensures at_hand { L.tells
+        → L.at_hand links.new ≡ L.at_hand links.old + sum_by L.D.left doors.items }
     ensures back { L.tells → L.back links.new ≡ L.back links.old ++ flat_map L.D.back doors.items }
     ensures listened { L.tells → L.listened links.new ≡ L.listened links.old }
     ensures later { L.faults links.old ≤ L.faults links.new }
-    ensures failed { SomeFailed L.D.faults doors.items → Rose (L.faults links.old) (L.faults links.new) }
+    ensures failed { SomeFailed L.D.faults doors.items
+        → Rose (L.faults links.old) (L.faults links.new) }
 {
     for door in doors {
         links.take_back(door);

@@ -1,12 +1,14 @@
 //! Connections that are served at counters, side by side.
-ghost use Rattle.std.specs.Prelude.{◌≡◌, ◌≤◌, ◌+◌, ◌*◌, ◌^◌, ℕ, List, [], All, length, map, sum_by, vec_capacity, None, IfSome, IfNone};
+ghost use Rattle.std.specs.Prelude.{◌≡◌, ◌≤◌, ◌+◌, ◌*◌, ◌^◌, ℕ, List, [], All, length, map, sum_by};
+ghost use Rattle.std.specs.Prelude.{vec_capacity, None, IfSome, IfNone};
 ghost use Rattle.cqe_base.specs.History.{AnsweredQuery};
 ghost use Rattle.session_core.specs.Members.{ArePassesOf, fixeds_of, passes_in};
 ghost use Rattle.serve_engine.specs.Doors.{AreServedDoors, HasOutcome, has_failed, outcome_of};
 ghost use Rattle.serve_engine.specs.Jobs.{job_counters, job_passes};
 ghost use Rattle.serve_engine.specs.Served.{SessionMarks};
 ghost use Rattle.serve_engine.specs.Members.{HaveSeenOpenings, IsServedBy, OwnMore, own_weight};
-ghost use Rattle.serve_engine.specs.Passing.{HaveShares, HaveTurns, AreOn, OwnAlike, NoneOwn, AreParts, IsFresh, IsBack};
+ghost use Rattle.serve_engine.specs.Passing.{HaveShares, HaveTurns, AreOn, OwnAlike, NoneOwn};
+ghost use Rattle.serve_engine.specs.Passing.{AreParts, IsFresh, IsBack};
 
 use crate::job::SessionJob;
 use desk_crew::room_for;
@@ -62,7 +64,8 @@ fn split_all<D: Disk>(
     ensures these { ArePassesOf passes.new counters.now }
     ensures on { AreOn passes.old passes.new }
     ensures count { IfSome result (λ parts. length parts.items ≡ count) }
-    ensures those { IfSome result (λ parts. All (λ part. ArePassesOf part counters.now) parts.items) }
+    ensures those { IfSome result
+        (λ parts. All (λ part. ArePassesOf part counters.now) parts.items) }
     ensures parts { IfSome result (λ parts. All (AreParts passes.old) parts.items) }
     ensures rest { IfSome result (λ parts. (n : ℕ) × HaveShares n passes.new × (n + count ≡ 65)) }
     ensures none { IfNone result (HaveShares 65 passes.new) }
@@ -93,7 +96,8 @@ fn crew_of<'a, 'w, D: Disk, G: Gate, O: Door + Drop>(
     requires empty { room.items ≡ [] }
     requires count { length parts.items ≡ length doors.items }
     requires those { All (λ part. ArePassesOf part counters.now) parts.items }
-    requires opened { All (λ part. HaveSeenOpenings (fixeds_of counters.now) (passes_in part)) parts.items }
+    requires opened { All
+        (λ part. HaveSeenOpenings (fixeds_of counters.now) (passes_in part)) parts.items }
     ensures doors { map (λ worker. worker.door) result.items ≡ doors.items }
     ensures fresh { (before : Passes D) → All (AreParts before) parts.items
         → All (IsFresh counters.now before) result.items }
@@ -129,7 +133,8 @@ fn dismiss<'a, 'w, D: Disk, G: Gate, O: Door + Drop>(
     ensures on { AreOn passes.old passes.new }
     ensures all_on { All (λ worker. AreOn (job_passes worker.job) passes.new) crew.entry.items }
     ensures shares { HaveShares 65 passes.new }
-    ensures own { (weight : AnsweredQuery → ℕ) (place : ℕ) → own_weight weight place (passes_in passes.new)
+    ensures own { (weight : AnsweredQuery → ℕ) (place : ℕ)
+        → own_weight weight place (passes_in passes.new)
         ≡ own_weight weight place (passes_in passes.old) + sum_by
         (λ worker. own_weight weight place (passes_in (job_passes worker.job))) crew.entry.items }
 {
@@ -162,8 +167,8 @@ fn outcome_of<J, O>(crew: &[Worker<J, O>]) -> Outcome
     }
 }
 
-/// Serves the connections of doors at the counters, each door by a worker with passes of his own. In the end all passes
-/// are together again, and the doors come back.
+/// Serves the connections of doors at the counters, each door by a worker with passes of his own.
+/// In the end all passes are together again, and the doors come back.
 pub(crate) fn serve_doors<
     R: Threads + Wait + Sync,
     D: Disk + Drop + Send,
@@ -193,7 +198,8 @@ pub(crate) fn serve_doors<
     ensures served { (total : ℕ) × (marks : O.tells → List SessionMarks)
         × AreServedDoors O.tells O.given O.left O.faults O.back
         (IsServedBy counters.now passes.new) total marks doors.items result.1.items
-        × HasOutcome O.tells O.left O.ends O.faults limit result.0 total result.1.items × (total ≤ limit)
+        × HasOutcome O.tells O.left O.ends O.faults limit result.0 total result.1.items
+        × (total ≤ limit)
         × ((t : O.tells) → OwnMore (passes_in passes.old) (passes_in passes.new) (marks t)) }
 {
     let count = doors.len();

@@ -1,5 +1,6 @@
 //! Seats whose counters threads share for a while.
-ghost use Rattle.std.specs.Prelude.{◌≡◌, ◌≤◌, ◌*◌, ◌^◌, ℕ, List, [], All, length, map, vec_capacity, IfOk};
+ghost use Rattle.std.specs.Prelude.{◌≡◌, ◌≤◌, ◌*◌, ◌^◌, ℕ, List, [], All, length, map};
+ghost use Rattle.std.specs.Prelude.{vec_capacity, IfOk};
 ghost use Rattle.std.specs.List.{AllByRecursion};
 ghost use Rattle.turnstile.specs.Passes.{shares, turns};
 ghost use Rattle.desk_crew.specs.Crew.{seat_user, seat_kept, IsFresh};
@@ -7,7 +8,8 @@ ghost use Rattle.session_core.specs.Members.{AreDesksOf, HaveSeenLegal, ArePasse
 ghost use Rattle.serve_engine.specs.Doors.{AreServedDoors, HasOutcome};
 ghost use Rattle.serve_engine.specs.Served.{SessionMarks};
 ghost use Rattle.serve_engine.specs.Members.{OwnMore};
-ghost use Rattle.serve_engine.specs.Sharing.{keeper_of, seat_counter, seat_pass, AreSeatsOn, IsServedAt};
+ghost use Rattle.serve_engine.specs.Sharing.{keeper_of, seat_counter, seat_pass, AreSeatsOn};
+ghost use Rattle.serve_engine.specs.Sharing.{IsServedAt};
 
 use crate::serving::{Outcome, serve_doors};
 use cqe_base::user::User;
@@ -33,8 +35,10 @@ type Apart<'w, D> = (Vec<Keeper<'w>>, Vec<Counter<'w, D>>, Vec<DeskPass<D>>);
 
 /// Empty lists with the room for so many seats taken apart.
 fn rooms_for<'w, D: Disk + Drop>(alloc: Global, count: usize) -> Result<Apart<'w, D>, AllocError>
-    ensures empty { IfOk result (λ rooms. (rooms.0.items ≡ []) × (rooms.1.items ≡ []) × (rooms.2.items ≡ [])) }
-    ensures room { IfOk result (λ rooms. (count ≤ vec_capacity rooms.0) × (count ≤ vec_capacity rooms.1)
+    ensures empty { IfOk result (λ rooms. (rooms.0.items ≡ []) × (rooms.1.items ≡ [])
+        × (rooms.2.items ≡ [])) }
+    ensures room { IfOk result (λ rooms. (count ≤ vec_capacity rooms.0)
+        × (count ≤ vec_capacity rooms.1)
         × (count ≤ vec_capacity rooms.2)) }
 {
     let keepers = room_for(alloc, count)?;
@@ -46,7 +50,8 @@ fn rooms_for<'w, D: Disk + Drop>(alloc: Global, count: usize) -> Result<Apart<'w
 /// Takes seats apart, into lists with the room for them.
 fn take_apart<'w, D: Disk + Drop>(rooms: Apart<'w, D>, seats: Vec<DeskSeat<'w, D>>) -> Apart<'w, D>
     requires empty { (rooms.0.items ≡ []) × (rooms.1.items ≡ []) × (rooms.2.items ≡ []) }
-    requires room { (length seats.items ≤ vec_capacity rooms.0) × (length seats.items ≤ vec_capacity rooms.1)
+    requires room { (length seats.items ≤ vec_capacity rooms.0)
+        × (length seats.items ≤ vec_capacity rooms.1)
         × (length seats.items ≤ vec_capacity rooms.2) }
     ensures keepers { result.0.items ≡ map keeper_of seats.entry.items }
     ensures counters { result.1.items ≡ map seat_counter seats.entry.items }
@@ -127,8 +132,10 @@ pub(crate) fn serve_seats<
     ensures served { (total : ℕ) × (marks : O.tells → List SessionMarks)
         × AreServedDoors O.tells O.given O.left O.faults O.back
         (IsServedAt users.now result.1.items) total marks doors.items result.2.items
-        × HasOutcome O.tells O.left O.ends O.faults limit result.0 total result.2.items × (total ≤ limit)
-        × ((t : O.tells) → OwnMore (map seat_pass seats.entry.items) (map seat_pass result.1.items) (marks t)) }
+        × HasOutcome O.tells O.left O.ends O.faults limit result.0 total result.2.items
+        × (total ≤ limit)
+        × ((t : O.tells)
+        → OwnMore (map seat_pass seats.entry.items) (map seat_pass result.1.items) (marks t)) }
 {
     let count = seats.len();
     let (Ok(rooms), Ok(room)) = (rooms_for(alloc, count), room_for(alloc, count)) else {

@@ -36,7 +36,8 @@ module _ {D : Type 0} where
   }
 
   -- so has one that has seen the longer of what two have
-  longer_seen : (fixed : Fixed D) (p q r : Pass Item (Fixed D)) → seen r ≡ longer (seen p) (seen q) → HasSeenLegal fixed p → HasSeenLegal fixed q → HasSeenLegal fixed r
+  longer_seen : (fixed : Fixed D) (p q r : Pass Item (Fixed D)) → seen r ≡ longer (seen p) (seen q) → HasSeenLegal fixed p → HasSeenLegal fixed q
+      → HasSeenLegal fixed r
   longer_seen fixed p q r is first second = by (leb (length (seen p)) (length (seen q))) is
     where
       by : (t : Bool) → seen r ≡ cond t (seen q) (seen p) → HasSeenLegal fixed r
@@ -46,23 +47,30 @@ module _ {D : Type 0} where
   -- what is legal hides
   pub all_hide : LegalHistoriesHide → (fixeds : List (Fixed D)) (passes : List (Pass Item (Fixed D))) → HaveSeenLegal fixeds passes → EachHides fixeds passes
   all_hide hide [] [] legal = tt
-  all_hide hide (f ∷ fixeds) (p ∷ passes) legal =
-      (λ served. hide f.schema f.world f.user (history_of (seen p)) legal.0.valid legal.0.user_of (legal.0.admits served) legal.0.legal, all_hide hide fixeds passes legal.1)
+  all_hide hide (f ∷ fixeds) (p ∷ passes) legal = (
+    λ served. hide f.schema f.world f.user (history_of (seen p)) legal.0.valid legal.0.user_of (legal.0.admits served) legal.0.legal,
+    all_hide hide fixeds passes legal.1,
+  )
   all_hide hide [] (p ∷ passes) legal = absurd legal
   all_hide hide (f ∷ fixeds) [] legal = absurd legal
 
 module _ {D : Type 0} {g h : _} where
   -- the owners of the desks are their users
-  pub owners_are : (counters : List (CounterOf (TicketedDesk D g) Item (Fixed D) h)) → owners_by (λ value. desk_user (desk_of value)) counters ≡ map (λ (fixed : Fixed D). fixed.user) (map kept_by counters)
+  pub owners_are : (counters : List (CounterOf (TicketedDesk D g) Item (Fixed D) h))
+      → owners_by (λ value. desk_user (desk_of value)) counters ≡ map (λ (fixed : Fixed D). fixed.user) (map kept_by counters)
   owners_are [] = refl
   owners_are (c ∷ counters) = ap (λ (us : List UserProfile). (kept_by c).user ∷ us) (owners_are counters)
 
   -- another pass there, which has seen what is legal
-  pub legal_set : (counters : List (CounterOf (TicketedDesk D g) Item (Fixed D) h)) (passes : List (Pass Item (Fixed D))) (place : ℕ) (new : Pass Item (Fixed D)) (c : CounterOf (TicketedDesk D g) Item (Fixed D) h) → place < length counters
-      → HaveSeenLegal (map kept_by counters) passes → IsLegal (kept_by (get_or counters place c)).schema (kept_by (get_or counters place c)).world (kept_by (get_or counters place c)).user (history_of (seen new))
+  pub legal_set : (counters : List (CounterOf (TicketedDesk D g) Item (Fixed D) h)) (passes : List (Pass Item (Fixed D))) (place : ℕ)
+      (new : Pass Item (Fixed D)) (c : CounterOf (TicketedDesk D g) Item (Fixed D) h) → place < length counters
+      → HaveSeenLegal (map kept_by counters) passes
+      → IsLegal (kept_by (get_or counters place c)).schema (kept_by (get_or counters place c)).world (kept_by (get_or counters place c)).user
+      (history_of (seen new))
       → HaveSeenLegal (map kept_by counters) (slice_set passes place new)
   legal_set [] [] place new c low legal is = absurd (omega (arith, low))
-  legal_set (d ∷ counters) (p ∷ passes) zero new c low legal is = (record { valid = legal.0.valid; user_of = legal.0.user_of; admits = legal.0.admits; legal = is }, legal.1)
+  legal_set (d ∷ counters) (p ∷ passes) zero new c low legal is =
+      (record { valid = legal.0.valid; user_of = legal.0.user_of; admits = legal.0.admits; legal = is }, legal.1)
   legal_set (d ∷ counters) (p ∷ passes) (suc place) new c low legal is = (legal.0, legal_set counters passes place new c (omega (arith, low)) legal.1 is)
   legal_set [] (p ∷ passes) place new c low legal is = absurd legal
   legal_set (d ∷ counters) [] place new c low legal is = absurd legal
@@ -73,7 +81,8 @@ module _ {D : Type 0} {g h : _} where
     pub legal : HaveSeenLegal (map kept_by counters) passes
 
   -- where passes were split, both the rest and the parts are so
-  pub split_legal : (counters : List (CounterOf (TicketedDesk D g) Item (Fixed D) h)) (olds news parts : List (Pass Item (Fixed D))) → AreSplit counters olds news parts → HaveSeenLegal (map kept_by counters) olds → AreLegal news counters × AreLegal parts counters
+  pub split_legal : (counters : List (CounterOf (TicketedDesk D g) Item (Fixed D) h)) (olds news parts : List (Pass Item (Fixed D)))
+      → AreSplit counters olds news parts → HaveSeenLegal (map kept_by counters) olds → AreLegal news counters × AreLegal parts counters
   split_legal [] [] [] [] split legal = (record { are = tt; legal = tt }, record { are = tt; legal = tt })
   split_legal (c ∷ counters) (o ∷ olds) (m ∷ news) (p ∷ parts) split legal =
       let rest = split_legal counters olds news parts split.1 legal.1 in
@@ -90,7 +99,8 @@ module _ {D : Type 0} {g h : _} where
   split_legal (c ∷ counters) (o ∷ olds) (m ∷ news) [] split legal = absurd split
 
   -- and so are passes that met
-  pub met_legal : (counters : List (CounterOf (TicketedDesk D g) Item (Fixed D) h)) (olds others news : List (Pass Item (Fixed D))) → AreMet counters olds others news → HaveSeenLegal (map kept_by counters) olds → HaveSeenLegal (map kept_by counters) others → AreLegal news counters
+  pub met_legal : (counters : List (CounterOf (TicketedDesk D g) Item (Fixed D) h)) (olds others news : List (Pass Item (Fixed D)))
+      → AreMet counters olds others news → HaveSeenLegal (map kept_by counters) olds → HaveSeenLegal (map kept_by counters) others → AreLegal news counters
   met_legal [] [] [] [] met first second = record { are = tt; legal = tt }
   met_legal (c ∷ counters) (o ∷ olds) (t ∷ others) (m ∷ news) met first second =
       let rest = met_legal counters olds others news met.1 first.1 second.1 in

@@ -29,26 +29,36 @@ module _ (schema : DatabaseSchema) (world : FactSet) (user : UserProfile) (stand
   Chain = Replied schema world user standing
 
   -- replies by no fewer entries than some are replies by no fewer than less
-  pub from_earlier : (history : History) (broke : Bool) {least least' : ℕ} {failed failed' fails : Bool} {asks : List (Text × Run.Reply)} {entries : History} → least' ≤ least → (failed' ≡ true → failed ≡ true)
+  pub from_earlier : (history : History) (broke : Bool) {least least' : ℕ} {failed failed' fails : Bool} {asks : List (Text × Run.Reply)} {entries : History}
+      → least' ≤ least → (failed' ≡ true → failed ≡ true)
       → Chain history broke least failed asks entries fails → Chain history broke least' failed' asks entries fails
   from_earlier history broke low if (nothing within fails) = nothing (omega (arith, low, within)) (λ f. fails (if f))
-  from_earlier history broke {failed' = false} low if (answered before after entry least is read size answer rest) = answered before after entry (omega (arith, low, least)) is read size answer rest
+  from_earlier history broke {failed' = false} low if (answered before after entry least is read size answer rest) =
+      answered before after entry (omega (arith, low, least)) is read size answer rest
   from_earlier history broke {failed' = true} low if (answered before after entry least is read size answer rest) = let e : false ≡ true = if refl in absurd cc
-  from_earlier history broke low if (coded before after now least is on none answer rest) = coded before after now (omega (arith, low, least)) is (λ f. on (if f)) none answer rest
-  from_earlier history broke {failed' = false} low if (append_failed before after mark least is answer broken rest) = append_failed before after mark (omega (arith, low, least)) is answer broken rest
+  from_earlier history broke low if (coded before after now least is on none answer rest) =
+      coded before after now (omega (arith, low, least)) is (λ f. on (if f)) none answer rest
+  from_earlier history broke {failed' = false} low if (append_failed before after mark least is answer broken rest) =
+      append_failed before after mark (omega (arith, low, least)) is answer broken rest
   from_earlier history broke {failed' = true} low if (append_failed before after mark least is answer broken rest) = let e : false ≡ true = if refl in absurd cc
   from_earlier history broke low if (wanted rest) = wanted (from_earlier history broke low if rest)
 
   -- and further ones, by all entries that there were in the end
-  pub replied_then : (first more : History) (broke broke' : Bool) {least : ℕ} {failed fails fails' : Bool} {asks asks' : List (Text × Run.Reply)} {entries entries' : History} → (broke ≡ true → broke' ≡ true)
-      → Chain first broke least failed asks entries fails → Chain (first ++ more) broke' (length first) broke asks' entries' fails' → Chain (first ++ more) broke' least failed (asks ++ asks') (entries ++ entries') (fails || fails')
+  pub replied_then : (first more : History)
+      (broke broke' : Bool) {least : ℕ} {failed fails fails' : Bool} {asks asks' : List (Text × Run.Reply)} {entries entries' : History}
+      → (broke ≡ true → broke' ≡ true)
+      → Chain first broke least failed asks entries fails → Chain (first ++ more) broke' (length first) broke asks' entries' fails'
+      → Chain (first ++ more) broke' least failed (asks ++ asks') (entries ++ entries') (fails || fails')
   replied_then first more broke broke' on (nothing within fails) last = from_earlier (first ++ more) broke' within fails last
   replied_then first more broke broke' on (answered before after entry least is read size answer rest) last =
-      answered before (after ++ more) entry least (ap (λ h. h ++ more) is ∙ append_assoc before (entry ∷ after) more) read size answer (replied_then first more broke broke' on rest last)
+      answered before (after ++ more) entry least (ap (λ h. h ++ more) is ∙ append_assoc before (entry ∷ after) more) read size answer
+      (replied_then first more broke broke' on rest last)
   replied_then first more broke broke' on (coded before after now least is if none answer rest) last =
-      coded before (after ++ more) now least (ap (λ h. h ++ more) is ∙ append_assoc before after more) if none answer (replied_then first more broke broke' on rest last)
+      coded before (after ++ more) now least (ap (λ h. h ++ more) is ∙ append_assoc before after more) if none answer
+      (replied_then first more broke broke' on rest last)
   replied_then first more broke broke' on (append_failed before after mark least is answer broken rest) last =
-      append_failed before (after ++ more) mark least (ap (λ h. h ++ more) is ∙ append_assoc before after more) answer (on broken) (replied_then first more broke broke' on rest last)
+      append_failed before (after ++ more) mark least (ap (λ h. h ++ more) is ∙ append_assoc before after more) answer (on broken)
+      (replied_then first more broke broke' on rest last)
   replied_then first more broke broke' on (wanted rest) last = wanted (replied_then first more broke broke' on rest last)
 
 -- ---- pairs
@@ -95,13 +105,18 @@ module _ {D : Type 0} (fixed : Fixed D) where
       let more = last.later.0 in
       let grown : history_of (seen r) ≡ history_of (seen q) ++ history_of more = ap history_of last.later.1 ∙ history_all (seen q) more in
       let on : has_broke (seen q) ≡ true → has_broke (seen r) ≡ true = λ b. ap has_broke last.later.1 ∙ broke_on (seen q) more b in
-      let lasting = subst (λ h. Replied fixed.schema fixed.world fixed.user (standing_of fixed.standing) h (has_broke (seen r)) (length (history_of (seen q))) (has_broke (seen q)) ys last.entries last.fails) grown last.replied in
-      let both = replied_then fixed.schema fixed.world fixed.user (standing_of fixed.standing) (history_of (seen q)) (history_of more) (has_broke (seen q)) (has_broke (seen r)) on first.replied lasting in
+      let lasting = subst (λ h.
+      Replied fixed.schema fixed.world fixed.user (standing_of fixed.standing) h (has_broke (seen r)) (length (history_of (seen q)))
+      (has_broke (seen q)) ys last.entries last.fails) grown last.replied in
+      let both = replied_then fixed.schema fixed.world fixed.user (standing_of fixed.standing) (history_of (seen q)) (history_of more) (has_broke (seen q))
+      (has_broke (seen r)) on first.replied lasting in
       let two = length-append xs ys in
       record {
         entries = first.entries ++ last.entries;
         fails = first.fails || last.fails;
-        replied = subst (λ h. Replied fixed.schema fixed.world fixed.user (standing_of fixed.standing) h (has_broke (seen r)) (length (history_of (seen p))) (has_broke (seen p)) (xs ++ ys) (first.entries ++ last.entries) (first.fails || last.fails)) (sym grown) both;
+        replied = subst (λ h.
+            Replied fixed.schema fixed.world fixed.user (standing_of fixed.standing) h (has_broke (seen r)) (length (history_of (seen p))) (has_broke (seen p))
+            (xs ++ ys) (first.entries ++ last.entries) (first.fails || last.fails)) (sym grown) both;
         own = last.own ∙ ap (λ h. h ++ last.entries) first.own ∙ append_assoc (history_of (mine p)) first.entries last.entries;
         own_failed = last.own_failed ∙ ap (λ b. b || last.fails) first.own_failed ∙ or_all (has_broke (mine p)) first.fails last.fails;
         later = (first.later.0 ++ more, last.later.1 ∙ ap (λ s. s ++ more) first.later.1 ∙ append_assoc (seen p) first.later.0 more);
@@ -120,19 +135,22 @@ module _ {D : Type 0} (fixed : Fixed D) where
   code_told Memory none = tt
 
   -- one ask at a counter
-  pub asks_once : (old new : Pass Item (Fixed D)) (text : Text) (said : Reply) → Asked fixed old new text said → shares new ≡ shares old → turns old ≤ turns new + 2
+  pub asks_once : (old new : Pass Item (Fixed D)) (text : Text) (said : Reply) → Asked fixed old new text said → shares new ≡ shares old
+      → turns old ≤ turns new + 2
       → Asks fixed old new ((text, reply_of said) ∷ [])
   asks_once old new text said asked same_shares used = of_adds asked.adds
     where
       begun : length (history_of (seen old)) ≤ length (history_of asked.found)
       begun =
-          let grown = ap (λ ps. length (history_of ps)) asked.later.1 ∙ ap length (history_all (seen old) asked.later.0) ∙ length-append (history_of (seen old)) (history_of asked.later.0) in
+          let grown = ap (λ ps. length (history_of ps)) asked.later.1 ∙ ap length (history_all (seen old) asked.later.0)
+          ∙ length-append (history_of (seen old)) (history_of asked.later.0) in
           omega (arith, grown)
 
       failed_before : has_broke (seen old) ≡ true → has_broke asked.found ≡ true
       failed_before b = ap has_broke asked.later.1 ∙ broke_on (seen old) asked.later.0 b
 
-      made : (code : Reply) (entries : History) (fails : Bool) → AreReplied fixed old new ((text, reply_of code) ∷ []) entries fails → history_of (mine new) ≡ history_of (mine old) ++ entries → has_broke (mine new) ≡ (has_broke (mine old) || fails) → IsPrefix asked.found (seen new)
+      made : (code : Reply) (entries : History) (fails : Bool) → AreReplied fixed old new ((text, reply_of code) ∷ []) entries fails
+          → history_of (mine new) ≡ history_of (mine old) ++ entries → has_broke (mine new) ≡ (has_broke (mine old) || fails) → IsPrefix asked.found (seen new)
           → Asks fixed old new ((text, reply_of code) ∷ [])
       made code entries fails replied own own_failed behind = record {
         entries = entries;
@@ -152,12 +170,14 @@ module _ {D : Type 0} (fixed : Fixed D) where
       of_adds : {code : Reply} → Adds fixed asked.ticket text asked.found (seen new) code → Asks fixed old new ((text, reply_of code) ∷ [])
       of_adds (adds_answered {query = query} {mark = mark} served answer added) =
           let entry = entry_for query mark text in
-          let grown : history_of (seen new) ≡ history_of asked.found ++ entry ∷ [] = ap history_of added ∙ history_all asked.found ((asked.ticket, Kept entry) ∷ []) in
+          let grown : history_of (seen new) ≡ history_of asked.found ++ entry ∷ [] =
+          ap history_of added ∙ history_all asked.found ((asked.ticket, Kept entry) ∷ []) in
           let more = ap length grown ∙ length-append (history_of asked.found) (entry ∷ []) in
           made (Mark mark) (entry ∷ []) false
           (from_earlier fixed.schema fixed.world fixed.user (standing_of fixed.standing) (history_of (seen new)) (has_broke (seen new)) begun (never served.1)
           (answered (history_of asked.found) [] entry (omega arith) grown answer.read refl
-          (ap (λ s. reply fixed.schema fixed.world fixed.user (history_of asked.found) s false text) served.0 ∙ answer.answer) (nothing (omega (arith, more)) (λ f. absurd cc))))
+          (ap (λ s. reply fixed.schema fixed.world fixed.user (history_of asked.found) s false text) served.0
+          ∙ answer.answer) (nothing (omega (arith, more)) (λ f. absurd cc))))
           (ap history_of (asked.own.one (asked.ticket, Kept entry) added) ∙ history_all (mine old) ((asked.ticket, Kept entry) ∷ []))
           (ap has_broke (asked.own.one (asked.ticket, Kept entry) added) ∙ broke_both (mine old) ((asked.ticket, Kept entry) ∷ []))
           ((asked.ticket, Kept entry) ∷ [], added)
@@ -168,14 +188,17 @@ module _ {D : Type 0} (fixed : Fixed D) where
           let broken : has_broke (seen new) ≡ true = ap has_broke added ∙ ap (λ o. is_some o) (flying_broke asked.found asked.ticket entry served.1) in
           made Broken [] true
           (from_earlier fixed.schema fixed.world fixed.user (standing_of fixed.standing) (history_of (seen new)) (has_broke (seen new)) begun (never served.1)
-          (append_failed (history_of asked.found) [] mark (omega arith) same (ap (λ s. reply fixed.schema fixed.world fixed.user (history_of asked.found) s false text) served.0 ∙ answer.answer) broken
+          (append_failed (history_of asked.found) [] mark (omega arith) same
+          (ap (λ s. reply fixed.schema fixed.world fixed.user (history_of asked.found) s false text) served.0 ∙ answer.answer) broken
           (nothing (omega (arith, still)) (λ f. broken))))
           (ap history_of (asked.own.one (asked.ticket, Broke entry) added) ∙ history_all (mine old) ((asked.ticket, Broke entry) ∷ []))
           (ap has_broke (asked.own.one (asked.ticket, Broke entry) added) ∙ broke_both (mine old) ((asked.ticket, Broke entry) ∷ []))
           ((asked.ticket, Broke entry) ∷ [], added)
       of_adds (adds_coded {code = code} none replied same) =
           let still = ap (λ ps. length (history_of ps)) same in
-          made code [] false (coded (history_of asked.found) [] (has_broke asked.found) begun (ap history_of same ∙ sym (append-nil (history_of asked.found))) failed_before (code_told code none) replied
+          made code [] false
+          (coded (history_of asked.found) [] (has_broke asked.found) begun (ap history_of same ∙ sym (append-nil (history_of asked.found))) failed_before
+          (code_told code none) replied
           (nothing (omega (arith, still)) (λ f. ap has_broke same ∙ f)))
           (ap history_of (asked.own.none same) ∙ sym (append-nil (history_of (mine old))))
           (ap has_broke (asked.own.none same) ∙ or_none (has_broke (mine old)))

@@ -17,8 +17,11 @@ IsShort (ask_for text) = length text ≤ 4096
 IsShort quit_session = Unit {0}
 IsShort other_line = Unit {0}
 
--- a request was replied to by this text, and the pass of who was logged in was used for what he asked
-pub record Replies {D : Type 0} (users : List User) (fixeds : List (Fixed D)) (who : Option ℕ) (request : LineRequest) (next : Option ℕ) (text : Text) (old new : List (Pass Item (Fixed D))) : Type 0 where
+-- a request was replied to by this text, and the pass of who was logged in was used for what he
+-- asked
+pub record Replies {D : Type 0} (users : List User) (fixeds : List (Fixed D)) (who : Option ℕ)
+    (request : LineRequest) (next : Option ℕ) (text : Text) (old new : List (Pass Item (Fixed D))) :
+    Type 0 where
   pub asked : List (Text × Reply)
   pub says : Says users who request next asked text
   pub used : AsksOf who fixeds old new asked

@@ -1,5 +1,6 @@
 -- What a session does with the passes.
-use Rattle.std.specs.Prelude.{◌≡◌, ℕ, zero, suc, ◌≤◌, ◌+◌, ◌*◌, Bool, ◌||◌, List, [], ◌∷◌, ◌++◌, length, Option, Some, None}
+use Rattle.std.specs.Prelude.{◌≡◌, ℕ, zero, suc, ◌≤◌, ◌+◌, ◌*◌, Bool, ◌||◌, List, [], ◌∷◌, ◌++◌}
+use Rattle.std.specs.Prelude.{length, Option, Some, None}
 use Rattle.cqe_base.specs.Schema.{Text}
 use Rattle.cqe_base.specs.History.{History}
 use Rattle.cqe_base.specs.Run.{Reply}
@@ -24,7 +25,8 @@ module _ {D : Type 0} where
   -- What asks do with a pass: they were replied to by what it has seen since; it has the entries
   -- of their marks more of its own, in order, each once; and an entry whose append failed it has of
   -- its own only where an append of theirs did.
-  pub record Asks (fixed : Fixed D) (old new : Pass Item (Fixed D)) (asks : List (Text × Reply)) : Type 0 where
+  pub record Asks (fixed : Fixed D) (old new : Pass Item (Fixed D)) (asks : List (Text × Reply)) :
+      Type 0 where
     pub entries : History
     pub fails : Bool
     pub replied : AreReplied fixed old new asks entries fails
@@ -35,13 +37,18 @@ module _ {D : Type 0} where
     pub used : turns old ≤ turns new + 2 * length asks
 
   -- The pass at a place was used for these asks, and no other changed.
-  pub data AsksAt : ℕ → List (Fixed D) → List (Pass Item (Fixed D)) → List (Pass Item (Fixed D)) → List (Text × Reply) → Type 0 where
-    here : {fixed : Fixed D} {others : List (Fixed D)} {old new : Pass Item (Fixed D)} {rest : List (Pass Item (Fixed D))} {asks : List (Text × Reply)}
+  pub data AsksAt : ℕ → List (Fixed D) → List (Pass Item (Fixed D)) → List (Pass Item (Fixed D))
+      → List (Text × Reply) → Type 0 where
+    here : {fixed : Fixed D} {others : List (Fixed D)} {old new : Pass Item (Fixed D)}
+        {rest : List (Pass Item (Fixed D))} {asks : List (Text × Reply)}
         → Asks fixed old new asks → AsksAt zero (fixed ∷ others) (old ∷ rest) (new ∷ rest) asks
-    further : {place : ℕ} {fixed : Fixed D} {others : List (Fixed D)} {same : Pass Item (Fixed D)} {old new : List (Pass Item (Fixed D))} {asks : List (Text × Reply)}
-        → AsksAt place others old new asks → AsksAt (suc place) (fixed ∷ others) (same ∷ old) (same ∷ new) asks
+    further : {place : ℕ} {fixed : Fixed D} {others : List (Fixed D)} {same : Pass Item (Fixed D)}
+        {old new : List (Pass Item (Fixed D))} {asks : List (Text × Reply)}
+        → AsksAt place others old new asks
+        → AsksAt (suc place) (fixed ∷ others) (same ∷ old) (same ∷ new) asks
 
   -- the passes of a session of which this is logged in at its end: without a login none changed
-  abbrev pub AsksOf : Option ℕ → List (Fixed D) → List (Pass Item (Fixed D)) → List (Pass Item (Fixed D)) → List (Text × Reply) → Type 0
+  abbrev pub AsksOf : Option ℕ → List (Fixed D) → List (Pass Item (Fixed D))
+      → List (Pass Item (Fixed D)) → List (Text × Reply) → Type 0
   AsksOf None fixeds old new asks = (new ≡ old) × (asks ≡ [])
   AsksOf (Some place) fixeds old new asks = AsksAt place fixeds old new asks

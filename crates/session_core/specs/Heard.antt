@@ -2,7 +2,8 @@
 use Rattle.std.specs.Prelude.{ℕ, Bool, true, false, not, List, [], ◌∷◌, take, if◌then◌else◌}
 use Rattle.cqe_base.specs.Schema.{Text}
 use Rattle.cqe_base.specs.Lines.{TextLine, text_lines, content, is_too_long}
-use Rattle.line_protocol.specs.Requests.{LineRequest, login_as, ask_for, quit_session, other_line, request_of}
+use Rattle.line_protocol.specs.Requests.{LineRequest, login_as, ask_for, quit_session, other_line}
+use Rattle.line_protocol.specs.Requests.{request_of}
 
 -- a line: of at most 4,096 bytes, with its content, or longer
 pub data HeardLine : Type 0 where
@@ -33,7 +34,8 @@ heard_as line = if is_too_long line then overlong else heard (content line)
 -- the lines up to the first behind which the session doesn't go on
 abbrev pub heard_lines : List TextLine → List HeardLine
 heard_lines [] = []
-heard_lines (line ∷ lines) = heard_as line ∷ (if goes_on (heard_as line) then heard_lines lines else [])
+heard_lines (line ∷ lines) =
+    heard_as line ∷ (if goes_on (heard_as line) then heard_lines lines else [])
 
 -- the lines that a session hears of these bytes: at most 100,000
 abbrev pub session_lines : List ℕ → List HeardLine

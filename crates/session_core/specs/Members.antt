@@ -58,7 +58,8 @@ module _ {V I F : Type 0} {h : _} where
 
 module _ {D : Type 0} {g h : _} where
   -- a pass at each counter, in order
-  abbrev pub ArePasses : List (Pass Item (Fixed D)) → List (CounterOf (TicketedDesk D g) Item (Fixed D) h) → Type 0
+  abbrev pub ArePasses : List (Pass Item (Fixed D))
+      → List (CounterOf (TicketedDesk D g) Item (Fixed D) h) → Type 0
   ArePasses [] [] = Unit {0}
   ArePasses (pass ∷ passes) (counter ∷ counters) = IsPassOf pass counter × ArePasses passes counters
   ArePasses passes counters = ⊥
@@ -74,7 +75,8 @@ module _ {D : Type 0} {g h : _} where
     pub legal : HaveSeenLegal (fixeds_of counters) (passes_in passes)
 
   -- A pass was split: one has the rest, and the other one share.
-  pub record IsSplit (counter : CounterOf (TicketedDesk D g) Item (Fixed D) h) (old new part : Pass Item (Fixed D)) : Type 0 where
+  pub record IsSplit (counter : CounterOf (TicketedDesk D g) Item (Fixed D) h)
+      (old new part : Pass Item (Fixed D)) : Type 0 where
     pub rest_is : IsPassOf new counter
     pub rest : view_of new ≡ remaining_view (view_of old)
     pub part_is : IsPassOf part counter
@@ -82,14 +84,18 @@ module _ {D : Type 0} {g h : _} where
     pub mine_is : mine part ≡ []
 
   -- all were
-  abbrev pub AreSplit : List (CounterOf (TicketedDesk D g) Item (Fixed D) h) → List (Pass Item (Fixed D)) → List (Pass Item (Fixed D)) → List (Pass Item (Fixed D)) → Type 0
+  abbrev pub AreSplit : List (CounterOf (TicketedDesk D g) Item (Fixed D) h)
+      → List (Pass Item (Fixed D)) → List (Pass Item (Fixed D)) → List (Pass Item (Fixed D))
+      → Type 0
   AreSplit [] [] [] [] = Unit {0}
-  AreSplit (counter ∷ counters) (old ∷ olds) (new ∷ news) (part ∷ parts) = IsSplit counter old new part × AreSplit counters olds news parts
+  AreSplit (counter ∷ counters) (old ∷ olds) (new ∷ news) (part ∷ parts) =
+      IsSplit counter old new part × AreSplit counters olds news parts
   AreSplit counters olds news parts = ⊥
 
-  -- Two passes met: each had seen a beginning of what both have seen, and the pairs of the new one's own are those of both,
-  -- put together with each in its order.
-  pub record IsMet (counter : CounterOf (TicketedDesk D g) Item (Fixed D) h) (old other new : Pass Item (Fixed D)) : Type 0 where
+  -- Two passes met: each had seen a beginning of what both have seen, and the pairs of the new
+  -- one's own are those of both, put together with each in its order.
+  pub record IsMet (counter : CounterOf (TicketedDesk D g) Item (Fixed D) h)
+      (old other new : Pass Item (Fixed D)) : Type 0 where
     pub pass_is : IsPassOf new counter
     pub view : view_of new ≡ view_of_both (view_of old) (view_of other)
     pub this : IsPrefix (seen old) (seen new)
@@ -97,9 +103,12 @@ module _ {D : Type 0} {g h : _} where
     pub mine_is : Interleaves (mine old) (mine other) (mine new)
 
   -- all did
-  abbrev pub AreMet : List (CounterOf (TicketedDesk D g) Item (Fixed D) h) → List (Pass Item (Fixed D)) → List (Pass Item (Fixed D)) → List (Pass Item (Fixed D)) → Type 0
+  abbrev pub AreMet : List (CounterOf (TicketedDesk D g) Item (Fixed D) h)
+      → List (Pass Item (Fixed D)) → List (Pass Item (Fixed D)) → List (Pass Item (Fixed D))
+      → Type 0
   AreMet [] [] [] [] = Unit {0}
-  AreMet (counter ∷ counters) (old ∷ olds) (other ∷ others) (new ∷ news) = IsMet counter old other new × AreMet counters olds others news
+  AreMet (counter ∷ counters) (old ∷ olds) (other ∷ others) (new ∷ news) =
+      IsMet counter old other new × AreMet counters olds others news
   AreMet counters olds others news = ⊥
 
 -- a pass can be split

@@ -5,7 +5,8 @@ use Rattle.cqe_base.specs.Facts.{FactSet}
 use Rattle.cqe_base.specs.Reading.{reading}
 use Rattle.cqe_base.specs.History.{UserProfile, AnsweredQuery, History}
 use Rattle.cqe_base.specs.declared.user.Mark.{Mark}
-use Rattle.cqe_base.specs.Run.{Standing, Reply, reply, marked, no_sentence, history_full, too_large, user_closed, desk_sealed, desk_broken, no_memory}
+use Rattle.cqe_base.specs.Run.{Standing, Reply, reply, marked, no_sentence, history_full, too_large}
+use Rattle.cqe_base.specs.Run.{user_closed, desk_sealed, desk_broken, no_memory}
 
 -- a reply that is no mark
 abbrev pub IsUnmarked : Reply → Type 0
@@ -19,9 +20,11 @@ IsUnmarked desk_broken = Unit {0}
 IsUnmarked no_memory = Unit {0}
 
 -- The user's history and whether an append failed, as they are in the end.
-module _ (schema : DatabaseSchema) (world : FactSet) (user : UserProfile) (standing : Standing) (history : History) (broke : Bool) where
-  -- The asks of a session with their replies. Each is replied to by the first entries of the history, of which there are
-  -- never fewer than at the ask before; a mark has its own entry just behind them, and the next ask has it among its own.
+module _ (schema : DatabaseSchema) (world : FactSet) (user : UserProfile) (standing : Standing)
+    (history : History) (broke : Bool) where
+  -- The asks of a session with their replies. Each is replied to by the first entries of the
+  -- history, of which there are never fewer than at the ask before; a mark has its own entry just
+  -- behind them, and the next ask has it among its own.
   -- That its append failed is told of an ask whose reply would be a mark, at a desk where none had
   -- failed. Behind it all asks find it failed, and so it is in the end. The last list are the
   -- entries of the marks, and it is said whether an append of one of these asks failed.
@@ -32,7 +35,8 @@ module _ (schema : DatabaseSchema) (world : FactSet) (user : UserProfile) (stand
     answered : {least : ℕ} {text : Text} {asks : List (Text × Reply)} {entries : History}
         {fails : Bool} (before after : History) (entry : AnsweredQuery)
         → least ≤ length before → history ≡ before ++ entry ∷ after
-        → reading schema text ≡ Ok entry.query → entry.length ≡ length text → reply schema world user before standing false text ≡ marked entry.mark
+        → reading schema text ≡ Ok entry.query → entry.length ≡ length text
+        → reply schema world user before standing false text ≡ marked entry.mark
         → Replied (suc (length before)) false asks entries fails
         → Replied least false ((text, marked entry.mark) ∷ asks) (entry ∷ entries) fails
     coded : {least : ℕ} {failed : Bool} {text : Text} {code : Reply} {asks : List (Text × Reply)}

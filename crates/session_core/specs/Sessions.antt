@@ -1,4 +1,5 @@
--- A session: the lines that were read, the lines that were written, and the passes before and after.
+-- A session: the lines that were read, the lines that were written, and the passes before and
+-- after.
 use Rattle.std.specs.Prelude.{◌≡◌, ℕ, ◌≤◌, ◌<◌, true, List, [], ◌∷◌, ◌++◌, length, Option, None}
 use Rattle.std.specs.List.{list_all}
 use Rattle.cqe_base.specs.Schema.{Text}
@@ -14,17 +15,22 @@ use Rattle.session_core.specs.Talks.{Talks, written_lines, IsCut}
 use Rattle.session_core.specs.Desks.{AsksOf}
 use Rattle.session_core.specs.Members.{AreDesksOf}
 use Rattle.session_core.specs.declared.session.Ended.{Ended}
-use Rattle.session_core.specs.declared.session.Ended.TheVariants.{Quit, InputEnd, TooLong, TooMany, ReadFault, WriteFault}
+use Rattle.session_core.specs.declared.session.Ended.TheVariants.{Quit, InputEnd, TooLong, TooMany}
+use Rattle.session_core.specs.declared.session.Ended.TheVariants.{ReadFault, WriteFault}
 
--- What each end says of the lines that were answered: they are all that a session hears of the bytes, up to the word that
--- ends it, the longer line, the end of the input or the greatest number; where a stream failed, the first of these.
+-- What each end says of the lines that were answered: they are all that a session hears of the
+-- bytes, up to the word that ends it, the longer line, the end of the input or the greatest number;
+-- where a stream failed, the first of these.
 -- The input ends, and the source fails, only before the greatest number.
 abbrev pub Hears : Ended → List ℕ → List HeardLine → Type 0
-Hears Quit bytes lines = (lines ≡ session_lines bytes) × (front : List HeardLine) × (line : Text) × (lines ≡ front ++ heard line ∷ []) × (request_of line ≡ quit_session)
+Hears Quit bytes lines = (lines ≡ session_lines bytes) × (front : List HeardLine) × (line : Text)
+    × (lines ≡ front ++ heard line ∷ []) × (request_of line ≡ quit_session)
 Hears InputEnd bytes lines = (lines ≡ session_lines bytes) × (list_all goes_on lines ≡ true)
     × (length lines ≡ length (text_lines bytes)) × (length lines < 100000)
-Hears TooLong bytes lines = (lines ≡ session_lines bytes) × (front : List HeardLine) × (lines ≡ front ++ overlong ∷ [])
-Hears TooMany bytes lines = (lines ≡ session_lines bytes) × (list_all goes_on lines ≡ true) × (length lines ≡ 100000)
+Hears TooLong bytes lines =
+    (lines ≡ session_lines bytes) × (front : List HeardLine) × (lines ≡ front ++ overlong ∷ [])
+Hears TooMany bytes lines =
+    (lines ≡ session_lines bytes) × (list_all goes_on lines ≡ true) × (length lines ≡ 100000)
 Hears ReadFault bytes lines = (rest : List HeardLine) × (session_lines bytes ≡ lines ++ rest)
     × (length lines < 100000)
 Hears WriteFault bytes lines = (rest : List HeardLine) × (session_lines bytes ≡ lines ++ rest)
@@ -40,7 +46,8 @@ Writes ReadFault old new texts = new ≡ old ++ written_lines texts
 
 -- A session of these users, each at the desk that is his, where the source tells its bytes and the
 -- sink what was written. At most 100,000 lines are answered.
-pub record Session {D : Type 0} (source_tells sink_tells : Type 0) (users : List User) (fixeds : List (Fixed D)) (ended : Ended) (bytes : List ℕ)
+pub record Session {D : Type 0} (source_tells sink_tells : Type 0) (users : List User)
+    (fixeds : List (Fixed D)) (ended : Ended) (bytes : List ℕ)
     (old new : List (Pass Item (Fixed D))) (before after : List ℕ) : Type 0 where
   pub own : AreDesksOf users fixeds
   pub lines : List HeardLine

@@ -1,5 +1,6 @@
 -- What is said to the lines of a session.
-use Rattle.std.specs.Prelude.{◌≡◌, ℕ, suc, Bool, true, false, List, [], ◌∷◌, ◌++◌, codes, bytes_eq, string_bytes, Option, Some, None}
+use Rattle.std.specs.Prelude.{◌≡◌, ℕ, suc, Bool, true, false, List, [], ◌∷◌, ◌++◌, codes, bytes_eq}
+use Rattle.std.specs.Prelude.{string_bytes, Option, Some, None}
 use Rattle.std.specs.List.{flat_map}
 use Rattle.outside.specs.Streams.{AppendsPart}
 use Rattle.cqe_base.specs.Schema.{Text}
@@ -18,28 +19,37 @@ is_named name user = bytes_eq (string_bytes user.name) name
 
 -- The first user of this name, at his place, may log in with the phrase.
 pub data LogsIn (name phrase : Text) : List User → ℕ → Type 0 where
-  here : {user : User} {others : List User} → is_named name user ≡ true → MayLogIn user phrase → LogsIn name phrase (user ∷ others) 0
-  further : {user : User} {others : List User} {place : ℕ} → is_named name user ≡ false → LogsIn name phrase others place → LogsIn name phrase (user ∷ others) (suc place)
+  here : {user : User} {others : List User} → is_named name user ≡ true → MayLogIn user phrase
+      → LogsIn name phrase (user ∷ others) 0
+  further : {user : User} {others : List User} {place : ℕ} → is_named name user ≡ false
+      → LogsIn name phrase others place → LogsIn name phrase (user ∷ others) (suc place)
 
 module _ (users : List User) where
   -- nobody logs in with this name and this phrase
   abbrev pub NobodyLogsIn : Text → Text → Type 0
   NobodyLogsIn name phrase = (place : ℕ) → LogsIn name phrase users place → ⊥
 
-  -- What is said to a request, who is logged in before and after, by his place, and what he asked with its reply. The reply to an ask is free here.
+  -- What is said to a request, who is logged in before and after, by his place, and what he asked
+  -- with its reply. The reply to an ask is free here.
   pub data Says : Option ℕ → LineRequest → Option ℕ → List (Text × Reply) → Text → Type 0 where
-    welcome : {name phrase : Text} {place : ℕ} → LogsIn name phrase users place → Says None (login_as name phrase) (Some place) [] (text_of Welcome)
-    no_login : {name phrase : Text} → NobodyLogsIn name phrase → Says None (login_as name phrase) None [] (text_of (Code 25))
-    logged_in : {name phrase : Text} {place : ℕ} → Says (Some place) (login_as name phrase) (Some place) [] (text_of (Code 26))
+    welcome : {name phrase : Text} {place : ℕ} → LogsIn name phrase users place
+        → Says None (login_as name phrase) (Some place) [] (text_of Welcome)
+    no_login : {name phrase : Text} → NobodyLogsIn name phrase
+        → Says None (login_as name phrase) None [] (text_of (Code 25))
+    logged_in : {name phrase : Text} {place : ℕ}
+        → Says (Some place) (login_as name phrase) (Some place) [] (text_of (Code 26))
     not_yet : {text : Text} → Says None (ask_for text) None [] (text_of (Code 25))
-    replied : {text : Text} {place : ℕ} {reply : Reply} → Says (Some place) (ask_for text) (Some place) ((text, reply) ∷ []) (reply_text reply)
+    replied : {text : Text} {place : ℕ} {reply : Reply}
+        → Says (Some place) (ask_for text) (Some place) ((text, reply) ∷ []) (reply_text reply)
     bye : {who : Option ℕ} → Says who quit_session who [] (text_of Bye)
     unknown : {who : Option ℕ} → Says who other_line who [] (text_of (Code 26))
 
   -- What is said to lines, one after the other.
-  pub data Talks : Option ℕ → List HeardLine → Option ℕ → List (Text × Reply) → List Text → Type 0 where
+  pub data Talks : Option ℕ → List HeardLine → Option ℕ → List (Text × Reply) → List Text
+      → Type 0 where
     silent : {who : Option ℕ} → Talks who [] who [] []
-    line : {who next last : Option ℕ} {heard : HeardLine} {lines : List HeardLine} {asked asks : List (Text × Reply)} {text : Text} {texts : List Text}
+    line : {who next last : Option ℕ} {heard : HeardLine} {lines : List HeardLine}
+        {asked asks : List (Text × Reply)} {text : Text} {texts : List Text}
         → Says who (request_in heard) next asked text → Talks next lines last asks texts
         → Talks who (heard ∷ lines) last (asked ++ asks) (text ∷ texts)
 
@@ -47,8 +57,8 @@ module _ (users : List User) where
 abbrev pub written_lines : List Text → List ℕ
 written_lines texts = flat_map (λ text. text ++ codes "\n") texts
 
--- What was written where the sink failed: the lines of all texts but the last, and of that one a part. So nothing was
--- answered behind a line that wasn't written.
+-- What was written where the sink failed: the lines of all texts but the last, and of that one a
+-- part. So nothing was answered behind a line that wasn't written.
 pub record IsCut (texts : List Text) (written : List ℕ) : Type 0 where
   pub front : List Text
   pub last : Text

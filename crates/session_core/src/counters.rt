@@ -10,8 +10,8 @@ use desk_counter::{Counter, CounterOf, DeskPass, Owned, TicketedDesk};
 use outside::Disk;
 use std::alloc::{AllocError, Global};
 
-/// A counter for each user. It stands for `Counters` wherever a thread is to take it, since it says nothing of what is
-/// under the counters.
+/// A counter for each user. It stands for `Counters` wherever a thread is to take it, since it says
+/// nothing of what is under the counters.
 #[derive(Drop)]
 pub struct CountersOf<'w, V: Owned> {
     pub(crate) users: &'w [User],
@@ -33,7 +33,8 @@ impl<'w, D: Disk> CountersOf<'w, TicketedDesk<'w, D>> {
     ghost use Rattle.std.specs.Prelude.{IfOk, OnErr};
     ghost use Rattle.std.specs.List.{AllByRecursion};
     ghost use Rattle.desk_counter.specs.Counters.{kept_by};
-    ghost use Rattle.session_core.specs.Members.{AreDesksOf, HaveSeenLegal, ArePasses, ArePassesOf, AreSplit, AreMet, CanSplit, users_of, passes_in};
+    ghost use Rattle.session_core.specs.Members.{AreDesksOf, HaveSeenLegal, ArePasses, ArePassesOf};
+    ghost use Rattle.session_core.specs.Members.{AreSplit, AreMet, CanSplit, users_of, passes_in};
 
     /// Puts counters together, that of each user's desk at his place, with a pass at each.
     pub fn new(
@@ -62,11 +63,13 @@ impl<'w, D: Disk> CountersOf<'w, TicketedDesk<'w, D>> {
         (counters, passes)
     }
 
-    /// Splits off a pass at each counter, with one share and 2^57 turns. For want of memory nothing changes.
+    /// Splits off a pass at each counter, with one share and 2^57 turns. For want of memory nothing
+    /// changes.
     pub fn split(&self, alloc: Global, passes: &mut Passes<D>) -> Result<Passes<D>, AllocError>
         requires passes { ArePassesOf passes.old self.now }
         requires room { AllByRecursion CanSplit (passes_in passes.old) }
-        ensures split { IfOk result (λ parts. AreSplit self.now.counters.items (passes_in passes.old)
+        ensures split { IfOk result (λ parts.
+            AreSplit self.now.counters.items (passes_in passes.old)
             (passes_in passes.new) (passes_in parts)) }
         ensures same { OnErr result (passes.new ≡ passes.old) }
         ensures passes { ArePassesOf passes.new self.now }
@@ -87,7 +90,8 @@ impl<'w, D: Disk> CountersOf<'w, TicketedDesk<'w, D>> {
     pub fn meet(&self, passes: &mut Passes<D>, others: Passes<D>)
         requires these { ArePassesOf passes.old self.now }
         requires those { ArePassesOf others self.now }
-        ensures met { AreMet self.now.counters.items (passes_in passes.old) (passes_in others) (passes_in passes.new) }
+        ensures met { AreMet self.now.counters.items (passes_in passes.old) (passes_in others)
+            (passes_in passes.new) }
         ensures passes { ArePassesOf passes.new self.now }
     {
         let mut others = others.passes;

@@ -1,12 +1,13 @@
-//! Sessions of many users over lines: the counters of all users, a thread's passes at them, and one session.
+//! Sessions of many users over lines: the counters of all users, a thread's passes at them, and one
+//! session.
 //!
-//! `Counters` has a counter for each user, and `Passes` a pass at each of them. `serve_session` reads the lines of a
-//! source and writes a reply to each: who logs in with his token asks his own desk, by his own history, and no other
-//! pass changes. What was written is, line for line, the answer to the lines that were read; and each end has its
-//! cause.
+//! `Counters` has a counter for each user, and `Passes` a pass at each of them. `serve_session`
+//! reads the lines of a source and writes a reply to each: who logs in with his token asks his own
+//! desk, by his own history, and no other pass changes. What was written is, line for line, the
+//! answer to the lines that were read; and each end has its cause.
 //!
-//! Read `specs/Heard.antt`, `specs/Talks.antt`, `specs/Replied.antt` and `specs/Sessions.antt` first, then `counters`
-//! and `session`.
+//! Read `specs/Heard.antt`, `specs/Talks.antt`, `specs/Replied.antt` and `specs/Sessions.antt`
+//! first, then `counters` and `session`.
 #![tactic(auto)]
 
 mod counters;

@@ -1,5 +1,6 @@
 //! One session over lines.
-ghost use Rattle.std.specs.Prelude.{◌≡◌, ◌⊎◌, ◌≤◌, ◌<◌, ◌^◌, ◌∷◌, ◌++◌, [], codes, length, IfSome, IfNone};
+ghost use Rattle.std.specs.Prelude.{◌≡◌, ◌⊎◌, ◌≤◌, ◌<◌, ◌^◌, ◌∷◌, ◌++◌, [], codes, length, IfSome};
+ghost use Rattle.std.specs.Prelude.{IfNone};
 ghost use Rattle.std.specs.List.{AllByRecursion};
 ghost use Rattle.outside.specs.Faults.{Rose};
 ghost use Rattle.outside.specs.Streams.{AppendsPart};
@@ -10,7 +11,8 @@ ghost use Rattle.line_protocol.specs.Requests.{meaning_of};
 ghost use Rattle.session_core.specs.Heard.{is_quit};
 ghost use Rattle.session_core.specs.Talks.{LogsIn, NobodyLogsIn, Says};
 ghost use Rattle.session_core.specs.Desks.{AsksAt, AsksOf};
-ghost use Rattle.session_core.specs.Members.{ArePassesOf, EachHides, users_of, fixeds_of, passes_in};
+ghost use Rattle.session_core.specs.Members.{ArePassesOf, EachHides, users_of, fixeds_of};
+ghost use Rattle.session_core.specs.Members.{passes_in};
 ghost use Rattle.session_core.specs.Asked.{Replies, IsShort};
 ghost use Rattle.session_core.specs.Sessions.{Session};
 
@@ -86,7 +88,8 @@ fn ask_at<R: Wait, D: Disk, G: Gate>(
     requires turns { AllByRecursion (λ pass. 2 ≤ turns pass) (passes_in passes.old) }
     requires short { length text.now ≤ 4096 }
     ensures passes { ArePassesOf passes.new counters.now }
-    ensures asked { AsksAt place (fixeds_of counters.now) (passes_in passes.old) (passes_in passes.new)
+    ensures asked { AsksAt place (fixeds_of counters.now) (passes_in passes.old)
+        (passes_in passes.new)
         ((text.now, reply_of result) ∷ []) }
 {
     let counter = &counters.counters[place];
@@ -110,7 +113,8 @@ fn reply_to<R: Wait, D: Disk, G: Gate>(
     requires short { IsShort (meaning_of request) }
     ensures passes { ArePassesOf passes.new counters.now }
     ensures place { IfSome result.0 (λ place. place < length (fixeds_of counters.now)) }
-    ensures replies { Replies (users_of counters.now) (fixeds_of counters.now) who (meaning_of request.entry) result.0
+    ensures replies { Replies (users_of counters.now) (fixeds_of counters.now) who
+        (meaning_of request.entry) result.0
         (text_of result.1) (passes_in passes.old) (passes_in passes.new) }
 {
     match (request, who) {
@@ -138,11 +142,11 @@ fn is_quit(request: &Request<'_>) -> bool
     }
 }
 
-/// Serves a session: reads lines from the source up to `quit`, the end of the input, a line that is too long or the
-/// 100,000th, and writes a reply to each. An ask is replied to by the history of the user who
-/// logged in, at his own desk, and only his pass changes. What each pass has seen is legal, and
-/// hides where its user is served. It waits for other sessions of that user, and makes at most 2^26
-/// turns.
+/// Serves a session: reads lines from the source up to `quit`, the end of the input, a line that is
+/// too long or the 100,000th, and writes a reply to each. An ask is replied to by the history of
+/// the user who logged in, at his own desk, and only his pass changes. What each pass has seen is
+/// legal, and hides where its user is served. It waits for other sessions of that user, and makes
+/// at most 2^26 turns.
 pub fn serve_session<R: Wait, D: Disk, S: Source, K: Sink, G: Gate>(
     rt: &R,
     alloc: Global,
@@ -155,14 +159,16 @@ pub fn serve_session<R: Wait, D: Disk, S: Source, K: Sink, G: Gate>(
     requires passes { ArePassesOf passes.old counters.now }
     requires turns { AllByRecursion (λ pass. 2 ^ 26 ≤ turns pass) (passes_in passes.old) }
     ensures passes { ArePassesOf passes.new counters.now }
-    ensures session { Session S.tells K.tells (users_of counters.now) (fixeds_of counters.now) result (S.left source.old)
+    ensures session { Session S.tells K.tells (users_of counters.now)
+        (fixeds_of counters.now) result (S.left source.old)
         (passes_in passes.old) (passes_in passes.new) (K.written sink.old) (K.written sink.new) }
     ensures hides { EachHides (fixeds_of counters.now) (passes_in passes.new) }
     ensures held { S.held source.new ≡ S.held source.old }
     ensures answers { K.answers sink.new ≡ K.answers sink.old }
     ensures source_later { S.faults source.old ≤ S.faults source.new }
     ensures sink_later { K.faults sink.old ≤ K.faults sink.new }
-    ensures read_cause { result ≡ Ended.ReadFault → Rose (S.faults source.old) (S.faults source.new) }
+    ensures read_cause { result ≡ Ended.ReadFault
+        → Rose (S.faults source.old) (S.faults source.new) }
     ensures write_cause { result ≡ Ended.WriteFault → Rose (K.faults sink.old) (K.faults sink.new) }
 {
     law_hides();
@@ -195,7 +201,8 @@ fn end_too_long<K: Sink>(sink: &mut K) -> Ended
     ensures whole { result ≡ Ended.TooLong → K.tells
         → K.written sink.new ≡ K.written sink.old ++ (text_of (Reply.Code 26) ++ codes "\n") }
     ensures part { result ≡ Ended.WriteFault → K.tells
-        → AppendsPart (K.written sink.old) (K.written sink.new) (text_of (Reply.Code 26) ++ codes "\n") }
+        → AppendsPart (K.written sink.old) (K.written sink.new)
+        (text_of (Reply.Code 26) ++ codes "\n") }
     ensures answers { K.answers sink.new ≡ K.answers sink.old }
     ensures later { K.faults sink.old ≤ K.faults sink.new }
     ensures cause { result ≡ Ended.WriteFault → Rose (K.faults sink.old) (K.faults sink.new) }

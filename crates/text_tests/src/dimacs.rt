@@ -26,7 +26,8 @@ fn check(
     assert_eq!(rt; ending.status(), status, "{output}");
 }
 
-/// Nothing is read behind a line that is refused: the last line stays, and the call that would fail isn't made.
+/// Nothing is read behind a line that is refused: the last line stays, and the call that would fail
+/// isn't made.
 #[test]
 fn a_refused_line_is_the_last_that_is_read(rt: HostRuntime) -> Result<(), Fail> {
     let alloc = rt.alloc();

@@ -1,10 +1,12 @@
-//! Tests of what is read and printed: sentences, lines, policies and facts, audits, files of clauses.
+//! Tests of what is read and printed: sentences, lines, policies and facts, audits, files of
+//! clauses.
 //!
-//! They call the libraries as any other crate does. A module is named for what it tests: `sentences` of `sentence_text`,
-//! `lines` of `line_protocol`, `policies` of `policy_files`, `audits` of `audit_text`, `dimacs` of `dimacs_text`,
-//! `workloads` of `workload`. Texts that are compared were worked out by hand or by an independent program. Tables of texts
-//! are scenes of `rehearsals`; here stands what needs an object that fails, a part of what is read, or what no command
-//! prints.
+//! They call the libraries as any other crate does. A module is named for what it tests:
+//! `sentences` of `sentence_text`, `lines` of `line_protocol`, `policies` of `policy_files`,
+//! `audits` of `audit_text`, `dimacs` of `dimacs_text`, `workloads` of `workload`. Texts that are
+//! compared were worked out by hand or by an independent program. Tables of texts are scenes of
+//! `rehearsals`; here stands what needs an object that fails, a part of what is read, or what no
+//! command prints.
 #![tactic(auto)]
 
 #[cfg(test)]

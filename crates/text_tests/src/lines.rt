@@ -16,8 +16,8 @@ fn cuts() -> [Pieces; 4] {
     ]
 }
 
-// The lines of these bytes, each with a bar behind it, and how reading ended; a failed call shows as a stroke, and
-// reading goes on.
+// The lines of these bytes, each with a bar behind it, and how reading ended; a failed call shows
+// as a stroke, and reading goes on.
 fn transcript(
     alloc: Global,
     bytes: &[u8],

@@ -1,4 +1,5 @@
-//! What stands in a policy, and a facts file at its limit. Refusals and the other limits are scenes of `rehearsals`.
+//! What stands in a policy, and a facts file at its limit. Refusals and the other limits are scenes
+//! of `rehearsals`.
 use cqe_base::schema::Schema;
 use cqe_base::sentence::Sentence;
 use cqe_base::user::{Method, User};
@@ -86,9 +87,10 @@ know hiv(bob)
 secret hiv(ann)
 ";
 
-/// Keys in another order, upper case digits, an absent `know` and a budget: numbers go by the keys' bytes.
-const TURNED: &str =
-    r#"users = [{budget = 4000000, secrets = ["takes(ann, aspirin)"], method = "refusal", name = "Ann2",
+/// Keys in another order, upper case digits, an absent `know` and a budget: numbers go by the keys'
+/// bytes.
+const TURNED: &str = r#"users = [{budget = 4000000, secrets = ["takes(ann,
+        aspirin)"], method = "refusal", name = "Ann2",
   token = "BA7816BF8F01CFEA414140DE5DAE2223B00361A396177A9CB410FF61F20015AD"}]
 relations = {takes = ["person", "drugs"], Zed = [], hiv = ["person"]}
 domains = {person = ["bob", "ann"], drugs = ["aspirin"]}

@@ -20,12 +20,14 @@ both_false false true p q = q
 both_false true b p q = p
 
 -- one more constant passes
-pub all_pass_next : (p : Constant → Bool) (d i : ℕ) → list_all p (first_constants d i) ≡ true → p (constant_at d i) ≡ true → list_all p (first_constants d (i + 1)) ≡ true
+pub all_pass_next : (p : Constant → Bool) (d i : ℕ) → list_all p (first_constants d i) ≡ true → p (constant_at d i) ≡ true
+    → list_all p (first_constants d (i + 1)) ≡ true
 all_pass_next p d i before here =
     ap (list_all p) (one_more d i) ∙ list_all-append p (first_constants d i) _ ∙ both_true (list_all p (first_constants d i)) (p (constant_at d i)) before here
 
 -- and one more fails
-pub none_passes_next : (p : Constant → Bool) (d i : ℕ) → list_any p (first_constants d i) ≡ false → p (constant_at d i) ≡ false → list_any p (first_constants d (i + 1)) ≡ false
+pub none_passes_next : (p : Constant → Bool) (d i : ℕ) → list_any p (first_constants d i) ≡ false → p (constant_at d i) ≡ false
+    → list_any p (first_constants d (i + 1)) ≡ false
 none_passes_next p d i before here =
     ap (list_any p) (one_more d i) ∙ list_any-append p (first_constants d i) _ ∙ both_false (list_any p (first_constants d i)) (p (constant_at d i)) before here
 

@@ -26,7 +26,8 @@ pub fn holds(schema: &Schema, world: &World, sentence: &Sentence) -> bool
     holds_at(schema, world, [unbound; 8], 0, sentence)
 }
 
-/// Whether a sentence is true in a world where the variables of so many enclosing quantifiers have these constants.
+/// Whether a sentence is true in a world where the variables of so many enclosing quantifiers have
+/// these constants.
 #[cycle(evaluation)]
 fn holds_at(
     schema: &Schema,
@@ -36,7 +37,9 @@ fn holds_at(
     sentence: &Sentence,
 ) -> bool
     requires { depth + nesting (formula_of sentence.now) ≤ 8 }
-    ensures { result ≡ true_at schema.now (set.contains world.now) (take depth places) (formula_of sentence.now) }
+    ensures { result
+        ≡ true_at schema.now (set.contains world.now) (take depth places)
+        (formula_of sentence.now) }
 {
     match sentence {
         Sentence::True => true,
@@ -79,7 +82,10 @@ fn holds_for_each(
     body: &Sentence,
 ) -> bool
     requires { depth + 1 + nesting (formula_of body.now) ≤ 8 }
-    ensures { result ≡ list_all (λ c. true_at schema.now (set.contains world.now) (take depth places ++ c ∷ []) (formula_of body.now)) (constants_of schema.now domain) }
+    ensures { result
+        ≡ list_all (λ c.
+        true_at schema.now (set.contains world.now) (take depth places ++ c ∷ [])
+        (formula_of body.now)) (constants_of schema.now domain) }
 {
     for index in 0..schema.domain_size(domain) {
         let constant = Constant {
@@ -104,7 +110,10 @@ fn holds_for_some(
     body: &Sentence,
 ) -> bool
     requires { depth + 1 + nesting (formula_of body.now) ≤ 8 }
-    ensures { result ≡ list_any (λ c. true_at schema.now (set.contains world.now) (take depth places ++ c ∷ []) (formula_of body.now)) (constants_of schema.now domain) }
+    ensures { result
+        ≡ list_any (λ c.
+        true_at schema.now (set.contains world.now) (take depth places ++ c ∷ [])
+        (formula_of body.now)) (constants_of schema.now domain) }
 {
     for index in 0..schema.domain_size(domain) {
         let constant = Constant {
@@ -129,7 +138,9 @@ fn holds_with(
     body: &Sentence,
 ) -> bool
     requires { depth + 1 + nesting (formula_of body.now) ≤ 8 }
-    ensures { result ≡ true_at schema.now (set.contains world.now) (take depth places ++ constant ∷ []) (formula_of body.now) }
+    ensures { result
+        ≡ true_at schema.now (set.contains world.now) (take depth places ++ constant ∷ [])
+        (formula_of body.now) }
 {
     let mut places = places;
     places[depth] = constant;

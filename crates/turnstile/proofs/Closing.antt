@@ -12,8 +12,10 @@ use Rattle.turnstile.proofs.Idle.{idle_view}
 use Rattle.turnstile.proofs.Keeps.{Closes, ends}
 
 module _ {V I F : Type 0} (entries_of : V → Entries I) (fixed_of : V → F) where
-  pub closing : (p : Pass I F) (v : View I F) → p.badge.views ≡ v ∷ [] → shares p ≡ 65 → (fixed : F) (first : Entries I) (id : ℕ) (ws : List ℕ) (xs : List (Option V)) (x : Option V) → {y : V}
-      → Final (Seen (TurnstileRule entries_of fixed_of fixed first) id v) ws xs → get_elem? xs 0 ≡ some x → x ≡ Some y → Closes entries_of fixed_of first (view_of p) y
+  pub closing : (p : Pass I F) (v : View I F) → p.badge.views ≡ v ∷ [] → shares p ≡ 65
+      → (fixed : F) (first : Entries I) (id : ℕ) (ws : List ℕ) (xs : List (Option V)) (x : Option V) → {y : V}
+      → Final (Seen (TurnstileRule entries_of fixed_of fixed first) id v) ws xs → get_elem? xs 0 ≡ some x → x ≡ Some y
+      → Closes entries_of fixed_of first (view_of p) y
   closing p v one all fixed first id ws xs x {y} final there is =
       let idle = idle_view p v one in
       let t = ends entries_of fixed_of fixed first id v ws xs x final idle.1 (ap (λ (u : View I F). u.shares) idle.0 ∙ all) there in

@@ -15,21 +15,25 @@ pub count_of-else : (x n : ℕ) → x ≢ n → count_of x (n ∷ []) ≡ 0
 count_of-else x n other = ap (λ (b : Bool). 0 + cond b 1 0) (ne_eqb n x (λ e. other (sym e)))
 
 -- one more number is counted, at the top
-pub counts_more : (low high n : ℕ) (count now : ℕ → ℕ) → OnceBetween low high count → n ≡ high → low ≤ high → ((x : ℕ) → now x ≡ count x + count_of x (n ∷ [])) → OnceBetween low (n + 1) now
+pub counts_more : (low high n : ℕ) (count now : ℕ → ℕ) → OnceBetween low high count → n ≡ high → low ≤ high → ((x : ℕ) → now x ≡ count x + count_of x (n ∷ []))
+    → OnceBetween low (n + 1) now
 counts_more low high n count now h is ord more = record {
   inside = λ x l u. dite (ℕ_discrete x n)
-      (λ e. let here : count_of x (n ∷ []) ≡ 1 = subst (λ (z : ℕ). count_of x (z ∷ []) ≡ 1) e (count_of-here x) in omega (arith, more x, h.above x (omega arith)))
+      (λ e. let here : count_of x (n ∷ []) ≡ 1 = subst (λ (z : ℕ). count_of x (z ∷ []) ≡ 1) e (count_of-here x) in
+      omega (arith, more x, h.above x (omega arith)))
       (λ e. omega (arith, more x, count_of-else x n e, h.inside x l (omega arith)));
   below = λ x l. omega (arith, more x, count_of-else x n (λ e. omega arith), h.below x l);
   above = λ x l. omega (arith, more x, count_of-else x n (λ e. omega arith), h.above x (omega arith));
 }
 
 -- the lowest number is counted no more
-pub counts_less : (low high n : ℕ) (count now : ℕ → ℕ) → OnceBetween low high count → n ≡ low → low < high → ((x : ℕ) → now x + count_of x (n ∷ []) ≡ count x) → OnceBetween (n + 1) high now
+pub counts_less : (low high n : ℕ) (count now : ℕ → ℕ) → OnceBetween low high count → n ≡ low → low < high → ((x : ℕ) → now x + count_of x (n ∷ []) ≡ count x)
+    → OnceBetween (n + 1) high now
 counts_less low high n count now h is ord less = record {
   inside = λ x l u. omega (arith, less x, count_of-else x n (λ e. omega arith), h.inside x (omega arith) u);
   below = λ x l. dite (ℕ_discrete x n)
-      (λ e. let here : count_of x (n ∷ []) ≡ 1 = subst (λ (z : ℕ). count_of x (z ∷ []) ≡ 1) e (count_of-here x) in omega (arith, less x, h.inside x (omega arith) (omega arith)))
+      (λ e. let here : count_of x (n ∷ []) ≡ 1 = subst (λ (z : ℕ). count_of x (z ∷ []) ≡ 1) e (count_of-here x) in
+      omega (arith, less x, h.inside x (omega arith) (omega arith)))
       (λ e. omega (arith, less x, count_of-else x n e, h.below x (omega arith)));
   above = λ x l. omega (arith, less x, h.above x l);
 }

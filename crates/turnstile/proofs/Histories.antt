@@ -1,5 +1,6 @@
 -- Facts about histories.
-use Rattle.std.proofs.Common.{◌≡◌, ℕ, ◌+◌, ◌<◌, ◌≤◌, eqb, not, cond, Bool, List, [], ◌∷◌, ◌++◌, length, slice_index_or, All, refl, sym, ap, ◌∙◌, subst, inl, inr, ⊎_elim, arith, eq-eqb, ne_eqb, append-nil, length-append}
+use Rattle.std.proofs.Common.{◌≡◌, ℕ, ◌+◌, ◌<◌, ◌≤◌, eqb, not, cond, Bool, List, [], ◌∷◌, ◌++◌, length, slice_index_or, All, refl, sym, ap, ◌∙◌, subst, inl}
+use Rattle.std.proofs.Common.{inr, ⊎_elim, arith, eq-eqb, ne_eqb, append-nil, length-append}
 use Rattle.std.proofs.lemmas.List.Elements.{filter-append, All-nil, All-cons, All-head, All-tail}
 use mathlib.Core.Logic.{dite}
 use native.Mathlib.Decide.{ℕ_discrete}
@@ -30,7 +31,8 @@ module _ {I : Type 0} where
 
   pub rising_below : (low n : ℕ) (es : Entries I) → 0 < n → IsRising low n es → AllBelow n es
   rising_below low n [] pos h = All-nil (Below n)
-  rising_below low n (e ∷ es) pos h = ⊎_elim (λ (t : (e.0 ≡ 0) × IsRising low n es). let z = t.0 in All-cons (Below n) e es (omega arith) (rising_below low n es pos t.1))
+  rising_below low n (e ∷ es) pos h =
+      ⊎_elim (λ (t : (e.0 ≡ 0) × IsRising low n es). let z = t.0 in All-cons (Below n) e es (omega arith) (rising_below low n es pos t.1))
       (λ (t : (low < e.0) × (e.0 < n) × IsRising e.0 n es). All-cons (Below n) e es t.1 (rising_below e.0 n es pos t.2)) h
 
   pub below_front : (n : ℕ) (xs ys : Entries I) → AllBelow n (xs ++ ys) → AllBelow n xs
@@ -85,17 +87,23 @@ module _ {I : Type 0} where
 
   pub entries_with_none : (ts : List ℕ) (es : Entries I) → NoneWith ts es → entries_with ts es ≡ []
   entries_with_none ts [] h = refl
-  entries_with_none ts (e ∷ es) h = ap (λ (b : Bool). cond (not b) (e ∷ entries_with ts es) (entries_with ts es)) (eq-eqb (count_of e.0 ts) 0 (All-head (Lacks ts) e es h)) ∙ entries_with_none ts es (All-tail (Lacks ts) e es h)
+  entries_with_none ts (e ∷ es) h =
+      ap (λ (b : Bool). cond (not b) (e ∷ entries_with ts es) (entries_with ts es)) (eq-eqb (count_of e.0 ts) 0 (All-head (Lacks ts) e es h))
+      ∙ entries_with_none ts es (All-tail (Lacks ts) e es h)
 
   -- what a view has seen has all pairs with its tickets
   pub entries_with_seen : (ts : List ℕ) (xs ys zs : Entries I) → zs ≡ xs ++ ys → NoneWith ts ys → entries_with ts zs ≡ entries_with ts xs
-  entries_with_seen ts xs ys zs e h = ap (entries_with ts) e ∙ (filter-append (λ (x : ℕ × I). not (eqb (count_of x.0 ts) 0)) xs ys ∙ (ap (λ (r : Entries I). entries_with ts xs ++ r) (entries_with_none ts ys h) ∙ append-nil (entries_with ts xs)))
+  entries_with_seen ts xs ys zs e h =
+      ap (entries_with ts) e
+      ∙ (filter-append (λ (x : ℕ × I). not (eqb (count_of x.0 ts) 0)) xs ys
+      ∙ (ap (λ (r : Entries I). entries_with ts xs ++ r) (entries_with_none ts ys h) ∙ append-nil (entries_with ts xs)))
 
   -- of two beginnings of one list, the longer one begins with the shorter
   pub begins_longer : (xs ys us vs : Entries I) → xs ++ us ≡ ys ++ vs → length xs ≤ length ys → (mid : Entries I) × (ys ≡ xs ++ mid) × (us ≡ mid ++ vs)
   begins_longer [] ys us vs e le = (ys, refl, e)
   begins_longer (x ∷ xs) [] us vs e le = absurd (omega arith)
-  begins_longer (x ∷ xs) (y ∷ ys) us vs e le = let heads : x ≡ y = cc in let tails : xs ++ us ≡ ys ++ vs = cc in let t = begins_longer xs ys us vs tails (omega arith) in
+  begins_longer (x ∷ xs) (y ∷ ys) us vs e le =
+      let heads : x ≡ y = cc in let tails : xs ++ us ≡ ys ++ vs = cc in let t = begins_longer xs ys us vs tails (omega arith) in
       (t.0, (λ i. sym heads i ∷ t.1 i), t.2)
 
   -- a list that begins another and is no shorter is the other
@@ -104,7 +112,8 @@ module _ {I : Type 0} where
   begins_whole xs ys (r ∷ rs) e le = absurd (omega (arith, ap length e, length-append xs (r ∷ rs)))
 
   -- where the tickets are those from 1 to n - 1, the pairs that have them are those that were added later
-  pub entries_with_all : (ts : List ℕ) (n : ℕ) (es : Entries I) → AllBelow n es → count_of 0 ts ≡ 0 → ((x : ℕ) → 1 ≤ x → x < n → 0 < count_of x ts) → turn_entries es ≡ entries_with ts es
+  pub entries_with_all : (ts : List ℕ) (n : ℕ) (es : Entries I) → AllBelow n es → count_of 0 ts ≡ 0 → ((x : ℕ) → 1 ≤ x → x < n → 0 < count_of x ts)
+      → turn_entries es ≡ entries_with ts es
   entries_with_all ts n [] below zero_of all = refl
   entries_with_all ts n (e ∷ es) below zero_of all =
       let rest = entries_with_all ts n es (All-tail (Below n) e es below) zero_of all in
@@ -112,22 +121,27 @@ module _ {I : Type 0} where
       dite (ℕ_discrete e.0 0)
       (λ z. let none_of : count_of e.0 ts ≡ 0 = ap (λ x. count_of x ts) z ∙ zero_of in
       let a : turn_entries (e ∷ es) ≡ turn_entries es = ap (λ (b : Bool). cond (not b) (e ∷ turn_entries es) (turn_entries es)) (eq-eqb e.0 0 z) in
-      let b : entries_with ts (e ∷ es) ≡ entries_with ts es = ap (λ (b : Bool). cond (not b) (e ∷ entries_with ts es) (entries_with ts es)) (eq-eqb (count_of e.0 ts) 0 none_of) in
+      let b : entries_with ts (e ∷ es) ≡ entries_with ts es =
+      ap (λ (b : Bool). cond (not b) (e ∷ entries_with ts es) (entries_with ts es)) (eq-eqb (count_of e.0 ts) 0 none_of) in
       a ∙ (rest ∙ sym b))
       (λ z. let some_of = all e.0 (omega arith) l in
       let a : turn_entries (e ∷ es) ≡ e ∷ turn_entries es = ap (λ (b : Bool). cond (not b) (e ∷ turn_entries es) (turn_entries es)) (ne_eqb e.0 0 z) in
-      let b : entries_with ts (e ∷ es) ≡ e ∷ entries_with ts es = ap (λ (b : Bool). cond (not b) (e ∷ entries_with ts es) (entries_with ts es)) (ne_eqb (count_of e.0 ts) 0 (λ w. omega arith)) in
+      let b : entries_with ts (e ∷ es) ≡ e ∷ entries_with ts es =
+      ap (λ (b : Bool). cond (not b) (e ∷ entries_with ts es) (entries_with ts es)) (ne_eqb (count_of e.0 ts) 0 (λ w. omega arith)) in
       a ∙ (ap (λ (l : Entries I). e ∷ l) rest ∙ sym b))
 
   -- a turn's pair is among those that turns added
   pub turned_more : (es : Entries I) (n : ℕ) (x : I) → 0 < n → turn_entries (es ++ (n, x) ∷ []) ≡ turn_entries es ++ (n, x) ∷ []
-  turned_more es n x pos = filter-append (λ (e : ℕ × I). not (eqb e.0 0)) es ((n, x) ∷ []) ∙ ap (λ (b : Bool). turn_entries es ++ cond (not b) ((n, x) ∷ []) []) (ne_eqb n 0 (λ z. omega arith))
+  turned_more es n x pos =
+      filter-append (λ (e : ℕ × I). not (eqb e.0 0)) es ((n, x) ∷ [])
+      ∙ ap (λ (b : Bool). turn_entries es ++ cond (not b) ((n, x) ∷ []) []) (ne_eqb n 0 (λ z. omega arith))
 
   -- none is where every ticket is 0
   pub none_of_opening : (es : Entries I) → IsOpening es → turn_entries es ≡ []
   none_of_opening [] zeros = refl
   none_of_opening (e ∷ es) zeros =
-      ap (λ (b : Bool). cond (not b) (e ∷ turn_entries es) (turn_entries es)) (eq-eqb e.0 0 (All-head (λ x. x.0 ≡ 0) e es zeros)) ∙ none_of_opening es (All-tail (λ x. x.0 ≡ 0) e es zeros)
+      ap (λ (b : Bool). cond (not b) (e ∷ turn_entries es) (turn_entries es)) (eq-eqb e.0 0 (All-head (λ x. x.0 ≡ 0) e es zeros))
+      ∙ none_of_opening es (All-tail (λ x. x.0 ≡ 0) e es zeros)
 
   -- a ticket that no pair has adds none
   pub entries_with_fresh : (ts : List ℕ) (n : ℕ) (es : Entries I) → AllBelow n es → entries_with (ts ++ n ∷ []) es ≡ entries_with ts es
@@ -148,7 +162,8 @@ module _ {I : Type 0} where
   dropped ts e es z = ap (λ (b : Bool). cond (not b) (e ∷ entries_with ts es) (entries_with ts es)) (eq-eqb (count_of e.0 ts) 0 z)
 
   -- the pairs of two lists of tickets that have none in common are those of the one and those of the other, in their order
-  pub entries_with_both : (ts us : List ℕ) (es : Entries I) → ((x : ℕ) → count_of x (ts ++ us) ≤ 1) → Interleaves (entries_with ts es) (entries_with us es) (entries_with (ts ++ us) es)
+  pub entries_with_both : (ts us : List ℕ) (es : Entries I) → ((x : ℕ) → count_of x (ts ++ us) ≤ 1)
+      → Interleaves (entries_with ts es) (entries_with us es) (entries_with (ts ++ us) es)
   entries_with_both ts us [] apart = (refl, refl)
   entries_with_both ts us (e ∷ es) apart =
       let rest = entries_with_both ts us es apart in
@@ -157,8 +172,10 @@ module _ {I : Type 0} where
       dite (ℕ_discrete (count_of e.0 ts) 0)
       (λ a. dite (ℕ_discrete (count_of e.0 us) 0)
       (λ b. interleaves_at _ _ _ _ _ _ (dropped ts e es a) (dropped us e es b) (dropped (ts ++ us) e es (omega arith)) rest)
-      (λ b. interleaves_at _ _ _ _ _ (e ∷ entries_with (ts ++ us) es) (dropped ts e es a) (kept us e es (omega arith)) (kept (ts ++ us) e es (omega arith)) (inr (entries_with us es, refl, rest))))
-      (λ a. interleaves_at _ _ _ _ _ (e ∷ entries_with (ts ++ us) es) (kept ts e es (omega arith)) (dropped us e es (omega arith)) (kept (ts ++ us) e es (omega arith)) (inl (entries_with ts es, refl, rest)))
+      (λ b. interleaves_at _ _ _ _ _ (e ∷ entries_with (ts ++ us) es) (dropped ts e es a) (kept us e es (omega arith)) (kept (ts ++ us) e es (omega arith))
+      (inr (entries_with us es, refl, rest))))
+      (λ a. interleaves_at _ _ _ _ _ (e ∷ entries_with (ts ++ us) es) (kept ts e es (omega arith)) (dropped us e es (omega arith))
+      (kept (ts ++ us) e es (omega arith)) (inl (entries_with ts es, refl, rest)))
 
   -- and as many
   pub interleaves_length : (xs ys zs : Entries I) → Interleaves xs ys zs → length zs ≡ length xs + length ys

@@ -20,7 +20,8 @@ module _ {I F : Type 0} where
 
   joined_views : (v w : View I F) → AllKnown (longer v.seen w.seen) (joined_view v w).joined → ((x : ℕ) → count_of x (v.drawn ++ w.drawn) ≤ 1)
       → Interleaves (entries_with v.drawn v.seen) (entries_with w.drawn w.seen) (entries_with (v.drawn ++ w.drawn) (longer v.seen w.seen))
-  joined_views v w known apart = subst (λ (t : Entries I × Entries I). Interleaves t.0 t.1 (entries_with (v.drawn ++ w.drawn) (longer v.seen w.seen))) (λ i. (known.0.1 i, known.1.0.1 i))
+  joined_views v w known apart =
+      subst (λ (t : Entries I × Entries I). Interleaves t.0 t.1 (entries_with (v.drawn ++ w.drawn) (longer v.seen w.seen))) (λ i. (known.0.1 i, known.1.0.1 i))
       (entries_with_both v.drawn w.drawn (longer v.seen w.seen) apart)
 
 module _ {V I F : Type 0} (entries_of : V → Entries I) (fixed_of : V → F) where
@@ -30,12 +31,14 @@ module _ {V I F : Type 0} (entries_of : V → Entries I) (fixed_of : V → F) wh
   joining p q v w one two m m' both told views is =
       let this : v ≡ view_of p = (idle_view p v one).0 in
       let that : w ≡ view_of q = (idle_view q w two).0 in
-      let now : compared_view (joined_view (view_of p) (view_of q)) ≡ view_or_spent views = sym (ap view_or_spent is ∙ (ap (λ h. h.0) told.0 ∙ ap compared_view (both ∙ λ i. joined_view (this i) (that i)))) in
+      let now : compared_view (joined_view (view_of p) (view_of q)) ≡ view_or_spent views =
+      sym (ap view_or_spent is ∙ (ap (λ h. h.0) told.0 ∙ ap compared_view (both ∙ λ i. joined_view (this i) (that i)))) in
       let known = subst (λ (u : View I F). AllKnown u.seen u.joined) (both ∙ λ i. joined_view (this i) (that i)) told.1 in
       let apart = subst (λ (u : View I F). (x : ℕ) → count_of x u.drawn ≤ 1) (both ∙ λ i. joined_view (this i) (that i)) told.3 in
       let same = subst (λ (u : View I F). AllFixed u.fixed u.joined) (both ∙ λ i. joined_view (this i) (that i)) told.5 in
       record {
         agreed = sym same.1.0;
-        mine_of_both = subst (λ (u : View I F). Interleaves (mine p) (mine q) (entries_with u.drawn u.seen)) now (joined_views (view_of p) (view_of q) known apart);
+        mine_of_both =
+            subst (λ (u : View I F). Interleaves (mine p) (mine q) (entries_with u.drawn u.seen)) now (joined_views (view_of p) (view_of q) known apart);
         apart = subst (λ (u : View I F). (x : ℕ) → count_of x u.drawn ≤ 1) now apart;
       }

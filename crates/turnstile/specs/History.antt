@@ -1,5 +1,7 @@
--- A history: pairs of a ticket and an item, in order. Ticket 0 stands for what was there at the start.
-use Rattle.std.specs.Prelude.{◌≡◌, ◌⊎◌, ℕ, ◌<◌, ◌≤◌, ◌==◌, leb, cond, not, List, [], ◌∷◌, ◌++◌, length, filter, count_by, All}
+-- A history: pairs of a ticket and an item, in order. Ticket 0 stands for what was there at the
+-- start.
+use Rattle.std.specs.Prelude.{◌≡◌, ◌⊎◌, ℕ, ◌<◌, ◌≤◌, ◌==◌, leb, cond, not, List, [], ◌∷◌, ◌++◌}
+use Rattle.std.specs.Prelude.{length, filter, count_by, All}
 
 -- how often the number x stands in the list
 abbrev pub count_of : ℕ → List ℕ → ℕ
@@ -43,11 +45,13 @@ module _ {I : Type 0} where
   -- the tickets other than 0 rise strictly, above `low` and below `high`
   abbrev pub IsRising : ℕ → ℕ → Entries I → Type 0
   IsRising low high [] = Unit {0}
-  IsRising low high (e ∷ es) = ((e.0 ≡ 0) × IsRising low high es) ⊎ ((low < e.0) × (e.0 < high) × IsRising e.0 high es)
+  IsRising low high (e ∷ es) =
+      ((e.0 ≡ 0) × IsRising low high es) ⊎ ((low < e.0) × (e.0 < high) × IsRising e.0 high es)
 
   -- the same entries, or these and one more with the ticket
   abbrev pub AddsAtMostOne : ℕ → Entries I → Entries I → Type 0
-  AddsAtMostOne ticket before after = (after ≡ before) ⊎ ((x : I) × (after ≡ before ++ (ticket, x) ∷ []))
+  AddsAtMostOne ticket before after =
+      (after ≡ before) ⊎ ((x : I) × (after ≡ before ++ (ticket, x) ∷ []))
 
   -- the second pair of lists differs as the first does: not at all, or by one more pair at the end
   pub record AddsAlike (before after before' after' : Entries I) : Type 0 where
@@ -57,4 +61,5 @@ module _ {I : Type 0} where
   -- the third list is the first and the second, put together with each in its order
   abbrev pub Interleaves : Entries I → Entries I → Entries I → Type 0
   Interleaves xs ys [] = (xs ≡ []) × (ys ≡ [])
-  Interleaves xs ys (z ∷ zs) = ((rest : Entries I) × (xs ≡ z ∷ rest) × Interleaves rest ys zs) ⊎ ((rest : Entries I) × (ys ≡ z ∷ rest) × Interleaves xs rest zs)
+  Interleaves xs ys (z ∷ zs) = ((rest : Entries I) × (xs ≡ z ∷ rest) × Interleaves rest ys zs)
+      ⊎ ((rest : Entries I) × (ys ≡ z ∷ rest) × Interleaves xs rest zs)

@@ -1,10 +1,12 @@
 -- What a pass knows, and how the steps change it.
-use Rattle.std.specs.Prelude.{◌≡◌, ℕ, ◌+◌, ◌-◌, ◌*◌, ◌^◌, ltb, ◌&&◌, Bool, true, false, List, [], ◌∷◌, ◌++◌, Option, Some, None}
+use Rattle.std.specs.Prelude.{◌≡◌, ℕ, ◌+◌, ◌-◌, ◌*◌, ◌^◌, ltb, ◌&&◌, Bool, true, false, List, []}
+use Rattle.std.specs.Prelude.{◌∷◌, ◌++◌, Option, Some, None}
 use Rattle.turnstile.specs.declared.view.View.{View}
 use Rattle.turnstile.specs.declared.view.Known.{Known}
 use Rattle.turnstile.specs.declared.view.Stage.{Stage}
 use Rattle.turnstile.specs.declared.view.Stage.TheVariants.{Outside, Waiting, Inside}
-use Rattle.turnstile.specs.History.{Entries, count_of, OnceBetween, IsPrefix, IsRising, entries_with, longer}
+use Rattle.turnstile.specs.History.{Entries, count_of, OnceBetween, IsPrefix, IsRising}
+use Rattle.turnstile.specs.History.{entries_with, longer}
 
 -- the tickets that a pass at this stage holds, one at most
 abbrev pub tickets_at : Stage → List ℕ
@@ -22,7 +24,9 @@ module _ {I F : Type 0} where
   -- each of these lists begins the entries, and has all their pairs with its tickets
   abbrev pub AllKnown : Entries I → List (Known I F) → Type 0
   AllKnown entries [] = Unit {0}
-  AllKnown entries (k ∷ ks) = (IsPrefix k.seen entries × (entries_with k.drawn entries ≡ entries_with k.drawn k.seen)) × AllKnown entries ks
+  AllKnown entries (k ∷ ks) =
+      (IsPrefix k.seen entries × (entries_with k.drawn entries ≡ entries_with k.drawn k.seen))
+      × AllKnown entries ks
 
   -- each had this as what no turn changes
   abbrev pub AllFixed : Option F → List (Known I F) → Type 0
@@ -35,15 +39,41 @@ module _ {I F : Type 0} where
 
   -- what is left of a view that was joined to another
   abbrev pub spent_view : View I F
-  spent_view = record { stage = Outside; seen = []; drawn = []; fixed = None; shares = 0; turns = 0; joined = [] }
+  spent_view = record {
+    stage = Outside;
+    seen = [];
+    drawn = [];
+    fixed = None;
+    shares = 0;
+    turns =
+        0;
+    joined = [];
+  }
 
   -- the first view: all shares and all turns
   abbrev pub opening_view : Entries I → F → View I F
-  opening_view entries fixed = record { stage = Outside; seen = entries; drawn = []; fixed = Some fixed; shares = 65; turns = 65 * 2 ^ 57; joined = [] }
+  opening_view entries fixed =
+      record {
+        stage = Outside;
+        seen = entries;
+        drawn = [];
+        fixed = Some fixed;
+        shares = 65;
+        turns =
+            65 * 2 ^ 57;
+        joined = [];
+      }
 
   -- a turn fewer, and the ticket drawn
   abbrev pub waiting_view : View I F → ℕ → View I F
-  waiting_view v ticket = record v { stage = Waiting ticket; drawn = v.drawn ++ ticket ∷ []; turns = v.turns - 1; joined = [] }
+  waiting_view v ticket =
+      record v {
+        stage = Waiting ticket;
+        drawn = v.drawn ++ ticket ∷ [];
+        turns =
+            v.turns - 1;
+        joined = [];
+      }
 
   -- the ticket is served, and all entries were seen
   abbrev pub inside_view : View I F → ℕ → Entries I → View I F
@@ -63,11 +93,29 @@ module _ {I F : Type 0} where
 
   -- a new view with the share and the turns, which has seen as much
   abbrev pub split_off_view : View I F → View I F
-  split_off_view v = record { stage = Outside; seen = v.seen; drawn = []; fixed = v.fixed; shares = 1; turns = 2 ^ 57; joined = [] }
+  split_off_view v =
+      record {
+        stage = Outside;
+        seen = v.seen;
+        drawn = [];
+        fixed = v.fixed;
+        shares = 1;
+        turns =
+            2 ^ 57;
+        joined = [];
+      }
 
   -- both shares, turns and tickets, and the longer list
   abbrev pub view_of_both : View I F → View I F → View I F
-  view_of_both v w = record v { seen = longer v.seen w.seen; drawn = v.drawn ++ w.drawn; shares = v.shares + w.shares; turns = v.turns + w.turns; joined = [] }
+  view_of_both v w =
+      record v {
+        seen = longer v.seen w.seen;
+        drawn = v.drawn ++ w.drawn;
+        shares =
+            v.shares + w.shares;
+        turns = v.turns + w.turns;
+        joined = [];
+      }
 
   -- what a view has seen, the tickets that it drew, and what no turn changes
   abbrev pub known_by : View I F → Known I F
@@ -83,7 +131,8 @@ module _ {I F : Type 0} where
 
   -- the view drew every ticket from 1 on, each once, up to that of the latest entry and beyond
   abbrev pub DrewEachOnce : View I F → Type 0
-  DrewEachOnce v = (next : ℕ) × OnceBetween 1 next (λ x. count_of x v.drawn) × IsRising 0 next v.seen
+  DrewEachOnce v =
+      (next : ℕ) × OnceBetween 1 next (λ x. count_of x v.drawn) × IsRising 0 next v.seen
 
   -- the shares of the view, or none where it is away
   abbrev pub shares_in : List (View I F) → ℕ

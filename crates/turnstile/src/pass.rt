@@ -5,8 +5,8 @@ ghost use Rattle.turnstile.specs.Views.{is_idle, shares_in};
 use crate::view::View;
 use atomic_table::Badge;
 
-/// What a thread takes its turns with. All passes of a turnstile have 65 shares together, and a pass can be handed to
-/// another thread. In a turn its view is in the turn.
+/// What a thread takes its turns with. All passes of a turnstile have 65 shares together, and a
+/// pass can be handed to another thread. In a turn its view is in the turn.
 #[derive(Drop)]
 pub struct Pass<I, F> {
     pub(crate) badge: Badge<View<I, F>>,

@@ -11,7 +11,8 @@ pub trait Recorded {
 
     type Fixed;
 
-    // The entries, each with the ticket of the turn that added it, or 0 where it was there at the start.
+    // The entries, each with the ticket of the turn that added it, or 0 where it was there at the
+    // start.
     ghost entries: { Self → List (ℕ × Self.Item) };
     // What no turn changes.
     ghost fixed: { Self → Self.Fixed };
@@ -24,7 +25,8 @@ impl<V: Recorded> TableRule<Option<V>, View<V::Item, V::Fixed>, Snapshot<V>> for
     ghost use Rattle.turnstile.specs.Rule.{TurnstileRule};
     ghost use Rattle.turnstile.specs.Views.{opening_view};
 
-    ghost holds = { λ key. TurnstileRule V.entries V.fixed (V.fixed key.value) (V.entries key.value) };
+    ghost holds = { λ key.
+        TurnstileRule V.entries V.fixed (V.fixed key.value) (V.entries key.value) };
 
     ghost first = { λ key. opening_view (V.entries key.value) (V.fixed key.value) };
 }

@@ -12,8 +12,8 @@ use std::snapshot::Snapshot;
 use std::sync::Wait;
 use std::{mem, thread};
 
-/// A value that moves from turn to turn. Word 0 is the ticket to be drawn next, word 1 the ticket that is served, and
-/// slot 0 has the value.
+/// A value that moves from turn to turn. Word 0 is the ticket to be drawn next, word 1 the ticket
+/// that is served, and slot 0 has the value.
 #[derive(Drop)]
 pub struct Turnstile<V: Recorded> {
     table: Table<Option<V>, View<V::Item, V::Fixed>, Snapshot<V>, Ticketed, Global>,
@@ -45,17 +45,22 @@ impl<V: Recorded> Turn<V> {
 impl<V: Recorded> Turnstile<V> {
     ghost use Rattle.std.specs.Prelude.{◌⊎◌, ◌++◌, ℕ, ◌^◌, Some, IfOk, IfErr, OnOk};
     ghost use Rattle.turnstile.specs.declared.pass.PassError.TheVariants.{TooMany};
-    ghost use Rattle.turnstile.specs.History.{IsPrefix, AddsAtMostOne, AddsAlike, IsOpening, Interleaves, IsRising, entries_with, turn_entries};
+    ghost use Rattle.turnstile.specs.History.{IsPrefix, AddsAtMostOne, AddsAlike, IsOpening};
+    ghost use Rattle.turnstile.specs.History.{Interleaves, IsRising, entries_with, turn_entries};
     ghost use Rattle.turnstile.specs.Rule.{IsRuled, IsRuledSince};
-    ghost use Rattle.turnstile.specs.Views.{opening_view, turn_view, outside_view, remaining_view, split_off_view, view_of_both, DrewEachOnce};
-    ghost use Rattle.turnstile.specs.Passes.{IsReady, IsAway, IsOf, first_value, IsAt, view_of, seen, tickets, mine, fixed, shares, turns, ticket_of, view_in, entries_before, mine_before};
+    ghost use Rattle.turnstile.specs.Views.{opening_view, turn_view, outside_view, remaining_view};
+    ghost use Rattle.turnstile.specs.Views.{split_off_view, view_of_both, DrewEachOnce};
+    ghost use Rattle.turnstile.specs.Passes.{IsReady, IsAway, IsOf, first_value, IsAt, view_of};
+    ghost use Rattle.turnstile.specs.Passes.{seen, tickets, mine, fixed, shares, turns, ticket_of};
+    ghost use Rattle.turnstile.specs.Passes.{view_in, entries_before, mine_before};
 
-    /// Puts a value under a turnstile. The pass has all 65 shares and 65 * 2^57 turns. For want of memory the value
-    /// comes back.
+    /// Puts a value under a turnstile. The pass has all 65 shares and 65 * 2^57 turns. For want of
+    /// memory the value comes back.
     pub fn new(alloc: Global, value: V) -> Result<(Turnstile<V>, Pass<V::Item, V::Fixed>), V>
         requires { IsOpening (V.entries value) }
         ensures place { IfOk result (λ t. IsOf t.1 t.0 × IsReady t.1) }
-        ensures view { IfOk result (λ t. view_of t.1 ≡ opening_view (V.entries value) (V.fixed value)) }
+        ensures view { IfOk result
+            (λ t. view_of t.1 ≡ opening_view (V.entries value) (V.fixed value)) }
         ensures mine { IfOk result (λ t. mine t.1 ≡ []) }
         ensures first { IfOk result (λ t. first_value t.0 ≡ value) }
         ensures err { IfErr result (λ v. v ≡ value) }
@@ -118,8 +123,8 @@ impl<V: Recorded> Turnstile<V> {
         })
     }
 
-    /// Joins another pass to this one: the shares, the turns and the tickets add up, and the longer of both lists has
-    /// been seen.
+    /// Joins another pass to this one: the shares, the turns and the tickets add up, and the longer
+    /// of both lists has been seen.
     pub fn meet(&self, pass: &mut Pass<V::Item, V::Fixed>, other: Pass<V::Item, V::Fixed>)
         requires this { IsOf pass.old self.now × IsReady pass.old }
         requires that { IsOf other self.now × IsReady other }
@@ -133,7 +138,8 @@ impl<V: Recorded> Turnstile<V> {
         ensures that { IsPrefix (seen other) (seen pass.new)
             × (entries_with (tickets other) (seen pass.new) ≡ mine other) }
 
-        // The entries of both are put together in the order of their tickets, and no ticket was drawn twice.
+        // The entries of both are put together in the order of their tickets, and no ticket was
+        // drawn twice.
         ensures mine { Interleaves (mine pass.old) (mine other) (mine pass.new) }
         ensures order { (n : ℕ) × IsRising 0 n (seen pass.new) }
         ensures apart { (x : ℕ) → count_of x (tickets pass.new) ≤ 1 }
@@ -161,13 +167,15 @@ impl<V: Recorded> Turnstile<V> {
         ensures entries { V.entries result ≡ seen pass }
         ensures mine { turn_entries (V.entries result) ≡ mine pass }
 
-        // They are those that the value was put under the turnstile with, and behind them the pass's own.
+        // They are those that the value was put under the turnstile with, and behind them the
+        // pass's own.
         ensures added { V.entries result ≡ V.entries (first_value self) ++ mine pass }
         ensures drew { DrewEachOnce (view_of pass) }
         ensures fixed { fixed pass ≡ Some (V.fixed result) }
 
         // The table is closed in a state that meets the rule and has the pass's view.
-        ensures rule { IsRuled V.entries V.fixed (V.fixed (first_value self)) (V.entries (first_value self))
+        ensures rule { IsRuled V.entries V.fixed (V.fixed (first_value self))
+            (V.entries (first_value self))
             (view_of pass) }
     {
         let Pass { badge, shares: _ } = pass;
@@ -178,22 +186,25 @@ impl<V: Recorded> Turnstile<V> {
         value.unwrap()
     }
 
-    /// Draws a ticket, waits until it is served, and takes the value. It uses one of the pass's turns.
+    /// Draws a ticket, waits until it is served, and takes the value. It uses one of the pass's
+    /// turns.
     pub fn enter<R: Wait>(&self, rt: &R, pass: &mut Pass<V::Item, V::Fixed>) -> Turn<V>
         requires place { IsOf pass.old self.now × IsReady pass.old }
         requires turns { 0 < turns pass.old }
         ensures place { IsAt result self.now × IsAway pass.new }
-        ensures view { view_in result ≡ turn_view (view_of pass.old) (ticket_of result) (V.entries result.value) }
+        ensures view { view_in result
+            ≡ turn_view (view_of pass.old) (ticket_of result) (V.entries result.value) }
         ensures fixed { fixed pass.old ≡ Some (V.fixed result.value) }
 
-        // What the pass had seen is a prefix, in which all entries with its tickets were, and it is all where the pass
-        // has all shares.
+        // What the pass had seen is a prefix, in which all entries with its tickets were, and it is
+        // all where the pass has all shares.
         ensures later { IsPrefix (seen pass.old) (V.entries result.value) }
         ensures whole { shares pass.old ≡ 65 → V.entries result.value ≡ seen pass.old }
         ensures own { entries_with (tickets pass.old) (V.entries result.value) ≡ mine pass.old }
         ensures mine { mine_before result ≡ mine pass.old }
 
-        // The tickets of the entries rise and are below this one, and so are all that the pass drew before.
+        // The tickets of the entries rise and are below this one, and so are all that the pass drew
+        // before.
         ensures order { IsRising 0 (ticket_of result) (V.entries result.value) }
         ensures fresh { (x : ℕ) → ticket_of result ≤ x → count_of x (tickets pass.old) ≡ 0 }
 
@@ -219,15 +230,18 @@ impl<V: Recorded> Turnstile<V> {
         unreachable!()
     }
 
-    /// Gives the value back, and serves the next ticket. The pass has then seen the value's entries.
+    /// Gives the value back, and serves the next ticket. The pass has then seen the value's
+    /// entries.
     pub fn leave(&self, pass: &mut Pass<V::Item, V::Fixed>, turn: Turn<V>)
         requires place { IsAt turn self.now × IsAway pass.old }
         requires fixed { (view_in turn).fixed ≡ Some (V.fixed turn.value) }
-        requires grows { AddsAtMostOne (ticket_of turn) (entries_before turn) (V.entries turn.value) }
+        requires grows { AddsAtMostOne (ticket_of turn) (entries_before turn)
+            (V.entries turn.value) }
         ensures place { IsOf pass.new self.now × IsReady pass.new }
         ensures view { view_of pass.new ≡ outside_view (view_in turn) (V.entries turn.value) }
         // What the turn added is the pass's own.
-        ensures mine { AddsAlike (entries_before turn) (V.entries turn.value) (mine_before turn) (mine pass.new) }
+        ensures mine { AddsAlike (entries_before turn) (V.entries turn.value) (mine_before turn)
+            (mine pass.new) }
         // The state in which the value was given back meets the rule and has the pass's view.
         ensures rule { IsRuledSince V.entries V.fixed (V.fixed turn.value) (view_of pass.new) }
     {

@@ -1,7 +1,8 @@
 //! What a pass knows. The proofs speak of these types, and no value of them is made.
 use std::collections::LinkedList;
 
-/// Where a pass stands: it holds no ticket, it waits until its ticket is served, or it has the value.
+/// Where a pass stands: it holds no ticket, it waits until its ticket is served, or it has the
+/// value.
 pub enum Stage {
     Outside,
     Waiting(u64),

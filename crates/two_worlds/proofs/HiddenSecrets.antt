@@ -15,7 +15,8 @@ use Rattle.cqe_base.specs.Entailment.{entails, IsCountermodel}
 use Rattle.cqe_base.specs.History.{UserProfile, History, log, is_user_of}
 use Rattle.cqe_base.specs.Censor.{guarded, guarded_by}
 use Rattle.cqe_base.specs.Hiding.{IsAlike, AdmittedAreAdmissible}
-use Rattle.cqe_base.specs.OtherWorlds.{secret_at, guard_by, guard_at, IsLegalSomewhere, LogsKeepSecrets, CountermodelsAreAlike, LegalEntriesReplyAlike, FalseDisjunctions}
+use Rattle.cqe_base.specs.OtherWorlds.{secret_at, guard_by, guard_at, IsLegalSomewhere, LogsKeepSecrets, CountermodelsAreAlike, LegalEntriesReplyAlike}
+use Rattle.cqe_base.specs.OtherWorlds.{FalseDisjunctions}
 use Rattle.cqe_base.specs.Censor.{admission_budget}
 use Rattle.entailment.specs.Verdicts.{verdict_of_probe}
 use Rattle.two_worlds.specs.Others.{HidesSecret}
@@ -51,27 +52,33 @@ module _ (schema : DatabaseSchema) (user : UserProfile) (entries : History) (sec
 
   module _ (other : FactSet) (disjunctions : FalseDisjunctions) where
     -- where it is false the secret is
-    secret_is_false : (m : Method) → true_in schema other (guard_by m user.secrets (secret_at user secret)) ≡ false → true_in schema other (secret_at user secret) ≡ false
+    secret_is_false : (m : Method) → true_in schema other (guard_by m user.secrets (secret_at user secret)) ≡ false
+        → true_in schema other (secret_at user secret) ≡ false
     secret_is_false Lying e = disjunctions schema other user.secrets e (secret_at user secret) is_secret
     secret_is_false Refusal e = e
     secret_is_false Combined e = e
 
-    pub hidden : CountermodelsAreAlike → LegalEntriesReplyAlike → IsLegalSomewhere schema user entries → IsCountermodel schema (log user entries) (guard_at user secret, true) other
+    pub hidden : CountermodelsAreAlike → LegalEntriesReplyAlike → IsLegalSomewhere schema user entries
+        → IsCountermodel schema (log user entries) (guard_at user secret, true) other
         → HidesSecret schema user entries secret other
     hidden alike replies somewhere is =
-        let same : IsAlike schema user entries somewhere.world other = alike schema somewhere.world user entries (guard_at user secret) other somewhere.admits somewhere.legal is_guarded is in
+        let same : IsAlike schema user entries somewhere.world other =
+        alike schema somewhere.world user entries (guard_at user secret) other somewhere.admits somewhere.legal is_guarded is in
         record {
           of_schema = same.of_schema;
           knowledge_true = same.knowledge_true;
           secret_false = secret_is_false user.method is.goal_false;
-          all_false = λ lies. disjunctions schema other user.secrets (subst (λ m. true_in schema other (guard_by m user.secrets (secret_at user secret)) ≡ false) lies is.goal_false);
+          all_false = λ lies.
+              disjunctions schema other user.secrets
+              (subst (λ m. true_in schema other (guard_by m user.secrets (secret_at user secret)) ≡ false) lies is.goal_false);
           admits = same.admits;
           legal = same.legal;
           same_replies = λ world admits. replies schema user entries world other (same.admits ∙ sym admits) same.legal;
         }
 
 -- what holds of each world that is found
-pub of_found : {E : Type 0} (P Q : FactSet → Type 0) → ((world : FactSet) → P world → Q world) → (result : Result (Option FactSet) E) → IfOk result (λ found. IfSome found P) → IfOk result (λ found. IfSome found Q)
+pub of_found : {E : Type 0} (P Q : FactSet → Type 0) → ((world : FactSet) → P world → Q world) → (result : Result (Option FactSet) E)
+    → IfOk result (λ found. IfSome found P) → IfOk result (λ found. IfSome found Q)
 of_found P Q more (Ok (Some world)) holds = more world holds
 of_found P Q more (Ok None) holds = holds
 of_found P Q more (Err e) holds = holds

@@ -30,5 +30,6 @@ module _ (entries : List Entry) (i : ℕ) (entry : Entry) (is : entry ≡ get_or
       (drop-cons (history_of entries) i (answered_query_of entry) within ∙ (λ k. at k ∷ drop (sym (add-one i) k) (history_of entries)))
 
   -- the sizes that this entry keeps
-  pub sizes_at : (schema : DatabaseSchema) (user : UserProfile) → KeepsSizes schema user (history_of entries) → KeepsSizesAt schema user (take i (history_of entries)) (answered_query_of entry)
+  pub sizes_at : (schema : DatabaseSchema) (user : UserProfile) → KeepsSizes schema user (history_of entries)
+      → KeepsSizesAt schema user (take i (history_of entries)) (answered_query_of entry)
   sizes_at schema user sizes = sizes (take i (history_of entries)) (answered_query_of entry) (drop (i + 1) (history_of entries)) around

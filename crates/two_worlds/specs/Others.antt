@@ -11,13 +11,17 @@ use Rattle.cqe_base.specs.Censor.{IsLegal, admitted}
 use Rattle.cqe_base.specs.Hiding.{RepliesAlike}
 use Rattle.cqe_base.specs.OtherWorlds.{secret_at}
 
--- the other world is one of the schema; what the user knows is true there and the secret false, for lying every secret; it admits him, his entries are legal there,
--- and each run that ends with them in a world that admits him gets the same replies there
-pub record HidesSecret (schema : DatabaseSchema) (user : UserProfile) (entries : History) (secret : ℕ) (other : FactSet) : Type 0 where
+-- the other world is one of the schema; what the user knows is true there and the secret false, for
+-- lying every secret; it admits him, his entries are legal there, and each run that ends with them
+-- in a world that admits him gets the same replies there
+pub record HidesSecret (schema : DatabaseSchema) (user : UserProfile) (entries : History)
+    (secret : ℕ) (other : FactSet) : Type 0 where
   pub of_schema : IsWorldOf schema other
   pub knowledge_true : all_hold_in schema other (known user) ≡ true
   pub secret_false : true_in schema other (secret_at user secret) ≡ false
-  pub all_false : user.method ≡ Lying → (s : Formula) → Contains user.secrets s → true_in schema other s ≡ false
+  pub all_false : user.method ≡ Lying → (s : Formula) → Contains user.secrets s
+      → true_in schema other s ≡ false
   pub admits : admitted schema other user ≡ true
   pub legal : IsLegal schema other user entries
-  pub same_replies : (world : FactSet) → admitted schema world user ≡ true → RepliesAlike schema user entries world other
+  pub same_replies : (world : FactSet) → admitted schema world user ≡ true
+      → RepliesAlike schema user entries world other

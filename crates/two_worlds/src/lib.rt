@@ -1,7 +1,9 @@
-//! Two worlds: for each secret of an admitted user another world, in which it is false, gives him the same replies.
+//! Two worlds: for each secret of an admitted user another world, in which it is false, gives him
+//! the same replies.
 //!
-//! `law_hides` is the law over the definitions: a legal history of an admitted user hides his secrets. `other_world` gives
-//! such a world as data: what the user knows is true in it, the secret false, it admits him, and his entries are legal there.
+//! `law_hides` is the law over the definitions: a legal history of an admitted user hides his
+//! secrets. `other_world` gives such a world as data: what the user knows is true in it, the secret
+//! false, it admits him, and his entries are legal there.
 //! For lying one world serves for all secrets. Read `worlds`.
 #![tactic(auto)]
 

@@ -1,6 +1,7 @@
 //! Other worlds that hide a secret.
 
-ghost use Rattle.std.specs.Prelude.{◌≡◌, ◌<◌, ◌≤◌, ◌↔◌, ◌+◌, ◌++◌, true, false, map, IfOk, OnOk, IfSome, IsNone, vec_len};
+ghost use Rattle.std.specs.Prelude.{◌≡◌, ◌<◌, ◌≤◌, ◌↔◌, ◌+◌, ◌++◌, true, false, map, IfOk, OnOk};
+ghost use Rattle.std.specs.Prelude.{IfSome, IsNone, vec_len};
 ghost use Rattle.cqe_base.specs.Formula.{formula_of, nodes, is_sentence_of};
 ghost use Rattle.cqe_base.specs.Entailment.{entails, IsCountermodel};
 ghost use Rattle.cqe_base.specs.Outcome.{Spent, outcome};
@@ -24,7 +25,8 @@ use cqe_base::world::World;
 use entailment::{Probe, Verdict, View, test};
 use std::alloc::{AllocError, Global};
 
-/// Confidentiality: a legal history of an admitted user of the schema hides his secrets. It computes nothing.
+/// Confidentiality: a legal history of an admitted user of the schema hides his secrets. It
+/// computes nothing.
 pub fn law_hides()
     ensures { LegalHistoriesHide }
 {
@@ -44,12 +46,17 @@ pub fn other_world(
     secret: u32,
 ) -> Result<Option<World>, AllocError>
     requires limits { KeepsLimits schema.now (profile_of user.now) }
-    requires legal { IsLegalSomewhere schema.now (profile_of user.now) (map answered_query_of entries.now) }
-    requires sizes { KeepsSizes schema.now (profile_of user.now) (map answered_query_of entries.now) }
+    requires legal { IsLegalSomewhere schema.now (profile_of user.now)
+        (map answered_query_of entries.now) }
+    requires sizes { KeepsSizes schema.now (profile_of user.now)
+        (map answered_query_of entries.now) }
     requires secret { secret < vec_len user.now.secrets }
-    ensures hides { IfOk result (λ found. IfSome found (HidesSecret schema.now (profile_of user.now) (map answered_query_of entries.now) secret)) }
+    ensures hides { IfOk result (λ found.
+        IfSome found (HidesSecret schema.now (profile_of user.now)
+        (map answered_query_of entries.now) secret)) }
     ensures spent { IfOk result (λ found. IsNone found
-        ↔ (outcome schema.now (log (profile_of user.now) (map answered_query_of entries.now)) (guard_at (profile_of user.now) secret, true) admission_budget ≡ Spent)) }
+        ↔ (outcome schema.now (log (profile_of user.now) (map answered_query_of entries.now))
+        (guard_at (profile_of user.now) secret, true) admission_budget ≡ Spent)) }
     ensures world { IfOk result (λ found. found ≡ other_world_of schema.now (profile_of user.now)
         (map answered_query_of entries.now) secret) }
     ensures one_for_lies { IfOk result (IsOneForLies schema.now (profile_of user.now)
@@ -72,9 +79,11 @@ fn told_view<'s>(
     entries: &[Entry],
 ) -> Result<View<'s>, AllocError>
     requires limits { KeepsLimits schema.now (profile_of user.now) }
-    requires sizes { KeepsSizes schema.now (profile_of user.now) (map answered_query_of entries.now) }
+    requires sizes { KeepsSizes schema.now (profile_of user.now)
+        (map answered_query_of entries.now) }
     ensures schema { IfOk result (λ view. schema_of view ≡ schema.now) }
-    ensures log { IfOk result (λ view. log_of view ≡ log (profile_of user.now) (map answered_query_of entries.now)) }
+    ensures log { IfOk result (λ view. log_of view
+        ≡ log (profile_of user.now) (map answered_query_of entries.now)) }
     ensures nodes { IfOk result (λ view. log_nodes (schema_of view) (log_of view) ≤ 60000) }
 {
     law_limits();
@@ -90,9 +99,11 @@ fn told_view<'s>(
 fn tell(alloc: Global, view: &mut View<'_>, entry: &Entry) -> Result<(), AllocError>
     requires sentence { is_sentence_of (schema_of view.old) (formula_of entry.now.query) ≡ true }
     requires query { nodes (schema_of view.old) (formula_of entry.now.query) ≤ 20000 }
-    requires room { log_nodes (schema_of view.old) (log_of view.old) + (1 + nodes (schema_of view.old) (formula_of entry.now.query)) ≤ 60000 }
+    requires room { log_nodes (schema_of view.old) (log_of view.old)
+        + (1 + nodes (schema_of view.old) (formula_of entry.now.query)) ≤ 60000 }
     ensures schema { schema_of view.new ≡ schema_of view.old }
-    ensures log { OnOk result (log_of view.new ≡ log_of view.old ++ told_by entry.now.mark (formula_of entry.now.query)) }
+    ensures log { OnOk result (log_of view.new
+        ≡ log_of view.old ++ told_by entry.now.mark (formula_of entry.now.query)) }
     ensures nodes { OnOk result (log_nodes (schema_of view.new) (log_of view.new) ≤ 60000) }
 {
     match entry.mark {
@@ -102,7 +113,8 @@ fn tell(alloc: Global, view: &mut View<'_>, entry: &Entry) -> Result<(), AllocEr
     }
 }
 
-/// What is guarded in the place of a secret: for lying the disjunction of the secrets, and else the secret.
+/// What is guarded in the place of a secret: for lying the disjunction of the secrets, and else the
+/// secret.
 fn guard(alloc: Global, user: &User, secret: u32) -> Result<Sentence, AllocError>
     requires { secret < vec_len user.now.secrets }
     ensures { IfOk result (λ made. formula_of made ≡ guard_at (profile_of user.now) secret) }
@@ -122,10 +134,14 @@ fn countermodel(
     requires sentence { is_sentence_of (schema_of view.old) (formula_of goal.now) ≡ true }
     requires goal_nodes { nodes (schema_of view.old) (formula_of goal.now) ≤ 40000 }
     requires log_nodes { log_nodes (schema_of view.old) (log_of view.old) ≤ 60000 }
-    requires unknown { entails (schema_of view.old) (log_of view.old) (formula_of goal.now, true) ≡ false }
-    ensures open { IfOk result (λ found. IfSome found (IsCountermodel (schema_of view.old) (log_of view.old) (formula_of goal.now, true))) }
+    requires unknown { entails (schema_of view.old) (log_of view.old) (formula_of goal.now, true)
+        ≡ false }
+    ensures open { IfOk result (λ found.
+        IfSome found (IsCountermodel (schema_of view.old) (log_of view.old)
+        (formula_of goal.now, true))) }
     ensures spent { IfOk result (λ found. IsNone found
-        ↔ (outcome (schema_of view.old) (log_of view.old) (formula_of goal.now, true) admission_budget ≡ Spent)) }
+        ↔ (outcome (schema_of view.old) (log_of view.old)
+        (formula_of goal.now, true) admission_budget ≡ Spent)) }
     ensures world { IfOk result (λ found. found ≡ world_in (verdict_of_probe (schema_of view.old)
         (log_of view.old) (formula_of goal.now, true) admission_budget)) }
 {

@@ -9,14 +9,16 @@ use Rattle.cqe_base.specs.Formula.{Formula}
 use Rattle.cqe_base.specs.Reading.{Refusal, reading}
 use Rattle.cqe_base.specs.History.{UserProfile, AnsweredQuery, History}
 use Rattle.cqe_base.specs.Run
-use Rattle.cqe_base.specs.Run.{UserState, standing_open, standing_closed, standing_sealed, want, kept, failed, ask, stop, after_event, after_failure, reply_at, entry_at, entry_added, marked, reply_by, user_closed, desk_sealed, desk_broken, no_memory, entries_found}
+use Rattle.cqe_base.specs.Run.{UserState, standing_open, standing_closed, standing_sealed, want, kept, failed, ask, stop, after_event, after_failure, reply_at}
+use Rattle.cqe_base.specs.Run.{entry_at, entry_added, marked, reply_by, user_closed, desk_sealed, desk_broken, no_memory, entries_found}
 use Rattle.outside.specs.Faults.{Rose}
 use Rattle.user_log.specs.Asked.{IsAnswer}
 use Rattle.user_desk.specs.Causes.{Opens}
 use Rattle.user_desk.specs.Lives.{Holds, Settles, AddsNone}
 
 -- only a mark adds an entry
-adds_none : (text : Text) (read : Result Formula Refusal) → (entry_added text read user_closed ≡ None) × (entry_added text read desk_sealed ≡ None) × (entry_added text read desk_broken ≡ None)
+adds_none : (text : Text) (read : Result Formula Refusal) → (entry_added text read user_closed ≡ None) × (entry_added text read desk_sealed ≡ None)
+    × (entry_added text read desk_broken ≡ None)
 adds_none text (Ok query) = (refl, refl, refl)
 adds_none text (Err why) = (refl, refl, refl)
 
@@ -26,11 +28,13 @@ module _ (schema : DatabaseSchema) (world : FactSet) (user : UserProfile) where
   code_leaves state text none =
       ap (λ (h : History). record state { entries = h }) (ap (λ o. state.entries ++ option_to_list o) none ∙ append-nil state.entries)
 
-  entry_of_code : (state : UserState) (text : Text) (code : Run.Reply) → reply_at schema world user state text ≡ code → entry_added text (reading schema text) code ≡ None → entry_at schema world user state text ≡ None
+  entry_of_code : (state : UserState) (text : Text) (code : Run.Reply) → reply_at schema world user state text ≡ code
+      → entry_added text (reading schema text) code ≡ None → entry_at schema world user state text ≡ None
   entry_of_code state text code is none = ap (λ r. entry_added text (reading schema text) r) is ∙ none
 
   -- a code answers
-  pub code_settles : (state : UserState) (text : Text) (code : Run.Reply) (before now : ℕ) → reply_at schema world user state text ≡ code → entry_added text (reading schema text) code ≡ None
+  pub code_settles : (state : UserState) (text : Text) (code : Run.Reply) (before now : ℕ) → reply_at schema world user state text ≡ code
+      → entry_added text (reading schema text) code ≡ None
       → Settles schema world user (λ s. s ≡ state) state text code before now
   code_settles state text code before now is none = record {
     ending = kept;
@@ -44,8 +48,14 @@ module _ (schema : DatabaseSchema) (world : FactSet) (user : UserProfile) where
   want_settles state text before now = record { ending = want; after = refl; reply = refl; cause = λ e. absurd cc }
 
   -- the entry of a mark
-  pub entry_of_answer : (state : UserState) (text : Text) (query : Formula) (mark : Mark) → state.standing ≡ standing_open → state.broken ≡ false → IsAnswer schema world user state.entries text query mark
-      → (reply_at schema world user state text ≡ marked mark) × (entry_at schema world user state text ≡ Some (record { query = query; mark = mark; length = length text }))
+  pub entry_of_answer : (state : UserState) (text : Text) (query : Formula) (mark : Mark) → state.standing ≡ standing_open → state.broken ≡ false
+      → IsAnswer schema world user state.entries text query mark
+      → (reply_at schema world user state text ≡ marked mark) × (entry_at schema world user state text ≡ Some (record {
+        query =
+            query;
+        mark = mark;
+        length = length text;
+      }))
   entry_of_answer state text query mark is_open whole answer =
       let told : reply_at schema world user state text ≡ marked mark =
       ap (λ s. reply_by schema world user state.entries s state.broken text (reading schema text)) is_open
@@ -53,8 +63,10 @@ module _ (schema : DatabaseSchema) (world : FactSet) (user : UserProfile) where
       (told, ap (λ r. entry_added text (reading schema text) r) told ∙ ap (λ r. entry_added text r (marked mark)) answer.read)
 
   -- a mark answers, and adds its entry
-  pub mark_settles : (old new : UserState) (text : Text) (query : Formula) (mark : Mark) (before now : ℕ) → old.standing ≡ standing_open → old.broken ≡ false → IsAnswer schema world user old.entries text query mark
-      → new ≡ record old { entries = old.entries ++ record { query = query; mark = mark; length = length text } ∷ [] } → Settles schema world user (λ s. s ≡ new) old text (marked mark) before now
+  pub mark_settles : (old new : UserState) (text : Text) (query : Formula) (mark : Mark) (before now : ℕ) → old.standing ≡ standing_open → old.broken ≡ false
+      → IsAnswer schema world user old.entries text query mark
+      → new ≡ record old { entries = old.entries ++ record { query = query; mark = mark; length = length text } ∷ [] }
+      → Settles schema world user (λ s. s ≡ new) old text (marked mark) before now
   mark_settles old new text query mark before now is_open whole answer added =
       let found = entry_of_answer old text query mark is_open whole answer in
       record {
@@ -65,8 +77,10 @@ module _ (schema : DatabaseSchema) (world : FactSet) (user : UserProfile) where
       }
 
   -- an append fails, and its entry is in flight
-  pub failure_settles : (old new : UserState) (text : Text) (query : Formula) (mark : Mark) (before now : ℕ) → old.standing ≡ standing_open → old.broken ≡ false → IsAnswer schema world user old.entries text query mark
-      → Rose before now → new ≡ record old { broken = true; pending = Some (record { query = query; mark = mark; length = length text }) } → Settles schema world user (λ s. s ≡ new) old text desk_broken before now
+  pub failure_settles : (old new : UserState) (text : Text) (query : Formula) (mark : Mark) (before now : ℕ) → old.standing ≡ standing_open → old.broken ≡ false
+      → IsAnswer schema world user old.entries text query mark
+      → Rose before now → new ≡ record old { broken = true; pending = Some (record { query = query; mark = mark; length = length text }) }
+      → Settles schema world user (λ s. s ≡ new) old text desk_broken before now
   failure_settles old new text query mark before now is_open whole answer rose flies =
       let found = entry_of_answer old text query mark is_open whole answer in
       record {
@@ -77,7 +91,8 @@ module _ (schema : DatabaseSchema) (world : FactSet) (user : UserProfile) where
       }
 
   -- where the journal was refused each text has that code
-  pub sealed_settles : (state : UserState) (text : Text) (before now : ℕ) → state.standing ≡ standing_sealed → Settles schema world user (λ s. s.standing ≡ standing_sealed) state text desk_sealed before now
+  pub sealed_settles : (state : UserState) (text : Text) (before now : ℕ) → state.standing ≡ standing_sealed
+      → Settles schema world user (λ s. s.standing ≡ standing_sealed) state text desk_sealed before now
   sealed_settles state text before now is = record {
     ending = kept;
     after = is;
@@ -86,9 +101,11 @@ module _ (schema : DatabaseSchema) (world : FactSet) (user : UserProfile) where
   }
 
   -- a user who isn't admitted gets that code
-  pub closed_settles : (state : UserState) (text : Text) (before now : ℕ) → state.standing ≡ standing_closed → Settles schema world user (λ s. s ≡ state) state text user_closed before now
+  pub closed_settles : (state : UserState) (text : Text) (before now : ℕ) → state.standing ≡ standing_closed
+      → Settles schema world user (λ s. s ≡ state) state text user_closed before now
   closed_settles state text before now is =
-      code_settles state text user_closed before now (ap (λ s. reply_by schema world user state.entries s state.broken text (reading schema text)) is) (adds_none text (reading schema text)).0
+      code_settles state text user_closed before now (ap (λ s. reply_by schema world user state.entries s state.broken text (reading schema text)) is)
+      (adds_none text (reading schema text)).0
 
   broken_reply : (state : UserState) (text : Text) → state.standing ≡ standing_open → state.broken ≡ true → reply_at schema world user state text ≡ desk_broken
   broken_reply state text is_open broken =
@@ -96,26 +113,32 @@ module _ (schema : DatabaseSchema) (world : FactSet) (user : UserProfile) where
       ∙ ap (λ b. reply_by schema world user state.entries standing_open b text (reading schema text)) broken
 
   -- after an append that failed each text has that code
-  pub broken_settles : (state : UserState) (text : Text) (before now : ℕ) → state.standing ≡ standing_open → state.broken ≡ true → Settles schema world user (λ s. s ≡ state) state text desk_broken before now
+  pub broken_settles : (state : UserState) (text : Text) (before now : ℕ) → state.standing ≡ standing_open → state.broken ≡ true
+      → Settles schema world user (λ s. s ≡ state) state text desk_broken before now
   broken_settles state text before now is_open broken =
       code_settles state text desk_broken before now (broken_reply state text is_open broken) (adds_none text (reading schema text)).2
 
   -- ---- what a crash of an ask leaves
 
   -- of an ask that is answered by a code
-  pub stop_leaves : (header : List ℕ) (state : UserState) (text : Text) (c : List ℕ) → entry_at schema world user state text ≡ None → Holds schema world user header state c → Holds schema world user header (after_event schema world user state (stop text)) c
+  pub stop_leaves : (header : List ℕ) (state : UserState) (text : Text) (c : List ℕ) → entry_at schema world user state text ≡ None
+      → Holds schema world user header state c → Holds schema world user header (after_event schema world user state (stop text)) c
   stop_leaves header state text c none holds = subst (λ o. Holds schema world user header (after_failure schema world user state o) c) (sym none) holds
 
   -- of an ask whose record is or isn't on the disk
   pub stop_holds : (header : List ℕ) (state : UserState) (text : Text) (entry : AnsweredQuery) (c : List ℕ) → entry_at schema world user state text ≡ Some entry
-      → Opens schema world user header state.entries c ⊎ Opens schema world user header (state.entries ++ entry ∷ []) c → Holds schema world user header (after_event schema world user state (stop text)) c
+      → Opens schema world user header state.entries c ⊎ Opens schema world user header (state.entries ++ entry ∷ []) c
+      → Holds schema world user header (after_event schema world user state (stop text)) c
   stop_holds header state text entry c is (inl without) =
-      subst (λ o. Holds schema world user header (after_failure schema world user state o) c) (sym is) (record { found = false; sought = λ e. absurd cc; opens = without })
+      subst (λ o. Holds schema world user header (after_failure schema world user state o) c) (sym is)
+      (record { found = false; sought = λ e. absurd cc; opens = without })
   stop_holds header state text entry c is (inr with_it) =
-      subst (λ o. Holds schema world user header (after_failure schema world user state o) c) (sym is) (record { found = true; sought = λ e. refl; opens = with_it })
+      subst (λ o. Holds schema world user header (after_failure schema world user state o) c) (sym is)
+      (record { found = true; sought = λ e. refl; opens = with_it })
 
   -- of any ask, where the disk is as it was
-  pub stop_keeps : (header : List ℕ) (state : UserState) (text : Text) (c : List ℕ) → state.pending ≡ None → Holds schema world user header state c → Holds schema world user header (after_event schema world user state (stop text)) c
+  pub stop_keeps : (header : List ℕ) (state : UserState) (text : Text) (c : List ℕ) → state.pending ≡ None → Holds schema world user header state c
+      → Holds schema world user header (after_event schema world user state (stop text)) c
   stop_keeps header state text c idle holds = by_entry (entry_at schema world user state text)
     where
       found_is : (found : Bool) → entries_found schema world user state found ≡ state.entries
@@ -133,11 +156,13 @@ module _ (schema : DatabaseSchema) (world : FactSet) (user : UserProfile) where
 
   pub sealed_adds : (state : UserState) → state.standing ≡ standing_sealed → AddsNone schema world user state
   sealed_adds state is text =
-      entry_of_code state text desk_sealed (ap (λ s. reply_by schema world user state.entries s state.broken text (reading schema text)) is) (adds_none text (reading schema text)).1
+      entry_of_code state text desk_sealed (ap (λ s. reply_by schema world user state.entries s state.broken text (reading schema text)) is)
+      (adds_none text (reading schema text)).1
 
   pub closed_adds : (state : UserState) → state.standing ≡ standing_closed → AddsNone schema world user state
   closed_adds state is text =
-      entry_of_code state text user_closed (ap (λ s. reply_by schema world user state.entries s state.broken text (reading schema text)) is) (adds_none text (reading schema text)).0
+      entry_of_code state text user_closed (ap (λ s. reply_by schema world user state.entries s state.broken text (reading schema text)) is)
+      (adds_none text (reading schema text)).0
 
   pub broken_adds : (state : UserState) → state.standing ≡ standing_open → state.broken ≡ true → AddsNone schema world user state
   broken_adds state is_open broken text = entry_of_code state text desk_broken (broken_reply state text is_open broken) (adds_none text (reading schema text)).2

@@ -18,9 +18,12 @@ pub as_many : (schema : DatabaseSchema) (all : List Recorded) (entries : History
 as_many schema all entries are = sym (length-map all (entry_of schema)) ∙ ap length are ∙ length-map entries Some
 
 -- one record and one entry more
-pub are_more : (schema : DatabaseSchema) (all : List Recorded) (entries : History) (next : Recorded) (entry : AnsweredQuery) → map (entry_of schema) all ≡ map Some entries → entry_of schema next ≡ Some entry → map (entry_of schema) (all ++ next ∷ []) ≡ map Some (entries ++ entry ∷ [])
+pub are_more : (schema : DatabaseSchema) (all : List Recorded) (entries : History) (next : Recorded) (entry : AnsweredQuery)
+    → map (entry_of schema) all ≡ map Some entries → entry_of schema next ≡ Some entry
+    → map (entry_of schema) (all ++ next ∷ []) ≡ map Some (entries ++ entry ∷ [])
 are_more schema all entries next entry are is =
-    map-append (entry_of schema) all (next ∷ []) ∙ ap (λ l. l ++ entry_of schema next ∷ []) are ∙ ap (λ o. map Some entries ++ o ∷ []) is ∙ sym (map-append Some entries (entry ∷ []))
+    map-append (entry_of schema) all (next ∷ []) ∙ ap (λ l. l ++ entry_of schema next ∷ []) are ∙ ap (λ o. map Some entries ++ o ∷ []) is
+    ∙ sym (map-append Some entries (entry ∷ []))
 
 -- records stand for one list of entries
 pub same_entries : (first second : History) → map Some first ≡ map Some second → first ≡ second
@@ -38,7 +41,8 @@ module _ (schema : DatabaseSchema) (header : List ℕ) where
   one_history first second bytes one other = same_entries first second (sym one.are ∙ other.are)
 
   -- a record more
-  pub stands_more : (entries : History) (next : Recorded) (entry : AnsweredQuery) (old new : List ℕ) → entry_of schema next ≡ Some entry → StandsFor schema header entries old → Adds old next new → StandsFor schema header (entries ++ entry ∷ []) new
+  pub stands_more : (entries : History) (next : Recorded) (entry : AnsweredQuery) (old new : List ℕ) → entry_of schema next ≡ Some entry
+      → StandsFor schema header entries old → Adds old next new → StandsFor schema header (entries ++ entry ∷ []) new
   stands_more entries next entry old new is stands adds =
       let journal = adds header (records old) stands.journal in
       let found = records_are header (records old ++ next ∷ []) new journal in
@@ -48,25 +52,29 @@ module _ (schema : DatabaseSchema) (header : List ℕ) where
       }
 
   -- the same records
-  pub stands_same : (entries : History) (old new : List ℕ) → StandsFor schema header entries old → IsJournal header (records old) new → StandsFor schema header entries new
+  pub stands_same : (entries : History) (old new : List ℕ) → StandsFor schema header entries old → IsJournal header (records old) new
+      → StandsFor schema header entries new
   stands_same entries old new stands journal = record {
     journal = subst (λ l. IsJournal header l new) (sym (records_are header (records old) new journal)) journal;
     are = ap (λ l. map (entry_of schema) l) (records_are header (records old) new journal) ∙ stands.are;
   }
 
   -- as it was, or with a record more
-  pub stands_either : (entries : History) (next : Recorded) (entry : AnsweredQuery) (old new : List ℕ) → entry_of schema next ≡ Some entry → StandsFor schema header entries old → KeepsOrAdds old next new
+  pub stands_either : (entries : History) (next : Recorded) (entry : AnsweredQuery) (old new : List ℕ) → entry_of schema next ≡ Some entry
+      → StandsFor schema header entries old → KeepsOrAdds old next new
       → StandsFor schema header entries new ⊎ StandsFor schema header (entries ++ entry ∷ []) new
   stands_either entries next entry old new is stands either = ⊎_elim
       (λ journal. inl (stands_same entries old new stands journal))
       (λ journal. inr (record {
         journal = subst (λ l. IsJournal header l new) (sym (records_are header (records old ++ next ∷ []) new journal)) journal;
-        are = ap (λ l. map (entry_of schema) l) (records_are header (records old ++ next ∷ []) new journal) ∙ are_more schema (records old) entries next entry stands.are is;
+        are = ap (λ l. map (entry_of schema) l) (records_are header (records old ++ next ∷ []) new journal)
+            ∙ are_more schema (records old) entries next entry stands.are is;
       }))
       (either header (records old) stands.journal)
 
   -- entries are a beginning of these and more
-  pub within_more : (entries rest : History) (bytes : List ℕ) → StandsFor schema header entries bytes → StandsWithin schema header (length entries) (entries ++ rest) bytes
+  pub within_more : (entries rest : History) (bytes : List ℕ) → StandsFor schema header entries bytes
+      → StandsWithin schema header (length entries) (entries ++ rest) bytes
   within_more entries rest bytes stands =
       let count = as_many schema (records bytes) entries stands.are in
       record {
@@ -76,7 +84,8 @@ module _ (schema : DatabaseSchema) (header : List ℕ) where
       }
 
   -- all entries are a beginning of themselves
-  pub within_all : (entries : History) (least : ℕ) (bytes : List ℕ) → least ≤ length entries → StandsFor schema header entries bytes → StandsWithin schema header least entries bytes
+  pub within_all : (entries : History) (least : ℕ) (bytes : List ℕ) → least ≤ length entries → StandsFor schema header entries bytes
+      → StandsWithin schema header least entries bytes
   within_all entries least bytes le stands =
       let count = as_many schema (records bytes) entries stands.are in
       record {
@@ -92,7 +101,8 @@ module _ (schema : DatabaseSchema) (header : List ℕ) where
       omega (arith, length-take (length (records bytes)) entries)
 
   -- a beginning of these entries is one of these and more
-  pub within_longer : (least : ℕ) (entries rest : History) (bytes : List ℕ) → StandsWithin schema header least entries bytes → StandsWithin schema header least (entries ++ rest) bytes
+  pub within_longer : (least : ℕ) (entries rest : History) (bytes : List ℕ) → StandsWithin schema header least entries bytes
+      → StandsWithin schema header least (entries ++ rest) bytes
   within_longer least entries rest bytes within = record {
     journal = within.journal;
     enough = within.enough;
@@ -100,7 +110,8 @@ module _ (schema : DatabaseSchema) (header : List ℕ) where
   }
 
   -- it has at least so many, so also at least fewer
-  pub within_least : (fewer least : ℕ) (entries : History) (bytes : List ℕ) → fewer ≤ least → StandsWithin schema header least entries bytes → StandsWithin schema header fewer entries bytes
+  pub within_least : (fewer least : ℕ) (entries : History) (bytes : List ℕ) → fewer ≤ least → StandsWithin schema header least entries bytes
+      → StandsWithin schema header fewer entries bytes
   within_least fewer least entries bytes le within = record { journal = within.journal; enough = omega (arith, le, within.enough); are = within.are }
 
   -- a beginning that leaves nothing out
@@ -118,12 +129,14 @@ module _ (schema : DatabaseSchema) (header : List ℕ) where
       cases : (few many : ℕ) → few ≤ many → (many ≡ few) ⊎ (few + 1 ≤ many)
       cases few many le = grind arith
 
-      by_count : (length (records bytes) ≡ length entries) ⊎ (length entries + 1 ≤ length (records bytes)) → StandsFor schema header entries bytes ⊎ StandsFor schema header (entries ++ entry ∷ []) bytes
+      by_count : (length (records bytes) ≡ length entries) ⊎ (length entries + 1 ≤ length (records bytes)) → StandsFor schema header entries bytes
+          ⊎ StandsFor schema header (entries ++ entry ∷ []) bytes
       by_count (inl same) = inl (record {
         journal = within.journal;
         are = within.are ∙ ap (λ l. map Some l) (take_at entries (entry ∷ []) (length (records bytes)) (sym same));
       })
       by_count (inr more) = inr (record {
         journal = within.journal;
-        are = within.are ∙ ap (λ l. map Some l) (take_all (length (records bytes)) (entries ++ entry ∷ []) (omega (arith, length-append entries (entry ∷ []), more)));
+        are = within.are
+            ∙ ap (λ l. map Some l) (take_all (length (records bytes)) (entries ++ entry ∷ []) (omega (arith, length-append entries (entry ∷ []), more)));
       })

@@ -1,5 +1,6 @@
 -- Whether bytes open a desk is decided, part by part.
-use Rattle.std.proofs.Common.{◌≡◌, ◌⊎◌, ℕ, ◌<◌, ◌≤◌, Bool, true, false, List, [], ◌∷◌, ◌++◌, map, drop, take, length, refl, sym, ap, ◌∙◌, subst, inl, inr, ⊎_elim, arith, append_assoc}
+use Rattle.std.proofs.Common.{◌≡◌, ◌⊎◌, ℕ, ◌<◌, ◌≤◌, Bool, true, false, List, [], ◌∷◌, ◌++◌, map, drop, take, length, refl, sym, ap, ◌∙◌, subst, inl, inr}
+use Rattle.std.proofs.Common.{⊎_elim, arith, append_assoc}
 use Rattle.std.specs.Prelude.{Option, Some, None}
 use Rattle.std.proofs.lemmas.List.{append-nil}
 use Rattle.cqe_base.specs.declared.user.Mark.{Mark}
@@ -82,7 +83,8 @@ all_there {A = A} (Some x ∷ xs) = rest (all_there xs)
     more never [] e = cc
     more never (y ∷ ys) e = never ys cc
 
-    rest : ((ys : List A) × (xs ≡ map Some ys)) ⊎ ((ys : List A) → xs ≡ map Some ys → ⊥) → ((ys : List A) × (Some x ∷ xs ≡ map Some ys)) ⊎ ((ys : List A) → Some x ∷ xs ≡ map Some ys → ⊥)
+    rest : ((ys : List A) × (xs ≡ map Some ys)) ⊎ ((ys : List A) → xs ≡ map Some ys → ⊥) → ((ys : List A) × (Some x ∷ xs ≡ map Some ys))
+        ⊎ ((ys : List A) → Some x ∷ xs ≡ map Some ys → ⊥)
     rest (inl found) = inl (x ∷ found.0, ap (λ t. Some x ∷ t) found.1)
     rest (inr never) = inr (more never)
 
@@ -117,13 +119,16 @@ module _ (P : History → AnsweredQuery → Type 0) (decide : (before : History)
 module _ (schema : DatabaseSchema) (world : FactSet) (user : UserProfile) where
   legal_or_not : (entries : History) → OrNot (IsLegal schema world user entries)
   legal_or_not entries =
-      each_behind (λ before entry. entry.mark ≡ rule schema world user (log user before) entry.query) (λ before entry. marks entry.mark (rule schema world user (log user before) entry.query)) [] entries
+      each_behind (λ before entry. entry.mark
+      ≡ rule schema world user (log user before) entry.query) (λ before entry.
+      marks entry.mark (rule schema world user (log user before) entry.query)) [] entries
 
   sizes_at_or_not : (before : History) (entry : AnsweredQuery) → OrNot (KeepsSizesAt schema user before entry)
   sizes_at_or_not before entry = same
       (λ p. record { sentence = p.0; room = p.1.0; small = p.1.1 })
       (λ keeps. (keeps.sentence, (keeps.room, keeps.small)))
-      (both (bools (is_sentence_of schema entry.query) true) (both (bools (is_full before entry.length) false) (bools (is_too_large schema user before entry.query) false)))
+      (both (bools (is_sentence_of schema entry.query) true)
+      (both (bools (is_full before entry.length) false) (bools (is_too_large schema user before entry.query) false)))
 
   sizes_or_not : (entries : History) → OrNot (KeepsSizes schema user entries)
   sizes_or_not entries = each_behind (KeepsSizesAt schema user) sizes_at_or_not [] entries
@@ -150,7 +155,8 @@ module _ (schema : DatabaseSchema) (world : FactSet) (user : UserProfile) where
       (both (legal_or_not entries) (both (sizes_or_not entries) (none_or_not (admitted schema world user) entries)))
 
 abbrev OpensOrNone : DatabaseSchema → FactSet → UserProfile → List ℕ → List ℕ → Type 0
-OpensOrNone schema world user header bytes = ((entries : History) × Opens schema world user header entries bytes) ⊎ ((entries : History) → Opens schema world user header entries bytes → ⊥)
+OpensOrNone schema world user header bytes =
+    ((entries : History) × Opens schema world user header entries bytes) ⊎ ((entries : History) → Opens schema world user header entries bytes → ⊥)
 
 pub opens_once : OpensOnce
 opens_once schema world user header first second bytes one other = one_history schema header first second bytes one.stands other.stands
@@ -158,12 +164,15 @@ opens_once schema world user header first second bytes one other = one_history s
 pub opens_or_not : OpensOrNot
 opens_or_not schema world user header bytes = by_journal (journal_or_not schema world user header bytes)
   where
-    by_entries : (entries : History) → StandsFor schema header entries bytes → OrNot (Opens schema world user header entries bytes) → OpensOrNone schema world user header bytes
+    by_entries : (entries : History) → StandsFor schema header entries bytes → OrNot (Opens schema world user header entries bytes)
+        → OpensOrNone schema world user header bytes
     by_entries entries stands (inl opens) = inl (entries, opens)
     by_entries entries stands (inr never) =
-        inr (λ other opens. never (subst (λ h. Opens schema world user header h bytes) (one_history schema header other entries bytes opens.stands stands) opens))
+        inr (λ other opens.
+        never (subst (λ h. Opens schema world user header h bytes) (one_history schema header other entries bytes opens.stands stands) opens))
 
-    by_records : IsJournal header (records bytes) bytes → ((entries : History) × (map (entry_of schema) (records bytes) ≡ map Some entries)) ⊎ ((entries : History) → map (entry_of schema) (records bytes) ≡ map Some entries → ⊥) → OpensOrNone schema world user header bytes
+    by_records : IsJournal header (records bytes) bytes → ((entries : History) × (map (entry_of schema) (records bytes) ≡ map Some entries))
+        ⊎ ((entries : History) → map (entry_of schema) (records bytes) ≡ map Some entries → ⊥) → OpensOrNone schema world user header bytes
     by_records journal (inl found) =
         let stands : StandsFor schema header found.0 bytes = record { journal = journal; are = found.1 } in
         by_entries found.0 stands (of_entries schema world user header bytes found.0 stands)

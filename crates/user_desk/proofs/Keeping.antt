@@ -27,20 +27,23 @@ open_not_sealed (Closed admission) is = absurd cc
 open_not_sealed (Sealed why) is = absurd cc
 
 module _ (schema : DatabaseSchema) (world : FactSet) (user : UserProfile) where
-  admits_open : (told : Type 0) (header : List ℕ) (bytes : List ℕ) (entries : History) (before now : ℕ) (standing : Standing) → IsStanding schema world user told header bytes entries before now standing
+  admits_open : (told : Type 0) (header : List ℕ) (bytes : List ℕ) (entries : History) (before now : ℕ) (standing : Standing)
+      → IsStanding schema world user told header bytes entries before now standing
       → is_open standing ≡ true → admitted schema world user ≡ true
   admits_open told header bytes entries before now Open standing is = standing.0
   admits_open told header bytes entries before now (Closed admission) standing is = absurd cc
   admits_open told header bytes entries before now (Sealed why) standing is = absurd cc
 
-  idle_closed : (told : Type 0) (header : List ℕ) (bytes : List ℕ) (entries : History) (before now : ℕ) (standing : Standing) → IsStanding schema world user told header bytes entries before now standing
+  idle_closed : (told : Type 0) (header : List ℕ) (bytes : List ℕ) (entries : History) (before now : ℕ) (standing : Standing)
+      → IsStanding schema world user told header bytes entries before now standing
       → is_open standing ≡ false → entries ≡ []
   idle_closed told header bytes entries before now Open standing is = absurd cc
   idle_closed told header bytes entries before now (Closed admission) standing is = standing.2
   idle_closed told header bytes entries before now (Sealed why) standing is = standing.0
 
   -- at the opening
-  pub kept_opening : (told : Type 0) (image : List ℕ → Type 0) (header : List ℕ) (bytes : List ℕ) (entries : History) (before now : ℕ) (standing : Standing) (has_journal has_failed : Bool)
+  pub kept_opening : (told : Type 0) (image : List ℕ → Type 0) (header : List ℕ) (bytes : List ℕ) (entries : History) (before now : ℕ) (standing : Standing)
+      (has_journal has_failed : Bool)
       → IsStanding schema world user told header bytes entries before now standing → IsLegal schema world user entries → KeepsSizes schema user entries
       → (is_sealed standing ≡ false → (c : List ℕ) → image c → c ≡ bytes) → (is_open standing ≡ true → has_journal ≡ true) → has_failed ≡ false
       → IsKept told image schema world user header standing entries None has_journal has_failed
@@ -56,12 +59,15 @@ module _ (schema : DatabaseSchema) (world : FactSet) (user : UserProfile) where
   }
 
 -- where nothing was added, and no image is new
-pub kept_still : (told : Type 0) (image image' : List ℕ → Type 0) (schema schema' : DatabaseSchema) (world world' : FactSet) (user user' : UserProfile) (header : List ℕ) (standing : Standing) (entries entries' : History) (in_flight : Option AnsweredQuery)
+pub kept_still : (told : Type 0) (image image' : List ℕ → Type 0) (schema schema' : DatabaseSchema) (world world' : FactSet) (user user' : UserProfile)
+    (header : List ℕ) (standing : Standing) (entries entries' : History) (in_flight : Option AnsweredQuery)
     (has_journal has_journal' has_failed has_failed' : Bool)
     → IsKept told image schema world user header standing entries in_flight has_journal has_failed
-    → schema' ≡ schema → world' ≡ world → user' ≡ user → entries' ≡ entries → ((c : List ℕ) → image' c → image c) → has_journal' ≡ has_journal → has_failed' ≡ has_failed
+    → schema' ≡ schema → world' ≡ world → user' ≡ user → entries' ≡ entries → ((c : List ℕ) → image' c → image c) → has_journal' ≡ has_journal
+    → has_failed' ≡ has_failed
     → IsKept told image' schema' world' user' header standing entries' in_flight has_journal' has_failed'
-kept_still told image image' schema schema' world world' user user' header standing entries entries' in_flight has_journal has_journal' has_failed has_failed' kept same_schema same_world same_user same_entries images same_journal same_failed =
+kept_still told image image' schema schema' world world' user user' header standing entries entries' in_flight has_journal has_journal' has_failed has_failed'
+    kept same_schema same_world same_user same_entries images same_journal same_failed =
     subst (λ s. IsKept told image' s world' user' header standing entries' in_flight has_journal' has_failed') (sym same_schema)
     (subst (λ w. IsKept told image' schema w user' header standing entries' in_flight has_journal' has_failed') (sym same_world)
     (subst (λ u. IsKept told image' schema world u header standing entries' in_flight has_journal' has_failed') (sym same_user)
@@ -76,8 +82,10 @@ kept_still told image image' schema schema' world world' user user' header stand
     })))
 
 -- the facts that an ask of an open desk leaves as they were
-pub kept_open : (told : Type 0) (image : List ℕ → Type 0) (schema : DatabaseSchema) (world : FactSet) (user : UserProfile) (header : List ℕ) (standing : Standing) (entries : History) (in_flight : Option AnsweredQuery) (has_journal has_failed : Bool)
-    → standing ≡ Open → admitted schema world user ≡ true → IsLegal schema world user (entries ++ option_to_list in_flight) → KeepsSizes schema user (entries ++ option_to_list in_flight) → has_journal ≡ true → has_failed ≡ is_some in_flight
+pub kept_open : (told : Type 0) (image : List ℕ → Type 0) (schema : DatabaseSchema) (world : FactSet) (user : UserProfile) (header : List ℕ)
+    (standing : Standing) (entries : History) (in_flight : Option AnsweredQuery) (has_journal has_failed : Bool)
+    → standing ≡ Open → admitted schema world user ≡ true → IsLegal schema world user (entries ++ option_to_list in_flight)
+    → KeepsSizes schema user (entries ++ option_to_list in_flight) → has_journal ≡ true → has_failed ≡ is_some in_flight
     → (told → (c : List ℕ) → image c → StandsWithin schema header (length entries) (entries ++ option_to_list in_flight) c)
     → IsKept told image schema world user header standing entries in_flight has_journal has_failed
 kept_open told image schema world user header standing entries in_flight has_journal has_failed opened admits legal sizes journal broken images = record {
@@ -93,15 +101,18 @@ kept_open told image schema world user header standing entries in_flight has_jou
 -- ---- openings
 
 -- what a log keeps, at an equal schema, world and user
-pub legal_at : (schema schema' : DatabaseSchema) (world world' : FactSet) (user user' : UserProfile) (entries : History) → schema' ≡ schema → world' ≡ world → user' ≡ user → IsLegal schema' world' user' entries → IsLegal schema world user entries
+pub legal_at : (schema schema' : DatabaseSchema) (world world' : FactSet) (user user' : UserProfile) (entries : History) → schema' ≡ schema → world' ≡ world
+    → user' ≡ user → IsLegal schema' world' user' entries → IsLegal schema world user entries
 legal_at schema schema' world world' user user' entries s w u legal =
     subst (λ x. IsLegal x world user entries) s (subst (λ x. IsLegal schema' x user entries) w (subst (λ x. IsLegal schema' world' x entries) u legal))
 
-pub sizes_at : (schema schema' : DatabaseSchema) (user user' : UserProfile) (entries : History) → schema' ≡ schema → user' ≡ user → KeepsSizes schema' user' entries → KeepsSizes schema user entries
+pub sizes_at : (schema schema' : DatabaseSchema) (user user' : UserProfile) (entries : History) → schema' ≡ schema → user' ≡ user
+    → KeepsSizes schema' user' entries → KeepsSizes schema user entries
 sizes_at schema schema' user user' entries s u sizes = subst (λ x. KeepsSizes x user entries) s (subst (λ x. KeepsSizes schema' x entries) u sizes)
 
 -- a journal that isn't opened seals the desk
-pub standing_sealed_by : (schema : DatabaseSchema) (world : FactSet) (user : UserProfile) (told : Type 0) (header : List ℕ) (bytes : List ℕ) (entries : History) (before now : ℕ) (why : OpenError) → entries ≡ [] → IsRefused told header bytes before now why → (why ≡ Memory → ⊥)
+pub standing_sealed_by : (schema : DatabaseSchema) (world : FactSet) (user : UserProfile) (told : Type 0) (header : List ℕ) (bytes : List ℕ) (entries : History)
+    (before now : ℕ) (why : OpenError) → entries ≡ [] → IsRefused told header bytes before now why → (why ≡ Memory → ⊥)
     → IsStanding schema world user told header bytes entries before now (Sealed (Journal why))
 standing_sealed_by schema world user told header bytes entries before now NotAJournal none refused other = (none, refused)
 standing_sealed_by schema world user told header bytes entries before now OtherPolicy none refused other = (none, refused)
@@ -110,11 +121,14 @@ standing_sealed_by schema world user told header bytes entries before now DiskFa
 standing_sealed_by schema world user told header bytes entries before now Memory none refused other = absurd (other refl)
 
 -- what a desk keeps at its opening, from its standing
-pub kept_first : (schema schema' : DatabaseSchema) (world world' : FactSet) (user user' : UserProfile) (told : Type 0) (image : List ℕ → Type 0) (header : List ℕ) (bytes : List ℕ) (entries : History) (before now : ℕ) (standing : Standing) (has_journal has_failed : Bool)
-    → schema' ≡ schema → world' ≡ world → user' ≡ user → IsStanding schema world user told header bytes entries before now standing → IsLegal schema' world' user' entries → KeepsSizes schema' user' entries
+pub kept_first : (schema schema' : DatabaseSchema) (world world' : FactSet) (user user' : UserProfile) (told : Type 0) (image : List ℕ → Type 0)
+    (header : List ℕ) (bytes : List ℕ) (entries : History) (before now : ℕ) (standing : Standing) (has_journal has_failed : Bool)
+    → schema' ≡ schema → world' ≡ world → user' ≡ user → IsStanding schema world user told header bytes entries before now standing
+    → IsLegal schema' world' user' entries → KeepsSizes schema' user' entries
     → (is_sealed standing ≡ false → (c : List ℕ) → image c → c ≡ bytes) → (is_open standing ≡ true → has_journal ≡ true) → has_failed ≡ false
     → IsKept told image schema' world' user' header standing entries None has_journal has_failed
-kept_first schema schema' world world' user user' told image header bytes entries before now standing has_journal has_failed s w u is legal sizes only journal whole =
+kept_first schema schema' world world' user user' told image header bytes entries before now standing has_journal has_failed s w u is legal sizes only journal
+    whole =
     kept_still told image image schema schema' world world' user user' header standing entries entries None has_journal has_journal has_failed has_failed
     (kept_opening schema world user told image header bytes entries before now standing has_journal has_failed is
     (legal_at schema schema' world world' user user' entries s w u legal) (sizes_at schema schema' user user' entries s u sizes) only journal whole)

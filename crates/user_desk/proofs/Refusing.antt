@@ -1,5 +1,6 @@
 -- Bytes that open a desk aren't refused, and what going through the records shows of them.
-use Rattle.std.proofs.Common.{◌≡◌, ℕ, ◌≤◌, ◌<◌, Bool, true, false, ◌||◌, List, [], ◌∷◌, ◌++◌, length, map, take, refl, sym, ap, ◌∙◌, subst, ⊎_elim, arith, length-append}
+use Rattle.std.proofs.Common.{◌≡◌, ℕ, ◌≤◌, ◌<◌, Bool, true, false, ◌||◌, List, [], ◌∷◌, ◌++◌, length, map, take, refl, sym, ap, ◌∙◌, subst, ⊎_elim, arith}
+use Rattle.std.proofs.Common.{length-append}
 use Rattle.std.specs.Prelude.{Option, Some, None, Result, Ok, Err}
 use Rattle.std.proofs.lemmas.Grind.{common_steps}
 use Rattle.std.proofs.lemmas.List.{map-append, take_at, take-take}
@@ -38,16 +39,23 @@ pub record IsEntryOf (text : Text) (mark : Option Mark) (read : Result Formula R
   pub reads : read ≡ Ok entry.query
   pub size : entry.length ≡ length text
 
-pub entry_shows : (text : Text) (mark : Option Mark) (read : Result Formula Refusal) (entry : AnsweredQuery) → entry_by text mark read ≡ Some entry → IsEntryOf text mark read entry
+pub entry_shows : (text : Text) (mark : Option Mark) (read : Result Formula Refusal) (entry : AnsweredQuery) → entry_by text mark read ≡ Some entry
+    → IsEntryOf text mark read entry
 entry_shows text (Some mark) (Ok query) entry e =
     let made : AnsweredQuery = record { query = query; mark = mark; length = length text } in
     let same : made ≡ entry = cc in
-    record { marks = ap (λ (x : AnsweredQuery). Some x.mark) same; reads = ap (λ (x : AnsweredQuery). let read : Result Formula Refusal = Ok x.query in read) same; size = sym (ap (λ (x : AnsweredQuery). x.length) same) }
+    record {
+      marks = ap (λ (x : AnsweredQuery). Some x.mark) same;
+      reads = ap (λ (x : AnsweredQuery). let read : Result Formula Refusal = Ok x.query in
+          read) same;
+      size = sym (ap (λ (x : AnsweredQuery). x.length) same);
+    }
 entry_shows text (Some mark) (Err why) entry e = absurd cc
 entry_shows text None (Ok query) entry e = absurd cc
 entry_shows text None (Err why) entry e = absurd cc
 
-pub entry_is : (text : Text) (marks : Option Mark) (read : Result Formula Refusal) (mark : Mark) (query : Formula) → marks ≡ Some mark → read ≡ Ok query → entry_by text marks read ≡ Some (record { query = query; mark = mark; length = length text })
+pub entry_is : (text : Text) (marks : Option Mark) (read : Result Formula Refusal) (mark : Mark) (query : Formula) → marks ≡ Some mark → read ≡ Ok query
+    → entry_by text marks read ≡ Some (record { query = query; mark = mark; length = length text })
 entry_is text marks read mark query is reads = ap (λ m. entry_by text m read) is ∙ ap (λ r. entry_by text (Some mark) r) reads
 
 same_ok : (read : Result Formula Refusal) (a b : Formula) → read ≡ Ok a → read ≡ Ok b → a ≡ b
@@ -67,13 +75,15 @@ no_true b isnt is = let e : false ≡ true = sym isnt ∙ is in cc
 
 module _ (schema : DatabaseSchema) (world : FactSet) (user : UserProfile) where
   -- the limits let an entry through
-  fits : (before : History) (text : Text) (entry : AnsweredQuery) (query : Formula) → KeepsSizesAt schema user before entry → entry.length ≡ length text → query ≡ entry.query → is_beyond schema world user before (length text) query ≡ false
+  fits : (before : History) (text : Text) (entry : AnsweredQuery) (query : Formula) → KeepsSizesAt schema user before entry → entry.length ≡ length text
+      → query ≡ entry.query → is_beyond schema world user before (length text) query ≡ false
   fits before text entry query sizes size same =
       ap (λ n. is_beyond schema world user before n query) (sym size) ∙ ap (λ q. is_beyond schema world user before entry.length q) same
       ∙ ap (λ b. b || is_too_large schema user before entry.query) sizes.room ∙ sizes.small
 
   -- the record of a lawful entry isn't refused
-  lawful : (before : History) (next : Recorded) (entry : AnsweredQuery) (why : DeskError) → entry_of schema next ≡ Some entry → entry.mark ≡ rule schema world user (log user before) entry.query → KeepsSizesAt schema user before entry
+  lawful : (before : History) (next : Recorded) (entry : AnsweredQuery) (why : DeskError) → entry_of schema next ≡ Some entry
+      → entry.mark ≡ rule schema world user (log user before) entry.query → KeepsSizesAt schema user before entry
       → RefusesRecord schema world user before next why → ⊥
   lawful before next entry (Stale number) is marks sizes refused =
       let shows = entry_shows next.1 (mark_of next.0) (reading schema next.1) entry is in
@@ -93,7 +103,8 @@ module _ (schema : DatabaseSchema) (world : FactSet) (user : UserProfile) where
 -- ---- a list of records
 
 -- where entries and a record stand in a list of entries
-split_entries : (before : History) (next : Option AnsweredQuery) (rest : List (Option AnsweredQuery)) (entries : History) → map Some before ++ next ∷ rest ≡ map Some entries
+split_entries : (before : History) (next : Option AnsweredQuery) (rest : List (Option AnsweredQuery)) (entries : History)
+    → map Some before ++ next ∷ rest ≡ map Some entries
     → (entry : AnsweredQuery) × (after : History) × (entries ≡ before ++ entry ∷ after) × (next ≡ Some entry)
 split_entries [] next rest [] e = absurd cc
 split_entries [] next rest (x ∷ entries) e = let is : next ≡ Some x = cc in (x, entries, refl, is)
@@ -106,13 +117,16 @@ split_entries (b ∷ before) next rest (x ∷ entries) e =
 
 module _ (schema : DatabaseSchema) (world : FactSet) (user : UserProfile) where
   -- records of a legal history within the limits aren't refused
-  all_lawful : (all : List Recorded) (entries : History) (why : DeskError) → map (entry_of schema) all ≡ map Some entries → IsLegal schema world user entries → KeepsSizes schema user entries → RefusesRecords schema world user all why → ⊥
+  all_lawful : (all : List Recorded) (entries : History) (why : DeskError) → map (entry_of schema) all ≡ map Some entries → IsLegal schema world user entries
+      → KeepsSizes schema user entries → RefusesRecords schema world user all why → ⊥
   all_lawful all entries why are legal sizes refused =
       let f = entry_of schema in
       let joined : map Some refused.before ++ f refused.next ∷ map f refused.rest ≡ map Some entries =
-      ap (λ l. l ++ f refused.next ∷ map f refused.rest) (sym refused.are) ∙ sym (map-append f refused.read (refused.next ∷ refused.rest)) ∙ ap (λ l. map f l) (sym refused.split) ∙ are in
+      ap (λ l. l ++ f refused.next ∷ map f refused.rest) (sym refused.are) ∙ sym (map-append f refused.read (refused.next ∷ refused.rest))
+      ∙ ap (λ l. map f l) (sym refused.split) ∙ are in
       let found = split_entries refused.before (f refused.next) (map f refused.rest) entries joined in
-      lawful schema world user refused.before refused.next found.0 why found.3 (legal refused.before found.0 found.1 found.2) (sizes refused.before found.0 found.1 found.2) refused.refused
+      lawful schema world user refused.before refused.next found.0 why found.3 (legal refused.before found.0 found.1 found.2)
+      (sizes refused.before found.0 found.1 found.2) refused.refused
 
   -- ---- bytes
 
@@ -122,24 +136,37 @@ module _ (schema : DatabaseSchema) (world : FactSet) (user : UserProfile) where
   no_records (one ∷ all) (x ∷ entries) are none = absurd cc
 
   -- bytes that open a desk show no reason to refuse them
-  pub not_refused : (header : Header) (bytes : List ℕ) (entries : History) (why : DeskError) → Opens schema world user (header_bytes header) entries bytes → Refuses schema world user (header_bytes header) bytes why → ⊥
+  pub not_refused : (header : Header) (bytes : List ℕ) (entries : History) (why : DeskError) → Opens schema world user (header_bytes header) entries bytes
+      → Refuses schema world user (header_bytes header) bytes why → ⊥
   not_refused header bytes entries (Journal why) opens refused = unrefused header (records bytes) bytes opens.stands.journal why refused
-  not_refused header bytes entries (NotAdmitted admission) opens refused = refused.3 (no_records (records bytes) entries opens.stands.are (opens.none refused.1))
-  not_refused header bytes entries (Stale number) opens refused = all_lawful (records bytes) entries (Stale number) opens.stands.are opens.legal opens.sizes refused.2
-  not_refused header bytes entries (Size number) opens refused = all_lawful (records bytes) entries (Size number) opens.stands.are opens.legal opens.sizes refused.2
-  not_refused header bytes entries (Unlawful number stored computed) opens refused = all_lawful (records bytes) entries (Unlawful number stored computed) opens.stands.are opens.legal opens.sizes refused.2
+  not_refused header bytes entries (NotAdmitted admission) opens refused =
+      refused.3 (no_records (records bytes) entries opens.stands.are (opens.none refused.1))
+  not_refused header bytes entries (Stale number) opens refused =
+      all_lawful (records bytes) entries (Stale number) opens.stands.are opens.legal opens.sizes refused.2
+  not_refused header bytes entries (Size number) opens refused =
+      all_lawful (records bytes) entries (Size number) opens.stands.are opens.legal opens.sizes refused.2
+  not_refused header bytes entries (Unlawful number stored computed) opens refused =
+      all_lawful (records bytes) entries (Unlawful number stored computed) opens.stands.are opens.legal opens.sizes refused.2
 
   -- where they open a desk, only a fault of the disk seals it
-  pub sealed_by_fault : (told : Type 0) (header : Header) (bytes : List ℕ) (entries : History) (before now : ℕ) (why : DeskError) → told → Opens schema world user (header_bytes header) entries bytes → IsSealedBy schema world user told (header_bytes header) bytes before now why → Rose before now
+  pub sealed_by_fault : (told : Type 0) (header : Header) (bytes : List ℕ) (entries : History) (before now : ℕ) (why : DeskError) → told
+      → Opens schema world user (header_bytes header) entries bytes → IsSealedBy schema world user told (header_bytes header) bytes before now why
+      → Rose before now
   sealed_by_fault told header bytes entries before now (Journal Memory) is opens sealed = absurd sealed
   sealed_by_fault told header bytes entries before now (Journal DiskFault) is opens sealed = sealed
-  sealed_by_fault told header bytes entries before now (Journal NotAJournal) is opens sealed = absurd (not_refused header bytes entries (Journal NotAJournal) opens (sealed is))
-  sealed_by_fault told header bytes entries before now (Journal OtherPolicy) is opens sealed = absurd (not_refused header bytes entries (Journal OtherPolicy) opens (sealed is))
-  sealed_by_fault told header bytes entries before now (Journal (Damaged number)) is opens sealed = absurd (not_refused header bytes entries (Journal (Damaged number)) opens (sealed is))
-  sealed_by_fault told header bytes entries before now (NotAdmitted admission) is opens sealed = absurd (not_refused header bytes entries (NotAdmitted admission) opens (sealed is))
-  sealed_by_fault told header bytes entries before now (Stale number) is opens sealed = absurd (not_refused header bytes entries (Stale number) opens (sealed is))
+  sealed_by_fault told header bytes entries before now (Journal NotAJournal) is opens sealed =
+      absurd (not_refused header bytes entries (Journal NotAJournal) opens (sealed is))
+  sealed_by_fault told header bytes entries before now (Journal OtherPolicy) is opens sealed =
+      absurd (not_refused header bytes entries (Journal OtherPolicy) opens (sealed is))
+  sealed_by_fault told header bytes entries before now (Journal (Damaged number)) is opens sealed =
+      absurd (not_refused header bytes entries (Journal (Damaged number)) opens (sealed is))
+  sealed_by_fault told header bytes entries before now (NotAdmitted admission) is opens sealed =
+      absurd (not_refused header bytes entries (NotAdmitted admission) opens (sealed is))
+  sealed_by_fault told header bytes entries before now (Stale number) is opens sealed =
+      absurd (not_refused header bytes entries (Stale number) opens (sealed is))
   sealed_by_fault told header bytes entries before now (Size number) is opens sealed = absurd (not_refused header bytes entries (Size number) opens (sealed is))
-  sealed_by_fault told header bytes entries before now (Unlawful number stored computed) is opens sealed = absurd (not_refused header bytes entries (Unlawful number stored computed) opens (sealed is))
+  sealed_by_fault told header bytes entries before now (Unlawful number stored computed) is opens sealed =
+      absurd (not_refused header bytes entries (Unlawful number stored computed) opens (sealed is))
 
   -- ---- from the records to the standing
 
@@ -149,7 +176,8 @@ module _ (schema : DatabaseSchema) (world : FactSet) (user : UserProfile) where
   journal_of : (header : List ℕ) (bytes : List ℕ) (all : List Recorded) → IsJournal header all bytes → IsJournal header (records bytes) bytes
   journal_of header bytes all is = subst (λ l. IsJournal header l bytes) (sym (records_are header all bytes is)) is
 
-  opens_of : (header : List ℕ) (bytes : List ℕ) (all : List Recorded) (entries : History) → IsJournal header all bytes → map (entry_of schema) all ≡ map Some entries → IsLegal schema world user entries → KeepsSizes schema user entries
+  opens_of : (header : List ℕ) (bytes : List ℕ) (all : List Recorded) (entries : History) → IsJournal header all bytes
+      → map (entry_of schema) all ≡ map Some entries → IsLegal schema world user entries → KeepsSizes schema user entries
       → (admitted schema world user ≡ false → entries ≡ []) → Opens schema world user header entries bytes
   opens_of header bytes all entries is are legal sizes none = record {
     stands = record { journal = journal_of header bytes all is; are = ap (λ l. map (entry_of schema) l) (records_are header all bytes is) ∙ are };
@@ -159,21 +187,49 @@ module _ (schema : DatabaseSchema) (world : FactSet) (user : UserProfile) where
   }
 
   -- what was found of the records gives the standing
-  pub standing_from : (told : Type 0) (header : List ℕ) (bytes : List ℕ) (all : List Recorded) (entries : History) (before now : ℕ) (standing : Standing) → (told → IsJournal header all bytes)
-      → IsLegal schema world user entries → KeepsSizes schema user entries → IsReplay schema world user all entries standing → IsStanding schema world user told header bytes entries before now standing
+  pub standing_from : (told : Type 0) (header : List ℕ) (bytes : List ℕ) (all : List Recorded) (entries : History) (before now : ℕ) (standing : Standing)
+      → (told → IsJournal header all bytes)
+      → IsLegal schema world user entries → KeepsSizes schema user entries → IsReplay schema world user all entries standing
+      → IsStanding schema world user told header bytes entries before now standing
   standing_from told header bytes all entries before now Open journal legal sizes replay =
       (replay.0, λ is. opens_of header bytes all entries (journal is) replay.1 legal sizes (λ isnt. true_no (admitted schema world user) replay.0 isnt))
-  standing_from told header bytes all entries before now (Closed admission) journal legal sizes replay =
-      (replay.0, replay.1, replay.2, λ is. opens_of header bytes all entries (journal is) (ap (λ l. map (entry_of schema) l) replay.3 ∙ ap (λ l. map Some l) (sym replay.2)) legal sizes (λ isnt. replay.2))
+  standing_from told header bytes all entries before now (Closed admission) journal legal sizes replay = (
+    replay.0,
+    replay.1,
+    replay.2,
+    λ is. opens_of header bytes all entries (journal is) (ap (λ l. map (entry_of schema) l) replay.3
+        ∙ ap (λ l. map Some l) (sym replay.2)) legal sizes (λ isnt. replay.2),
+  )
   standing_from told header bytes all entries before now (Sealed (Journal why)) journal legal sizes replay = absurd replay.2.refused
-  standing_from told header bytes all entries before now (Sealed (NotAdmitted admission)) journal legal sizes replay =
-      (replay.0, λ is. (journal_of header bytes all (journal is), replay.1, replay.2, λ none. replay.3 (sym (records_are header all bytes (journal is)) ∙ none)))
-  standing_from told header bytes all entries before now (Sealed (Stale number)) journal legal sizes replay =
-      (replay.0, λ is. (journal_of header bytes all (journal is), replay.1, subst (λ l. RefusesRecords schema world user l (Stale number)) (sym (records_are header all bytes (journal is))) replay.2))
-  standing_from told header bytes all entries before now (Sealed (Size number)) journal legal sizes replay =
-      (replay.0, λ is. (journal_of header bytes all (journal is), replay.1, subst (λ l. RefusesRecords schema world user l (Size number)) (sym (records_are header all bytes (journal is))) replay.2))
-  standing_from told header bytes all entries before now (Sealed (Unlawful number stored computed)) journal legal sizes replay =
-      (replay.0, λ is. (journal_of header bytes all (journal is), replay.1, subst (λ l. RefusesRecords schema world user l (Unlawful number stored computed)) (sym (records_are header all bytes (journal is))) replay.2))
+  standing_from told header bytes all entries before now (Sealed (NotAdmitted admission)) journal legal sizes replay = (
+    replay.0,
+    λ is.
+        (journal_of header bytes all (journal is), replay.1, replay.2, λ none. replay.3 (sym (records_are header all bytes (journal is)) ∙ none)),
+  )
+  standing_from told header bytes all entries before now (Sealed (Stale number)) journal legal sizes replay = (
+    replay.0,
+    λ is. (
+      journal_of header bytes all (journal is),
+      replay.1,
+      subst (λ l. RefusesRecords schema world user l (Stale number)) (sym (records_are header all bytes (journal is))) replay.2,
+    ),
+  )
+  standing_from told header bytes all entries before now (Sealed (Size number)) journal legal sizes replay = (
+    replay.0,
+    λ is. (
+      journal_of header bytes all (journal is),
+      replay.1,
+      subst (λ l. RefusesRecords schema world user l (Size number)) (sym (records_are header all bytes (journal is))) replay.2,
+    ),
+  )
+  standing_from told header bytes all entries before now (Sealed (Unlawful number stored computed)) journal legal sizes replay = (
+    replay.0,
+    λ is. (
+      journal_of header bytes all (journal is),
+      replay.1,
+      subst (λ l. RefusesRecords schema world user l (Unlawful number stored computed)) (sym (records_are header all bytes (journal is))) replay.2,
+    ),
+  )
 
   -- ---- how many entries there are
 

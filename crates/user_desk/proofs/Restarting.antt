@@ -22,16 +22,20 @@ use Rattle.user_desk.proofs.Bytes.{one_history, within_exact, within_either}
 use Rattle.user_desk.proofs.Refusing.{sealed_by_fault}
 
 module _ (schema : DatabaseSchema) (world : FactSet) (user : UserProfile) where
-  opened_as : (state : UserState) (found : Bool) (entries : History) (standing : Run.Standing) → entries_found schema world user state found ≡ entries → opening_standing schema world user ≡ standing
+  opened_as : (state : UserState) (found : Bool) (entries : History) (standing : Run.Standing) → entries_found schema world user state found ≡ entries
+      → opening_standing schema world user ≡ standing
       → after_event schema world user state (restart found true) ≡ shown entries standing None
   opened_as state found entries standing same is =
       ap (λ (h : History). shown h (opening_standing schema world user) None) same ∙ ap (λ (s : Run.Standing). shown entries s None) is
 
   -- an opening is a restart of each state that the bytes hold
-  pub restarts : (told : Type 0) (header : Header) (bytes : List ℕ) (entries : History) (before now : ℕ) (standing : Standing) → told → IsStanding schema world user told (header_bytes header) bytes entries before now standing
-      → (state : UserState) → Holds schema world user (header_bytes header) state bytes → Restarts schema world user (IsState standing (shown entries (standing_of standing) None)) state before now
+  pub restarts : (told : Type 0) (header : Header) (bytes : List ℕ) (entries : History) (before now : ℕ) (standing : Standing) → told
+      → IsStanding schema world user told (header_bytes header) bytes entries before now standing
+      → (state : UserState) → Holds schema world user (header_bytes header) state bytes
+      → Restarts schema world user (IsState standing (shown entries (standing_of standing) None)) state before now
   restarts told header bytes entries before now Open is standing state holds =
-      let same = one_history schema (header_bytes header) (entries_found schema world user state holds.found) entries bytes holds.opens.stands (standing.1 is).stands in
+      let same = one_history schema (header_bytes header) (entries_found schema world user state holds.found) entries bytes holds.opens.stands
+      (standing.1 is).stands in
       record {
         found = holds.found;
         opened = true;
@@ -40,7 +44,8 @@ module _ (schema : DatabaseSchema) (world : FactSet) (user : UserProfile) where
         cause = λ e. absurd cc;
       }
   restarts told header bytes entries before now (Closed admission) is standing state holds =
-      let same = one_history schema (header_bytes header) (entries_found schema world user state holds.found) entries bytes holds.opens.stands (standing.3 is).stands in
+      let same = one_history schema (header_bytes header) (entries_found schema world user state holds.found) entries bytes holds.opens.stands
+      (standing.3 is).stands in
       record {
         found = holds.found;
         opened = true;
@@ -53,11 +58,13 @@ module _ (schema : DatabaseSchema) (world : FactSet) (user : UserProfile) where
     opened = false;
     after = refl;
     sought = λ e. absurd cc;
-    cause = λ e. sealed_by_fault schema world user told header bytes (entries_found schema world user state holds.found) before now why is holds.opens standing.1;
+    cause =
+        λ e. sealed_by_fault schema world user told header bytes (entries_found schema world user state holds.found) before now why is holds.opens standing.1;
   }
 
   -- bytes open a desk only where it isn't sealed
-  pub opens_served : (told : Type 0) (header : List ℕ) (bytes : List ℕ) (entries : History) (before now : ℕ) (standing : Standing) → IsStanding schema world user told header bytes entries before now standing
+  pub opens_served : (told : Type 0) (header : List ℕ) (bytes : List ℕ) (entries : History) (before now : ℕ) (standing : Standing)
+      → IsStanding schema world user told header bytes entries before now standing
       → told → is_sealed standing ≡ false → Opens schema world user header entries bytes
   opens_served told header bytes entries before now Open standing is served = standing.1 is
   opens_served told header bytes entries before now (Closed admission) standing is served = standing.3 is
@@ -65,16 +72,20 @@ module _ (schema : DatabaseSchema) (world : FactSet) (user : UserProfile) where
 
   -- ---- at rest
 
-  only_open : (standing : Standing) (entries : History) (in_flight : Option AnsweredQuery) → (is_open standing ≡ true → admitted schema world user ≡ true) → (is_open standing ≡ false → (entries ≡ []) × (in_flight ≡ None))
+  only_open : (standing : Standing) (entries : History) (in_flight : Option AnsweredQuery) → (is_open standing ≡ true → admitted schema world user ≡ true)
+      → (is_open standing ≡ false → (entries ≡ []) × (in_flight ≡ None))
       → admitted schema world user ≡ false → entries ++ option_to_list in_flight ≡ []
   only_open standing entries in_flight admits idle isnt = by_standing (is_open standing) admits idle
     where
-      by_standing : (b : Bool) → (b ≡ true → admitted schema world user ≡ true) → (b ≡ false → (entries ≡ []) × (in_flight ≡ None)) → entries ++ option_to_list in_flight ≡ []
+      by_standing : (b : Bool) → (b ≡ true → admitted schema world user ≡ true) → (b ≡ false → (entries ≡ []) × (in_flight ≡ None))
+          → entries ++ option_to_list in_flight ≡ []
       by_standing true admits idle = let e : true ≡ false = sym (admits refl) ∙ isnt in absurd cc
       by_standing false admits idle = ap (λ h. h ++ option_to_list in_flight) (idle refl).0 ∙ ap (λ o. [] ++ option_to_list o) (idle refl).1
 
-  module _ {told : Type 0} {image : List ℕ → Type 0} {header : List ℕ} {standing : Standing} {entries : History} {in_flight : Option AnsweredQuery} {has_journal is_broken : Bool}
-      (kept : IsKept told image schema world user header standing entries in_flight has_journal is_broken) (legal : IsLegal schema world user entries) (sizes : KeepsSizes schema user entries) where
+  module _ {told : Type 0} {image : List ℕ → Type 0} {header : List ℕ} {standing : Standing} {entries : History} {in_flight : Option AnsweredQuery}
+      {has_journal is_broken : Bool}
+      (kept : IsKept told image schema world user header standing entries in_flight has_journal is_broken) (legal : IsLegal schema world user entries)
+      (sizes : KeepsSizes schema user entries) where
     no_entry : admitted schema world user ≡ false → entries ≡ []
     no_entry isnt = first_none entries (option_to_list in_flight) (only_open standing entries in_flight kept.admits kept.idle isnt)
       where
@@ -86,8 +97,10 @@ module _ (schema : DatabaseSchema) (world : FactSet) (user : UserProfile) where
     opens_without c stands = record { stands = stands; legal = legal; sizes = sizes; none = no_entry }
 
   -- each image holds the state
-  pub holds_image : (told : Type 0) (image : List ℕ → Type 0) (header : List ℕ) (standing : Standing) (entries : History) (in_flight : Option AnsweredQuery) (has_journal is_broken : Bool)
-      → IsKept told image schema world user header standing entries in_flight has_journal is_broken → IsLegal schema world user entries → KeepsSizes schema user entries → told → is_sealed standing ≡ false
+  pub holds_image : (told : Type 0) (image : List ℕ → Type 0) (header : List ℕ) (standing : Standing) (entries : History) (in_flight : Option AnsweredQuery)
+      (has_journal is_broken : Bool)
+      → IsKept told image schema world user header standing entries in_flight has_journal is_broken → IsLegal schema world user entries
+      → KeepsSizes schema user entries → told → is_sealed standing ≡ false
       → (c : List ℕ) → image c → Holds schema world user header (shown entries (standing_of standing) in_flight) c
   holds_image told image header standing entries None has_journal is_broken kept legal sizes is served c here =
       let within = subst (λ h. StandsWithin schema header (length entries) h c) (append-nil entries) (kept.images is served c here) in
@@ -97,13 +110,21 @@ module _ (schema : DatabaseSchema) (world : FactSet) (user : UserProfile) where
       (λ stands. record {
         found = true;
         sought = λ e. refl;
-        opens = record { stands = stands; legal = kept.legal; sizes = kept.sizes; none = λ isnt. only_open standing entries (Some entry) kept.admits kept.idle isnt };
+        opens = record {
+          stands = stands;
+          legal = kept.legal;
+          sizes = kept.sizes;
+          none =
+              λ isnt. only_open standing entries (Some entry) kept.admits kept.idle isnt;
+        };
       })
       (within_either schema header entries entry c (kept.images is served c here))
 
   -- where no append failed each image stands for the entries
-  pub stands_image : (told : Type 0) (image : List ℕ → Type 0) (header : List ℕ) (standing : Standing) (entries : History) (in_flight : Option AnsweredQuery) (has_journal is_broken : Bool)
-      → IsKept told image schema world user header standing entries in_flight has_journal is_broken → told → is_sealed standing ≡ false → is_some in_flight ≡ false → (c : List ℕ) → image c → StandsFor schema header entries c
+  pub stands_image : (told : Type 0) (image : List ℕ → Type 0) (header : List ℕ) (standing : Standing) (entries : History) (in_flight : Option AnsweredQuery)
+      (has_journal is_broken : Bool)
+      → IsKept told image schema world user header standing entries in_flight has_journal is_broken → told → is_sealed standing ≡ false
+      → is_some in_flight ≡ false → (c : List ℕ) → image c → StandsFor schema header entries c
   stands_image told image header standing entries None has_journal is_broken kept is served whole c here =
       within_exact schema header entries c (subst (λ h. StandsWithin schema header (length entries) h c) (append-nil entries) (kept.images is served c here))
   stands_image told image header standing entries (Some entry) has_journal is_broken kept is served whole c here = absurd cc

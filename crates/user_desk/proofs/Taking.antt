@@ -1,5 +1,6 @@
 -- What weighing the text of a record shows of it.
-use Rattle.std.proofs.Common.{◌≡◌, ℕ, suc, ◌+◌, ◌<◌, Bool, true, false, ◌||◌, List, [], ◌∷◌, ◌++◌, length, map, take, drop, get_or, refl, sym, ap, ◌∙◌, subst, add-one, drop-cons}
+use Rattle.std.proofs.Common.{◌≡◌, ℕ, suc, ◌+◌, ◌<◌, Bool, true, false, ◌||◌, List, [], ◌∷◌, ◌++◌, length, map, take, drop, get_or, refl, sym, ap, ◌∙◌, subst}
+use Rattle.std.proofs.Common.{add-one, drop-cons}
 use Rattle.std.specs.Prelude.{Some, None, Result, Ok, Err, if◌then◌else◌, IsUtf8}
 use Rattle.std.proofs.lemmas.List.{length-map, map-append, take-append-drop}
 use Rattle.cqe_base.specs.declared.user.Mark.{Mark}
@@ -38,35 +39,47 @@ read_or (Ok query) never = absurd (never query refl)
 read_or (Err why) never = (why, refl)
 
 -- bytes that are no text are no sentence
-pub no_text : (schema : DatabaseSchema) (text bytes : Text) → SentencesAreAscii → bytes ≡ text → (IsUtf8 bytes → ⊥) → (why : Refusal) × (reading schema text ≡ Err why)
-no_text schema text bytes ascii same broken = read_or (reading schema text) (λ query is. broken (subst (λ t. IsUtf8 t) (sym same) (ascii schema text query is).1))
+pub no_text : (schema : DatabaseSchema) (text bytes : Text) → SentencesAreAscii → bytes ≡ text → (IsUtf8 bytes → ⊥) → (why : Refusal)
+    × (reading schema text ≡ Err why)
+no_text schema text bytes ascii same broken =
+    read_or (reading schema text) (λ query is. broken (subst (λ t. IsUtf8 t) (sym same) (ascii schema text query is).1))
 
 -- a code that a query's text has, where it adds no entry, is by its size
-beyond : (text : Text) (query : Formula) (told : Run.Reply) (full large : Bool) (mark : Mark) → told ≡ (if full then history_full else if large then too_large else marked mark) → entry_added text (Ok query) told ≡ None → (full || large) ≡ true
+beyond : (text : Text) (query : Formula) (told : Run.Reply) (full large : Bool) (mark : Mark)
+    → told ≡ (if full then history_full else if large then too_large else marked mark) → entry_added text (Ok query) told ≡ None → (full || large) ≡ true
 beyond text query told true large mark is none = refl
 beyond text query told false true mark is none = refl
 beyond text query told false false mark is none = let adds = sym (ap (λ r. entry_added text (Ok query) r) is) ∙ none in absurd cc
 
-no_size : (kind place : ℕ) (full large : Bool) (mark : Mark) → no_sentence kind place ≡ (if full then history_full else if large then too_large else marked mark) → ⊥
+no_size : (kind place : ℕ) (full large : Bool) (mark : Mark)
+    → no_sentence kind place ≡ (if full then history_full else if large then too_large else marked mark) → ⊥
 no_size kind place true large mark is = cc
 no_size kind place false true mark is = cc
 no_size kind place false false mark is = cc
 
 module _ (schema : DatabaseSchema) (world : FactSet) (user : UserProfile) (before : History) (kind : ℕ) (text : Text) where
-  by_size : (code : Reply) (read : Result Formula Refusal) (number : ℕ) → reading schema text ≡ read → number ≡ length before → reply_of code ≡ reply_by schema world user before standing_open false text read → entry_added text read (reply_of code) ≡ None
+  by_size : (code : Reply) (read : Result Formula Refusal) (number : ℕ) → reading schema text ≡ read → number ≡ length before
+      → reply_of code ≡ reply_by schema world user before standing_open false text read → entry_added text read (reply_of code) ≡ None
       → ((refused : ℕ) (place : ℕ) → reply_of code ≡ no_sentence refused place → ⊥) → RefusesRecord schema world user before (kind, text) (Size number)
-  by_size code (Ok query) number reads is told none never =
-      (is, query, reads, beyond text query (reply_of code) (is_full before (length text)) (is_too_large schema user before query) (rule schema world user (log user before) query) told none)
+  by_size code (Ok query) number reads is told none never = (
+    is,
+    query,
+    reads,
+    beyond text query (reply_of code) (is_full before (length text)) (is_too_large schema user before query)
+        (rule schema world user (log user before) query) told none,
+  )
   by_size code (Err why) number reads is told none never = absurd (never why.kind why.place told)
 
-  by_text : (kind' place : ℕ) (read : Result Formula Refusal) (number : ℕ) → reading schema text ≡ read → number ≡ length before → no_sentence kind' place ≡ reply_by schema world user before standing_open false text read
+  by_text : (kind' place : ℕ) (read : Result Formula Refusal) (number : ℕ) → reading schema text ≡ read → number ≡ length before
+      → no_sentence kind' place ≡ reply_by schema world user before standing_open false text read
       → RefusesRecord schema world user before (kind, text) (Stale number)
   by_text kind' place (Ok query) number reads is told =
       absurd (no_size kind' place (is_full before (length text)) (is_too_large schema user before query) (rule schema world user (log user before) query) told)
   by_text kind' place (Err why) number reads is told = (is, why, reads)
 
   -- a record whose text is answered by a code is refused
-  pub code_refuses : (code : Reply) (number : ℕ) → number ≡ length before → (reply_of code ≡ open_reply schema world user before text) × (entry_added text (reading schema text) (reply_of code) ≡ None)
+  pub code_refuses : (code : Reply) (number : ℕ) → number ≡ length before → (reply_of code ≡ open_reply schema world user before text)
+      × (entry_added text (reading schema text) (reply_of code) ≡ None)
       → RefusesRecord schema world user before (kind, text) (refused_by code number)
   code_refuses (replies.Syntax refusal) number is weighed = by_text refusal.kind refusal.place (reading schema text) number refl is weighed.0
   code_refuses (replies.Mark mark) number is weighed = by_size (replies.Mark mark) (reading schema text) number refl is weighed.0 weighed.1 (λ k p e. cc)
@@ -77,32 +90,39 @@ module _ (schema : DatabaseSchema) (world : FactSet) (user : UserProfile) (befor
   code_refuses replies.Broken number is weighed = by_size replies.Broken (reading schema text) number refl is weighed.0 weighed.1 (λ k p e. cc)
   code_refuses replies.Memory number is weighed = by_size replies.Memory (reading schema text) number refl is weighed.0 weighed.1 (λ k p e. cc)
 
-  lawful_by : (full large : Bool) (told mark : Mark) → (if full then history_full else if large then too_large else marked told) ≡ marked mark → ((full || large) ≡ false) × (mark ≡ told)
+  lawful_by : (full large : Bool) (told mark : Mark) → (if full then history_full else if large then too_large else marked told) ≡ marked mark
+      → ((full || large) ≡ false) × (mark ≡ told)
   lawful_by true large told mark e = absurd cc
   lawful_by false true told mark e = absurd cc
   lawful_by false false told mark e = (refl, cc)
 
   -- a record that has another mark is refused
-  pub mark_refuses : (query : Formula) (stored computed : Mark) (number : ℕ) → number ≡ length before → IsAnswer schema world user before text query computed → mark_of kind ≡ Some stored → (stored ≡ computed → ⊥)
+  pub mark_refuses : (query : Formula) (stored computed : Mark) (number : ℕ) → number ≡ length before → IsAnswer schema world user before text query computed
+      → mark_of kind ≡ Some stored → (stored ≡ computed → ⊥)
       → RefusesRecord schema world user before (kind, text) (Unlawful number stored computed)
   mark_refuses query stored computed number is answer has other =
-      let told : reply_by schema world user before standing_open false text (Ok query) ≡ marked computed = ap (λ r. reply_by schema world user before standing_open false text r) (sym answer.read) ∙ answer.answer in
-      let means = lawful_by (is_full before (length text)) (is_too_large schema user before query) (rule schema world user (log user before) query) computed told in
+      let told : reply_by schema world user before standing_open false text (Ok query) ≡ marked computed =
+      ap (λ r. reply_by schema world user before standing_open false text r) (sym answer.read) ∙ answer.answer in
+      let means =
+      lawful_by (is_full before (length text)) (is_too_large schema user before query) (rule schema world user (log user before) query) computed told in
       (is, query, answer.read, means.0, has, means.1, other)
 
 -- ---- a list of records
 
 -- a record in its list
-pub split_records : (all : List Record) (i : ℕ) (next : Record) → i < length all → next ≡ get_or all i next → map recorded all ≡ map recorded (take i all) ++ recorded next ∷ map recorded (drop (i + 1) all)
+pub split_records : (all : List Record) (i : ℕ) (next : Record) → i < length all → next ≡ get_or all i next
+    → map recorded all ≡ map recorded (take i all) ++ recorded next ∷ map recorded (drop (i + 1) all)
 split_records all i next within is = ap (λ l. map recorded l) (split all i next within is) ∙ map-append recorded (take i all) (next ∷ drop (i + 1) all)
   where
     split : (xs : List Record) (k : ℕ) (one : Record) → k < length xs → one ≡ get_or xs k one → xs ≡ take k xs ++ one ∷ drop (k + 1) xs
     split xs k one within is =
-        sym (take-append-drop k xs) ∙ ap (λ t. take k xs ++ t) (drop-cons xs k one within ∙ ap (λ x. x ∷ drop (suc k) xs) (sym is)) ∙ ap (λ n. take k xs ++ one ∷ drop n xs) (sym (add-one k))
+        sym (take-append-drop k xs) ∙ ap (λ t. take k xs ++ t) (drop-cons xs k one within ∙ ap (λ x. x ∷ drop (suc k) xs) (sym is))
+        ∙ ap (λ n. take k xs ++ one ∷ drop n xs) (sym (add-one k))
 
 module _ (schema : DatabaseSchema) (world : FactSet) (user : UserProfile) where
   -- the first record that is refused seals the desk
-  pub replay_sealed : (all : List Recorded) (entries : History) (why : DeskError) → entries ≡ [] → admitted schema world user ≡ true → RefusesRecords schema world user all why → IsReplay schema world user all entries (Sealed why)
+  pub replay_sealed : (all : List Recorded) (entries : History) (why : DeskError) → entries ≡ [] → admitted schema world user ≡ true
+      → RefusesRecords schema world user all why → IsReplay schema world user all entries (Sealed why)
   replay_sealed all entries (Journal why) none admits refused = absurd refused.refused
   replay_sealed all entries (NotAdmitted admission) none admits refused = absurd refused.refused
   replay_sealed all entries (Stale number) none admits refused = (none, admits, refused)
@@ -110,8 +130,10 @@ module _ (schema : DatabaseSchema) (world : FactSet) (user : UserProfile) where
   replay_sealed all entries (Unlawful number stored computed) none admits refused = (none, admits, refused)
 
   -- the record after these seals it, where it isn't taken
-  pub replay_refused : (all : List Record) (i : ℕ) (next : Record) (before entries : History) (why : DeskError) → i < length all → next ≡ get_or all i next → map (entry_of schema) (map recorded (take i all)) ≡ map Some before
-      → IsLegal schema world user before → KeepsSizes schema user before → RefusesRecord schema world user before (recorded next) why → entries ≡ [] → admitted schema world user ≡ true
+  pub replay_refused : (all : List Record) (i : ℕ) (next : Record) (before entries : History) (why : DeskError) → i < length all → next ≡ get_or all i next
+      → map (entry_of schema) (map recorded (take i all)) ≡ map Some before
+      → IsLegal schema world user before → KeepsSizes schema user before → RefusesRecord schema world user before (recorded next) why → entries ≡ []
+      → admitted schema world user ≡ true
       → IsReplay schema world user (map recorded all) entries (Sealed why)
   replay_refused all i next before entries why within is are legal sizes refused none admits =
       replay_sealed (map recorded all) entries why none admits (record {
@@ -128,13 +150,18 @@ module _ (schema : DatabaseSchema) (world : FactSet) (user : UserProfile) where
 
 -- the same for a log that is of this user
 pub replay_refused_of : (schema schema' : DatabaseSchema) (world world' : FactSet) (user user' : UserProfile) → schema' ≡ schema → world' ≡ world → user' ≡ user
-    → (all : List Record) (i : ℕ) (next : Record) (before entries : History) (why : DeskError) → i < length all → next ≡ get_or all i next → map (entry_of schema) (map recorded (take i all)) ≡ map Some before
-    → IsLegal schema' world' user' before → KeepsSizes schema' user' before → RefusesRecord schema' world' user' before (recorded next) why → entries ≡ [] → admitted schema world user ≡ true
+    → (all : List Record) (i : ℕ) (next : Record) (before entries : History) (why : DeskError) → i < length all → next ≡ get_or all i next
+    → map (entry_of schema) (map recorded (take i all)) ≡ map Some before
+    → IsLegal schema' world' user' before → KeepsSizes schema' user' before → RefusesRecord schema' world' user' before (recorded next) why → entries ≡ []
+    → admitted schema world user ≡ true
     → IsReplay schema world user (map recorded all) entries (Sealed why)
-replay_refused_of schema schema' world world' user user' same_schema same_world same_user all i next before entries why within is are legal sizes refused none admits =
+replay_refused_of schema schema' world world' user user' same_schema same_world same_user all i next before entries why within is are legal sizes refused none
+    admits =
     replay_refused schema world user all i next before entries why within is are
-    (subst (λ s. IsLegal s world user before) same_schema (subst (λ w. IsLegal schema' w user before) same_world (subst (λ u. IsLegal schema' world' u before) same_user legal)))
+    (subst (λ s. IsLegal s world user before) same_schema
+    (subst (λ w. IsLegal schema' w user before) same_world (subst (λ u. IsLegal schema' world' u before) same_user legal)))
     (subst (λ s. KeepsSizes s user before) same_schema (subst (λ u. KeepsSizes schema' u before) same_user sizes))
     (subst (λ s. RefusesRecord s world user before (recorded next) why) same_schema
-    (subst (λ w. RefusesRecord schema' w user before (recorded next) why) same_world (subst (λ u. RefusesRecord schema' world' u before (recorded next) why) same_user refused)))
+    (subst (λ w. RefusesRecord schema' w user before (recorded next) why) same_world
+    (subst (λ u. RefusesRecord schema' world' u before (recorded next) why) same_user refused)))
     none admits

@@ -1,5 +1,6 @@
 -- What a desk is to its callers.
-use Rattle.std.specs.Prelude.{◌≡◌, ℕ, Bool, List, take, Option, option_map, is_some, Result, Ok, Err}
+use Rattle.std.specs.Prelude.{◌≡◌, ℕ, Bool, List, take, Option, option_map, is_some, Result, Ok}
+use Rattle.std.specs.Prelude.{Err}
 use Rattle.cqe_base.specs.Schema.{DatabaseSchema}
 use Rattle.cqe_base.specs.Facts.{FactSet}
 use Rattle.cqe_base.specs.History.{UserProfile, AnsweredQuery, History, answered_query_of}

@@ -1,5 +1,6 @@
 -- What the records of a journal stand for: the entries of a user.
-use Rattle.std.specs.Prelude.{◌≡◌, ℕ, ◌==◌, ◌≤◌, List, length, map, take, Option, Some, None, Result, Ok, if◌then◌else◌}
+use Rattle.std.specs.Prelude.{◌≡◌, ℕ, ◌==◌, ◌≤◌, List, length, map, take, Option, Some, None}
+use Rattle.std.specs.Prelude.{Result, Ok, if◌then◌else◌}
 use Rattle.cqe_base.specs.declared.user.Mark.{Mark}
 use Rattle.cqe_base.specs.declared.user.Mark.TheVariants.{Yes, No, Refused, Undecided}
 use Rattle.cqe_base.specs.Schema.{DatabaseSchema, Text}
@@ -27,20 +28,25 @@ mark_of kind =
 
 -- the entry of a text with this mark and this reading
 abbrev pub entry_by : Text → Option Mark → Result Formula Refusal → Option AnsweredQuery
-entry_by text (Some mark) (Ok query) = Some (record { query = query; mark = mark; length = length text })
+entry_by text (Some mark) (Ok query) =
+    Some (record { query = query; mark = mark; length = length text })
 entry_by text mark read = None
 
--- the entry that a record stands for: the query that its text reads as, the mark of its kind, and the text's length
+-- the entry that a record stands for: the query that its text reads as, the mark of its kind, and
+-- the text's length
 abbrev pub entry_of : DatabaseSchema → Recorded → Option AnsweredQuery
 entry_of schema one = entry_by one.1 (mark_of one.0) (reading schema one.1)
 
 -- the bytes are a journal with this header, whose records stand for these entries, all and in order
-pub record StandsFor (schema : DatabaseSchema) (header : List ℕ) (entries : History) (bytes : List ℕ) : Type 0 where
+pub record StandsFor (schema : DatabaseSchema) (header : List ℕ) (entries : History)
+    (bytes : List ℕ) : Type 0 where
   pub journal : IsJournal header (records bytes) bytes
   pub are : map (entry_of schema) (records bytes) ≡ map Some entries
 
--- the bytes are a journal with this header, whose records stand for a beginning of these entries that has at least so many
-pub record StandsWithin (schema : DatabaseSchema) (header : List ℕ) (least : ℕ) (entries : History) (bytes : List ℕ) : Type 0 where
+-- the bytes are a journal with this header, whose records stand for a beginning of these entries
+-- that has at least so many
+pub record StandsWithin (schema : DatabaseSchema) (header : List ℕ) (least : ℕ) (entries : History)
+    (bytes : List ℕ) : Type 0 where
   pub journal : IsJournal header (records bytes) bytes
   pub enough : least ≤ length (records bytes)
   pub are : map (entry_of schema) (records bytes) ≡ map Some (take (length (records bytes)) entries)

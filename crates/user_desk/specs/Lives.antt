@@ -4,7 +4,8 @@ use Rattle.cqe_base.specs.Schema.{DatabaseSchema, Text}
 use Rattle.cqe_base.specs.Facts.{FactSet}
 use Rattle.cqe_base.specs.History.{UserProfile, AnsweredQuery, History}
 use Rattle.cqe_base.specs.Run
-use Rattle.cqe_base.specs.Run.{Reply, UserState, Ending, failed, ask, restart, after_event, reply_to_ask, entries_found, entry_at, standing_sealed}
+use Rattle.cqe_base.specs.Run.{Reply, UserState, Ending, failed, ask, restart, after_event}
+use Rattle.cqe_base.specs.Run.{reply_to_ask, entries_found, entry_at, standing_sealed}
 use Rattle.outside.specs.Faults.{Rose}
 use Rattle.user_desk.specs.Causes.{Opens}
 use Rattle.user_desk.specs.declared.standing.Standing.{Standing}
@@ -12,9 +13,17 @@ use Rattle.user_desk.specs.declared.standing.Standing.TheVariants.{Sealed}
 
 -- the state with these entries, this standing and, if an append failed, the entry of that append
 abbrev pub shown : History → Run.Standing → Option AnsweredQuery → UserState
-shown entries standing in_flight = record { entries = entries; standing = standing; broken = is_some in_flight; pending = in_flight }
+shown entries standing in_flight =
+    record {
+      entries = entries;
+      standing = standing;
+      broken = is_some in_flight;
+      pending =
+          in_flight;
+    }
 
--- A desk with this standing, which shows one state, is in another: the same, or where its journal was refused any with this standing.
+-- A desk with this standing, which shows one state, is in another: the same, or where its journal
+-- was refused any with this standing.
 abbrev pub IsState : Standing → UserState → UserState → Type 0
 IsState (Sealed why) desk_state state = state.standing ≡ standing_sealed
 IsState _ desk_state state = state ≡ desk_state
@@ -26,17 +35,19 @@ module _ (schema : DatabaseSchema) (world : FactSet) (user : UserProfile) where
     pub sought : found ≡ true → is_some state.pending ≡ true
     pub opens : Opens schema world user header (entries_found schema world user state found) bytes
 
-  -- an ask of the text, with some ending, leads from the state to one that is now, and has this reply; an append failed
-  -- only where the count of faults rose
-  pub record Settles (is_now : UserState → Type 0) (state : UserState) (text : Text) (answer : Reply) (before now : ℕ) : Type 0 where
+  -- an ask of the text, with some ending, leads from the state to one that is now, and has this
+  -- reply; an append failed only where the count of faults rose
+  pub record Settles (is_now : UserState → Type 0) (state : UserState) (text : Text)
+      (answer : Reply) (before now : ℕ) : Type 0 where
     pub ending : Ending
     pub after : is_now (after_event schema world user state (ask text ending))
     pub reply : answer ≡ reply_to_ask schema world user state text ending
     pub cause : ending ≡ failed → Rose before now
 
-  -- a restart leads from the state to one that is now; it finds only an entry that was in flight, and the journal was
-  -- refused only where the count of faults rose
-  pub record Restarts (is_now : UserState → Type 0) (state : UserState) (before now : ℕ) : Type 0 where
+  -- a restart leads from the state to one that is now; it finds only an entry that was in flight,
+  -- and the journal was refused only where the count of faults rose
+  pub record Restarts (is_now : UserState → Type 0) (state : UserState) (before now : ℕ) :
+      Type 0 where
     pub found : Bool
     pub opened : Bool
     pub after : is_now (after_event schema world user state (restart found opened))
@@ -46,7 +57,8 @@ module _ (schema : DatabaseSchema) (world : FactSet) (user : UserProfile) where
   -- a desk with this standing, which shows this state, answers every text so and stays as it is
   abbrev pub AnswersAll : Standing → UserState → Reply → Type 0
   AnswersAll standing desk_state answer =
-      (state : UserState) → IsState standing desk_state state → (text : Text) (count : ℕ) → Settles (IsState standing desk_state) state text answer count count
+      (state : UserState) → IsState standing desk_state state → (text : Text) (count : ℕ)
+      → Settles (IsState standing desk_state) state text answer count count
 
   -- in this state no text adds an entry
   abbrev pub AddsNone : UserState → Type 0

@@ -14,14 +14,17 @@ use Rattle.user_desk.specs.declared.standing.DeskError.{DeskError}
 use Rattle.user_desk.specs.declared.standing.DeskError.TheVariants.{Stale, Size}
 
 -- the log is of this user in this world
-pub record IsLogOf (schema : DatabaseSchema) (world : FactSet) (user : UserProfile) (log : UserLog) : Type 0 where
+pub record IsLogOf (schema : DatabaseSchema) (world : FactSet) (user : UserProfile)
+    (log : UserLog) : Type 0 where
   pub schema_is : kept_schema log ≡ schema
   pub world_is : kept_world log ≡ world
   pub user_is : kept_user log ≡ user
 
 -- a record was taken as the next entry, or is refused behind these
-abbrev pub IsTaken : DatabaseSchema → FactSet → UserProfile → History → History → Recorded → Option DeskError → Type 0
-IsTaken schema world user old new next None = (entry : AnsweredQuery) × (entry_of schema next ≡ Some entry) × (new ≡ old ++ entry ∷ [])
+abbrev pub IsTaken : DatabaseSchema → FactSet → UserProfile → History → History → Recorded
+    → Option DeskError → Type 0
+IsTaken schema world user old new next None =
+    (entry : AnsweredQuery) × (entry_of schema next ≡ Some entry) × (new ≡ old ++ entry ∷ [])
 IsTaken schema world user old new next (Some why) = RefusesRecord schema world user old next why
 
 -- why the record of this number is refused, whose text is answered by a code

@@ -3,7 +3,8 @@ use Rattle.std.specs.Prelude.{◌≡◌, ℕ, ◌+◌, ◌≤◌, Bool, true, fa
 use Rattle.outside.specs.Disk.{Elapses}
 use Rattle.outside.specs.Faults.{Rose}
 
--- a disk now and as a desk was opened on it; whether it has a journal, whether an append of that failed, and how many bytes of room that has
+-- a disk now and as a desk was opened on it; whether it has a journal, whether an append of that
+-- failed, and how many bytes of room that has
 pub record Stored (D : Type 0) : Type 0 where
   pub disk : D
   pub opened : D
@@ -33,10 +34,11 @@ module _ {D : Type 0} where
   HasRoomFor store size = size + 4 ≤ store.room
 
 module _ {D : Type 0} (moment : D → ℕ) (since : D → ℕ → List ℕ → Type 0) (faults : D → ℕ) where
-  -- Since the opening the clock has gone on, and the count of faults hasn't fallen; it rose where an append failed, and
-  -- without a journal the disk is as it was.
+  -- Since the opening the clock has gone on, and the count of faults hasn't fallen; it rose where
+  -- an append failed, and without a journal the disk is as it was.
   pub record GoesOn (store : Stored D) : Type 0 where
-    pub time : Elapses (moment store.opened) (moment store.disk) (since store.opened) (since store.disk)
+    pub time : Elapses (moment store.opened) (moment store.disk) (since store.opened)
+        (since store.disk)
     pub count : faults store.opened ≤ faults store.disk
     pub cause : store.has_failed ≡ true → Rose (faults store.opened) (faults store.disk)
     pub idle : store.has_journal ≡ false → store.disk ≡ store.opened

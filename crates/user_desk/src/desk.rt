@@ -1,5 +1,6 @@
 //! A desk between its opening and its close.
-ghost use Rattle.std.specs.Prelude.{◌≡◌, ◌≤◌, ◌++◌, ◌∷◌, [], true, false, List, ℕ, length, map, option_map, option_to_list, None, IfSome, IfNone, ◌↔◌, IsTrue};
+ghost use Rattle.std.specs.Prelude.{◌≡◌, ◌≤◌, ◌++◌, ◌∷◌, [], true, false, List, ℕ, length, map};
+ghost use Rattle.std.specs.Prelude.{option_map, option_to_list, None, IfSome, IfNone, ◌↔◌, IsTrue};
 ghost use Rattle.outside.specs.Disk.{Elapses};
 ghost use Rattle.outside.specs.Faults.{Rose};
 ghost use Rattle.cqe_base.specs.Formula.{formula_of};
@@ -34,13 +35,18 @@ pub struct Desk<'w, D: Disk> {
     pub(crate) in_flight: Option<Entry>,
     /// How many entries there were at the opening.
     pub(crate) opened: usize,
-    ghost kept: { IsKept D.tells (D.image (stored_disk store)) (kept_schema log) (kept_world log) (kept_user log)
-        (header_bytes header) standing (kept_history log) (option_map answered_query_of in_flight) (has_journal store)
+    ghost kept: { IsKept D.tells (D.image (stored_disk store)) (kept_schema log) (kept_world log)
+        (kept_user log)
+        (header_bytes header) standing (kept_history log) (option_map answered_query_of in_flight)
+        (has_journal store)
         (has_failed store) } by { IsKept-prop _ _ _ _ _ _ _ _ _ _ _ },
-    ghost since: { StandsSince D.tells (D.image_since (stored_disk store) (D.moment (opened_disk store)))
+    ghost since: { StandsSince D.tells
+        (D.image_since (stored_disk store) (D.moment (opened_disk store)))
         (kept_schema log) (header_bytes header) standing opened (kept_history log)
-        (option_map answered_query_of in_flight) (has_journal store) } by { StandsSince-prop _ _ _ _ _ _ _ _ _ },
-    ghost still: { opened ≡ length (kept_history log) → option_map answered_query_of in_flight ≡ None
+        (option_map answered_query_of in_flight)
+        (has_journal store) } by { StandsSince-prop _ _ _ _ _ _ _ _ _ },
+    ghost still: { opened ≡ length (kept_history log)
+        → option_map answered_query_of in_flight ≡ None
         → stored_disk store ≡ opened_disk store },
 }
 
@@ -49,7 +55,11 @@ impl<'w, D: Disk> Desk<'w, D> {
     ghost use Rattle.user_log.specs.Replies.{reply_of};
     ghost use Rattle.user_desk.specs.Entries.{StandsFor, StandsWithin};
     ghost use Rattle.user_desk.specs.Lives.{Holds, Settles, AnswersAll, AddsNone};
-    ghost use Rattle.user_desk.specs.Desks.{desk_schema, desk_world, desk_user, desk_header, desk_standing, desk_history, desk_disk, entry_in_flight, is_broken_desk, state_of, opening_count, opening_disk, IsIn, IsOfSame, IsOfOneOpening};
+    ghost use Rattle.user_desk.specs.Desks.{desk_schema, desk_world, desk_user, desk_header};
+    ghost use Rattle.user_desk.specs.Desks.{desk_standing, desk_history, desk_disk};
+    ghost use Rattle.user_desk.specs.Desks.{entry_in_flight, is_broken_desk, state_of};
+    ghost use Rattle.user_desk.specs.Desks.{opening_count, opening_disk, IsIn, IsOfSame};
+    ghost use Rattle.user_desk.specs.Desks.{IsOfOneOpening};
     ghost use Rattle.user_desk.specs.Replying.{HasNoWrite};
 
     /// The user whose desk it is.
@@ -80,19 +90,22 @@ impl<'w, D: Disk> Desk<'w, D> {
         self.in_flight.is_some()
     }
 
-    /// What is known of a desk: its entries are legal and within the limits, each image of its disk stands for its
-    /// state, or where no append failed for its entries, and only of a user who is admitted are there any; and what it
-    /// keeps of its opening. It computes nothing.
+    /// What is known of a desk: its entries are legal and within the limits, each image of its disk
+    /// stands for its state, or where no append failed for its entries, and only of a user who is
+    /// admitted are there any; and what it keeps of its opening. It computes nothing.
     pub fn known(&self)
         ensures limits { KeepsLimits (desk_schema self.now) (desk_user self.now) }
-        ensures sizes { KeepsSizes (desk_schema self.now) (desk_user self.now) (desk_history self.now) }
+        ensures sizes { KeepsSizes (desk_schema self.now) (desk_user self.now)
+            (desk_history self.now) }
         ensures legal { IsLegal (desk_schema self.now) (desk_world self.now) (desk_user self.now)
             (desk_history self.now) }
         ensures images { D.tells → is_sealed (desk_standing self.now) ≡ false → (c : List ℕ)
             → D.image (desk_disk self.now) c
-            → Holds (desk_schema self.now) (desk_world self.now) (desk_user self.now) (desk_header self.now)
+            → Holds (desk_schema self.now) (desk_world self.now) (desk_user self.now)
+            (desk_header self.now)
             (state_of self.now) c }
-        ensures whole { D.tells → is_sealed (desk_standing self.now) ≡ false → is_broken_desk self.now ≡ false
+        ensures whole { D.tells → is_sealed (desk_standing self.now) ≡ false
+            → is_broken_desk self.now ≡ false
             → (c : List ℕ) → D.image (desk_disk self.now) c
             → StandsFor (desk_schema self.now) (desk_header self.now) (desk_history self.now) c }
         ensures admits { is_open (desk_standing self.now) ≡ true
@@ -100,21 +113,25 @@ impl<'w, D: Disk> Desk<'w, D> {
         ensures none { is_open (desk_standing self.now) ≡ false → desk_history self.now ≡ [] }
         ensures idle { is_open (desk_standing self.now) ≡ false → is_broken_desk self.now ≡ false }
 
-        // Since the opening each image stands for a beginning of the entries, with the one in flight, that has the
-        // entries at the opening; where the journal was refused, or nothing was appended, the disk is as it was.
+        // Since the opening each image stands for a beginning of the entries, with the one in
+        // flight, that has the entries at the opening; where the journal was refused, or nothing
+        // was appended, the disk is as it was.
         ensures begins { opening_count self.now ≤ length (desk_history self.now) }
         ensures since { D.tells → is_sealed (desk_standing self.now) ≡ false → (c : List ℕ)
             → D.image_since (desk_disk self.now) (D.moment (opening_disk self.now)) c
             → StandsWithin (desk_schema self.now) (desk_header self.now) (opening_count self.now)
             (desk_history self.now ++ option_to_list (entry_in_flight self.now)) c }
-        ensures refused { is_sealed (desk_standing self.now) ≡ true → desk_disk self.now ≡ opening_disk self.now }
-        ensures still { opening_count self.now ≡ length (desk_history self.now) → entry_in_flight self.now ≡ None
+        ensures refused { is_sealed (desk_standing self.now) ≡ true
+            → desk_disk self.now ≡ opening_disk self.now }
+        ensures still { opening_count self.now ≡ length (desk_history self.now)
+            → entry_in_flight self.now ≡ None
             → desk_disk self.now ≡ opening_disk self.now }
         ensures rests { is_sealed (desk_standing self.now) ≡ true → (c : List ℕ)
             → D.image_since (desk_disk self.now) (D.moment (opening_disk self.now)) c
             → D.image (opening_disk self.now) c }
 
-        // The clock has gone on since, the count of faults hasn't fallen, and it rose where an append failed.
+        // The clock has gone on since, the count of faults hasn't fallen, and it rose where an
+        // append failed.
         ensures time { Elapses (D.moment (opening_disk self.now)) (D.moment (desk_disk self.now))
             (D.image_since (opening_disk self.now)) (D.image_since (desk_disk self.now)) }
         ensures count { D.faults (opening_disk self.now) ≤ D.faults (desk_disk self.now) }
@@ -125,8 +142,9 @@ impl<'w, D: Disk> Desk<'w, D> {
         self.store.known();
     }
 
-    /// The reply to a text by the entries so far. A mark comes once its entry is on the disk, and adds it; want of
-    /// memory and a code change nothing, and from the first write on the answer is a mark or that the append failed.
+    /// The reply to a text by the entries so far. A mark comes once its entry is on the disk, and
+    /// adds it; want of memory and a code change nothing, and from the first write on the answer is
+    /// a mark or that the append failed.
     pub fn settle(&mut self, alloc: Global, text: &str) -> Reply
         requires { length text.now ≤ 4096 }
         ensures same { IsOfSame self.old self.new }
@@ -134,7 +152,8 @@ impl<'w, D: Disk> Desk<'w, D> {
 
         // It is an ask of the run, with its reply and its ending.
         ensures settled { (state : UserState) → IsIn self.old state
-            → Settles (desk_schema self.old) (desk_world self.old) (desk_user self.old) (IsIn self.new) state text.now
+            → Settles (desk_schema self.old) (desk_world self.old) (desk_user self.old)
+            (IsIn self.new) state text.now
             (reply_of result) (D.faults (desk_disk self.old)) (D.faults (desk_disk self.new)) }
         ensures broken { (result ≡ Reply.Broken) ↔ IsTrue (is_broken_desk self.new) }
         ensures untouched { HasNoWrite result → desk_disk self.new ≡ desk_disk self.old }
@@ -143,8 +162,10 @@ impl<'w, D: Disk> Desk<'w, D> {
         // At every moment of the call each image stands for what a crash of this ask leaves.
         ensures moments { D.tells → is_sealed (desk_standing self.old) ≡ false → (c : List ℕ)
             → D.image_since (desk_disk self.new) (D.moment (desk_disk self.old)) c
-            → Holds (desk_schema self.old) (desk_world self.old) (desk_user self.old) (desk_header self.old)
-            (after_event (desk_schema self.old) (desk_world self.old) (desk_user self.old) (state_of self.old)
+            → Holds (desk_schema self.old) (desk_world self.old) (desk_user self.old)
+            (desk_header self.old)
+            (after_event (desk_schema self.old) (desk_world self.old) (desk_user self.old)
+            (state_of self.old)
             (stop text.now)) c }
         ensures time { Elapses (D.moment (desk_disk self.old)) (D.moment (desk_disk self.new))
             (D.image_since (desk_disk self.old)) (D.image_since (desk_disk self.new)) }
@@ -162,11 +183,14 @@ impl<'w, D: Disk> Desk<'w, D> {
 
     // The code that answers every text, if there is one. It leaves the desk as it is.
     fn refusal(&self) -> Option<Reply>
-        ensures answers { IfSome result (λ code. AnswersAll (desk_schema self.now) (desk_world self.now)
+        ensures answers { IfSome result (λ code.
+            AnswersAll (desk_schema self.now) (desk_world self.now)
             (desk_user self.now) (desk_standing self.now) (state_of self.now) (reply_of code)) }
-        ensures adds { IfSome result (λ _. AddsNone (desk_schema self.now) (desk_world self.now) (desk_user self.now)
+        ensures adds { IfSome result (λ _.
+            AddsNone (desk_schema self.now) (desk_world self.now) (desk_user self.now)
             (state_of self.now)) }
-        ensures broken { IfSome result (λ code. (code ≡ Reply.Broken) ↔ IsTrue (is_broken_desk self.now)) }
+        ensures broken { IfSome result
+            (λ code. (code ≡ Reply.Broken) ↔ IsTrue (is_broken_desk self.now)) }
         ensures opened { IfNone result (desk_standing self.now ≡ Standing.Open) }
         ensures whole { IfNone result (entry_in_flight self.now ≡ None) }
     {
@@ -193,9 +217,12 @@ impl<'w, D: Disk> Desk<'w, D> {
         ensures broken { (result ≡ Reply.Broken) ↔ IsTrue (is_broken_desk self.new) }
         ensures untouched { HasNoWrite result → desk_disk self.new ≡ desk_disk self.old }
         ensures count { D.faults (desk_disk self.old) ≤ D.faults (desk_disk self.new) }
-        ensures moments { D.tells → (c : List ℕ) → D.image_since (desk_disk self.new) (D.moment (desk_disk self.old)) c
-            → Holds (desk_schema self.old) (desk_world self.old) (desk_user self.old) (desk_header self.old)
-            (after_event (desk_schema self.old) (desk_world self.old) (desk_user self.old) (state_of self.old)
+        ensures moments { D.tells → (c : List ℕ)
+            → D.image_since (desk_disk self.new) (D.moment (desk_disk self.old)) c
+            → Holds (desk_schema self.old) (desk_world self.old) (desk_user self.old)
+            (desk_header self.old)
+            (after_event (desk_schema self.old) (desk_world self.old) (desk_user self.old)
+            (state_of self.old)
             (stop text.now)) c }
         ensures time { Elapses (D.moment (desk_disk self.old)) (D.moment (desk_disk self.new))
             (D.image_since (desk_disk self.old)) (D.image_since (desk_disk self.new)) }

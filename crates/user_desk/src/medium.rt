@@ -55,7 +55,8 @@ impl<D: Disk> Medium<D> {
         ensures whole { OnOk result (is_failed self.new ≡ false) }
         ensures failed { OnErr result (is_failed self.new ≡ true) }
         ensures count { D.faults (medium_disk self.old) ≤ D.faults (medium_disk self.new) }
-        ensures cause { OnErr result (Rose (D.faults (medium_disk self.old)) (D.faults (medium_disk self.new))) }
+        ensures cause { OnErr result
+            (Rose (D.faults (medium_disk self.old)) (D.faults (medium_disk self.new))) }
     {
         match self {
             Medium::Journal(journal) => match journal.append(kind, text) {

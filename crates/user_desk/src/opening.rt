@@ -12,7 +12,9 @@ ghost use Rattle.user_desk.specs.Causes.{Opens, IsStanding};
 ghost use Rattle.user_desk.specs.Standings.{is_sealed};
 ghost use Rattle.user_desk.specs.Mediums.{medium_disk, is_journal, is_failed};
 ghost use Rattle.user_desk.specs.Lives.{Holds, Restarts};
-ghost use Rattle.user_desk.specs.Desks.{desk_schema, desk_world, desk_user, desk_header, desk_standing, desk_history, desk_disk, is_broken_desk, opening_history, opening_disk, IsIn, disk_opened};
+ghost use Rattle.user_desk.specs.Desks.{desk_schema, desk_world, desk_user, desk_header};
+ghost use Rattle.user_desk.specs.Desks.{desk_standing, desk_history, desk_disk, is_broken_desk};
+ghost use Rattle.user_desk.specs.Desks.{opening_history, opening_disk, IsIn, disk_opened};
 
 use crate::Desk;
 use crate::medium::Medium;
@@ -27,11 +29,11 @@ use outside::Disk;
 use std::alloc::{AllocError, Global};
 use user_log::UserLog;
 
-/// Opens the desk of a user from any disk. It begins with a sync and repairs nothing: the bytes stay, and no crash at
-/// any moment leaves anything new. The desk is open with the entries of the journal where these are a legal history
-/// within the limits of a user who is admitted; it is closed where the user isn't admitted and there are none; and else
-/// it is sealed, for the first reason that the bytes show or for a fault of the disk. Want of memory hands the disk
-/// back.
+/// Opens the desk of a user from any disk. It begins with a sync and repairs nothing: the bytes
+/// stay, and no crash at any moment leaves anything new. The desk is open with the entries of the
+/// journal where these are a legal history within the limits of a user who is admitted; it is
+/// closed where the user isn't admitted and there are none; and else it is sealed, for the first
+/// reason that the bytes show or for a fault of the disk. Want of memory hands the disk back.
 pub fn open_desk<'w, D: Disk>(
     alloc: Global,
     schema: &'w Schema,
@@ -46,21 +48,26 @@ pub fn open_desk<'w, D: Disk>(
     ensures user { IfOk result (λ desk. desk_user desk ≡ profile_of user.now) }
     ensures header { IfOk result (λ desk. desk_header desk ≡ header_bytes header.now) }
 
-    // The standing has its cause, and a desk that isn't sealed has the entries that the bytes open it with.
-    ensures standing { IfOk result (λ desk. IsStanding schema.now world.now (profile_of user.now) D.tells
+    // The standing has its cause, and a desk that isn't sealed has the entries that the bytes open
+    // it with.
+    ensures standing { IfOk result (λ desk.
+        IsStanding schema.now world.now (profile_of user.now) D.tells
         (header_bytes header.now) (D.reads disk) (desk_history desk)
         (D.faults disk) (D.faults (desk_disk desk)) (desk_standing desk)) }
     ensures sound { D.tells → IfOk result (λ desk. is_sealed (desk_standing desk) ≡ false
-        → Opens schema.now world.now (profile_of user.now) (header_bytes header.now) (desk_history desk)
+        → Opens schema.now world.now (profile_of user.now) (header_bytes header.now)
+        (desk_history desk)
         (D.reads disk)) }
     ensures whole { IfOk result (λ desk. is_broken_desk desk ≡ false) }
     // The opening is the moment at which it answers.
     ensures opening { IfOk result (λ desk. (opening_history desk ≡ desk_history desk)
         × (opening_disk desk ≡ desk_disk desk)) }
 
-    // It is a restart of each state that the bytes hold, which is refused only for a fault of the disk.
+    // It is a restart of each state that the bytes hold, which is refused only for a fault of the
+    // disk.
     ensures restarted { D.tells → IfOk result (λ desk. (state : UserState)
-        → Holds schema.now world.now (profile_of user.now) (header_bytes header.now) state (D.reads disk)
+        → Holds schema.now world.now (profile_of user.now) (header_bytes header.now) state
+        (D.reads disk)
         → Restarts schema.now world.now (profile_of user.now) (IsIn desk) state (D.faults disk)
         (D.faults (desk_disk desk))) }
 
@@ -70,7 +77,8 @@ pub fn open_desk<'w, D: Disk>(
     ensures images { (c : List ℕ) → D.image (disk_opened result) c → D.image disk c }
     ensures time { Elapses (D.moment disk) (D.moment (disk_opened result)) (D.image_since disk)
         (D.image_since (disk_opened result)) }
-    ensures moments { (c : List ℕ) → D.image_since (disk_opened result) (D.moment disk) c → D.image disk c }
+    ensures moments { (c : List ℕ) → D.image_since (disk_opened result) (D.moment disk) c
+        → D.image disk c }
     ensures count { D.faults disk ≤ D.faults (disk_opened result) }
 {
     match open(alloc, disk, header) {

@@ -4,7 +4,8 @@ ghost use Rattle.cqe_base.specs.History.{profile_of};
 ghost use Rattle.cqe_base.specs.Limits.{KeepsLimits};
 ghost use Rattle.cqe_base.specs.Censor.{admitted};
 ghost use Rattle.log_journal.specs.Opening.{recorded, IsRecord};
-ghost use Rattle.user_log.specs.UserLogs.{kept_schema, kept_world, kept_user, kept_history, IsOfSame};
+ghost use Rattle.user_log.specs.UserLogs.{kept_schema, kept_world, kept_user, kept_history};
+ghost use Rattle.user_log.specs.UserLogs.{IsOfSame};
 ghost use Rattle.user_desk.specs.Causes.{IsReplay};
 ghost use Rattle.user_desk.specs.Replays.{IsLogOf, IsTaken, refused_by};
 
@@ -30,7 +31,8 @@ pub(crate) fn replay<'w>(
     requires limits { KeepsLimits schema.now (profile_of user.now) }
     requires each { All IsRecord records.now }
     ensures log { IfOk result (λ r. IsLogOf schema.now world.now (profile_of user.now) r.0) }
-    ensures replay { IfOk result (λ r. IsReplay schema.now world.now (profile_of user.now) (map recorded records.now)
+    ensures replay { IfOk result (λ r.
+        IsReplay schema.now world.now (profile_of user.now) (map recorded records.now)
         (kept_history r.0) r.1) }
 {
     let admission = admit(alloc, schema, world, user)?;
@@ -56,7 +58,8 @@ fn replay_records<'w>(
     requires each { All IsRecord records.now }
     requires admitted { admitted schema.now world.now (profile_of user.now) ≡ true }
     ensures log { IfOk result (λ r. IsLogOf schema.now world.now (profile_of user.now) r.0) }
-    ensures replay { IfOk result (λ r. IsReplay schema.now world.now (profile_of user.now) (map recorded records.now)
+    ensures replay { IfOk result (λ r.
+        IsReplay schema.now world.now (profile_of user.now) (map recorded records.now)
         (kept_history r.0) r.1) }
 {
     let mut log = UserLog::new(alloc, schema, world, user)?;
@@ -78,7 +81,8 @@ fn take_record(
 ) -> Result<Option<DeskError>, AllocError>
     requires { IsRecord next.now }
     ensures same { IsOfSame log.old log.new }
-    ensures taken { IfOk result (IsTaken (kept_schema log.old) (kept_world log.old) (kept_user log.old)
+    ensures taken { IfOk result
+        (IsTaken (kept_schema log.old) (kept_world log.old) (kept_user log.old)
         (kept_history log.old) (kept_history log.new) (recorded next.now)) }
 {
     law_sentences_are_ascii();

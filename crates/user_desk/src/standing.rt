@@ -14,8 +14,8 @@ pub enum Standing {
     Sealed(DeskError),
 }
 
-/// Why a user's journal is refused, numbered from 1. Records are numbered from 0 and looked at in order, each first
-/// for its text, then for its size, then for its mark.
+/// Why a user's journal is refused, numbered from 1. Records are numbered from 0 and looked at in
+/// order, each first for its text, then for its size, then for its mark.
 #[derive(Clone, Copy, Debug, PartialEq, Eq)]
 pub enum DeskError {
     /// The journal isn't opened.
@@ -28,7 +28,8 @@ pub enum DeskError {
         stored: Mark,
         computed: Mark,
     },
-    /// The records before this one are a full history for its text, or the view is too large for its query.
+    /// The records before this one are a full history for its text, or the view is too large for
+    /// its query.
     Size(u32),
     /// There are records of a user who isn't admitted, by this test.
     NotAdmitted(Admission),

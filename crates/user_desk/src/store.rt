@@ -25,11 +25,13 @@ impl<D: Disk> Model for Store<D> {
 
     ghost view = { λ s. stored_in s.medium s.opened.value };
 
-    ghost invariant = { λ s. GoesOn D.moment D.image_since D.faults (stored_in s.medium s.opened.value) };
+    ghost invariant = { λ s.
+        GoesOn D.moment D.image_since D.faults (stored_in s.medium s.opened.value) };
 }
 
 impl<D: Disk> Store<D> {
-    ghost use Rattle.user_desk.specs.Stored.{stored_disk, opened_disk, has_journal, has_failed, HasRoomFor, GoesOn};
+    ghost use Rattle.user_desk.specs.Stored.{stored_disk, opened_disk, has_journal, has_failed};
+    ghost use Rattle.user_desk.specs.Stored.{HasRoomFor, GoesOn};
     ghost use Rattle.user_desk.specs.Mediums.{medium_disk, is_journal, is_failed};
 
     /// Keeps a disk as it is at the opening of a desk.
@@ -85,7 +87,8 @@ impl<D: Disk> Store<D> {
         ensures whole { OnOk result (has_failed self.new ≡ false) }
         ensures failed { OnErr result (has_failed self.new ≡ true) }
         ensures count { D.faults (stored_disk self.old) ≤ D.faults (stored_disk self.new) }
-        ensures cause { OnErr result (Rose (D.faults (stored_disk self.old)) (D.faults (stored_disk self.new))) }
+        ensures cause { OnErr result
+            (Rose (D.faults (stored_disk self.old)) (D.faults (stored_disk self.new))) }
         ensures opened { opened_disk self.new ≡ opened_disk self.old }
     {
         self.medium.append(kind, text)

@@ -17,9 +17,13 @@ use Rattle.user_log.specs.Asked.{IsAnswer, IsAsked, answered, open_reply}
 append_none : (entries : History) (added : Option AnsweredQuery) → added ≡ None → entries ≡ entries ++ option_to_list added
 append_none entries added none = grind (arith, common_steps)
 
-pub code_asked : (schema : DatabaseSchema) (world : FactSet) (user : UserProfile) (entries : History) (text : Text) (code : Reply) → (reply_of code ≡ open_reply schema world user entries text) × (entry_added text (reading schema text) (reply_of code) ≡ None) → IsAsked schema world user entries entries text (reply_of code)
+pub code_asked : (schema : DatabaseSchema) (world : FactSet) (user : UserProfile) (entries : History) (text : Text) (code : Reply)
+    → (reply_of code ≡ open_reply schema world user entries text) × (entry_added text (reading schema text) (reply_of code) ≡ None)
+    → IsAsked schema world user entries entries text (reply_of code)
 code_asked schema world user entries text code is = answered is.0 (append_none entries (entry_added text (reading schema text) (reply_of code)) is.1)
 
-pub mark_asked : (schema : DatabaseSchema) (world : FactSet) (user : UserProfile) (old new : History) (text : Text) (query : Formula) (mark : Mark) → IsAnswer schema world user old text query mark → new ≡ old ++ record { query = query; mark = mark; length = length text } ∷ [] → IsAsked schema world user old new text (marked mark)
+pub mark_asked : (schema : DatabaseSchema) (world : FactSet) (user : UserProfile) (old new : History) (text : Text) (query : Formula) (mark : Mark)
+    → IsAnswer schema world user old text query mark → new ≡ old ++ record { query = query; mark = mark; length = length text } ∷ []
+    → IsAsked schema world user old new text (marked mark)
 mark_asked schema world user old new text query mark is added =
     answered (sym is.answer) (added ∙ ap (λ read. old ++ option_to_list (entry_added text read (marked mark))) (sym is.read))

@@ -20,7 +20,10 @@ use Rattle.user_log.specs.Nodes.{told_nodes}
 use Rattle.user_log.proofs.Sizes.{view_size-push}
 
 -- the table gives the rule's mark from findings of what is kept
-pub decided : (schema view_schema : DatabaseSchema) (world : FactSet) (user : UserProfile) (log_is view_log : List Signed) (query : Formula) (spent : Bool) (implied : Option Bool) (yes_harm no_harm : Bool) → view_schema ≡ schema → view_log ≡ log_is → FindingsDecide → AreFindings view_schema user view_log query spent implied yes_harm no_harm → mark_by user.method spent implied yes_harm no_harm (true_in schema world query) ≡ rule schema world user log_is query
+pub decided : (schema view_schema : DatabaseSchema) (world : FactSet) (user : UserProfile) (log_is view_log : List Signed) (query : Formula) (spent : Bool)
+    (implied : Option Bool) (yes_harm no_harm : Bool) → view_schema ≡ schema → view_log ≡ log_is → FindingsDecide
+    → AreFindings view_schema user view_log query spent implied yes_harm no_harm
+    → mark_by user.method spent implied yes_harm no_harm (true_in schema world query) ≡ rule schema world user log_is query
 decided schema view_schema world user log_is view_log query spent implied yes_harm no_harm same_schema same_log decide found =
     let at_schema = subst (λ s. AreFindings s user view_log query spent implied yes_harm no_harm) same_schema found in
     let at_log = subst (λ l. AreFindings schema user l query spent implied yes_harm no_harm) same_log at_schema in
@@ -31,7 +34,9 @@ no_entry [] entry after e = cc
 no_entry (x ∷ before) entry after e = cc
 
 -- before the first ask
-pub kept_empty : (schema : DatabaseSchema) (world : FactSet) (user : UserProfile) (entries : History) (view_schema : DatabaseSchema) (view_log : List Signed) (view_nodes : ℕ) → entries ≡ [] → KeepsLimits schema user → EmptyHistoryIsLegal → EmptyLogIsKnown → view_schema ≡ schema → view_log ≡ known user → view_nodes ≡ view_size schema user [] → IsKept schema world user entries view_schema view_log 0 view_nodes
+pub kept_empty : (schema : DatabaseSchema) (world : FactSet) (user : UserProfile) (entries : History) (view_schema : DatabaseSchema) (view_log : List Signed)
+    (view_nodes : ℕ) → entries ≡ [] → KeepsLimits schema user → EmptyHistoryIsLegal → EmptyLogIsKnown → view_schema ≡ schema → view_log ≡ known user
+    → view_nodes ≡ view_size schema user [] → IsKept schema world user entries view_schema view_log 0 view_nodes
 kept_empty schema world user entries view_schema view_log view_nodes none limits legal logs same_schema same_log same_nodes =
     subst (λ h. IsKept schema world user h view_schema view_log 0 view_nodes) (sym none) record {
       limits = limits;
@@ -51,12 +56,14 @@ module _ {X : Type 0} where
   none_behind (x ∷ before) y after e = cc
 
   -- the same with one more in front of both
-  longer : (x b : X) → b ≡ x → (xs : List X) (last : X) (before : List X) (y : X) → ((before ≡ xs) × (y ≡ last)) ⊎ ((rest : List X) × (xs ≡ before ++ y ∷ rest)) → ((b ∷ before ≡ x ∷ xs) × (y ≡ last)) ⊎ ((rest : List X) × (x ∷ xs ≡ b ∷ before ++ y ∷ rest))
+  longer : (x b : X) → b ≡ x → (xs : List X) (last : X) (before : List X) (y : X) → ((before ≡ xs) × (y ≡ last)) ⊎ ((rest : List X) × (xs ≡ before ++ y ∷ rest))
+      → ((b ∷ before ≡ x ∷ xs) × (y ≡ last)) ⊎ ((rest : List X) × (x ∷ xs ≡ b ∷ before ++ y ∷ rest))
   longer x b heads xs last before y (inl same) = let front : b ∷ before ≡ x ∷ xs = ap (λ h. h ∷ before) heads ∙ ap (λ t. x ∷ t) same.0 in inl (front, same.1)
   longer x b heads xs last before y (inr (rest, is)) = inr (rest, ap (λ t. x ∷ t) is ∙ ap (λ h. h ∷ (before ++ y ∷ rest)) (sym heads))
 
   -- in a list with one more at its end, an item is that one or stands before it
-  split_last : (xs : List X) (last : X) (before : List X) (y : X) (after : List X) → xs ++ last ∷ [] ≡ before ++ y ∷ after → ((before ≡ xs) × (y ≡ last)) ⊎ ((rest : List X) × (xs ≡ before ++ y ∷ rest))
+  split_last : (xs : List X) (last : X) (before : List X) (y : X) (after : List X) → xs ++ last ∷ [] ≡ before ++ y ∷ after → ((before ≡ xs) × (y ≡ last))
+      ⊎ ((rest : List X) × (xs ≡ before ++ y ∷ rest))
   split_last [] last [] y after e = inl (refl, cc)
   split_last [] last (b ∷ before) y after e = let tails : [] ≡ before ++ y ∷ after = cc in absurd (none_behind before y after tails)
   split_last (x ∷ xs) last [] y after e = let heads : x ≡ y = cc in inr (xs, ap (λ h. h ∷ xs) heads)
@@ -66,7 +73,8 @@ module _ {X : Type 0} where
       longer x b heads xs last before y (split_last xs last before y after tails)
 
 -- entries within the limits and one more
-pub sizes_push : (schema : DatabaseSchema) (user : UserProfile) (entries : History) (last : AnsweredQuery) → KeepsSizes schema user entries → KeepsSizesAt schema user entries last → KeepsSizes schema user (entries ++ last ∷ [])
+pub sizes_push : (schema : DatabaseSchema) (user : UserProfile) (entries : History) (last : AnsweredQuery) → KeepsSizes schema user entries
+    → KeepsSizesAt schema user entries last → KeepsSizes schema user (entries ++ last ∷ [])
 sizes_push schema user entries last sizes here before entry after e = at (split_last entries last before entry after e)
   where
     at : ((before ≡ entries) × (entry ≡ last)) ⊎ ((rest : History) × (entries ≡ before ++ entry ∷ rest)) → KeepsSizesAt schema user before entry
@@ -74,8 +82,14 @@ sizes_push schema user entries last sizes here before entry after e = at (split_
     at (inr (rest, is)) = sizes before entry rest is
 
 -- what is kept, with one more entry
-pub kept_push : (schema : DatabaseSchema) (world : FactSet) (user : UserProfile) (entries entries' : History) (last : AnsweredQuery) (view_schema view_schema' : DatabaseSchema) (view_log view_log' : List Signed) (text_bytes view_nodes more_text more_nodes : ℕ) → IsKept schema world user entries view_schema view_log text_bytes view_nodes → LegalHistoriesGrow → LogsGrow → KeepsSizesAt schema user entries last → last.mark ≡ rule schema world user (log user entries) last.query → entries' ≡ entries ++ last ∷ [] → view_schema' ≡ view_schema → view_log' ≡ view_log ++ told_by last.mark last.query → more_text ≡ last.length → more_nodes ≡ told_nodes schema last.mark last.query → IsKept schema world user entries' view_schema' view_log' (text_bytes + more_text) (view_nodes + more_nodes)
-kept_push schema world user entries entries' last view_schema view_schema' view_log view_log' text_bytes view_nodes more_text more_nodes kept grow logs here marks pushed same_schema told same_text same_nodes =
+pub kept_push : (schema : DatabaseSchema) (world : FactSet) (user : UserProfile) (entries entries' : History) (last : AnsweredQuery)
+    (view_schema view_schema' : DatabaseSchema) (view_log view_log' : List Signed) (text_bytes view_nodes more_text more_nodes : ℕ)
+    → IsKept schema world user entries view_schema view_log text_bytes view_nodes → LegalHistoriesGrow → LogsGrow → KeepsSizesAt schema user entries last
+    → last.mark ≡ rule schema world user (log user entries) last.query → entries' ≡ entries ++ last ∷ [] → view_schema' ≡ view_schema
+    → view_log' ≡ view_log ++ told_by last.mark last.query → more_text ≡ last.length → more_nodes ≡ told_nodes schema last.mark last.query
+    → IsKept schema world user entries' view_schema' view_log' (text_bytes + more_text) (view_nodes + more_nodes)
+kept_push schema world user entries entries' last view_schema view_schema' view_log view_log' text_bytes view_nodes more_text more_nodes kept grow logs here
+    marks pushed same_schema told same_text same_nodes =
     subst (λ h. IsKept schema world user h view_schema' view_log' (text_bytes + more_text) (view_nodes + more_nodes)) (sym pushed) record {
       limits = kept.limits;
       schema_is = same_schema ∙ kept.schema_is;
@@ -93,14 +107,19 @@ kept_push schema world user entries entries' last view_schema view_schema' view_
     nodes_of = let was = kept.nodes_are in let now = view_size-push schema user entries last logs in omega (arith, was, now, same_nodes)
 
 -- what a marked reply says of its query
-pub answer_means : (full large : Bool) (told mark : Mark) → (if full then history_full else if large then too_large else marked told) ≡ marked mark → (full ≡ false) × (large ≡ false) × (mark ≡ told)
+pub answer_means : (full large : Bool) (told mark : Mark) → (if full then history_full else if large then too_large else marked told) ≡ marked mark
+    → (full ≡ false) × (large ≡ false) × (mark ≡ told)
 answer_means true large told mark e = absurd cc
 answer_means false true told mark e = absurd cc
 answer_means false false told mark e = (refl, refl, cc)
 
 -- the entry of an answer keeps the sizes and has the rule's mark
-pub answer_fits : (schema : DatabaseSchema) (world : FactSet) (user : UserProfile) (entries : History) (text : Text) (query : Formula) (mark : Mark) → ReadingsAreSentences → IsAnswer schema world user entries text query mark → KeepsSizesAt schema user entries (record { query = query; mark = mark; length = length text }) × (mark ≡ rule schema world user (log user entries) query)
+pub answer_fits : (schema : DatabaseSchema) (world : FactSet) (user : UserProfile) (entries : History) (text : Text) (query : Formula) (mark : Mark)
+    → ReadingsAreSentences → IsAnswer schema world user entries text query mark
+    → KeepsSizesAt schema user entries (record { query = query; mark = mark; length = length text }) × (mark ≡ rule schema world user (log user entries) query)
 answer_fits schema world user entries text query mark sentences is =
-    let told : reply_by schema world user entries standing_open false text (Ok query) ≡ marked mark = ap (reply_by schema world user entries standing_open false text) (sym is.read) ∙ is.answer in
-    let means = answer_means (is_full entries (length text)) (is_too_large schema user entries query) (rule schema world user (log user entries) query) mark told in
+    let told : reply_by schema world user entries standing_open false text (Ok query) ≡ marked mark =
+    ap (reply_by schema world user entries standing_open false text) (sym is.read) ∙ is.answer in
+    let means =
+    answer_means (is_full entries (length text)) (is_too_large schema user entries query) (rule schema world user (log user entries) query) mark told in
     (record { sentence = sentences schema text query is.read; room = means.0; small = means.1 }, means.2)

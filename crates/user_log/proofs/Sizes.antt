@@ -22,7 +22,8 @@ size-told_by schema Undecided query = refl
 size-append : (schema : DatabaseSchema) (first second : List Signed) → size_of schema (first ++ second) ≡ size_of schema first + size_of schema second
 size-append schema first second = grind (arith, common_steps)
 
-pub view_size-push : (schema : DatabaseSchema) (user : UserProfile) (entries : History) (entry : AnsweredQuery) → LogsGrow → view_size schema user (entries ++ entry ∷ []) ≡ view_size schema user entries + told_nodes schema entry.mark entry.query
+pub view_size-push : (schema : DatabaseSchema) (user : UserProfile) (entries : History) (entry : AnsweredQuery) → LogsGrow
+    → view_size schema user (entries ++ entry ∷ []) ≡ view_size schema user entries + told_nodes schema entry.mark entry.query
 unfolding view_size
 view_size-push schema user entries entry logs =
     let pushed = ap (size_of schema) (logs user entries entry) ∙ size-append schema (log user entries) (told_by entry.mark entry.query) in

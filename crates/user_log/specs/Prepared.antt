@@ -14,11 +14,18 @@ use Rattle.user_log.specs.declared.prepared.Prepared.{Prepared}
 abbrev pub prepared_entry : Prepared → AnsweredQuery
 prepared_entry prepared = answered_query_of prepared.new_entry
 
--- the entry has its mark by the rule and is within the limits, the view is that of the log with it, and there is room for it
+-- the entry has its mark by the rule and is within the limits, the view is that of the log with it,
+-- and there is room for it
 pub record IsPrepared (before : UserLog) (prepared : Prepared) : Type 0 where
   pub room : vec_len before.entries < vec_capacity before.entries
   pub schema : schema_of prepared.view ≡ schema_of before.view
-  pub told : log_of prepared.view ≡ log_of before.view ++ told_by prepared.new_entry.mark (formula_of prepared.new_entry.query)
-  pub nodes : prepared.nodes ≡ told_nodes (kept_schema before) prepared.new_entry.mark (formula_of prepared.new_entry.query)
-  pub sizes : KeepsSizesAt (kept_schema before) (kept_user before) (kept_history before) (prepared_entry prepared)
-  pub mark : prepared.new_entry.mark ≡ rule (kept_schema before) (kept_world before) (kept_user before) (log (kept_user before) (kept_history before)) (formula_of prepared.new_entry.query)
+  pub told : log_of prepared.view
+      ≡ log_of before.view ++ told_by prepared.new_entry.mark (formula_of prepared.new_entry.query)
+  pub nodes : prepared.nodes
+      ≡ told_nodes (kept_schema before) prepared.new_entry.mark
+      (formula_of prepared.new_entry.query)
+  pub sizes : KeepsSizesAt (kept_schema before) (kept_user before) (kept_history before)
+      (prepared_entry prepared)
+  pub mark : prepared.new_entry.mark
+      ≡ rule (kept_schema before) (kept_world before) (kept_user before)
+      (log (kept_user before) (kept_history before)) (formula_of prepared.new_entry.query)

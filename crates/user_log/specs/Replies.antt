@@ -1,8 +1,10 @@
 -- Replies in memory.
 use Rattle.cqe_base.specs.Run
-use Rattle.cqe_base.specs.Run.{marked, no_sentence, history_full, too_large, user_closed, desk_sealed, desk_broken, no_memory}
+use Rattle.cqe_base.specs.Run.{marked, no_sentence, history_full, too_large, user_closed}
+use Rattle.cqe_base.specs.Run.{desk_sealed, desk_broken, no_memory}
 use Rattle.user_log.specs.declared.reply.Reply.{Reply}
-use Rattle.user_log.specs.declared.reply.Reply.TheVariants.{Mark, Syntax, Full, Size, Closed, Sealed, Broken, Memory}
+use Rattle.user_log.specs.declared.reply.Reply.TheVariants.{Mark, Syntax, Full, Size, Closed}
+use Rattle.user_log.specs.declared.reply.Reply.TheVariants.{Sealed, Broken, Memory}
 
 -- the reply that a Reply in memory is
 abbrev pub reply_of : Reply → Run.Reply

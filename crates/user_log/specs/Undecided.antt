@@ -14,12 +14,14 @@ use Rattle.user_log.specs.declared.reply.Weighed.TheVariants.{Code, Answer}
 
 -- the mark of a query is undecided exactly where some probe of it costs more than the user's budget
 abbrev pub IsMarkByCost : DatabaseSchema → UserProfile → History → Formula → Mark → Type 0
-IsMarkByCost schema user entries query mark = (mark ≡ Undecided) ↔ QueryCostsMore schema user (log user entries) query
+IsMarkByCost schema user entries query mark =
+    (mark ≡ Undecided) ↔ QueryCostsMore schema user (log user entries) query
 
 -- so is that of a text that was weighed, where a mark answers it
 abbrev pub IsUndecidedByCost : DatabaseSchema → UserProfile → History → Weighed → Type 0
 IsUndecidedByCost schema user entries (Code code) = Unit {0}
-IsUndecidedByCost schema user entries (Answer query mark) = IsMarkByCost schema user entries (formula_of query) mark
+IsUndecidedByCost schema user entries (Answer query mark) =
+    IsMarkByCost schema user entries (formula_of query) mark
 
 -- and so is the mark that replies to a text, by the query that the text reads as
 abbrev pub IsReplyByCost : DatabaseSchema → UserProfile → History → Text → Reply → Type 0

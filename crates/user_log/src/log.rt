@@ -1,8 +1,10 @@
 //! A user's entries, with the view of their log and their sizes.
 
-ghost use Rattle.std.specs.Prelude.{◌≡◌, ◌≤◌, ◌<◌, ◌+◌, ◌++◌, ◌∷◌, [], ◌&&◌, true, false, Bool, length, map, sum_by, IfOk, OnOk, OnErr};
+ghost use Rattle.std.specs.Prelude.{◌≡◌, ◌≤◌, ◌<◌, ◌+◌, ◌++◌, ◌∷◌, [], ◌&&◌, true, false, Bool};
+ghost use Rattle.std.specs.Prelude.{length, map, sum_by, IfOk, OnOk, OnErr};
 ghost use Rattle.cqe_base.specs.Formula.{formula_of, nodes, is_sentence_of};
-ghost use Rattle.cqe_base.specs.History.{profile_of, answered_query_of, log, view_size, told_by, signed_nodes};
+ghost use Rattle.cqe_base.specs.History.{profile_of, answered_query_of, log, view_size, told_by};
+ghost use Rattle.cqe_base.specs.History.{signed_nodes};
 ghost use Rattle.cqe_base.specs.Censor.{rule, IsLegal};
 ghost use Rattle.cqe_base.specs.Run.{is_full, is_too_large};
 ghost use Rattle.cqe_base.specs.Limits.{KeepsLimits, KeepsSizes};
@@ -46,11 +48,14 @@ pub struct UserLog<'w> {
     entries: Vec<Entry>,
     text_bytes: u64,
     view_nodes: u64,
-    ghost kept: { IsKept schema.now world.now (profile_of user.now) (map answered_query_of entries.items) (schema_of view) (log_of view) text_bytes view_nodes } by { IsKept-prop _ _ _ _ _ _ _ _ },
+    ghost kept: { IsKept schema.now world.now (profile_of user.now)
+        (map answered_query_of entries.items) (schema_of view) (log_of view)
+        text_bytes view_nodes } by { IsKept-prop _ _ _ _ _ _ _ _ },
 }
 
 impl<'w> UserLog<'w> {
-    ghost use Rattle.user_log.specs.UserLogs.{kept_schema, kept_world, kept_user, kept_history, IsOfSame};
+    ghost use Rattle.user_log.specs.UserLogs.{kept_schema, kept_world, kept_user, kept_history};
+    ghost use Rattle.user_log.specs.UserLogs.{IsOfSame};
     ghost use Rattle.user_log.specs.Asked.{IsAnswer, IsWeighed, IsAsked};
     ghost use Rattle.user_log.specs.Undecided.{IsMarkByCost, IsUndecidedByCost, IsReplyByCost};
     ghost use Rattle.user_log.specs.Replies.{reply_of};
@@ -100,18 +105,25 @@ impl<'w> UserLog<'w> {
         self.entries.as_slice()
     }
 
-    /// What is known of the entries: the user keeps the limits, and each entry was added within them with the mark of the rule. It computes nothing.
+    /// What is known of the entries: the user keeps the limits, and each entry was added within
+    /// them with the mark of the rule. It computes nothing.
     pub fn known(&self)
         ensures limits { KeepsLimits (kept_schema self.now) (kept_user self.now) }
-        ensures sizes { KeepsSizes (kept_schema self.now) (kept_user self.now) (kept_history self.now) }
-        ensures legal { IsLegal (kept_schema self.now) (kept_world self.now) (kept_user self.now) (kept_history self.now) }
+        ensures sizes { KeepsSizes (kept_schema self.now) (kept_user self.now)
+            (kept_history self.now) }
+        ensures legal { IsLegal (kept_schema self.now) (kept_world self.now) (kept_user self.now)
+            (kept_history self.now) }
     {}
 
     /// The reply to a text by the entries so far, which it doesn't change.
     pub fn weigh(&self, alloc: Global, text: &str) -> Result<Weighed, AllocError>
         requires { length text.now ≤ 4096 }
-        ensures weighed { IfOk result (IsWeighed (kept_schema self.now) (kept_world self.now) (kept_user self.now) (kept_history self.now) text.now) }
-        ensures undecided { IfOk result (IsUndecidedByCost (kept_schema self.now) (kept_user self.now) (kept_history self.now)) }
+        ensures weighed { IfOk result
+            (IsWeighed (kept_schema self.now) (kept_world self.now) (kept_user self.now)
+            (kept_history self.now) text.now) }
+        ensures undecided { IfOk result
+            (IsUndecidedByCost (kept_schema self.now) (kept_user self.now)
+            (kept_history self.now)) }
     {
         let query = match read_sentence(alloc, self.schema, text) {
             Ok(query) => query,
@@ -138,7 +150,9 @@ impl<'w> UserLog<'w> {
 
     /// Whether the query, or the view with it, is too large.
     fn is_too_large(&self, query: &Sentence) -> bool
-        ensures { result ≡ is_too_large (kept_schema self.now) (kept_user self.now) (kept_history self.now) (formula_of query.now) }
+        ensures { result
+            ≡ is_too_large (kept_schema self.now) (kept_user self.now) (kept_history self.now)
+            (formula_of query.now) }
     {
         let count = nodes(query, self.schema);
         count > QUERY_NODES || self.view_nodes.saturating_add(count) > VIEW_NODES
@@ -147,10 +161,14 @@ impl<'w> UserLog<'w> {
     /// The mark of a query by the rule.
     fn mark(&self, alloc: Global, query: &Sentence) -> Result<Mark, AllocError>
         requires sentence { is_sentence_of (kept_schema self.now) (formula_of query.now) ≡ true }
-        requires small { is_too_large (kept_schema self.now) (kept_user self.now) (kept_history self.now) (formula_of query.now) ≡ false }
-        ensures rule { IfOk result (λ mark. mark ≡ rule (kept_schema self.now) (kept_world self.now) (kept_user self.now)
+        requires small { is_too_large (kept_schema self.now) (kept_user self.now)
+            (kept_history self.now) (formula_of query.now) ≡ false }
+        ensures rule { IfOk result (λ mark. mark
+            ≡ rule (kept_schema self.now) (kept_world self.now) (kept_user self.now)
             (log (kept_user self.now) (kept_history self.now)) (formula_of query.now)) }
-        ensures undecided { IfOk result (λ mark. IsMarkByCost (kept_schema self.now) (kept_user self.now) (kept_history self.now) (formula_of query.now) mark) }
+        ensures undecided { IfOk result (λ mark.
+            IsMarkByCost (kept_schema self.now) (kept_user self.now) (kept_history self.now)
+            (formula_of query.now) mark) }
     {
         law_limits();
         law_findings_decide();
@@ -160,7 +178,8 @@ impl<'w> UserLog<'w> {
         Ok(decide(self.user.method, &findings, truth))
     }
 
-    /// Takes all that adding the entry of a text that was weighed takes, with the mark that answers it. The entries stay.
+    /// Takes all that adding the entry of a text that was weighed takes, with the mark that answers
+    /// it. The entries stay.
     pub fn prepare(
         &mut self,
         alloc: Global,
@@ -169,13 +188,23 @@ impl<'w> UserLog<'w> {
         mark: Mark,
     ) -> Result<Prepared<'w>, AllocError>
         requires few { length text.now ≤ 4096 }
-        requires answer { IsAnswer (kept_schema self.old) (kept_world self.old) (kept_user self.old) (kept_history self.old) text.now (formula_of query) mark }
+        requires answer { IsAnswer (kept_schema self.old) (kept_world self.old) (kept_user self.old)
+            (kept_history self.old) text.now (formula_of query) mark }
         ensures same { IsOfSame self.old self.new }
         ensures unchanged { kept_history self.new ≡ kept_history self.old }
         ensures prepared { IfOk result (IsPrepared self.new) }
-        ensures legal { IfOk result (λ prepared. IsLegal (kept_schema self.new) (kept_world self.new) (kept_user self.new) (kept_history self.new ++ prepared_entry prepared ∷ [])) }
-        ensures sizes { IfOk result (λ prepared. KeepsSizes (kept_schema self.new) (kept_user self.new) (kept_history self.new ++ prepared_entry prepared ∷ [])) }
-        ensures entry { IfOk result (λ prepared. prepared_entry prepared ≡ record { query = formula_of query; mark = mark; length = length text.now }) }
+        ensures legal { IfOk result (λ prepared.
+            IsLegal (kept_schema self.new) (kept_world self.new) (kept_user self.new)
+            (kept_history self.new ++ prepared_entry prepared ∷ [])) }
+        ensures sizes { IfOk result (λ prepared.
+            KeepsSizes (kept_schema self.new) (kept_user self.new)
+            (kept_history self.new ++ prepared_entry prepared ∷ [])) }
+        ensures entry { IfOk result (λ prepared. prepared_entry prepared ≡ record {
+          query =
+              formula_of query;
+          mark = mark;
+          length = length text.now;
+        }) }
     {
         law_reading();
         law_limits();
@@ -201,7 +230,8 @@ impl<'w> UserLog<'w> {
     pub fn commit(&mut self, prepared: Prepared<'w>)
         requires { IsPrepared self.old prepared }
         ensures same { IsOfSame self.old self.new }
-        ensures added { kept_history self.new ≡ kept_history self.old ++ prepared_entry prepared.entry ∷ [] }
+        ensures added { kept_history self.new
+            ≡ kept_history self.old ++ prepared_entry prepared.entry ∷ [] }
     {
         law_logs();
         law_legal_grows();
@@ -216,7 +246,8 @@ impl<'w> UserLog<'w> {
         self.entries.push_reserved(new_entry);
     }
 
-    /// Adds the entry of a text that was weighed, with the mark that answers it. A refusal changes nothing.
+    /// Adds the entry of a text that was weighed, with the mark that answers it. A refusal changes
+    /// nothing.
     pub fn add(
         &mut self,
         alloc: Global,
@@ -225,10 +256,13 @@ impl<'w> UserLog<'w> {
         mark: Mark,
     ) -> Result<(), AllocError>
         requires few { length text.now ≤ 4096 }
-        requires answer { IsAnswer (kept_schema self.old) (kept_world self.old) (kept_user self.old) (kept_history self.old) text.now (formula_of query) mark }
+        requires answer { IsAnswer (kept_schema self.old) (kept_world self.old) (kept_user self.old)
+            (kept_history self.old) text.now (formula_of query) mark }
         ensures same { IsOfSame self.old self.new }
         ensures added { OnOk result (kept_history self.new
-            ≡ kept_history self.old ++ record { query = formula_of query; mark = mark; length = length text.now } ∷ []) }
+            ≡ kept_history self.old
+            ++ record { query = formula_of query; mark = mark; length = length text.now }
+            ∷ []) }
         ensures refused { OnErr result (kept_history self.new ≡ kept_history self.old) }
     {
         let prepared = self.prepare(alloc, text, query, mark)?;
@@ -236,11 +270,13 @@ impl<'w> UserLog<'w> {
         Ok(())
     }
 
-    /// The reply to a text by the entries so far. A mark adds its entry; want of memory and a code change nothing.
+    /// The reply to a text by the entries so far. A mark adds its entry; want of memory and a code
+    /// change nothing.
     pub fn ask(&mut self, alloc: Global, text: &str) -> Reply
         requires { length text.now ≤ 4096 }
         ensures same { IsOfSame self.old self.new }
-        ensures asked { IsAsked (kept_schema self.old) (kept_world self.old) (kept_user self.old) (kept_history self.old) (kept_history self.new) text.now (reply_of result) }
+        ensures asked { IsAsked (kept_schema self.old) (kept_world self.old) (kept_user self.old)
+            (kept_history self.old) (kept_history self.new) text.now (reply_of result) }
         ensures undecided { IsReplyByCost (kept_schema self.old) (kept_user self.old)
             (kept_history self.old) text.now result }
     {
@@ -271,9 +307,12 @@ fn told_nodes(schema: &Schema, query: &Sentence, mark: Mark) -> u64
 fn tell(alloc: Global, view: &mut View<'_>, query: &Sentence, mark: Mark) -> Result<(), AllocError>
     requires sentence { is_sentence_of (schema_of view.old) (formula_of query.now) ≡ true }
     requires query { nodes (schema_of view.old) (formula_of query.now) ≤ 20000 }
-    requires room { (yes : Bool) → log_nodes (schema_of view.old) (log_of view.old) + signed_nodes (schema_of view.old) (formula_of query.now) yes ≤ 60000 }
+    requires room { (yes : Bool)
+        → log_nodes (schema_of view.old) (log_of view.old)
+        + signed_nodes (schema_of view.old) (formula_of query.now) yes ≤ 60000 }
     ensures schema { schema_of view.new ≡ schema_of view.old }
-    ensures told { OnOk result (log_of view.new ≡ log_of view.old ++ told_by mark (formula_of query.now)) }
+    ensures told { OnOk result (log_of view.new
+        ≡ log_of view.old ++ told_by mark (formula_of query.now)) }
     ensures refused { OnErr result (log_of view.new ≡ log_of view.old) }
 {
     match mark {

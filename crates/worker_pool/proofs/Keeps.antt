@@ -1,5 +1,6 @@
 -- Each step keeps the rule of the numbers.
-use Rattle.std.proofs.Common.{◌≡◌, ◌≢◌, ℕ, zero, suc, ◌+◌, ◌*◌, ◌%◌, ◌^◌, ◌<◌, ◌≤◌, List, [], ◌∷◌, ◌++◌, set, slice_index, sum_by, refl, sym, ap, ◌∙◌, subst, ⊎_elim, arith, mod-eq_of_lt}
+use Rattle.std.proofs.Common.{◌≡◌, ◌≢◌, ℕ, zero, suc, ◌+◌, ◌*◌, ◌%◌, ◌^◌, ◌<◌, ◌≤◌, List, [], ◌∷◌, ◌++◌, set, slice_index, sum_by, refl, sym, ap, ◌∙◌, subst}
+use Rattle.std.proofs.Common.{⊎_elim, arith, mod-eq_of_lt}
 use Rattle.std.proofs.lemmas.List.Sums.{sum_by-cons, sum_by-append}
 use mathlib.Core.Option.{none, some, some-injective, some-ne-none}
 use lib.ListN.{get_elem?}
@@ -21,7 +22,8 @@ Idle hand = hand.parts ≡ 0 → hand.drawn ≡ []
 idle_set : (hands : List Hand) (id : ℕ) (new : Hand) → ((k : ℕ) (hand : Hand) → get_elem? hands k ≡ some hand → Idle hand) → Idle new
     → (k : ℕ) (hand : Hand) → get_elem? (set hands id new) k ≡ some hand → Idle hand
 idle_set hands id new others mine k hand at =
-    ⊎_elim (λ (x : (k ≡ id) × (new ≡ hand)). subst Idle x.1 mine) (λ (x : (k ≢ id) × (get_elem? hands k ≡ some hand)). others k hand x.1) (at_set hands id k new hand at)
+    ⊎_elim (λ (x : (k ≡ id) × (new ≡ hand)). subst Idle x.1 mine) (λ (x : (k ≢ id) × (get_elem? hands k ≡ some hand)). others k hand x.1)
+    (at_set hands id k new hand at)
 
 idle_push : (hands : List Hand) (new : Hand) → ((k : ℕ) (hand : Hand) → get_elem? hands k ≡ some hand → Idle hand) → Idle new
     → (k : ℕ) (hand : Hand) → get_elem? (hands ++ new ∷ []) k ≡ some hand → Idle hand
@@ -102,7 +104,12 @@ meets id hand other theirs live s r at apart there =
     let both : Hand = joined_hand hand theirs in record {
       next = r.next;
       words = r.words;
-      drawn = λ f. omega (arith, sum_joined (λ (h : Hand). sum_by f h.drawn) s.views id hand other theirs both spent_hand at there, sum_by-append f hand.drawn theirs.drawn, r.drawn f);
+      drawn = λ f. omega (
+        arith,
+        sum_joined (λ (h : Hand). sum_by f h.drawn) s.views id hand other theirs both spent_hand at there,
+        sum_by-append f hand.drawn theirs.drawn,
+        r.drawn f,
+      );
       parts = let e = sum_joined (λ (h : Hand). h.parts) s.views id hand other theirs both spent_hand at there in let all = r.parts in omega arith;
       idle = idle_set (set s.views id both) other spent_hand (idle_set s.views id both r.idle (λ none. absurd (omega arith))) (λ none. refl);
       turns = let e = sum_joined (λ (h : Hand). h.turns) s.views id hand other theirs both spent_hand at there in let all = r.turns in omega arith;

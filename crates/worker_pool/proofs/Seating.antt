@@ -1,5 +1,6 @@
 -- Workers that get their seats, and give them back.
-use Rattle.std.proofs.Common.{◌≡◌, ℕ, List, [], ◌∷◌, ◌++◌, length, take, drop, map, All, sym, ap, ◌∙◌, append_assoc, append-nil, subst, ◌<◌, arith, length-append}
+use Rattle.std.proofs.Common.{◌≡◌, ℕ, List, [], ◌∷◌, ◌++◌, length, take, drop, map, All, sym, ap, ◌∙◌, append_assoc, append-nil, subst, ◌<◌, arith}
+use Rattle.std.proofs.Common.{length-append}
 use Rattle.std.proofs.lemmas.List.{map-append, take_at}
 use Rattle.std.proofs.lemmas.List.Elements.{All-push, All-from_recursion, recursion_from_All}
 use Rattle.std.specs.List.{AllByRecursion}
@@ -22,7 +23,8 @@ module _ {X : Type 0} where
 
   -- what holds of all holds of the next
   pub next_of : (P : X → Type 0) (all read left rest : List X) (x : X) → read ++ left ≡ all → left ≡ x ∷ rest → All P all → P x
-  next_of P all read left rest x so_far is each = middle read (subst (AllByRecursion P) (sym (ap (λ (l : List X). read ++ l) (sym is) ∙ so_far)) (recursion_from_All P all each))
+  next_of P all read left rest x so_far is each =
+      middle read (subst (AllByRecursion P) (sym (ap (λ (l : List X). read ++ l) (sym is) ∙ so_far)) (recursion_from_All P all each))
     where
       middle : (xs : List X) → AllByRecursion P (xs ++ x ∷ rest) → P x
       middle [] h = h.0
@@ -35,13 +37,16 @@ module _ {X : Type 0} where
 
 module _ {J O : Type 0} where
   -- one more worker has a seat
-  pub seated_more : (all new : List (Seated J O)) (seated : Seated J O) (workers : List (Worker J O)) → new ≡ all ++ seated ∷ [] → map (λ s. s.worker) all ≡ workers
+  pub seated_more : (all new : List (Seated J O)) (seated : Seated J O) (workers : List (Worker J O)) → new ≡ all ++ seated ∷ []
+      → map (λ s. s.worker) all ≡ workers
       → map (λ s. s.worker) new ≡ workers ++ seated.worker ∷ []
   seated_more all new seated workers added so_far =
-      ap (λ (l : List (Seated J O)). map (λ s. s.worker) l) added ∙ map-append (λ (s : Seated J O). s.worker) all (seated ∷ []) ∙ ap (λ (l : List (Worker J O)). l ++ seated.worker ∷ []) so_far
+      ap (λ (l : List (Seated J O)). map (λ s. s.worker) l) added ∙ map-append (λ (s : Seated J O). s.worker) all (seated ∷ [])
+      ∙ ap (λ (l : List (Worker J O)). l ++ seated.worker ∷ []) so_far
 
   -- one more worker is back
-  pub back_more : (crew new : List (Worker J O)) (seated : Seated J O) (read : List (Seated J O)) → new ≡ crew ++ seated.worker ∷ [] → crew ≡ map (λ s. s.worker) read
+  pub back_more : (crew new : List (Worker J O)) (seated : Seated J O) (read : List (Seated J O)) → new ≡ crew ++ seated.worker ∷ []
+      → crew ≡ map (λ s. s.worker) read
       → new ≡ map (λ s. s.worker) (read ++ seated ∷ [])
   back_more crew new seated read added so_far =
       added ∙ ap (λ (l : List (Worker J O)). l ++ seated.worker ∷ []) so_far ∙ sym (map-append (λ (s : Seated J O). s.worker) read (seated ∷ []))
@@ -52,11 +57,14 @@ module _ {J O : Type 0} where
   -- with one more seat come the numbers that were drawn there
   pub draws_more : (all : List (Seated J O)) (seated : Seated J O) → draws (all ++ seated ∷ []) ≡ draws all ++ drawn seated.drawer
   draws_more [] seated = append-nil (drawn seated.drawer)
-  draws_more (first ∷ all) seated = ap (λ (l : List ℕ). drawn first.drawer ++ l) (draws_more all seated) ∙ sym (append_assoc (drawn first.drawer) (draws all) (drawn seated.drawer))
+  draws_more (first ∷ all) seated =
+      ap (λ (l : List ℕ). drawn first.drawer ++ l) (draws_more all seated) ∙ sym (append_assoc (drawn first.drawer) (draws all) (drawn seated.drawer))
 
   -- what holds of all workers holds of those in the seats
-  pub in_seats : (P : Worker J O → Type 0) (all : List (Seated J O)) (crew : List (Worker J O)) → map (λ s. s.worker) all ≡ crew → All P crew → All (λ s. P s.worker) all
-  in_seats P all crew is each = All-from_recursion (λ s. P s.worker) all (seat_by_seat all (recursion_from_All P (map (λ s. s.worker) all) (subst (All P) (sym is) each)))
+  pub in_seats : (P : Worker J O → Type 0) (all : List (Seated J O)) (crew : List (Worker J O)) → map (λ s. s.worker) all ≡ crew → All P crew
+      → All (λ s. P s.worker) all
+  in_seats P all crew is each =
+      All-from_recursion (λ s. P s.worker) all (seat_by_seat all (recursion_from_All P (map (λ s. s.worker) all) (subst (All P) (sym is) each)))
     where
       seat_by_seat : (seats : List (Seated J O)) → AllByRecursion P (map (λ s. s.worker) seats) → AllByRecursion (λ s. P s.worker) seats
       seat_by_seat [] h = tt

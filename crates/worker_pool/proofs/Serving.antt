@@ -1,5 +1,6 @@
 -- What all workers did together.
-use Rattle.std.proofs.Common.{◌≡◌, ◌⊎◌, inl, inr, ℕ, zero, suc, ◌+◌, ◌<◌, ◌≤◌, ◌==◌, cond, ltb, ltb-true, Bool, true, false, List, [], ◌∷◌, length, map, drop, All, sum_by, slice_index_or, Option, Some, None, IsSome, refl, sym, ap, ◌∙◌, subst, arith, eqb-true, eq-eqb}
+use Rattle.std.proofs.Common.{◌≡◌, ◌⊎◌, inl, inr, ℕ, zero, suc, ◌+◌, ◌<◌, ◌≤◌, ◌==◌, cond, ltb, ltb-true, Bool, true, false, List, [], ◌∷◌, length, map, drop}
+use Rattle.std.proofs.Common.{All, sum_by, slice_index_or, Option, Some, None, IsSome, refl, sym, ap, ◌∙◌, subst, arith, eqb-true, eq-eqb}
 use Rattle.std.specs.List.{AllZip, AllByRecursion}
 use Rattle.std.proofs.lemmas.List.{drop_at}
 use Rattle.std.proofs.lemmas.List.Sums.{sum_by-cons, sum_by-append}
@@ -27,7 +28,8 @@ number_once : (n k : ℕ) → (sum_below (is_number n) k ≤ 1) × (k ≤ n → 
 number_once n zero = (omega arith, λ le. refl)
 number_once n (suc k) = let so_far = number_once n k in dite (ℕ_discrete k n)
     (λ same. let here : is_number n k ≤ 1 = at_most k in let none = so_far.1 (omega arith) in (omega (arith, none, here), λ le. absurd (omega arith)))
-    (λ other. let here : is_number n k ≡ 0 = not_there k other in let few = so_far.0 in (omega (arith, few, here), λ le. omega (arith, so_far.1 (omega arith), here)))
+    (λ other. let here : is_number n k ≡ 0 = not_there k other in let few = so_far.0 in
+    (omega (arith, few, here), λ le. omega (arith, so_far.1 (omega arith), here)))
   where
     at_most : (m : ℕ) → is_number n m ≤ 1
     at_most m = by_test (m == n)
@@ -81,10 +83,13 @@ all_below limit (n ∷ numbers) all =
     is_one false e less = absurd (omega arith)
 
 module _ {J O : Type 0} (door_told numbers_told : Type 0) (given_of left_of ends_of faults_of : O → ℕ) (back_of : O → List Visit)
-    (room_of ran_of : J → ℕ) (numbers_of : J → List ℕ) (stands_of : J → J → List Visit → Type 0) (keeps_of : J → J → Type 0) (stands_none : (job : J) → stands_of job job []) (limit : ℕ) where
+    (room_of ran_of : J → ℕ) (numbers_of : J → List ℕ) (stands_of : J → J → List Visit → Type 0) (keeps_of : J → J → Type 0)
+    (stands_none : (job : J) → stands_of job job []) (limit : ℕ) where
   -- a worker before it served, and in its seat afterwards
   abbrev Worked : Worker J O → Seated J O → Type 0
-  Worked before seated = HasWorked door_told numbers_told given_of left_of ends_of faults_of back_of room_of ran_of numbers_of stands_of keeps_of limit (drawn seated.drawer) before seated.worker
+  Worked before seated =
+      HasWorked door_told numbers_told given_of left_of ends_of faults_of back_of room_of ran_of numbers_of stands_of keeps_of limit
+      (drawn seated.drawer) before seated.worker
 
   abbrev Served : Worker J O → Worker J O → Type 0
   Served = IsServed door_told given_of left_of ends_of faults_of back_of room_of ran_of stands_of keeps_of
@@ -106,7 +111,8 @@ module _ {J O : Type 0} (door_told numbers_told : Type 0) (given_of left_of ends
       let count : length worked.runs ≡ ran_of seated.worker.job = omega arith in record {
         given = λ told. let e = run.given told in omega arith;
         left = λ told. let e = run.left told in omega arith;
-        back = λ told. let v = run.back told before.job [] (stands_none before.job) in record { visits = v.visits; behind = v.behind; many = v.many ∙ count; stand = v.stand };
+        back = λ told. let v = run.back told before.job [] (stands_none before.job) in
+            record { visits = v.visits; behind = v.behind; many = v.many ∙ count; stand = v.stand };
         room = let e = run.room in omega arith;
         keeps = run.keeps;
         ends = run.ends;
@@ -169,13 +175,15 @@ module _ {J O : Type 0} (door_told numbers_told : Type 0) (given_of left_of ends
   Reaches [] = ⊥
   Reaches (seated ∷ all) = (seated.worker.ended ≡ Some LimitReached) ⊎ Reaches all
 
-  reach_at : (all : List (Seated J O)) (k : ℕ) (d : Worker J O) → k < length (workers_of all) → (slice_index_or (workers_of all) k d).ended ≡ Some LimitReached → Reaches all
+  reach_at : (all : List (Seated J O)) (k : ℕ) (d : Worker J O) → k < length (workers_of all) → (slice_index_or (workers_of all) k d).ended ≡ Some LimitReached
+      → Reaches all
   reach_at [] k d within at = absurd (omega arith)
   reach_at (seated ∷ all) zero d within at = inl at
   reach_at (seated ∷ all) (suc k) d within at = inr (reach_at all k d (omega arith) at)
 
   -- then one was drawn that isn't below the limit
-  reached : (before : List (Worker J O)) (all : List (Seated J O)) → AllZip Worked before all → Reaches all → (n : ℕ) × (limit ≤ n) × (0 < sum_by (is_number n) (draws all))
+  reached : (before : List (Worker J O)) (all : List (Seated J O)) → AllZip Worked before all → Reaches all → (n : ℕ) × (limit ≤ n)
+      × (0 < sum_by (is_number n) (draws all))
   reached [] [] worked here = absurd here
   reached [] (seated ∷ all) worked here = absurd worked
   reached (first ∷ before) [] worked here = absurd worked
@@ -224,7 +232,8 @@ module _ {J O : Type 0} (door_told numbers_told : Type 0) (given_of left_of ends
   one_added : (before : Worker J O) (seated : Seated J O) → numbers_told → (worked : Worked before seated)
       → drop (length (numbers_of before.job)) (numbers_of seated.worker.job) ≡ worked.runs
   one_added before seated told worked =
-      ap (drop (length (numbers_of before.job))) (worked.has_run.numbers told) ∙ drop_at (numbers_of before.job) worked.runs (length (numbers_of before.job)) refl
+      ap (drop (length (numbers_of before.job))) (worked.has_run.numbers told)
+      ∙ drop_at (numbers_of before.job) worked.runs (length (numbers_of before.job)) refl
 
   added_few : (before : List (Worker J O)) (all : List (Seated J O)) → numbers_told → AllZip Worked before all
       → (n : ℕ) → sum_by (is_number n) (added_numbers numbers_of before (workers_of all)) ≤ sum_by (is_number n) (draws all)
@@ -235,7 +244,14 @@ module _ {J O : Type 0} (door_told numbers_told : Type 0) (given_of left_of ends
       let here = ap (sum_by (is_number n)) (one_added first seated told worked.0) in
       let mine = ap (sum_by (is_number n)) worked.0.all ∙ sum_by-append (is_number n) worked.0.runs worked.0.last in
       let others = added_few before all told worked.1 n in
-      omega (arith, here, mine, others, sum_by-append (is_number n) (drop (length (numbers_of first.job)) (numbers_of seated.worker.job)) (added_numbers numbers_of before (workers_of all)), sum_by-append (is_number n) (drawn seated.drawer) (draws all))
+      omega (
+        arith,
+        here,
+        mine,
+        others,
+        sum_by-append (is_number n) (drop (length (numbers_of first.job)) (numbers_of seated.worker.job)) (added_numbers numbers_of before (workers_of all)),
+        sum_by-append (is_number n) (drawn seated.drawer) (draws all),
+      )
 
   added_below : (before : List (Worker J O)) (all : List (Seated J O)) → numbers_told → AllZip Worked before all
       → All (λ n. n < limit) (added_numbers numbers_of before (workers_of all))
@@ -244,7 +260,8 @@ module _ {J O : Type 0} (door_told numbers_told : Type 0) (given_of left_of ends
   added_below (first ∷ before) [] told worked = absurd worked
   added_below (first ∷ before) (seated ∷ all) told worked =
       All-append (λ n. n < limit) _ (added_numbers numbers_of before (workers_of all))
-      (subst (All (λ n. n < limit)) (sym (one_added first seated told worked.0)) (All-from_recursion (λ n. n < limit) worked.0.runs (all_below limit worked.0.runs worked.0.below)))
+      (subst (All (λ n. n < limit)) (sym (one_added first seated told worked.0))
+      (All-from_recursion (λ n. n < limit) worked.0.runs (all_below limit worked.0.runs worked.0.below)))
       (added_below before all told worked.1)
 
   pub numbers_differ : (before : List (Worker J O)) (all : List (Seated J O)) → numbers_told → AllZip Worked before all → Drawn all
@@ -260,13 +277,15 @@ module _ {J O : Type 0} (door_told numbers_told : Type 0) (given_of left_of ends
   all_worked [] [] same each = tt
   all_worked [] (seated ∷ all) same each = absurd (omega arith)
   all_worked (first ∷ given) [] same each = absurd (omega arith)
-  all_worked (first ∷ given) (seated ∷ all) same each = (each 0 first (omega arith), all_worked given all (omega arith) (λ k d within. each (suc k) d (omega arith)))
+  all_worked (first ∷ given) (seated ∷ all) same each =
+      (each 0 first (omega arith), all_worked given all (omega arith) (λ k d within. each (suc k) d (omega arith)))
 
   -- what is said of all workers, before and after
   pub record Together (before after : List (Worker J O)) : Type 0 where
     pub served : AllZip Served before after
     pub at_most : sum_by (λ worker. ran_of worker.job) after ≤ limit
-    pub at_limit : All (λ worker. worker.ended ≡ Some LimitReached → limit ≤ sum_by (λ other. ran_of other.job) after + sum_by (λ other. lost other.ended) after) after
+    pub at_limit : All (λ worker. worker.ended ≡ Some LimitReached
+        → limit ≤ sum_by (λ other. ran_of other.job) after + sum_by (λ other. lost other.ended) after) after
     pub differ : numbers_told → AreDifferentBelow limit (added_numbers numbers_of before after)
 
   pub together : (before after : List (Worker J O)) (given all lent : List (Seated J O)) (numbers : List ℕ)

@@ -33,4 +33,10 @@ split_off_hand = record { parts = 1; turns = 2 ^ 31; drawn = [] }
 
 -- both together
 abbrev pub joined_hand : Hand → Hand → Hand
-joined_hand hand other = record { parts = hand.parts + other.parts; turns = hand.turns + other.turns; drawn = hand.drawn ++ other.drawn }
+joined_hand hand other =
+    record {
+      parts = hand.parts + other.parts;
+      turns = hand.turns + other.turns;
+      drawn =
+          hand.drawn ++ other.drawn;
+    }

@@ -3,12 +3,15 @@ use Rattle.std.specs.Prelude.{◌≡◌, ℕ, ◌+◌, ◌≤◌, List, [], ◌�
 use Rattle.outside.specs.Faults.{Rose}
 use Rattle.outside.specs.Visits.{Visit}
 use Rattle.worker_pool.specs.declared.worker.Worker.{Worker}
-use Rattle.worker_pool.specs.declared.worker.WorkerEnd.TheVariants.{LinksEnded, LimitReached, LinksFailed}
+use Rattle.worker_pool.specs.declared.worker.WorkerEnd.TheVariants.{LinksEnded, LimitReached}
+use Rattle.worker_pool.specs.declared.worker.WorkerEnd.TheVariants.{LinksFailed}
 use Rattle.worker_pool.specs.Hands.{is_below}
 use Rattle.worker_pool.specs.Workers.{HasVisits}
 
-module _ {J O : Type 0} (door_told numbers_told : Type 0) (given_of left_of ends_of faults_of : O → ℕ) (back_of : O → List Visit)
-    (room_of ran_of : J → ℕ) (numbers_of : J → List ℕ) (stands_of : J → J → List Visit → Type 0) (keeps_of : J → J → Type 0) where
+module _ {J O : Type 0} (door_told numbers_told : Type 0)
+    (given_of left_of ends_of faults_of : O → ℕ) (back_of : O → List Visit)
+    (room_of ran_of : J → ℕ) (numbers_of : J → List ℕ) (stands_of : J → J → List Visit → Type 0)
+    (keeps_of : J → J → Type 0) where
   -- the worker's job was run with these numbers, once for each connection that its door gave
   pub record HasRun (runs : List ℕ) (before after : Worker J O) : Type 0 where
     pub ran : ran_of after.job ≡ ran_of before.job + length runs
@@ -17,11 +20,14 @@ module _ {J O : Type 0} (door_told numbers_told : Type 0) (given_of left_of ends
     pub keeps : keeps_of before.job after.job
     pub given : door_told → given_of after.door ≡ given_of before.door + length runs
     pub left : door_told → left_of before.door ≡ length runs + left_of after.door
-    pub back : door_told → (first : J) (earlier : List Visit) → stands_of first before.job earlier → HasVisits (λ visits. stands_of first after.job (earlier ++ visits)) (length runs) (back_of before.door) (back_of after.door)
+    pub back : door_told → (first : J) (earlier : List Visit) → stands_of first before.job earlier
+        → HasVisits (λ visits. stands_of first after.job (earlier ++ visits)) (length runs)
+        (back_of before.door) (back_of after.door)
     pub ends : ends_of before.door ≤ ends_of after.door
     pub faults : faults_of before.door ≤ faults_of after.door
 
-  -- the worker drew these numbers and ended: it ran with all of them that are below the limit, but for the last where its links ended
+  -- the worker drew these numbers and ended: it ran with all of them that are below the limit, but
+  -- for the last where its links ended
   pub record HasWorked (limit : ℕ) (drawn : List ℕ) (before after : Worker J O) : Type 0 where
     pub runs : List ℕ
     pub last : List ℕ
@@ -31,5 +37,7 @@ module _ {J O : Type 0} (door_told numbers_told : Type 0) (given_of left_of ends
     pub has_run : HasRun runs before after
     pub ended : IsSome after.ended
     pub at_limit : after.ended ≡ Some LimitReached → (n : ℕ) × (last ≡ n ∷ []) × (limit ≤ n)
-    pub at_end : after.ended ≡ Some LinksEnded → Rose (ends_of before.door) (ends_of after.door) × (door_told → left_of after.door ≡ 0)
-    pub at_failure : after.ended ≡ Some LinksFailed → Rose (faults_of before.door) (faults_of after.door)
+    pub at_end : after.ended ≡ Some LinksEnded → Rose (ends_of before.door) (ends_of after.door)
+        × (door_told → left_of after.door ≡ 0)
+    pub at_failure : after.ended ≡ Some LinksFailed
+        → Rose (faults_of before.door) (faults_of after.door)

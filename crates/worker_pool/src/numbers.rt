@@ -64,7 +64,8 @@ pub(crate) struct Drawer {
 
 impl Numbers {
     ghost use Rattle.std.specs.Prelude.{◌<◌, ◌≤◌, ◌^◌, ℕ, IfOk, sum_by};
-    ghost use Rattle.worker_pool.specs.Hands.{first_hand, drawing_hand, remaining_hand, split_off_hand, joined_hand, sum_below, is_below};
+    ghost use Rattle.worker_pool.specs.Hands.{first_hand, drawing_hand, remaining_hand};
+    ghost use Rattle.worker_pool.specs.Hands.{split_off_hand, joined_hand, sum_below, is_below};
     ghost use Rattle.worker_pool.specs.Drawers.{hand_of, drawn, IsAt};
 
     /// Numbers of which none was drawn. The drawer has all parts.
@@ -113,7 +114,8 @@ impl Numbers {
         self.table.shared.join_seat::<Meet>(&mut drawer.seat, seat);
     }
 
-    /// Ends with the drawer that has all parts: the numbers that were drawn are those below some number, each once.
+    /// Ends with the drawer that has all parts: the numbers that were drawn are those below some
+    /// number, each once.
     pub(crate) fn end(self, drawer: Drawer)
         requires place { IsAt self drawer }
         requires parts { (hand_of drawer).parts ≡ 65 }

@@ -1,5 +1,7 @@
 //! Workers that serve side by side.
-ghost use Rattle.std.specs.Prelude.{◌≡◌, ◌≢◌, ◌≤◌, ◌<◌, ◌+◌, ◌^◌, [], ◌∷◌, All, map, length, sum_by, slice_index_or, ℕ, vec_capacity, Some, None, IfOk, IfErr, IfSome, IfNone, OnSome};
+ghost use Rattle.std.specs.Prelude.{◌≡◌, ◌≢◌, ◌≤◌, ◌<◌, ◌+◌, ◌^◌, [], ◌∷◌, All, map, length};
+ghost use Rattle.std.specs.Prelude.{sum_by, slice_index_or, ℕ, vec_capacity, Some, None, IfOk};
+ghost use Rattle.std.specs.Prelude.{IfErr, IfSome, IfNone, OnSome};
 ghost use Rattle.std.specs.List.{AllZip};
 ghost use Rattle.outside.specs.Faults.{Rose};
 ghost use Rattle.worker_pool.specs.Hands.{first_hand, split_off_hand};
@@ -33,12 +35,15 @@ fn serve_next<R: Wait, O: Door, J: Job<O::Src, O::Snk>>(
 ) -> Option<WorkerEnd>
     requires room { 1 ≤ J.room worker.old.job }
     requires few { J.ran worker.old.job < 2 ^ 31 }
-    ensures served { IfNone result (HasRun O.tells J.tells O.given O.left O.ends O.faults O.back J.room J.ran J.numbers
+    ensures served { IfNone result
+        (HasRun O.tells J.tells O.given O.left O.ends O.faults O.back J.room J.ran J.numbers
         J.stands J.keeps (number ∷ []) worker.old worker.new) }
-    ensures ended { OnSome result (HasRun O.tells J.tells O.given O.left O.ends O.faults O.back J.room J.ran J.numbers
+    ensures ended { OnSome result
+        (HasRun O.tells J.tells O.given O.left O.ends O.faults O.back J.room J.ran J.numbers
         J.stands J.keeps [] worker.old worker.new) }
     ensures at_end { result ≡ Some WorkerEnd.LinksEnded
-        → Rose (O.ends worker.old.door) (O.ends worker.new.door) × (O.tells → O.left worker.new.door ≡ 0) }
+        → Rose (O.ends worker.old.door) (O.ends worker.new.door)
+        × (O.tells → O.left worker.new.door ≡ 0) }
     ensures at_failure { result ≡ Some WorkerEnd.LinksFailed
         → Rose (O.faults worker.old.door) (O.faults worker.new.door) }
     ensures no_limit { result ≢ Some WorkerEnd.LimitReached }
@@ -70,7 +75,8 @@ fn work<R: Wait, O: Door, J: Job<O::Src, O::Snk>>(
     requires none { J.ran seated.old.worker.job ≡ 0 }
     ensures place { IsAt numbers.now seated.new.drawer }
     ensures part { (hand_of seated.new.drawer).parts ≡ 1 }
-    ensures worked { HasWorked O.tells J.tells O.given O.left O.ends O.faults O.back J.room J.ran J.numbers J.stands
+    ensures worked { HasWorked O.tells J.tells O.given O.left O.ends O.faults O.back J.room J.ran
+        J.numbers J.stands
         J.keeps limit (drawn seated.new.drawer) seated.old.worker seated.new.worker }
 {
     for _ in 0..limit + 1 {
@@ -162,7 +168,8 @@ fn work_all<R: Threads + Wait + Sync, O: Door + Drop + Send, J: Job<O::Src, O::S
     ensures parts { (k : ℕ) (d : Seated J O) → k < length all.old
         → (hand_of (slice_index_or all.new k d).drawer).parts ≡ 1 }
     ensures worked { (k : ℕ) (d : Seated J O) → k < length all.old
-        → HasWorked O.tells J.tells O.given O.left O.ends O.faults O.back J.room J.ran J.numbers J.stands J.keeps limit
+        → HasWorked O.tells J.tells O.given O.left O.ends O.faults O.back J.room J.ran J.numbers
+        J.stands J.keeps limit
         (drawn (slice_index_or all.new k d).drawer) (slice_index_or all.old k d).worker
         (slice_index_or all.new k d).worker }
 {
@@ -179,15 +186,17 @@ fn work_all<R: Threads + Wait + Sync, O: Door + Drop + Send, J: Job<O::Src, O::S
             requires none { J.ran seated.now.worker.job ≡ 0 }
             ensures place { IsAt numbers.entry.now seated.exit.now.drawer }
             ensures part { (hand_of seated.exit.now.drawer).parts ≡ 1 }
-            ensures worked { HasWorked O.tells J.tells O.given O.left O.ends O.faults O.back J.room J.ran J.numbers
-                J.stands J.keeps limit (drawn seated.exit.now.drawer) seated.entry.now.worker seated.exit.now.worker }
+            ensures worked { HasWorked O.tells J.tells O.given O.left O.ends O.faults O.back J.room
+                J.ran J.numbers
+                J.stands J.keeps limit
+                (drawn seated.exit.now.drawer) seated.entry.now.worker seated.exit.now.worker }
         { work(rt, alloc, numbers, limit, seated) },
     );
 }
 
-/// Serves the connections of all workers' doors side by side. Each worker draws a number before each connection, all of
-/// them different, and ends where the number isn't below the limit. For want of memory, before the first connection,
-/// the crew comes back as it was.
+/// Serves the connections of all workers' doors side by side. Each worker draws a number before
+/// each connection, all of them different, and ends where the number isn't below the limit. For
+/// want of memory, before the first connection, the crew comes back as it was.
 pub fn serve_all<
     R: Threads + Wait + Sync,
     O: Door + Drop + Send,
@@ -205,10 +214,12 @@ pub fn serve_all<
     requires none { All (λ worker. J.ran worker.job ≡ 0) crew.items }
     requires room { All (λ worker. limit ≤ J.room worker.job) crew.items }
     ensures refused { IfErr result (λ same. same ≡ crew) }
-    ensures served { IfOk result (λ after. AllZip (IsServed O.tells O.given O.left O.ends O.faults O.back J.room J.ran
+    ensures served { IfOk result (λ after.
+        AllZip (IsServed O.tells O.given O.left O.ends O.faults O.back J.room J.ran
         J.stands J.keeps) crew.items after.items) }
     ensures limit { IfOk result (λ after. sum_by (λ worker. J.ran worker.job) after.items ≤ limit) }
-    ensures reached { IfOk result (λ after. All (λ worker. worker.ended ≡ Some WorkerEnd.LimitReached
+    ensures reached { IfOk result (λ after.
+        All (λ worker. worker.ended ≡ Some WorkerEnd.LimitReached
         → limit ≤ sum_by (λ other. J.ran other.job) after.items + sum_by
         (λ other. lost other.ended) after.items) after.items) }
     ensures numbers { J.tells → IfOk result (λ after. AreDifferentBelow limit

@@ -21,7 +21,8 @@ pub trait Job<Src: Source, Snk: Sink> {
     /// The numbers that it was run with, in order, where clauses are told.
     ghost numbers: { Self → List ℕ };
 
-    /// What it says of these finished connections, which it served, in order, since it was as the first job here is.
+    /// What it says of these finished connections, which it served, in order, since it was as the
+    /// first job here is.
     ghost stands: { Self → Self → List Visit → Type 0 };
 
     /// What each run keeps: the job before and after.
@@ -38,10 +39,12 @@ pub trait Job<Src: Source, Snk: Sink> {
         ensures answers { Snk.answers sink.new ≡ Snk.answers sink.old }
         ensures keeps { keeps self.old self.new }
 
-        // Where both ends tell their bytes and are untouched as it begins, the visit stands with the job behind all
-        // before.
-        ensures visit { AreUntouchedEnds Src.tells Snk.tells (Src.held source.old) (Src.left source.old)
-            (Snk.written sink.old) (Src.faults source.old) (Snk.faults sink.old) → (first : Self) (visits : List Visit)
+        // Where both ends tell their bytes and are untouched as it begins, the visit stands with
+        // the job behind all before.
+        ensures visit { AreUntouchedEnds Src.tells Snk.tells (Src.held source.old)
+            (Src.left source.old)
+            (Snk.written sink.old) (Src.faults source.old) (Snk.faults sink.old)
+            → (first : Self) (visits : List Visit)
             → stands first self.old visits
             → stands first self.new (visits ++ visit_of (Src.held source.new) (Snk.written sink.new)
             (Src.faults source.new) (Snk.faults sink.new) ∷ []) };

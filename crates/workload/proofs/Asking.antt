@@ -16,7 +16,8 @@ draw_at seed n bound state number at is = is ∙ ap (λ (s : ℕ). number_of bou
 pub script_more : (seed n users k : ℕ) → script_lines seed n users (k + 1) ≡ script_lines seed n users k ++ ask_line (k % users) (question_at seed (n + 4 * k))
 unfolding script_lines
 script_more seed n users k =
-    ap (flat_map line) (range_to k) ∙ flat_map-append line (range_with_len 0 k) (k ∷ []) ∙ ap (λ (l : List ℕ). flat_map line (range_with_len 0 k) ++ l) (append-nil (line k))
+    ap (flat_map line) (range_to k) ∙ flat_map-append line (range_with_len 0 k) (k ∷ [])
+    ∙ ap (λ (l : List ℕ). flat_map line (range_with_len 0 k) ++ l) (append-nil (line k))
   where
     line : ℕ → List ℕ
     line t = ask_line (t % users) (question_at seed (n + 4 * t))

@@ -1,5 +1,6 @@
 -- The script of a workload reads as its asks.
-use Rattle.std.proofs.Common.{◌≡◌, ◌∙◌, sym, ap, refl, ℕ, zero, suc, ◌+◌, ◌*◌, ◌%◌, ◌/◌, ◌<◌, ◌≤◌, Bool, true, false, not, ◌&&◌, ◌||◌, ◌==◌, List, [], ◌∷◌, ◌++◌, map, length, take, drop, codes, decimal, nat_lt, Some, None, Ok, if◌then◌else◌, arith, length-append, append_assoc}
+use Rattle.std.proofs.Common.{◌≡◌, ◌∙◌, sym, ap, refl, ℕ, zero, suc, ◌+◌, ◌*◌, ◌%◌, ◌/◌, ◌<◌, ◌≤◌, Bool, true, false, not, ◌&&◌, ◌||◌, ◌==◌, List, [], ◌∷◌}
+use Rattle.std.proofs.Common.{◌++◌, map, length, take, drop, codes, decimal, nat_lt, Some, None, Ok, if◌then◌else◌, arith, length-append, append_assoc}
 use Rattle.std.specs.Prelude.{cond}
 use Rattle.std.specs.Fmt.{digits}
 use Rattle.std.specs.List.{list_all, list_any, flat_map, range_with_len, position_or_len, before_first, after_first}
@@ -17,7 +18,8 @@ use Rattle.line_protocol.specs.Words.{is_printable}
 use Rattle.line_protocol.proofs.Digits.{byte_digits}
 use Rattle.cqe_base.specs.declared.text.ScriptKind.TheVariants.{TooLong, TooMany}
 use Rattle.script_lines.specs.Scripts.{script_after, then_lines, unless, line_refusal}
-use Rattle.batch_engine.specs.BatchLines.{BatchItem, asked, batch_line, batch_of, with_line, with_said, spoken, worded, named_ask, ask_of, asks, session_number, ask_text}
+use Rattle.batch_engine.specs.BatchLines.{BatchItem, asked, batch_line, batch_of, with_line, with_said, spoken, worded, named_ask, ask_of, asks, session_number}
+use Rattle.batch_engine.specs.BatchLines.{ask_text}
 use Rattle.workload.specs.Draws.{state_after, drawn}
 use Rattle.workload.specs.Questions.{question_text, question_of, question_at, ask_line, script_lines}
 use Rattle.workload.specs.Policies.{user_name}
@@ -106,7 +108,9 @@ IsAbout (HasNot person disease) = (person < 40) × (disease < 12)
 about : (form person other disease : ℕ) → person < 40 → other < 40 → disease < 12 → IsAbout (question_of form person other disease)
 about form person other disease a b c = by (form == 0) (form == 1) (form == 2) (form == 3) (form == 4)
   where
-    by : (t u v w x : Bool) → IsAbout (if t then Drug person else if u then Has person disease else if v then Somebody disease else if w then Everybody disease else if x then Either person other disease else HasNot person disease)
+    by : (t u v w x : Bool)
+        → IsAbout (if t then Drug person else if u then Has person disease else if v then Somebody disease else if w then Everybody disease else if x
+        then Either person other disease else HasNot person disease)
     by true u v w x = a
     by false true v w x = (a, c)
     by false false true w x = c
@@ -117,7 +121,8 @@ about form person other disease a b c = by (form == 0) (form == 1) (form == 2) (
 about_at : (seed n : ℕ) → IsAbout (question_at seed n)
 about_at seed n =
     about (drawn seed n 6) (drawn seed (n + 1) 40) (drawn seed (n + 2) 40) (drawn seed (n + 3) 12)
-    (mod-lt (state_after seed (n + 1 + 1) / 65536) {m = 40} (omega arith)) (mod-lt (state_after seed (n + 2 + 1) / 65536) {m = 40} (omega arith)) (mod-lt (state_after seed (n + 3 + 1) / 65536) {m = 12} (omega arith))
+    (mod-lt (state_after seed (n + 1 + 1) / 65536) {m = 40} (omega arith)) (mod-lt (state_after seed (n + 2 + 1) / 65536) {m = 40} (omega arith))
+    (mod-lt (state_after seed (n + 3 + 1) / 65536) {m = 12} (omega arith))
 
 -- a number, and a text behind it
 with_number : (n : ℕ) (text : Text) → n < 256 → list_all is_printable text ≡ true → list_all is_printable (decimal n ++ text) ≡ true
@@ -125,14 +130,17 @@ with_number n text less all = list_all-append is_printable (decimal n) text ∙ 
 
 printable_question : (question : Question) → IsAbout question → list_all is_printable (question_text question) ≡ true
 printable_question (Drug person) a = with_number person (codes ")") (omega (arith, a)) refl
-printable_question (Has person disease) (a, c) = with_number person (codes ", d" ++ (decimal disease ++ codes ")")) (omega (arith, a)) (with_number disease (codes ")") (omega (arith, c)) refl)
+printable_question (Has person disease) (a, c) =
+    with_number person (codes ", d" ++ (decimal disease ++ codes ")")) (omega (arith, a)) (with_number disease (codes ")") (omega (arith, c)) refl)
 printable_question (Somebody disease) c = with_number disease (codes ")") (omega (arith, c)) refl
 printable_question (Everybody disease) c = with_number disease (codes ") -> drug(x)") (omega (arith, c)) refl
 printable_question (Either person other disease) (a, b, c) =
-    with_number person (codes ", d" ++ (decimal disease ++ (codes ") or has(p" ++ (decimal other ++ (codes ", d" ++ (decimal disease ++ codes ")")))))) (omega (arith, a))
+    with_number person (codes ", d" ++ (decimal disease ++ (codes ") or has(p" ++ (decimal other ++ (codes ", d" ++ (decimal disease ++ codes ")"))))))
+    (omega (arith, a))
     (with_number disease (codes ") or has(p" ++ (decimal other ++ (codes ", d" ++ (decimal disease ++ codes ")")))) (omega (arith, c))
     (with_number other (codes ", d" ++ (decimal disease ++ codes ")")) (omega (arith, b)) (with_number disease (codes ")") (omega (arith, c)) refl)))
-printable_question (HasNot person disease) (a, c) = with_number person (codes ", d" ++ (decimal disease ++ codes ")")) (omega (arith, a)) (with_number disease (codes ")") (omega (arith, c)) refl)
+printable_question (HasNot person disease) (a, c) =
+    with_number person (codes ", d" ++ (decimal disease ++ codes ")")) (omega (arith, a)) (with_number disease (codes ")") (omega (arith, c)) refl)
 
 longer : (n k : ℕ) (text : Text) → n < 256 → length text ≤ k → length (decimal n ++ text) ≤ 3 + k
 longer n k text less short = let whole = length-append (decimal n) text in let few = byte_digits n less in omega (arith, whole, few, short)
@@ -147,8 +155,10 @@ short_question (Everybody disease) c = let one = longer disease 12 (codes ") -> 
 short_question (Either person other disease) (a, b, c) =
     let four = longer disease 1 (codes ")") (omega (arith, c)) (omega arith) in
     let three = longer other 7 (codes ", d" ++ (decimal disease ++ codes ")")) (omega (arith, b)) (omega (arith, four)) in
-    let two = longer disease 20 (codes ") or has(p" ++ (decimal other ++ (codes ", d" ++ (decimal disease ++ codes ")")))) (omega (arith, c)) (omega (arith, three)) in
-    let one = longer person 26 (codes ", d" ++ (decimal disease ++ (codes ") or has(p" ++ (decimal other ++ (codes ", d" ++ (decimal disease ++ codes ")")))))) (omega (arith, a)) (omega (arith, two)) in omega (arith, one)
+    let two = longer disease 20 (codes ") or has(p" ++ (decimal other ++ (codes ", d" ++ (decimal disease ++ codes ")")))) (omega (arith, c))
+    (omega (arith, three)) in
+    let one = longer person 26 (codes ", d" ++ (decimal disease ++ (codes ") or has(p" ++ (decimal other ++ (codes ", d" ++ (decimal disease ++ codes ")"))))))
+    (omega (arith, a)) (omega (arith, two)) in omega (arith, one)
 short_question (HasNot person disease) (a, c) =
     let two = longer disease 1 (codes ")") (omega (arith, c)) (omega arith) in
     let one = longer person 7 (codes ", d" ++ (decimal disease ++ codes ")")) (omega (arith, a)) (omega (arith, two)) in omega (arith, one)
@@ -184,14 +194,16 @@ module _ (user : ℕ) (text : Text) (small : user < 256) (all : list_all is_prin
   named : named_ask (user_name user) (codes "1 ask " ++ text) ≡ Some (asks (record { name = user_name user; session = 1; text = text }))
   named =
       ap (λ (t : Bool). if t && list_any is_blank (codes "1 ask " ++ text)
-      then ask_of (user_name user) (session_number (before_first is_blank (codes "1 ask " ++ text))) (ask_text (after_first is_blank (codes "1 ask " ++ text))) else None) (has_form user small)
+      then ask_of (user_name user) (session_number (before_first is_blank (codes "1 ask " ++ text))) (ask_text (after_first is_blank (codes "1 ask " ++ text)))
+      else None) (has_form user small)
 
   -- it says the ask
   says_ask : batch_line (line_of user text) ≡ Some (asks (record { name = user_name user; session = 1; text = text }))
   unfolding batch_line
   says_ask =
       ap (λ (t : Bool). if t then spoken (line_of user text) else None) printable_line
-      ∙ ap (λ (t : Bool). if t then worded (before_first is_blank (line_of user text)) (after_first is_blank (line_of user text)) else None) (some is_blank (user_name user) 32 (codes "1 ask " ++ text) refl)
+      ∙ ap (λ (t : Bool). if t then worded (before_first is_blank (line_of user text)) (after_first is_blank (line_of user text))
+      else None) (some is_blank (user_name user) 32 (codes "1 ask " ++ text) refl)
       ∙ (λ i. worded (name_first i) (rest_behind i)) ∙ named
 
   -- it is the first line of what it stands before
@@ -204,7 +216,8 @@ module _ (user : ℕ) (text : Text) (small : user < 256) (all : list_all is_prin
       → unless (line_refusal number (record { bytes = line_of user text; ended = true })) (with_line before (without_return (line_of user text)))
       ≡ Ok (before ++ asked (record { name = user_name user; session = 1; text = text }) ∷ [])
   one_more number before few =
-      (λ i. unless (if short_line i then Some TooLong else if not_many number few i then Some TooMany else None) (with_said before (batch_line (whole (line_of user text) printable_line i))))
+      (λ i. unless (if short_line i then Some TooLong else if not_many number few i then Some TooMany
+      else None) (with_said before (batch_line (whole (line_of user text) printable_line i))))
       ∙ ap (with_said before) says_ask
     where
       not_many : (number : ℕ) → number ≤ 100000 → nat_lt 100000 number ≡ false
@@ -245,7 +258,8 @@ module _ (seed users : ℕ) (some_user : 0 < users) (few_users : users ≤ 256) 
       let short = short_question (question a) (about_at seed (620 + 3 * users + 4 * a)) in
       ap (λ bytes. script_after with_line (a + 1) (items a) (text_lines bytes)) (split_line (a % users) text (lines (a + 1) n))
       ∙ ap (script_after with_line (a + 1) (items a)) (next_line (a % users) text (is_user a) on_line short (lines (a + 1) n))
-      ∙ ap (λ r. then_lines with_line (a + 1) r (λ next. script_after with_line (a + 1 + 1) next (text_lines (lines (a + 1) n)))) (one_more (a % users) text (is_user a) on_line short (a + 1) (items a) (omega (arith, few)))
+      ∙ ap (λ r. then_lines with_line (a + 1) r (λ next. script_after with_line (a + 1 + 1) next (text_lines (lines (a + 1) n))))
+      (one_more (a % users) text (is_user a) on_line short (a + 1) (items a) (omega (arith, few)))
       ∙ ap (λ before. script_after with_line (a + 1 + 1) before (text_lines (lines (a + 1) n))) (items_more a)
       ∙ lines_read (a + 1) n (omega (arith, few)) ∙ ap (λ m. Ok (items m)) (next a n)
     where

@@ -34,7 +34,9 @@ illnesses_more seed n = ap (map (illness seed)) (range_to n) ∙ map-append (ill
 
 pub treatments_more : (seed n : ℕ) → treatments seed (n + 1) ≡ treatments seed n ++ treatment seed n
 unfolding treatments
-treatments_more seed n = ap (flat_map (treatment seed)) (range_to n) ∙ flat_map-append (treatment seed) (range_with_len 0 n) (n ∷ []) ∙ ap (λ (l : List Statement). treatments seed n ++ l) (append-nil (treatment seed n))
+treatments_more seed n =
+    ap (flat_map (treatment seed)) (range_to n) ∙ flat_map-append (treatment seed) (range_with_len 0 n) (n ∷ [])
+    ∙ ap (λ (l : List Statement). treatments seed n ++ l) (append-nil (treatment seed n))
 
 pub no_illness : (seed : ℕ) → illnesses seed 0 ≡ []
 unfolding illnesses
@@ -49,12 +51,14 @@ pub record DrawsIllness (seed n state person disease after : ℕ) : Type 0 where
   pub now : after ≡ state_after seed (2 * (n + 1))
   pub is : Has person disease ≡ illness seed n
 
-pub illness_drawn : (seed n state person disease after middle : ℕ) → state ≡ state_after seed (2 * n) → person ≡ number_of 40 (next_state state) → middle ≡ next_state state → disease ≡ number_of 12 (next_state middle) → after ≡ next_state middle
+pub illness_drawn : (seed n state person disease after middle : ℕ) → state ≡ state_after seed (2 * n) → person ≡ number_of 40 (next_state state)
+    → middle ≡ next_state state → disease ≡ number_of 12 (next_state middle) → after ≡ next_state middle
     → DrawsIllness seed n state person disease after
 illness_drawn seed n state person disease after middle at is mid is' end =
     let first : middle ≡ state_after seed (2 * n + 1) = mid ∙ ap next_state at ∙ sym (step seed (2 * n) (2 * n + 1) refl) in
     let second : next_state middle ≡ state_after seed (2 * (n + 1)) = ap next_state first ∙ sym (step seed (2 * n + 1) (2 * (n + 1)) (omega arith)) in
-    let again : state_after seed (2 * (n + 1)) ≡ state_after seed (2 * n + 1 + 1) = ap (λ (m : ℕ). state_after seed m) {x = 2 * (n + 1)} {y = 2 * n + 1 + 1} (omega arith) in
+    let again : state_after seed (2 * (n + 1)) ≡ state_after seed (2 * n + 1 + 1) =
+    ap (λ (m : ℕ). state_after seed m) {x = 2 * (n + 1)} {y = 2 * n + 1 + 1} (omega arith) in
     record {
       now = end ∙ second;
       is = (λ i. Has ((is ∙ ap (number_of 40) (sym mid ∙ first)) i) ((is' ∙ ap (number_of 12) (second ∙ again)) i));
@@ -65,16 +69,19 @@ pub record DrawsTreatment (seed n state person after : ℕ) : Type 0 where
   pub now : after ≡ state_after seed (600 + (n + 1))
   pub is : Drug person ∷ Has person 0 ∷ [] ≡ treatment seed n
 
-pub treatment_drawn : (seed n state person after : ℕ) → state ≡ state_after seed (600 + n) → person ≡ number_of 40 (next_state state) → after ≡ next_state state → DrawsTreatment seed n state person after
+pub treatment_drawn : (seed n state person after : ℕ) → state ≡ state_after seed (600 + n) → person ≡ number_of 40 (next_state state) → after ≡ next_state state
+    → DrawsTreatment seed n state person after
 treatment_drawn seed n state person after at is end =
     let next : next_state state ≡ state_after seed (600 + (n + 1)) = ap next_state at ∙ sym (step seed (600 + n) (600 + (n + 1)) (omega arith)) in
-    let again : state_after seed (600 + (n + 1)) ≡ state_after seed (600 + n + 1) = ap (λ (m : ℕ). state_after seed m) {x = 600 + (n + 1)} {y = 600 + n + 1} (omega arith) in
+    let again : state_after seed (600 + (n + 1)) ≡ state_after seed (600 + n + 1) =
+    ap (λ (m : ℕ). state_after seed m) {x = 600 + (n + 1)} {y = 600 + n + 1} (omega arith) in
     record {
       now = end ∙ next;
       is = ap (λ p. Drug p ∷ Has p 0 ∷ []) (is ∙ ap (number_of 40) (next ∙ again));
     }
 
-pub treatments_added : (seed n : ℕ) (before all one two : List Statement) (drug has : Statement) → all ≡ before ++ treatments seed n → one ≡ all ++ drug ∷ [] → two ≡ one ++ has ∷ []
+pub treatments_added : (seed n : ℕ) (before all one two : List Statement) (drug has : Statement) → all ≡ before ++ treatments seed n → one ≡ all ++ drug ∷ []
+    → two ≡ one ++ has ∷ []
     → drug ∷ has ∷ [] ≡ treatment seed n → two ≡ before ++ treatments seed (n + 1)
 treatments_added seed n before all one two drug has so_far first second is =
     second ∙ ap (λ (l : List Statement). l ++ has ∷ []) (first ∙ ap (λ (l : List Statement). l ++ drug ∷ []) so_far)

@@ -1,5 +1,6 @@
 -- The line of a statement states its fact.
-use Rattle.std.proofs.Common.{◌≡◌, ◌∙◌, sym, ap, refl, ℕ, ◌<◌, Bool, true, ◌&&◌, [], ◌∷◌, ◌++◌, slice_get, codes, decimal, Option, Some, None, unwrap_or, if◌then◌else◌, Result, Ok, arith, append_assoc}
+use Rattle.std.proofs.Common.{◌≡◌, ◌∙◌, sym, ap, refl, ℕ, ◌<◌, Bool, true, ◌&&◌, [], ◌∷◌, ◌++◌, slice_get, codes, decimal, Option, Some, None, unwrap_or}
+use Rattle.std.proofs.Common.{if◌then◌else◌, Result, Ok, arith, append_assoc}
 use Rattle.std.specs.Fmt.{digits}
 use Rattle.std.proofs.lemmas.Bool.{lt-ltb}
 use Rattle.std.proofs.lemmas.List.{append-nil}
@@ -41,7 +42,8 @@ drug_text j less =
 
 has_text : (j k : ℕ) → j < 40 → k < 12 → canonical workload_schema (atom 1 (person_term j ∷ disease_term k ∷ [])) ≡ statement_text (Has j k)
 has_text j k less less' =
-    (λ i. codes "has" ++ codes "(" ++ (unwrap_or (named (codes "p") 40 j less i) [] ++ (codes ", " ++ unwrap_or (named (codes "d") 12 k less' i) [] ++ [])) ++ codes ")")
+    (λ i. codes "has" ++ codes "(" ++ (unwrap_or (named (codes "p") 40 j less i) [] ++ (codes ", " ++ unwrap_or (named (codes "d") 12 k less' i) [] ++ []))
+    ++ codes ")")
     ∙ ap (λ (l : Text). codes "has(p" ++ l) (append_assoc (decimal j) (codes ", d" ++ (decimal k ++ [])) (codes ")"))
     ∙ ap (λ (l : Text). codes "has(p" ++ (decimal j ++ (codes ", d" ++ (l ++ codes ")")))) (append-nil (decimal k))
 
@@ -54,7 +56,8 @@ module _ (law : CanonicalFormsRead) where
   drug_read : (j : ℕ) → j < 40 → reading workload_schema (statement_text (Drug j)) ≡ Ok (atom 0 (person_term j ∷ []))
   drug_read j less =
       ap (reading workload_schema) (sym (drug_text j less))
-      ∙ law workload_schema (atom 0 (person_term j ∷ [])) valid (ap (λ (b : Bool). is_domain (if b then Some 1 else None) 1 && true) (lt-ltb j 40 less)) (omega arith)
+      ∙ law workload_schema (atom 0 (person_term j ∷ [])) valid (ap (λ (b : Bool). is_domain (if b then Some 1 else None) 1 && true) (lt-ltb j 40 less))
+      (omega arith)
 
   pub has_read : (j k : ℕ) → j < 40 → k < 12 → reading workload_schema (statement_text (Has j k)) ≡ Ok (atom 1 (person_term j ∷ disease_term k ∷ []))
   has_read j k less less' =

@@ -1,5 +1,6 @@
 -- Tables beside the trees that they stand for.
-use Rattle.std.proofs.Common.{◌≡◌, ◌∙◌, sym, ap, refl, ℕ, ◌+◌, ◌*◌, ◌≤◌, max, List, [], ◌∷◌, ◌++◌, map, codes, decimal, String, string_bytes, Global, Ordering, Less, Equal, Greater, arith}
+use Rattle.std.proofs.Common.{◌≡◌, ◌∙◌, sym, ap, refl, ℕ, ◌+◌, ◌*◌, ◌≤◌, max, List, [], ◌∷◌, ◌++◌, map, codes, decimal, String, string_bytes, Global, Ordering}
+use Rattle.std.proofs.Common.{Less, Equal, Greater, arith}
 use Rattle.std.specs.Ordering.{match_ordering}
 use Rattle.std.specs.BTreeMap.{insert_entry}
 use Rattle.std.specs.String.{string_cmp}
@@ -21,11 +22,13 @@ by_order Equal a b c = refl
 by_order Greater a b c = refl
 
 -- a value that is put under a key
-pub inserted : (es : List Entry) (key : String Global) (value : Value) → members_view (insert_entry string_cmp es key value) ≡ insert_member (string_bytes key) (view value) (members_view es)
+pub inserted : (es : List Entry) (key : String Global) (value : Value)
+    → members_view (insert_entry string_cmp es key value) ≡ insert_member (string_bytes key) (view value) (members_view es)
 inserted [] key value = refl
 inserted (e ∷ es) key value =
     by_order (string_cmp key e.0) ((key, value) ∷ e ∷ es) ((e.0, value) ∷ es) (e ∷ insert_entry string_cmp es key value)
-    ∙ ap (λ more. match_ordering (string_cmp key e.0) (member (string_bytes key) (view value) (members_view (e ∷ es))) (member (string_bytes e.0) (view value) (members_view es)) (member (string_bytes e.0) (view e.1) more))
+    ∙ ap (λ more. match_ordering (string_cmp key e.0) (member (string_bytes key) (view value) (members_view (e ∷ es)))
+    (member (string_bytes e.0) (view value) (members_view es)) (member (string_bytes e.0) (view e.1) more))
     (inserted es key value)
 
 -- texts, and one more
@@ -66,7 +69,8 @@ unfolding user_trees
 trees_more seed n = ap (map (user_tree seed)) (range_to n) ∙ map-append (user_tree seed) (range_with_len 0 n) (n ∷ [])
 
 -- a table whose three persons are those of a user of the seed
-pub one_tree : (seed k n : ℕ) (persons : List ℕ) → n ≡ 620 + 3 * k → persons ≡ drawn seed n 40 ∷ drawn seed (n + 1) 40 ∷ drawn seed (n + 2) 40 ∷ [] → table (user_members k persons) ≡ user_tree seed k
+pub one_tree : (seed k n : ℕ) (persons : List ℕ) → n ≡ 620 + 3 * k → persons ≡ drawn seed n 40 ∷ drawn seed (n + 1) 40 ∷ drawn seed (n + 2) 40 ∷ []
+    → table (user_members k persons) ≡ user_tree seed k
 one_tree seed k n persons place are =
     ap (λ p. table (user_members k p)) (are ∙ (λ i. drawn seed (at 0 i) 40 ∷ drawn seed (next 1 i) 40 ∷ drawn seed (next 2 i) 40 ∷ []))
   where

@@ -1,5 +1,6 @@
 -- A facts file reads as its world.
-use Rattle.std.proofs.Common.{◌≡◌, ◌∙◌, sym, ap, subst, refl, ℕ, ◌+◌, ◌<◌, ◌≤◌, Bool, true, false, cond, not, ◌&&◌, nat_le, nat_lt, List, [], ◌∷◌, ◌++◌, length, map, codes, decimal, Some, None, Ok, Err, if◌then◌else◌, IsUtf8, arith, length-append}
+use Rattle.std.proofs.Common.{◌≡◌, ◌∙◌, sym, ap, subst, refl, ℕ, ◌+◌, ◌<◌, ◌≤◌, Bool, true, false, cond, not, ◌&&◌, nat_le, nat_lt, List, [], ◌∷◌, ◌++◌, length}
+use Rattle.std.proofs.Common.{map, codes, decimal, Some, None, Ok, Err, if◌then◌else◌, IsUtf8, arith, length-append}
 use Rattle.std.specs.Fmt.{digits}
 use Rattle.std.specs.List.{list_all, flat_map, range_with_len, AllByRecursion}
 use Rattle.std.proofs.lemmas.List.FromFn.{length-range_with_len, length-map-range_with_len}
@@ -39,7 +40,13 @@ short : (statement : Statement) → IsWithin statement → nat_lt 4096 (length (
 short (Drug j) less = is_short (length (statement_text (Drug j))) (omega (arith, length-append (decimal j) (codes ")"), short_in j less))
 short (Has j k) within =
     is_short (length (statement_text (Has j k)))
-    (omega (arith, length-append (decimal j) (codes ", d" ++ (decimal k ++ codes ")")), length-append (decimal k) (codes ")"), short_in j within.0, short_in k (omega (arith, within.1))))
+    (omega (
+      arith,
+      length-append (decimal j) (codes ", d" ++ (decimal k ++ codes ")")),
+      length-append (decimal k) (codes ")"),
+      short_in j within.0,
+      short_in k (omega (arith, within.1)),
+    ))
 
 speaks : (statement : Statement) → says_nothing (statement_text statement) ≡ false
 speaks (Drug j) = refl
@@ -48,9 +55,11 @@ speaks (Has j k) = refl
 abbrev line_of : Statement → TextLine
 line_of statement = record { bytes = statement_text statement; ended = true }
 
-line_read : CanonicalFormsRead → (n : ℕ) (world : FactSet) (statement : Statement) → IsWithin statement → with_line workload_schema n world (line_of statement) ≡ with_fact n world (Some (meant_fact statement))
+line_read : CanonicalFormsRead → (n : ℕ) (world : FactSet) (statement : Statement) → IsWithin statement
+    → with_line workload_schema n world (line_of statement) ≡ with_fact n world (Some (meant_fact statement))
 line_read law n world statement within =
-    ap (λ t. if says_nothing t then Ok world else with_fact n world (if is_too_long (line_of statement) then None else stated_fact workload_schema t)) (no_return statement)
+    ap (λ t. if says_nothing t then Ok world
+    else with_fact n world (if is_too_long (line_of statement) then None else stated_fact workload_schema t)) (no_return statement)
     ∙ (λ i. if speaks statement i then Ok world else with_fact n world (if short statement within i then None else states law statement within i))
 
 room : (size : ℕ) (b : Bool) → size < 100000 → (nat_le 100000 size && b) ≡ false
@@ -74,7 +83,8 @@ lines_read : CanonicalFormsRead → (all : List Statement) → AllByRecursion Is
 lines_read law [] within n world few = ap (with_lines workload_schema n world) no_lines
 lines_read law (statement ∷ all) within n world few =
     ap (with_lines workload_schema n world) (first_line statement all within.0)
-    ∙ ap (λ r. r >>= λ next. with_lines workload_schema (n + 1) next (text_lines (facts_text all))) (line_read law n world statement within.0 ∙ added n world (meant_fact statement) (omega (arith, few)))
+    ∙ ap (λ r. r >>= λ next. with_lines workload_schema (n + 1) next (text_lines (facts_text all))) (line_read law n world statement within.0
+    ∙ added n world (meant_fact statement) (omega (arith, few)))
     ∙ lines_read law all within.1 (n + 1) (set.insert world (meant_fact statement)) (omega (arith, few, one_more world (meant_fact statement)))
 
 how_many_treated : (seed : ℕ) (xs : List ℕ) → length (flat_map (treatment seed) xs) ≡ length xs + length xs
@@ -84,10 +94,17 @@ how_many_treated seed (x ∷ xs) = omega (arith, how_many_treated seed xs)
 how_many : (seed : ℕ) → length (statements seed) ≤ 340
 unfolding illnesses treatments
 how_many seed =
-    omega (arith, length-append (illnesses seed 300) (treatments seed 20), length-map-range_with_len (illness seed) 0 300, how_many_treated seed (range_with_len 0 20), length-range_with_len 0 20)
+    omega (
+      arith,
+      length-append (illnesses seed 300) (treatments seed 20),
+      length-map-range_with_len (illness seed) 0 300,
+      how_many_treated seed (range_with_len 0 20),
+      length-range_with_len 0 20,
+    )
 
 -- the facts file of a seed reads as the world of the seed
-pub file_reads : CanonicalFormsRead → (seed : ℕ) (bytes : List ℕ) → bytes ≡ facts_text (statements seed) → IsUtf8 bytes → facts_of workload_schema bytes ≡ Ok (workload_world seed)
+pub file_reads : CanonicalFormsRead → (seed : ℕ) (bytes : List ℕ) → bytes ≡ facts_text (statements seed) → IsUtf8 bytes
+    → facts_of workload_schema bytes ≡ Ok (workload_world seed)
 unfolding facts_of
 file_reads law seed bytes is good =
     ap (λ (t : Bool). if t then with_lines workload_schema 1 set.empty (text_lines bytes) else Err NotUtf8) (is_utf8-from_IsUtf8 bytes good)

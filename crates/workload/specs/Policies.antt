@@ -1,5 +1,6 @@
 -- The policy of a workload.
-use Rattle.std.specs.Prelude.{ℕ, ◌+◌, ◌*◌, ◌%◌, ◌==◌, [], ◌∷◌, ◌++◌, map, None, codes, decimal, if◌then◌else◌}
+use Rattle.std.specs.Prelude.{ℕ, ◌+◌, ◌*◌, ◌%◌, ◌==◌, [], ◌∷◌, ◌++◌, map, None, codes, decimal}
+use Rattle.std.specs.Prelude.{if◌then◌else◌}
 use Rattle.std.specs.List.{range_with_len}
 use Rattle.cqe_base.specs.declared.user.Method.{Method}
 use Rattle.cqe_base.specs.declared.user.Method.TheVariants.{Lying, Refusal, Combined}
@@ -20,11 +21,15 @@ method_at number = if number % 3 == 0 then Lying else if number % 3 == 1 then Re
 
 -- each knows that who takes the drug has the first disease
 abbrev pub drug_means_illness : Formula
-drug_means_illness = universal 1 (implication (atom 0 (terms.Place 0 ∷ [])) (atom 1 (terms.Place 0 ∷ terms.Constant (record { domain = 0; index = 0 }) ∷ [])))
+drug_means_illness =
+    universal 1 (implication (atom 0 (terms.Place 0 ∷ []))
+    (atom 1 (terms.Place 0 ∷ terms.Constant (record { domain = 0; index = 0 }) ∷ [])))
 
 -- a person has the first disease
 abbrev pub has_first_illness : ℕ → Formula
-has_first_illness person = atom 1 (terms.Constant (record { domain = 1; index = person }) ∷ terms.Constant (record { domain = 0; index = 0 }) ∷ [])
+has_first_illness person =
+    atom 1 (terms.Constant (record { domain = 1; index = person })
+    ∷ terms.Constant (record { domain = 0; index = 0 }) ∷ [])
 
 -- the person of a secret of a user: they are drawn behind the facts, three for each user
 abbrev pub secret_person : ℕ → ℕ → ℕ → ℕ
@@ -45,4 +50,5 @@ workload_user seed number = record {
 
 -- the policy of a seed with so many users
 abbrev pub workload_policy : ℕ → ℕ → PolicyValue
-workload_policy seed users = record { schema = workload_schema; users = map (workload_user seed) (range_with_len 0 users) }
+workload_policy seed users =
+    record { schema = workload_schema; users = map (workload_user seed) (range_with_len 0 users) }

@@ -5,7 +5,8 @@ use Rattle.batch_engine.specs.BatchLines.{BatchItem, asked}
 use Rattle.workload.specs.Questions.{question_text, question_at}
 use Rattle.workload.specs.Policies.{user_name}
 
--- the ask of a number: the users come in turn, each in his first session; its four draws stand behind the facts, the secrets and the asks before it
+-- the ask of a number: the users come in turn, each in his first session; its four draws stand
+-- behind the facts, the secrets and the asks before it
 abbrev pub workload_ask : ℕ → ℕ → ℕ → BatchItem
 workload_ask seed users number = asked (record {
   name = user_name (number % users);

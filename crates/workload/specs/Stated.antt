@@ -18,8 +18,10 @@ numbered letter count = map (λ n. letter ++ decimal n) (range_with_len 0 count)
 -- twelve diseases and forty persons; who takes the drug, and who has which disease
 abbrev pub workload_schema : DatabaseSchema
 workload_schema = record {
-  domains = record { name = codes "disease"; constants = numbered (codes "d") 12 } ∷ record { name = codes "person"; constants = numbered (codes "p") 40 } ∷ [];
-  relations = record { name = codes "drug"; columns = 1 ∷ [] } ∷ record { name = codes "has"; columns = 1 ∷ 0 ∷ [] } ∷ [];
+  domains = record { name = codes "disease"; constants = numbered (codes "d") 12 }
+      ∷ record { name = codes "person"; constants = numbered (codes "p") 40 } ∷ [];
+  relations = record { name = codes "drug"; columns = 1 ∷ [] }
+      ∷ record { name = codes "has"; columns = 1 ∷ 0 ∷ [] } ∷ [];
 }
 
 -- the fact that a statement means

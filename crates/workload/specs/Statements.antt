@@ -8,7 +8,8 @@ use Rattle.workload.specs.declared.statement.Statement.TheVariants.{Drug, Has}
 -- a statement as text
 abbrev pub statement_text : Statement → List ℕ
 statement_text (Drug person) = codes "drug(p" ++ (decimal person ++ codes ")")
-statement_text (Has person disease) = codes "has(p" ++ (decimal person ++ (codes ", d" ++ (decimal disease ++ codes ")")))
+statement_text (Has person disease) =
+    codes "has(p" ++ (decimal person ++ (codes ", d" ++ (decimal disease ++ codes ")")))
 
 -- the illness of this number: a person that is drawn has a disease that is drawn
 abbrev pub illness : ℕ → ℕ → Statement

@@ -1,8 +1,8 @@
 //! The numbers that are drawn from a seed.
 ghost use Rattle.std.specs.Prelude.{◌≡◌, ◌<◌};
 
-/// A sequence of numbers that follow from a seed: x becomes 1103515245 x + 12345 modulo 2^31, and gives its bits from the
-/// seventeenth on.
+/// A sequence of numbers that follow from a seed: x becomes 1103515245 x + 12345 modulo 2^31, and
+/// gives its bits from the seventeenth on.
 #[derive(Drop)]
 pub(crate) struct Draws {
     state: u64,

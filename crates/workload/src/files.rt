@@ -24,22 +24,28 @@ pub struct Workload {
     pub script: Vec<u8>,
 }
 
-/// Makes the workload of a seed, for 1 to 256 users and 1 to 10,000 asks. The facts are drawn first, then the secrets of
-/// each user, then the asks.
+/// Makes the workload of a seed, for 1 to 256 users and 1 to 10,000 asks. The facts are drawn
+/// first, then the secrets of each user, then the asks.
 pub fn make(alloc: Global, seed: u64, users: u32, asks: u32) -> Result<Workload, AllocError>
     requires some_user { 1 ≤ users }
     requires few_users { users ≤ 256 }
     requires some_ask { 1 ≤ asks }
     requires few_asks { asks ≤ 10000 }
     // The policy reads as that of the seed.
-    ensures policy { IfOk result (λ made. policy_in made.policy.items ≡ Ok (workload_policy seed users)) }
+    ensures policy { IfOk result (λ made. policy_in made.policy.items
+        ≡ Ok (workload_policy seed users)) }
     // The facts read as the database of the seed. Each line states one fact.
-    ensures read { IfOk result (λ made. facts_of workload_schema made.facts.items ≡ Ok (workload_world seed)) }
+    ensures read { IfOk result (λ made. facts_of workload_schema made.facts.items
+        ≡ Ok (workload_world seed)) }
     ensures facts { IfOk result (λ made. made.facts.items ≡ facts_text (statements seed)) }
-    ensures stated { IfOk result (λ made. stated_facts made.facts.items ≡ map (λ statement. Some (meant_fact statement)) (statements seed)) }
-    // The script reads as the asks of the seed. Its lines ask what is drawn after the facts and three secrets for each user.
-    ensures asks { IfOk result (λ made. batch_of made.script.items ≡ Ok (workload_script seed users asks)) }
-    ensures script { IfOk result (λ made. made.script.items ≡ script_lines seed (620 + 3 * users) users asks) }
+    ensures stated { IfOk result (λ made. stated_facts made.facts.items
+        ≡ map (λ statement. Some (meant_fact statement)) (statements seed)) }
+    // The script reads as the asks of the seed. Its lines ask what is drawn after the facts and
+    // three secrets for each user.
+    ensures asks { IfOk result (λ made. batch_of made.script.items
+        ≡ Ok (workload_script seed users asks)) }
+    ensures script { IfOk result (λ made. made.script.items
+        ≡ script_lines seed (620 + 3 * users) users asks) }
 {
     law_canonical_forms_read();
     let mut draws = Draws::new(seed);

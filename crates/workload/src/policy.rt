@@ -1,5 +1,6 @@
 //! The policy of a workload.
-ghost use Rattle.std.specs.Prelude.{◌≡◌, ◌+◌, ◌*◌, ◌≤◌, ◌∷◌, [], ℕ, Ok, map, pos, IfOk, OnOk, string_bytes};
+ghost use Rattle.std.specs.Prelude.{◌≡◌, ◌+◌, ◌*◌, ◌≤◌, ◌∷◌, [], ℕ, Ok, map, pos, IfOk, OnOk};
+ghost use Rattle.std.specs.Prelude.{string_bytes};
 ghost use Rattle.toml.specs.Data.{no_members, table, array, string};
 ghost use Rattle.toml.specs.View.{view, table_view};
 ghost use Rattle.policy_files.specs.Policy.{policy_in};
@@ -7,7 +8,9 @@ ghost use Rattle.sentence_text.specs.Laws.{CanonicalFormsRead};
 ghost use Rattle.workload.specs.Draws.{state_after, state_of, drawn};
 ghost use Rattle.workload.specs.Stated.{numbered};
 ghost use Rattle.workload.specs.Policies.{user_name, workload_policy};
-ghost use Rattle.workload.specs.Trees.{insert_member, texts_data, method_text, secret_text, user_members, domain_members, relation_members, root_members, user_trees, ReadsAs};
+ghost use Rattle.workload.specs.Trees.{insert_member, texts_data, method_text, secret_text};
+ghost use Rattle.workload.specs.Trees.{user_members, domain_members, relation_members};
+ghost use Rattle.workload.specs.Trees.{root_members, user_trees, ReadsAs};
 
 use crate::draws::Draws;
 use sentence_text::laws::law_canonical_forms_read;
@@ -25,8 +28,10 @@ pub(crate) fn policy_text(
 ) -> Result<String, AllocError>
     requires some_user { 1 ≤ users }
     requires few_users { users ≤ 256 }
-    ensures policy { (seed : ℕ) → state_of draws.old ≡ state_after seed 620 → IfOk result (λ text. policy_in (string_bytes text) ≡ Ok (workload_policy seed users)) }
-    ensures after { (seed n : ℕ) → state_of draws.old ≡ state_after seed n → OnOk result (state_of draws.new ≡ state_after seed (n + 3 * users)) }
+    ensures policy { (seed : ℕ) → state_of draws.old ≡ state_after seed 620
+        → IfOk result (λ text. policy_in (string_bytes text) ≡ Ok (workload_policy seed users)) }
+    ensures after { (seed n : ℕ) → state_of draws.old ≡ state_after seed n
+        → OnOk result (state_of draws.new ≡ state_after seed (n + 3 * users)) }
 {
     law_canonical_forms_read();
     let list = user_list(alloc, draws, users)?;
@@ -35,8 +40,10 @@ pub(crate) fn policy_text(
 
 // Draws the secrets of the users, and makes their tables.
 fn user_list(alloc: Global, draws: &mut Draws, users: u32) -> Result<Vec<Value>, AllocError>
-    ensures trees { (seed : ℕ) → state_of draws.old ≡ state_after seed 620 → IfOk result (λ list. map view list.items ≡ user_trees seed users) }
-    ensures after { (seed n : ℕ) → state_of draws.old ≡ state_after seed n → OnOk result (state_of draws.new ≡ state_after seed (n + 3 * users)) }
+    ensures trees { (seed : ℕ) → state_of draws.old ≡ state_after seed 620
+        → IfOk result (λ list. map view list.items ≡ user_trees seed users) }
+    ensures after { (seed n : ℕ) → state_of draws.old ≡ state_after seed n
+        → OnOk result (state_of draws.new ≡ state_after seed (n + 3 * users)) }
 {
     let mut list = Vec::new(alloc);
     for number in 0..users {
@@ -48,8 +55,10 @@ fn user_list(alloc: Global, draws: &mut Draws, users: u32) -> Result<Vec<Value>,
 
 // Draws three persons.
 fn draw_persons(draws: &mut Draws) -> [u32; 3]
-    ensures drawn { (seed n : ℕ) → state_of draws.old ≡ state_after seed n → result ≡ drawn seed n 40 ∷ drawn seed (n + 1) 40 ∷ drawn seed (n + 2) 40 ∷ [] }
-    ensures after { (seed n : ℕ) → state_of draws.old ≡ state_after seed n → state_of draws.new ≡ state_after seed (n + 3) }
+    ensures drawn { (seed n : ℕ) → state_of draws.old ≡ state_after seed n
+        → result ≡ drawn seed n 40 ∷ drawn seed (n + 1) 40 ∷ drawn seed (n + 2) 40 ∷ [] }
+    ensures after { (seed n : ℕ) → state_of draws.old ≡ state_after seed n
+        → state_of draws.new ≡ state_after seed (n + 3) }
 {
     let (first, second) = (draws.draw(40), draws.draw(40));
     [first, second, draws.draw(40)]
@@ -57,7 +66,8 @@ fn draw_persons(draws: &mut Draws) -> [u32; 3]
 
 // The text of a policy with these users.
 fn root_text(alloc: Global, list: Vec<Value>) -> Result<String, AllocError>
-    ensures { IfOk result (λ text. ReadsAs (root_members (map view list.items)) (string_bytes text)) }
+    ensures { IfOk result (λ text.
+        ReadsAs (root_members (map view list.items)) (string_bytes text)) }
 {
     let mut root = Table::new(alloc);
     put(alloc, &mut root, "version", Value::Integer(1))?;
@@ -74,7 +84,8 @@ fn root_text(alloc: Global, list: Vec<Value>) -> Result<String, AllocError>
 
 // Puts a value under a key.
 fn put(alloc: Global, table: &mut Table, key: &str, value: Value) -> Result<(), AllocError>
-    ensures { OnOk result (table_view table.new ≡ insert_member key.now (view value) (table_view table.old)) }
+    ensures { OnOk result (table_view table.new
+        ≡ insert_member key.now (view value) (table_view table.old)) }
 {
     let _before = table.insert(String::from_str(alloc, key)?, value)?;
     Ok(())

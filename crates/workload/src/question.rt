@@ -45,8 +45,10 @@ impl fmt::Display for Question {
 
 // Draws a question.
 fn draw_question(draws: &mut Draws) -> Question
-    ensures drawn { (seed n : ℕ) → state_of draws.old ≡ state_after seed n → result ≡ question_at seed n }
-    ensures after { (seed n : ℕ) → state_of draws.old ≡ state_after seed n → state_of draws.new ≡ state_after seed (n + 4) }
+    ensures drawn { (seed n : ℕ) → state_of draws.old ≡ state_after seed n
+        → result ≡ question_at seed n }
+    ensures after { (seed n : ℕ) → state_of draws.old ≡ state_after seed n
+        → state_of draws.new ≡ state_after seed (n + 4) }
 {
     let (form, person) = (draws.draw(6), draws.draw(40));
     let (other, disease) = (draws.draw(40), draws.draw(12));
@@ -75,7 +77,8 @@ pub(crate) fn script_text(
     asks: u32,
 ) -> Result<String, AllocError>
     requires { 0 < users }
-    ensures { (seed n : ℕ) → state_of draws.old ≡ state_after seed n → IfOk result (λ text. string_bytes text ≡ script_lines seed n users asks) }
+    ensures { (seed n : ℕ) → state_of draws.old ≡ state_after seed n
+        → IfOk result (λ text. string_bytes text ≡ script_lines seed n users asks) }
 {
     let mut text = String::new(alloc);
     for number in 0..asks {

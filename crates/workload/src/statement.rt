@@ -1,7 +1,8 @@
 //! The facts of a workload.
 ghost use Rattle.std.specs.Prelude.{◌≡◌, ◌++◌, ℕ, Some, IfOk, OnOk, string_bytes};
 ghost use Rattle.workload.specs.Draws.{state_after, state_of};
-ghost use Rattle.workload.specs.Statements.{statement_text, statements, illnesses, treatments, facts_text};
+ghost use Rattle.workload.specs.Statements.{statement_text, statements, illnesses, treatments};
+ghost use Rattle.workload.specs.Statements.{facts_text};
 
 use crate::draws::Draws;
 use std::alloc::{AllocError, Global};
@@ -32,8 +33,10 @@ pub(crate) fn draw_statements(
     alloc: Global,
     draws: &mut Draws,
 ) -> Result<Vec<Statement>, AllocError>
-    ensures drawn { (seed : ℕ) → state_of draws.old ≡ state_after seed 0 → IfOk result (λ all. all.items ≡ statements seed) }
-    ensures after { (seed : ℕ) → state_of draws.old ≡ state_after seed 0 → OnOk result (state_of draws.new ≡ state_after seed 620) }
+    ensures drawn { (seed : ℕ) → state_of draws.old ≡ state_after seed 0
+        → IfOk result (λ all. all.items ≡ statements seed) }
+    ensures after { (seed : ℕ) → state_of draws.old ≡ state_after seed 0
+        → OnOk result (state_of draws.new ≡ state_after seed 620) }
 {
     let illnesses = draw_illnesses(alloc, draws)?;
     draw_treatments(draws, illnesses)
@@ -41,8 +44,10 @@ pub(crate) fn draw_statements(
 
 // Draws three hundred times that somebody has a disease.
 fn draw_illnesses(alloc: Global, draws: &mut Draws) -> Result<Vec<Statement>, AllocError>
-    ensures drawn { (seed : ℕ) → state_of draws.old ≡ state_after seed 0 → IfOk result (λ all. all.items ≡ illnesses seed 300) }
-    ensures after { (seed : ℕ) → state_of draws.old ≡ state_after seed 0 → OnOk result (state_of draws.new ≡ state_after seed 600) }
+    ensures drawn { (seed : ℕ) → state_of draws.old ≡ state_after seed 0
+        → IfOk result (λ all. all.items ≡ illnesses seed 300) }
+    ensures after { (seed : ℕ) → state_of draws.old ≡ state_after seed 0
+        → OnOk result (state_of draws.new ≡ state_after seed 600) }
 {
     let mut all = Vec::new(alloc);
     for _number in 0..300_u32 {
@@ -54,8 +59,10 @@ fn draw_illnesses(alloc: Global, draws: &mut Draws) -> Result<Vec<Statement>, Al
 
 // Draws twenty times that somebody takes the drug and has the first disease, behind these facts.
 fn draw_treatments(draws: &mut Draws, before: Vec<Statement>) -> Result<Vec<Statement>, AllocError>
-    ensures drawn { (seed : ℕ) → state_of draws.old ≡ state_after seed 600 → IfOk result (λ all. all.items ≡ before.items ++ treatments seed 20) }
-    ensures after { (seed : ℕ) → state_of draws.old ≡ state_after seed 600 → OnOk result (state_of draws.new ≡ state_after seed 620) }
+    ensures drawn { (seed : ℕ) → state_of draws.old ≡ state_after seed 600
+        → IfOk result (λ all. all.items ≡ before.items ++ treatments seed 20) }
+    ensures after { (seed : ℕ) → state_of draws.old ≡ state_after seed 600
+        → OnOk result (state_of draws.new ≡ state_after seed 620) }
 {
     let mut all = before;
     for _number in 0..20_u32 {

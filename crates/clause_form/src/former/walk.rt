@@ -1,12 +1,15 @@
-//! The walk of a formula, children before their parent. Where it is refused, the clauses and the facts that were there still
-//! stand in front.
+//! The walk of a formula, children before their parent. Where it is refused, the clauses and the
+//! facts that were there still stand in front.
 
-ghost use Rattle.std.specs.Prelude.{◌≡◌, ◌<◌, ◌≤◌, ◌^◌, ◌+◌, [], ◌∷◌, ◌++◌, map, IfOk, OnOk, if◌then◌else◌};
+ghost use Rattle.std.specs.Prelude.{◌≡◌, ◌<◌, ◌≤◌, ◌^◌, ◌+◌, [], ◌∷◌, ◌++◌, map, IfOk, OnOk};
+ghost use Rattle.std.specs.Prelude.{if◌then◌else◌};
 ghost use Rattle.cqe_base.specs.Literal.{Positive, opposite};
 ghost use Rattle.cqe_base.specs.Ground.{parts_of, ground_of, ground_nodes, part_nodes};
-ghost use Rattle.cqe_base.specs.ClauseForm.{number_of, with_fact, with_node, and_clauses, or_clauses, iff_clauses};
+ghost use Rattle.cqe_base.specs.ClauseForm.{number_of, with_fact, with_node, and_clauses};
+ghost use Rattle.cqe_base.specs.ClauseForm.{or_clauses, iff_clauses};
 ghost use Rattle.clause_form.specs.Forms.{with_formula};
-ghost use Rattle.clause_form.specs.Walks.{with_numbering, with_clauses, Walked, WalkedParts, GoesOn};
+ghost use Rattle.clause_form.specs.Walks.{with_numbering, with_clauses, Walked, WalkedParts};
+ghost use Rattle.clause_form.specs.Walks.{GoesOn};
 
 use crate::former::Former;
 use crate::nodes::{push_and, push_iff, push_or};
@@ -55,9 +58,11 @@ impl Former {
     /// Walks formulas from left to right, and answers their literals.
     #[cycle(walk)]
     fn walk_parts(&mut self, alloc: Global, parts: &[Prop]) -> Result<Vec<Lit>, AllocError>
-        requires { self.old.numbering.variables + part_nodes (parts_of (map ground_of parts.now)) < 2 ^ 31 }
+        requires { self.old.numbering.variables + part_nodes (parts_of (map ground_of parts.now))
+            < 2 ^ 31 }
         ensures walked { IfOk result
-            (λ literals. WalkedParts (parts_of (map ground_of parts.now)) self.old literals.items self.new) }
+            (λ literals. WalkedParts
+            (parts_of (map ground_of parts.now)) self.old literals.items self.new) }
         ensures goes_on { GoesOn self.old self.new }
     {
         let mut literals = Vec::new(alloc);
@@ -68,7 +73,8 @@ impl Former {
         Ok(literals)
     }
 
-    /// Walks a formula, and then its literal, or where `positive` is false the opposite, is a clause alone.
+    /// Walks a formula, and then its literal, or where `positive` is false the opposite, is a
+    /// clause alone.
     pub(crate) fn walk_signed(
         &mut self,
         alloc: Global,
@@ -76,7 +82,8 @@ impl Former {
         positive: bool,
     ) -> Result<(), AllocError>
         requires { self.old.numbering.variables + ground_nodes (ground_of prop.now) < 2 ^ 31 }
-        ensures added { OnOk result (self.new ≡ with_formula self.old (ground_of prop.now, positive)) }
+        ensures added { OnOk result
+            (self.new ≡ with_formula self.old (ground_of prop.now, positive)) }
         ensures goes_on { GoesOn self.old self.new }
     {
         let literal = self.walk(alloc, prop)?;
@@ -97,8 +104,10 @@ impl Former {
     fn number_fact(&mut self, fact: &Fact) -> Result<Lit, AllocError>
         requires { self.old.numbering.variables + 1 < 2 ^ 31 }
         ensures literal { IfOk result
-            (λ l. l ≡ Positive (number_of self.old.numbering.facts fact.now self.old.numbering.variables)) }
-        ensures numbered { OnOk result (self.new ≡ with_numbering self.old (with_fact self.old.numbering fact.now)) }
+            (λ l. l ≡ Positive
+            (number_of self.old.numbering.facts fact.now self.old.numbering.variables)) }
+        ensures numbered { OnOk result (self.new
+            ≡ with_numbering self.old (with_fact self.old.numbering fact.now)) }
         ensures goes_on { GoesOn self.old self.new }
     {
         if let Some(number) = self.facts.get(fact) {
@@ -110,7 +119,8 @@ impl Former {
         Ok(Lit::positive(number))
     }
 
-    /// A conjunction of literals: it takes the next variable and appends the clauses that say what it is.
+    /// A conjunction of literals: it takes the next variable and appends the clauses that say what
+    /// it is.
     fn and_node(&mut self, alloc: Global, literals: &[Lit]) -> Result<Lit, AllocError>
         requires { self.old.numbering.variables + 1 < 2 ^ 31 }
         ensures literal { IfOk result (λ l. l ≡ Positive self.old.numbering.variables) }

@@ -1,10 +1,12 @@
 //! The analysis of a conflict.
 
-ghost use Rattle.std.specs.Prelude.{◌≡◌, ◌<◌, ◌≤◌, ◌^◌, ◌+◌, ℕ, [], ◌∷◌, ◌++◌, length, reverse, take, map, IfOk, slice_index_or};
+ghost use Rattle.std.specs.Prelude.{◌≡◌, ◌<◌, ◌≤◌, ◌^◌, ◌+◌, ℕ, [], ◌∷◌, ◌++◌, length, reverse};
+ghost use Rattle.std.specs.Prelude.{take, map, IfOk, slice_index_or};
 ghost use Rattle.std.specs.List.{filter};
 ghost use Rattle.cqe_base.specs.Literal.{Literal, opposite, variable_of, has_literal};
 ghost use Rattle.cqe_base.specs.Refutation.{resolvent};
-ghost use Rattle.cqe_base.specs.Machine.{Assigned, level, kept_count, latest_against, resolved_with, analysis, resolved_line, conflict_line};
+ghost use Rattle.cqe_base.specs.Machine.{Assigned, level, kept_count, latest_against};
+ghost use Rattle.cqe_base.specs.Machine.{resolved_with, analysis, resolved_line, conflict_line};
 ghost use Rattle.clause_store.specs.PlainLines.{line_of};
 
 use crate::entry::TrailEntry;
@@ -23,7 +25,8 @@ fn resolvent_with(
     variable: u32,
     clause: &[Lit],
 ) -> Result<Vec<Lit>, AllocError>
-    ensures { IfOk result (λ r. r.items ≡ resolvent variable clause.now (slice_index_or clauses.now number [])) }
+    ensures { IfOk result (λ r. r.items
+        ≡ resolvent variable clause.now (slice_index_or clauses.now number [])) }
 {
     if number < clauses.len() {
         return resolvent(alloc, variable, clause, clauses.clause(number));
@@ -39,7 +42,8 @@ fn resolve(
     literal: Lit,
     line: &mut Line,
 ) -> Result<(), AllocError>
-    ensures { IfOk result (λ _. line_of line.new ≡ resolved_line clauses.now number literal (line_of line.old)) }
+    ensures { IfOk result (λ _. line_of line.new
+        ≡ resolved_line clauses.now number literal (line_of line.old)) }
 {
     let clause = resolvent_with(
         alloc,
@@ -71,7 +75,8 @@ fn resolve_with(
     latest: Option<TrailEntry>,
     line: &mut Line,
 ) -> Result<(), AllocError>
-    ensures { IfOk result (λ _. line_of line.new ≡ resolved_with clauses.now latest (line_of line.old)) }
+    ensures { IfOk result (λ _. line_of line.new
+        ≡ resolved_with clauses.now latest (line_of line.old)) }
 {
     let Some(entry) = latest else {
         return Ok(());
@@ -82,7 +87,8 @@ fn resolve_with(
     resolve(alloc, clauses, entry.clause(), entry.literal(), line)
 }
 
-/// Resolves until few enough literals of the current level are left. Each resolution goes back along the trail, so its length bounds their number.
+/// Resolves until few enough literals of the current level are left. Each resolution goes back
+/// along the trail, so its length bounds their number.
 fn analyse(
     alloc: Global,
     clauses: &Clauses,
@@ -90,7 +96,8 @@ fn analyse(
     keep: usize,
     line: &mut Line,
 ) -> Result<(), AllocError>
-    ensures { IfOk result (λ _. line_of line.new ≡ analysis clauses.now (reverse trail.now) keep (length trail.now) (line_of line.old)) }
+    ensures { IfOk result (λ _. line_of line.new
+        ≡ analysis clauses.now (reverse trail.now) keep (length trail.now) (line_of line.old)) }
 {
     for times in 0..trail.len() {
         if current_count(trail, &line.clause) <= keep {
@@ -118,7 +125,12 @@ pub fn conflict_line(
 ) -> Result<Line, AllocError>
     requires number { number < length clauses.now }
     requires fits { number < 2 ^ 32 }
-    ensures { IfOk result (λ line. line_of line ≡ conflict_line (record { clauses = clauses.now; trail = reverse trail.now; lines = [] }) number) }
+    ensures { IfOk result (λ line. line_of line ≡ conflict_line (record {
+      clauses =
+          clauses.now;
+      trail = reverse trail.now;
+      lines = [];
+    }) number) }
 {
     let clause = Vec::from_slice(alloc, clauses.clause(number))?;
     let mut chain = Vec::new(alloc);

@@ -22,7 +22,8 @@ pub fn search_plain(
     requires below { ClausesBelow variables clauses.now }
     requires no_repeat { HaveNoRepeat clauses.now }
     requires room { length clauses.now + budget < 2 ^ 32 }
-    ensures { IfOk result (λ found. found_of found ≡ end_within_budget clauses.now variables budget) }
+    ensures { IfOk result (λ found. found_of found
+        ≡ end_within_budget clauses.now variables budget) }
 {
     let mut state = State {
         clauses: clauses.copy(alloc)?,

@@ -1,6 +1,7 @@
 //! Where the rules apply: scans of the clauses and of the variables.
 
-ghost use Rattle.std.specs.Prelude.{◌≡◌, ◌<◌, ◌≤◌, ◌^◌, ◌+◌, ℕ, [], ◌∷◌, ◌++◌, length, reverse, IfOk, IfSome, not, ◌&&◌};
+ghost use Rattle.std.specs.Prelude.{◌≡◌, ◌<◌, ◌≤◌, ◌^◌, ◌+◌, ℕ, [], ◌∷◌, ◌++◌, length, reverse};
+ghost use Rattle.std.specs.Prelude.{IfOk, IfSome, not, ◌&&◌};
 ghost use Rattle.std.specs.List.{list_all, position_from};
 ghost use Rattle.std.specs.Option.{option_map};
 ghost use Rattle.cqe_base.specs.Literal.{Literal, Positive, Negative};
@@ -31,7 +32,8 @@ pub fn first_unit(
     clauses: &Clauses,
     trail: &[TrailEntry],
 ) -> Result<Option<(usize, Lit)>, AllocError>
-    ensures first { IfOk result (λ r. option_map (λ u. (u.0, u.1)) r ≡ first_unit (reverse trail.now) 0 clauses.now) }
+    ensures first { IfOk result (λ r. option_map (λ u. (u.0, u.1)) r
+        ≡ first_unit (reverse trail.now) 0 clauses.now) }
     ensures number { IfOk result (λ r. IfSome r (λ u. u.0 < length clauses.now)) }
 {
     for i in 0..clauses.len() {
@@ -45,7 +47,9 @@ pub fn first_unit(
 /// Whether a variable has no sign yet.
 fn is_unassigned(trail: &[TrailEntry], variable: u32) -> bool
     requires { variable + 1 < 2 ^ 31 }
-    ensures { result ≡ (not (is_true (reverse trail.now) (Positive variable)) && not (is_true (reverse trail.now) (Negative variable))) }
+    ensures { result
+        ≡ (not (is_true (reverse trail.now) (Positive variable))
+        && not (is_true (reverse trail.now) (Negative variable))) }
 {
     !is_true(trail, Lit::positive(variable)) && !is_true(trail, Lit::negative(variable))
 }

@@ -1,8 +1,12 @@
 //! The state of the machine, and its steps.
 
-ghost use Rattle.std.specs.Prelude.{◌≡◌, ◌<◌, ◌≤◌, ◌^◌, ◌+◌, ℕ, [], ◌∷◌, ◌++◌, length, reverse, map, IfOk, not};
+ghost use Rattle.std.specs.Prelude.{◌≡◌, ◌<◌, ◌≤◌, ◌^◌, ◌+◌, ℕ, [], ◌∷◌, ◌++◌, length, reverse};
+ghost use Rattle.std.specs.Prelude.{map, IfOk, not};
 ghost use Rattle.cqe_base.specs.Literal.{Literal, Negative};
-ghost use Rattle.cqe_base.specs.Machine.{State as PlainState, state_after_conflict, step, with_asserted, is_current, cut, highest_level, conflict_step, decide_step, first_unassigned, unit_step, first_unit, conflict_or_unit_step};
+ghost use Rattle.cqe_base.specs.Machine.{State as PlainState, state_after_conflict, step};
+ghost use Rattle.cqe_base.specs.Machine.{with_asserted, is_current, cut, highest_level};
+ghost use Rattle.cqe_base.specs.Machine.{conflict_step, decide_step, first_unassigned, unit_step};
+ghost use Rattle.cqe_base.specs.Machine.{first_unit, conflict_or_unit_step};
 ghost use Rattle.std.specs.List.{find, filter};
 ghost use Rattle.clause_store.specs.PlainLines.{line_of};
 ghost use Rattle.clause_solver.specs.PlainStates.{state_of, StepIs};
@@ -31,7 +35,8 @@ fn assert_literal(
     number: u32,
     literal: Option<Lit>,
 ) -> Result<(), AllocError>
-    ensures { IfOk result (λ _. reverse trail.new.items ≡ with_asserted number literal (reverse trail.old.items)) }
+    ensures { IfOk result (λ _. reverse trail.new.items
+        ≡ with_asserted number literal (reverse trail.old.items)) }
 {
     if let Some(l) = literal {
         trail.push(TrailEntry::because(number, l))?;
@@ -46,7 +51,11 @@ fn jump_back(
     number: u32,
     clause: &[Lit],
 ) -> Result<(), AllocError>
-    ensures { IfOk result (λ _. reverse trail.new.items ≡ with_asserted number (find (is_current (reverse trail.old.items)) clause.now) (cut (highest_level (reverse trail.old.items) (filter (λ l. not (is_current (reverse trail.old.items) l)) clause.now)) (reverse trail.old.items))) }
+    ensures { IfOk result (λ _. reverse trail.new.items
+        ≡ with_asserted number (find (is_current (reverse trail.old.items)) clause.now)
+        (cut (highest_level (reverse trail.old.items)
+        (filter (λ l. not (is_current (reverse trail.old.items) l)) clause.now))
+        (reverse trail.old.items))) }
 {
     let asserting = first_current(trail, clause);
     let rest = others(alloc, trail, clause)?;
@@ -59,7 +68,8 @@ fn jump_back(
 /// A line's clause is learnt.
 fn learn(alloc: Global, state: &mut State, line: Line) -> Result<(), AllocError>
     requires { length state.old.clauses < 2 ^ 32 }
-    ensures learnt { IfOk result (λ _. state_of state.new ≡ state_after_conflict (state_of state.old) (line_of line)) }
+    ensures learnt { IfOk result (λ _. state_of state.new
+        ≡ state_after_conflict (state_of state.old) (line_of line)) }
     ensures grows { IfOk result (λ _. length state.new.clauses ≡ length state.old.clauses + 1) }
 {
     let number = state.clauses.len() as u32;
@@ -73,7 +83,8 @@ fn learn(alloc: Global, state: &mut State, line: Line) -> Result<(), AllocError>
 fn conflict_step(alloc: Global, state: &mut State, number: usize) -> Result<Advance, AllocError>
     requires number { number < length state.old.clauses }
     requires room { length state.old.clauses < 2 ^ 32 }
-    ensures step { IfOk result (λ a. StepIs (conflict_step (state_of state.old) number) a (state_of state.new)) }
+    ensures step { IfOk result (λ a.
+        StepIs (conflict_step (state_of state.old) number) a (state_of state.new)) }
     ensures grows { IfOk result (λ _. length state.new.clauses ≤ length state.old.clauses + 1) }
 {
     let line = conflict_line(alloc, &state.clauses, &state.trail, number)?;
@@ -89,7 +100,9 @@ fn conflict_step(alloc: Global, state: &mut State, number: usize) -> Result<Adva
 /// The third rule, or else the fourth.
 fn decide_step(alloc: Global, state: &mut State, variables: u32) -> Result<Advance, AllocError>
     requires { variables < 2 ^ 31 }
-    ensures step { IfOk result (λ a. StepIs (decide_step variables (state_of state.old) (first_unassigned (reverse state.old.trail.items) variables)) a (state_of state.new)) }
+    ensures step { IfOk result (λ a.
+        StepIs (decide_step variables (state_of state.old)
+        (first_unassigned (reverse state.old.trail.items) variables)) a (state_of state.new)) }
     ensures grows { IfOk result (λ _. length state.new.clauses ≤ length state.old.clauses + 1) }
 {
     match first_unassigned(&state.trail, variables) {
@@ -108,7 +121,10 @@ fn decide_step(alloc: Global, state: &mut State, variables: u32) -> Result<Advan
 fn unit_step(alloc: Global, state: &mut State, variables: u32) -> Result<Advance, AllocError>
     requires variables { variables < 2 ^ 31 }
     requires room { length state.old.clauses < 2 ^ 32 }
-    ensures step { IfOk result (λ a. StepIs (unit_step variables (state_of state.old) (first_unit (reverse state.old.trail.items) 0 state.old.clauses)) a (state_of state.new)) }
+    ensures step { IfOk result (λ a.
+        StepIs (unit_step variables (state_of state.old)
+        (first_unit (reverse state.old.trail.items) 0 state.old.clauses)) a
+        (state_of state.new)) }
     ensures grows { IfOk result (λ _. length state.new.clauses ≤ length state.old.clauses + 1) }
 {
     match first_unit(alloc, &state.clauses, &state.trail)? {
@@ -126,7 +142,8 @@ fn unit_step(alloc: Global, state: &mut State, variables: u32) -> Result<Advance
 pub fn step(alloc: Global, state: &mut State, variables: u32) -> Result<Advance, AllocError>
     requires variables { variables < 2 ^ 31 }
     requires room { length state.old.clauses < 2 ^ 32 }
-    ensures step { IfOk result (λ a. StepIs (step variables (state_of state.old)) a (state_of state.new)) }
+    ensures step { IfOk result (λ a.
+        StepIs (step variables (state_of state.old)) a (state_of state.new)) }
     ensures grows { IfOk result (λ _. length state.new.clauses ≤ length state.old.clauses + 1) }
 {
     match first_conflict(&state.clauses, &state.trail) {

@@ -1,9 +1,13 @@
-//! The trail, its levels, and the truth of literals on it. A trail is a slice with its latest entry last.
+//! The trail, its levels, and the truth of literals on it. A trail is a slice with its latest entry
+//! last.
 
-ghost use Rattle.std.specs.Prelude.{◌≡◌, ◌<◌, ◌≤◌, ◌^◌, ◌+◌, IsTrue, ℕ, [], ◌∷◌, ◌++◌, length, reverse, IfOk, OnErr, List, false, not};
+ghost use Rattle.std.specs.Prelude.{◌≡◌, ◌<◌, ◌≤◌, ◌^◌, ◌+◌, IsTrue, ℕ, [], ◌∷◌, ◌++◌, length};
+ghost use Rattle.std.specs.Prelude.{reverse, IfOk, OnErr, List, false, not};
 ghost use Rattle.std.specs.List.{list_all, find, filter};
 ghost use Rattle.cqe_base.specs.Literal.{Literal, Positive, Negative, variable_of, opposite};
-ghost use Rattle.cqe_base.specs.Machine.{Assigned, Decided, Because, assigned_literal, is_true, is_false, level, level_of, is_current, highest_level, unit_literal, cut, current_count};
+ghost use Rattle.cqe_base.specs.Machine.{Assigned, Decided, Because, assigned_literal, is_true};
+ghost use Rattle.cqe_base.specs.Machine.{is_false, level, level_of, is_current, highest_level};
+ghost use Rattle.cqe_base.specs.Machine.{unit_literal, cut, current_count};
 ghost use Rattle.clause_solver.specs.Entries.{is_decided};
 
 use crate::entry::TrailEntry;
@@ -95,7 +99,8 @@ pub fn first_current(trail: &[TrailEntry], clause: &[Lit]) -> Option<Lit>
 
 /// The literals of a clause that aren't of the current level.
 pub fn others(alloc: Global, trail: &[TrailEntry], clause: &[Lit]) -> Result<Vec<Lit>, AllocError>
-    ensures { IfOk result (λ r. r.items ≡ filter (λ l. not (is_current (reverse trail.now) l)) clause.now) }
+    ensures { IfOk result (λ r. r.items
+        ≡ filter (λ l. not (is_current (reverse trail.now) l)) clause.now) }
 {
     clause
         .iter()

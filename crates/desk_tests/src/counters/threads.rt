@@ -1,6 +1,7 @@
 //! Threads that ask at desks.
 ghost use Rattle.std.specs.Prelude.{◌≡◌, ◌+◌, ◌*◌, ◌^◌, ◌≤◌, length, Some};
-ghost use Rattle.turnstile.specs.Passes.{IsOf, IsReady, first_value, fixed, shares as shares_of, turns};
+ghost use Rattle.turnstile.specs.Passes.{IsOf, IsReady, first_value, fixed, shares as shares_of};
+ghost use Rattle.turnstile.specs.Passes.{turns};
 ghost use Rattle.desk_counter.specs.Counters.{IsPassOf};
 
 use super::make_ward;
@@ -150,8 +151,8 @@ fn ask_in_thread<
     work_beside(rt, one, two)
 }
 
-// Two threads ask one desk 100 times each, with a pass and a question of their own. The passes meet, and the counter is
-// closed. It says how many replies were the marks that were looked for.
+// Two threads ask one desk 100 times each, with a pass and a question of their own. The passes
+// meet, and the counter is closed. It says how many replies were the marks that were looked for.
 fn ask_by_two<'w, R: Threads + Wait + Sync>(
     rt: &R,
     alloc: Global,
@@ -177,7 +178,8 @@ fn ask_by_two<'w, R: Threads + Wait + Sync>(
     Some((counter.close(pass), told))
 }
 
-// A liar who keeps `hiv(ann)` secret is told `no` of `drug(ann)`, a lie, and `yes` of `not hiv(bob)`, the truth.
+// A liar who keeps `hiv(ann)` secret is told `no` of `drug(ann)`, a lie, and `yes` of
+// `not hiv(bob)`, the truth.
 #[test]
 fn two_threads_ask_one_desk(rt: HostRuntime) -> Result<(), Fail> {
     let alloc = rt.alloc();
@@ -221,7 +223,8 @@ fn two_threads_ask_one_desk(rt: HostRuntime) -> Result<(), Fail> {
 /// So often a call is waited for at most.
 const PATIENCE: u64 = 1 << 22;
 
-/// A gate that holds each ask of eve's, once its text was examined, until another ask has been answered.
+/// A gate that holds each ask of eve's, once its text was examined, until another ask has been
+/// answered.
 #[derive(Drop)]
 struct Hold {
     held: AtomicU64,
@@ -307,8 +310,10 @@ fn ask_two_desks<'w, R: Threads + Wait + Sync>(
     first: (Counter<'w, MemoryDisk>, DeskPass<MemoryDisk>),
     second: (Counter<'w, MemoryDisk>, DeskPass<MemoryDisk>),
 ) -> Beside
-    requires first { IsPassOf first.1 first.0 × (shares_of first.1 ≡ 65) × (turns first.1 ≡ 65 * 2 ^ 57) }
-    requires second { IsPassOf second.1 second.0 × (shares_of second.1 ≡ 65) × (turns second.1 ≡ 65 * 2 ^ 57) }
+    requires first { IsPassOf first.1 first.0 × (shares_of first.1 ≡ 65)
+        × (turns first.1 ≡ 65 * 2 ^ 57) }
+    requires second { IsPassOf second.1 second.0 × (shares_of second.1 ≡ 65)
+        × (turns second.1 ≡ 65 * 2 ^ 57) }
 {
     let (counter, pass) = first;
     let (other, others_pass) = second;

@@ -48,7 +48,8 @@ fn an_audit_may_be_cut(rt: HostRuntime) -> Result<(), Fail> {
     Ok(())
 }
 
-// Users of each method, with one secret and with two, one whose budget is soon spent, and two who have nothing to hide.
+// Users of each method, with one secret and with two, one whose budget is soon spent, and two who
+// have nothing to hide.
 const SEVERAL: &str = "version = 1\n
 [domains]
 person = [\"ann\", \"bob\"]\n
@@ -192,8 +193,8 @@ fn replies_in(
     Ok(lines_of(alloc, text_of(&run)?, user)?)
 }
 
-// How many worlds the user's audit prints, each without its secret and with the same lines for him; 17, more than there
-// can be, where one is otherwise.
+// How many worlds the user's audit prints, each without its secret and with the same lines for him;
+// 17, more than there can be, where one is otherwise.
 fn same_worlds(
     rt: &(impl Threads + Wait + Sync),
     alloc: Global,

@@ -10,8 +10,8 @@ const CLINIC: &str =
 const LIAR: &str =
     "know drug(ann) -> hiv(ann)\nknow drug(bob) -> hiv(bob)\nmethod lying\nsecret hiv(ann)\nask drug(ann)\nask hiv(ann)\nask hiv(bob)\n";
 
-// The source fails at each of its calls, then the sink at each of its own, by bytes and by lines: three runs of eight
-// arguments make it long.
+// The source fails at each of its calls, then the sink at each of its own, by bytes and by lines:
+// three runs of eight arguments make it long.
 #[test]
 fn a_stream_may_fail_at_any_call(rt: HostRuntime) -> Result<(), Fail> {
     let alloc = rt.alloc();

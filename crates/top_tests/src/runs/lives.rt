@@ -26,8 +26,8 @@ fn init_stops_at_the_first_disk_that_fails(rt: HostRuntime) -> Result<(), Fail> 
     Ok(())
 }
 
-// The calls of eve's disk are a sync, the length and two reads at its opening, and then a write, a sync, a write and a sync
-// for each ask. The rows of its table make it long.
+// The calls of eve's disk are a sync, the length and two reads at its opening, and then a write, a
+// sync, a write and a sync for each ask. The rows of its table make it long.
 #[test]
 fn a_disk_that_fails_is_told_to_its_user_alone(rt: HostRuntime) -> Result<(), Fail> {
     let alloc = rt.alloc();
@@ -85,8 +85,9 @@ fn a_disk_that_fails_is_told_to_its_user_alone(rt: HostRuntime) -> Result<(), Fa
     Ok(())
 }
 
-// A stop at each call of two asks: the disk fails every call from that one on. Each of its crash images begins a new
-// life, which finds the entries whose gates stand open. What an image has to hold is said step by step, which makes it long.
+// A stop at each call of two asks: the disk fails every call from that one on. Each of its crash
+// images begins a new life, which finds the entries whose gates stand open. What an image has to
+// hold is said step by step, which makes it long.
 #[test]
 fn a_crash_leaves_what_was_told(rt: HostRuntime) -> Result<(), Fail> {
     let alloc = rt.alloc();

@@ -92,8 +92,8 @@ fn served(rt: &impl Abort, links: &MemoryLinks, rows: &[(&str, &str)]) -> usize 
     count
 }
 
-// What clients of the ward send, in any order, and what they get: eve is told no of what is true and would give her secret
-// away, and no of what is false; ron has no token.
+// What clients of the ward send, in any order, and what they get: eve is told no of what is true
+// and would give her secret away, and no of what is false; ron has no token.
 const CLIENTS: [(&str, &str); 5] = [
     (
         "login eve abc\nask drug(ann)\nask hiv(bob)\nquit\nask true\n",
@@ -169,7 +169,8 @@ fn nobody_listens(rt: HostRuntime) -> Result<(), Fail> {
     Ok(())
 }
 
-// One worker's door fails at its second call: what was served by then is answered, and the disks are back.
+// One worker's door fails at its second call: what was served by then is answered, and the disks
+// are back.
 #[test]
 fn a_door_fails(rt: HostRuntime) -> Result<(), Fail> {
     let alloc = rt.alloc();
@@ -189,7 +190,8 @@ fn a_door_fails(rt: HostRuntime) -> Result<(), Fail> {
     Ok(())
 }
 
-// Files, then listening, then the journals, then the run, and at its end the journals that were refused.
+// Files, then listening, then the journals, then the run, and at its end the journals that were
+// refused.
 #[test]
 fn causes_come_in_their_order(rt: HostRuntime) -> Result<(), Fail> {
     let alloc = rt.alloc();
@@ -229,8 +231,8 @@ fn causes_come_in_their_order(rt: HostRuntime) -> Result<(), Fail> {
     Ok(())
 }
 
-// A disk that fails is told to its user alone, and a refused journal is the end before it. The rows of its table make it
-// long.
+// A disk that fails is told to its user alone, and a refused journal is the end before it. The rows
+// of its table make it long.
 #[test]
 fn a_journal_is_refused_or_fails(rt: HostRuntime) -> Result<(), Fail> {
     let alloc = rt.alloc();
@@ -274,7 +276,8 @@ fn a_journal_is_refused_or_fails(rt: HostRuntime) -> Result<(), Fail> {
     Ok(())
 }
 
-// Behind an append that failed each later session of the user is answered so too, although the disk works again.
+// Behind an append that failed each later session of the user is answered so too, although the disk
+// works again.
 #[test]
 fn a_failed_append_is_told_in_later_sessions_too(rt: HostRuntime) -> Result<(), Fail> {
     let alloc = rt.alloc();
@@ -312,7 +315,8 @@ token = \"ba7816bf8f01cfea414140de5dae2223b00361a396177a9cb410ff61f20015ad\"
 /// So many turns an ask waits for another one at most.
 const PATIENCE: u64 = 1 << 22;
 
-/// A gate that holds each ask of eve's, once its text was examined, until an ask of kim's is settled.
+/// A gate that holds each ask of eve's, once its text was examined, until an ask of kim's is
+/// settled.
 #[derive(Drop)]
 struct Hold {
     settled: AtomicU64,

@@ -8,7 +8,8 @@ use std::alloc::{AllocError, Global};
 use std::sync::Wait;
 use std::thread::Threads;
 
-// Two persons, and six users: one is lied to, one refused, one both; and three of whom each knows too much.
+// Two persons, and six users: one is lied to, one refused, one both; and three of whom each knows
+// too much.
 pub(super) const POLICY: &str = "version = 1\n
 [domains]
 person = [\"ann\", \"bob\"]\n

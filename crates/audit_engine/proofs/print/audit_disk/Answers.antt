@@ -10,9 +10,12 @@ pub returns-in-Ok-clause-ends : goal.returns-in-Ok-clause-ends
 returns-in-Ok-clause-ends g c = λ told sink_told.
     let registry = c.args.registry.now in
     let desk = c.in-Ok.desk in
-    ends_so registry.schema.now registry.world.now registry.header.now (string_bytes c.args.user.now.name) (profile_of c.args.user.now) (g.D.Disk.reads c.args.disk) (g.D.Disk.faults c.args.disk) (g.D.Disk.faults c.close.result)
-    c.law_openings.ensures.decided c.law_openings.ensures.unrefused g.D.Disk.tells told (desk_history desk) c.args.json (g.K.Sink.written c.args.sink.now) (g.K.Sink.written c.print_desk-end.new.sink)
+    ends_so registry.schema.now registry.world.now registry.header.now (string_bytes c.args.user.now.name) (profile_of c.args.user.now)
+    (g.D.Disk.reads c.args.disk) (g.D.Disk.faults c.args.disk) (g.D.Disk.faults c.close.result)
+    c.law_openings.ensures.decided c.law_openings.ensures.unrefused g.D.Disk.tells told (desk_history desk) c.args.json (g.K.Sink.written c.args.sink.now)
+    (g.K.Sink.written c.print_desk-end.new.sink)
     c.print_desk-end.result (desk_standing desk)
-    (subst (λ d. IsStanding registry.schema.now registry.world.now (profile_of c.args.user.now) g.D.Disk.tells (header_bytes registry.header.now) (g.D.Disk.reads c.args.disk) (desk_history desk)
+    (subst (λ d. IsStanding registry.schema.now registry.world.now (profile_of c.args.user.now) g.D.Disk.tells (header_bytes registry.header.now)
+    (g.D.Disk.reads c.args.disk) (desk_history desk)
     (g.D.Disk.faults c.args.disk) (g.D.Disk.faults d) (desk_standing desk)) (sym c.close.ensures) c.in-Ok.ensures.standing)
     (c.print_desk-end.ensures.printed sink_told)

@@ -5,4 +5,5 @@ use Rattle.audit_print.proofs.report.entry_rows.Goals as goal
 
 pub print_sentence-requires : goal.print_sentence-requires
 print_sentence-requires c =
-    all_at (λ (e : AnsweredQuery). is_sentence_of c.args.schema.now e.query) answered_query_of c.args.entries.now c.loop-entry.entry-index c.entry-item.result c.requires c.entry-item.is c.loop-entry-test.true
+    all_at (λ (e : AnsweredQuery). is_sentence_of c.args.schema.now e.query) answered_query_of c.args.entries.now c.loop-entry.entry-index c.entry-item.result
+    c.requires c.entry-item.is c.loop-entry-test.true

@@ -14,4 +14,5 @@ loop-fact-init c = record {
 
 pub fact_text-requires : goal.fact_text-requires
 fact_text-requires c =
-    (and_parts (is_fact_of c.args.schema.now c.in-Some.fact.now) (list_all (is_fact_of c.args.schema.now) c.next.new.self) (ap (list_all (is_fact_of c.args.schema.now)) (sym c.in-Some.ensures.steps) ∙ c.loop-fact.invariant.good)).0
+    (and_parts (is_fact_of c.args.schema.now c.in-Some.fact.now) (list_all (is_fact_of c.args.schema.now) c.next.new.self)
+    (ap (list_all (is_fact_of c.args.schema.now)) (sym c.in-Some.ensures.steps) ∙ c.loop-fact.invariant.good)).0

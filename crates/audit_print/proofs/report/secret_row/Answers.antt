@@ -9,5 +9,7 @@ use Rattle.audit_print.proofs.report.secret_row.Goals as goal
 pub print_sentence-requires : goal.print_sentence-requires
 print_sentence-requires c =
     let user = profile_of c.args.user.now in
-    let all = and_parts (list_all (is_sentence_of c.args.schema.now) user.know) (list_all (is_sentence_of c.args.schema.now) user.secrets) c.requires.limits.sentences in
-    all_at (is_sentence_of c.args.schema.now) formula_of c.args.user.now.secrets.items c.args.number c.index.result.now all.1 c.index.ensures (omega (arith, c.args.user.now.secrets.ok.0, c.requires.number))
+    let all = and_parts (list_all (is_sentence_of c.args.schema.now) user.know)
+    (list_all (is_sentence_of c.args.schema.now) user.secrets) c.requires.limits.sentences in
+    all_at (is_sentence_of c.args.schema.now) formula_of c.args.user.now.secrets.items c.args.number c.index.result.now all.1 c.index.ensures
+    (omega (arith, c.args.user.now.secrets.ok.0, c.requires.number))

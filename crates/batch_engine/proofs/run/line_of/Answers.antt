@@ -8,7 +8,15 @@ pub push_decimal-requires : goal.push_decimal-requires
 push_decimal-requires c =
     let short = short_ask (ask_in c.args.ask.now) c.requires in
     let digits : length (decimal c.from.result) ≤ 2 = session_digits c.from.result (omega (arith, c.from.ensures, short.1)) in
-    omega (arith, digits, short.0, ap length c.as_str.ensures.value, ap length c.new-line.ensures, ap length c.push.ensures, length-append c.new-line.result (32 ∷ []))
+    omega (
+      arith,
+      digits,
+      short.0,
+      ap length c.as_str.ensures.value,
+      ap length c.new-line.ensures,
+      ap length c.push.ensures,
+      length-append c.new-line.result (32 ∷ []),
+    )
 
 pub push-requires-2 : goal.push-requires-2
 push-requires-2 c =

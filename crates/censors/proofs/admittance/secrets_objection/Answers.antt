@@ -14,15 +14,19 @@ pub probe_objection-requires-clause-sentence : goal.probe_objection-requires-cla
 probe_objection-requires-clause-sentence c =
     let fits = c.law_limits.ensures.probes c.args.schema.now (profile_of c.args.user.now) c.requires in
     subst (λ schema. is_sentence_of schema (formula_of c.secret-item.result) ≡ true) (sym c.loop-number.invariant.schema)
-    (each_passes (is_sentence_of c.args.schema.now) c.deref-secret-items.result.now c.loop-number.number c.secret-item.result c.secret-item.is c.loop-number-test.true
+    (each_passes (is_sentence_of c.args.schema.now) c.deref-secret-items.result.now c.loop-number.number c.secret-item.result c.secret-item.is
+    c.loop-number-test.true
     (ap (λ secrets. list_all (is_sentence_of c.args.schema.now) (map formula_of secrets)) c.deref-secret-items.ensures.value ∙ fits.secret_sentences))
 
 pub probe_objection-requires-clause-goal_nodes : goal.probe_objection-requires-clause-goal_nodes
 probe_objection-requires-clause-goal_nodes c =
     let fits = c.law_limits.ensures.probes c.args.schema.now (profile_of c.args.user.now) c.requires in
     subst (λ schema. nodes schema (formula_of c.secret-item.result) ≤ 40000) (sym c.loop-number.invariant.schema)
-    (leb-true _ 40000 (each_passes (λ goal. nat_le (nodes c.args.schema.now goal) 40000) c.deref-secret-items.result.now c.loop-number.number c.secret-item.result c.secret-item.is c.loop-number-test.true
-    (ap (λ secrets. list_all (λ goal. nat_le (nodes c.args.schema.now goal) 40000) (map formula_of secrets)) c.deref-secret-items.ensures.value ∙ fits.secret_nodes)))
+    (leb-true _ 40000
+    (each_passes (λ goal. nat_le (nodes c.args.schema.now goal) 40000) c.deref-secret-items.result.now c.loop-number.number c.secret-item.result
+    c.secret-item.is c.loop-number-test.true
+    (ap (λ secrets. list_all (λ goal. nat_le (nodes c.args.schema.now goal) 40000) (map formula_of secrets)) c.deref-secret-items.ensures.value
+    ∙ fits.secret_nodes)))
 
 pub probe_objection-requires-clause-log_nodes : goal.probe_objection-requires-clause-log_nodes
 probe_objection-requires-clause-log_nodes c =
@@ -32,19 +36,25 @@ probe_objection-requires-clause-log_nodes c =
 
 pub returns-then-is_some : goal.returns-then-is_some
 returns-then-is_some c =
-    let probe = ap (λ schema. probe_objection schema (log_of c.loop-number.view) (formula_of c.secret-item.result) (Some c.loop-number.number)) c.loop-number.invariant.schema in
+    let probe = ap (λ schema.
+    probe_objection schema (log_of c.loop-number.view) (formula_of c.secret-item.result) (Some c.loop-number.number)) c.loop-number.invariant.schema in
     let at = ap (λ log. probe_objection c.args.schema.now log (formula_of c.secret-item.result) (Some c.loop-number.number)) c.loop-number.invariant.log in
-    sym (objection_here c.args.schema.now (known (profile_of c.args.user.now)) c.deref-secret-items.result.now c.loop-number.number c.secret-item.result c.secret-item.is c.loop-number-test.true
+    sym (objection_here c.args.schema.now
+    (known (profile_of c.args.user.now)) c.deref-secret-items.result.now c.loop-number.number c.secret-item.result c.secret-item.is c.loop-number-test.true
     c.loop-number.invariant.so_far c.in_ok-found.found (sym at ∙ sym probe ∙ sym c.in_ok-found.ensures.found) (sym c.is_some.ensures ∙ c.if-is_some.true))
     ∙ ap (λ secrets. secrets_objection c.args.schema.now (known (profile_of c.args.user.now)) 0 (map formula_of secrets)) c.deref-secret-items.ensures.value
 
 pub loop-number-preserved : goal.loop-number-preserved
 loop-number-preserved c =
-    let probe = ap (λ schema. probe_objection schema (log_of c.loop-number.view) (formula_of c.secret-item.result) (Some c.loop-number.number)) c.loop-number.invariant.schema in
+    let probe = ap (λ schema.
+    probe_objection schema (log_of c.loop-number.view) (formula_of c.secret-item.result) (Some c.loop-number.number)) c.loop-number.invariant.schema in
     let at = ap (λ log. probe_objection c.args.schema.now log (formula_of c.secret-item.result) (Some c.loop-number.number)) c.loop-number.invariant.log in
     record {
       schema = c.in_ok-found.ensures.schema ∙ c.loop-number.invariant.schema;
       log = c.in_ok-found.ensures.log ∙ c.loop-number.invariant.log;
-      so_far = silent_before-more c.args.schema.now (known (profile_of c.args.user.now)) c.deref-secret-items.result.now c.loop-number.number c.secret-item.result c.secret-item.is c.loop-number-test.true
-          c.loop-number.invariant.so_far c.in_ok-found.found (sym at ∙ sym probe ∙ sym c.in_ok-found.ensures.found) (sym c.is_some.ensures ∙ c.if-is_some.false);
+      so_far = silent_before-more c.args.schema.now
+          (known (profile_of c.args.user.now)) c.deref-secret-items.result.now c.loop-number.number c.secret-item.result c.secret-item.is
+          c.loop-number-test.true
+          c.loop-number.invariant.so_far c.in_ok-found.found (sym at ∙ sym probe ∙ sym c.in_ok-found.ensures.found)
+          (sym c.is_some.ensures ∙ c.if-is_some.false);
     }

@@ -9,18 +9,26 @@ use Rattle.censors.proofs.admittance.truth_objection.Goals as goal
 
 pub holds-requires : goal.holds-requires
 holds-requires c =
-    each_passes (is_sentence_of c.args.schema.now) c.args.sentences.now c.loop-number.number c.index-sentences-number.result c.index-sentences-number.is c.loop-number-test.true c.requires.sentences
+    each_passes (is_sentence_of c.args.schema.now) c.args.sentences.now c.loop-number.number c.index-sentences-number.result c.index-sentences-number.is
+    c.loop-number-test.true c.requires.sentences
 
 pub returns-then-not-holds : goal.returns-then-not-holds
 returns-then-not-holds c =
-    sym (ap (option_map KnowFalse) (position_here (λ s. not (true_in c.args.schema.now c.args.world.now s)) c.args.sentences.now c.loop-number.number c.index-sentences-number.result c.index-sentences-number.is c.loop-number-test.true
+    sym (ap (option_map KnowFalse)
+    (position_here (λ s. not (true_in c.args.schema.now c.args.world.now s)) c.args.sentences.now c.loop-number.number c.index-sentences-number.result
+    c.index-sentences-number.is c.loop-number-test.true
     c.loop-number.invariant (ap not (sym c.holds.ensures ∙ c.if-not-holds.true))))
 
 pub loop-number-preserved : goal.loop-number-preserved
 loop-number-preserved c =
-    none_before-more (λ s. not (true_in c.args.schema.now c.args.world.now s)) c.args.sentences.now c.loop-number.number c.index-sentences-number.result c.index-sentences-number.is c.loop-number-test.true
+    none_before-more
+    (λ s. not (true_in c.args.schema.now c.args.world.now s)) c.args.sentences.now c.loop-number.number c.index-sentences-number.result
+    c.index-sentences-number.is c.loop-number-test.true
     c.loop-number.invariant (ap not (sym c.holds.ensures ∙ c.if-not-holds.false))
 
 pub returns : goal.returns
 returns c =
-    sym (ap (option_map KnowFalse) (position_nowhere (λ s. not (true_in c.args.schema.now c.args.world.now s)) c.args.sentences.now c.loop-number.number c.loop-number-test.false c.loop-number.invariant))
+    sym (ap (option_map KnowFalse)
+    (position_nowhere
+    (λ s. not (true_in c.args.schema.now c.args.world.now s)) c.args.sentences.now c.loop-number.number c.loop-number-test.false
+    c.loop-number.invariant))

@@ -13,11 +13,22 @@ returns-in_ok-assign-in-Some-clause-indexed c =
     let n = s.assignment.variables in
     let v = c.in-Some.v in
     let e = c.in_ok-assign-in-Some.ensures in
-    let plain : plain_of c.assign.new.self ≡ record { clauses = s.clauses; trail = Decided (Negative v) ∷ s.assignment.trail; lines = map line_of s.lines.items } =
-    e.plain ∙ (λ i. record { clauses = s.clauses; trail = (c.decided.ensures ∙ ap Decided c.negative.ensures) i ∷ (c.in-Some.ensures.same i).trail; lines = map line_of s.lines.items }) in
+    let plain : plain_of c.assign.new.self ≡ record {
+      clauses =
+          s.clauses;
+      trail = Decided (Negative v) ∷ s.assignment.trail;
+      lines = map line_of s.lines.items;
+    } =
+    e.plain ∙ (λ i. record {
+      clauses =
+          s.clauses;
+      trail = (c.decided.ensures ∙ ap Decided c.negative.ensures) i ∷ (c.in-Some.ensures.same i).trail;
+      lines = map line_of s.lines.items;
+    }) in
     record {
       looked = e.looked;
       reached =
           subst (λ m. IsReached m (plain_of c.assign.new.self)) (sym (e.variables ∙ ap (λ a. a.variables) c.in-Some.ensures.same))
-          (subst (IsReached n) (sym plain) (decide_reached n (plain_of s) v c.requires.indexed.reached c.requires.no_conflict c.requires.no_unit (sym c.in-Some.ensures.first)));
+          (subst (IsReached n) (sym plain)
+          (decide_reached n (plain_of s) v c.requires.indexed.reached c.requires.no_conflict c.requires.no_unit (sym c.in-Some.ensures.first)));
     }

@@ -11,4 +11,5 @@ loop-other-preserved c =
     let e = c.higher_beside-highest.ensures in
     subst (λ xs. IsHighestBeside t xs c.args.literal c.higher_beside-highest.result)
     (sym (take_more c.args.clause.now i c.other-item.result c.loop-other-test.true ∙ ap (λ y. take i c.args.clause.now ++ y ∷ []) (sym c.other-item.is)))
-    (beside_more t (take i c.args.clause.now) c.args.literal c.loop-other.highest c.other-item.result c.higher_beside-highest.result c.loop-other.invariant e.either e.higher e.kept)
+    (beside_more t (take i c.args.clause.now) c.args.literal c.loop-other.highest c.other-item.result c.higher_beside-highest.result c.loop-other.invariant
+    e.either e.higher e.kept)

@@ -18,7 +18,8 @@ pub returns-in_default-clause-plain : goal.returns-in_default-clause-plain
 returns-in_default-clause-plain c =
     let t = c.args.state.now.assignment.trail in
     let some = find_counted (is_current t) c.args.line.clause.items (let w = c.requires.walked.count in omega arith) in
-    let none : find (is_current t) c.args.line.clause.items ≡ None = ap (find (is_current t)) (sym c.deref.ensures.value) ∙ sym c.first_current.ensures ∙ c.in_default.is in
+    let none : find (is_current t) c.args.line.clause.items ≡ None =
+    ap (find (is_current t)) (sym c.deref.ensures.value) ∙ sym c.first_current.ensures ∙ c.in_default.is in
     let is = some.1 in
     absurd (let x : ⊥ = cc in x)
 
@@ -28,8 +29,10 @@ found c = ap (find (is_current c.args.state.now.assignment.trail)) (sym c.deref.
 abbrev back : In-Some → ℕ
 back c = highest_level c.args.state.now.assignment.trail (filter (λ l. not (is_current c.args.state.now.assignment.trail l)) c.args.line.clause.items)
 
-gone_back : (c : In-Some) → GoesBack c.args.state.now.assignment.variables c.args.state.now.assignment.trail (back c) c.args.line.clause.items c.in-Some.asserting
-gone_back c = goes_back c.args.state.now.assignment.variables c.args.state.now.assignment.trail c.args.line.clause.items c.in-Some.asserting c.requires.indexed.looked.distinct c.requires.level c.requires.walked (found c)
+gone_back : (c : In-Some)
+    → GoesBack c.args.state.now.assignment.variables c.args.state.now.assignment.trail (back c) c.args.line.clause.items c.in-Some.asserting
+gone_back c = goes_back c.args.state.now.assignment.variables c.args.state.now.assignment.trail c.args.line.clause.items c.in-Some.asserting
+    c.requires.indexed.looked.distinct c.requires.level c.requires.walked (found c)
 
 pub cut-requires-clause-lower : goal.cut-requires-clause-lower
 cut-requires-clause-lower c =
@@ -41,7 +44,8 @@ cut-requires-clause-lower c =
 shorter : (c : After-because) → c.cut.new.self.assignment.trail ≡ cut (back (goal.at.assign-requires-clause-below c).In-Some) c.args.state.now.assignment.trail
 shorter c =
     let t = c.args.state.now.assignment.trail in
-    ap (λ (x : State). x.trail) c.cut.ensures.plain ∙ ap (λ k. cut k t) (c.back_level-back.ensures ∙ ap (λ x. highest_level t (filter (λ l. not (is_current t l)) x)) c.deref-2.ensures.value)
+    ap (λ (x : State). x.trail) c.cut.ensures.plain
+    ∙ ap (λ k. cut k t) (c.back_level-back.ensures ∙ ap (λ x. highest_level t (filter (λ l. not (is_current t l)) x)) c.deref-2.ensures.value)
 
 pub assign-requires-clause-below : goal.assign-requires-clause-below
 assign-requires-clause-below c =
@@ -62,9 +66,16 @@ enter-requires-clause-watched c =
     let t = s.assignment.trail in
     let trail : c.assign.new.self.assignment.trail ≡ Because c.len-number.result c.in-Some.asserting ∷ cut (back d) t =
     ap (λ (x : State). x.trail) c.in_ok-assign.ensures.plain ∙ (λ i. c.because.ensures i ∷ shorter b i) in
-    subst (λ u. IsWatched u c.deref-4.result.now (record { first = c.in-Some.asserting; second = c.highest_beside-second.result }) (eqb (length c.deref-4.result.now) 1) (eqb (length c.deref-4.result.now) 0)) (sym trail)
-    (subst (λ x. IsWatched (Because c.len-number.result c.in-Some.asserting ∷ cut (back d) t) x (record { first = c.in-Some.asserting; second = c.highest_beside-second.result }) (eqb (length x) 1) (eqb (length x) 0)) (sym c.deref-4.ensures.value)
-    (learnt_watched s.assignment.variables c.len-number.result (back d) t c.args.line.clause.items c.in-Some.asserting c.highest_beside-second.result c.requires.indexed.looked.distinct (gone_back d) c.requires.walked.clause.no_repeat
+    subst (λ u. IsWatched u c.deref-4.result.now (record {
+      first =
+          c.in-Some.asserting;
+      second = c.highest_beside-second.result;
+    }) (eqb (length c.deref-4.result.now) 1) (eqb (length c.deref-4.result.now) 0)) (sym trail)
+    (subst (λ x. IsWatched (Because c.len-number.result c.in-Some.asserting ∷ cut (back d) t) x
+    (record { first = c.in-Some.asserting; second = c.highest_beside-second.result }) (eqb (length x) 1) (eqb (length x) 0)) (sym c.deref-4.ensures.value)
+    (learnt_watched s.assignment.variables c.len-number.result
+    (back d) t c.args.line.clause.items c.in-Some.asserting c.highest_beside-second.result c.requires.indexed.looked.distinct
+    (gone_back d) c.requires.walked.clause.no_repeat
     (subst (λ x. IsHighestBeside t x c.in-Some.asserting c.highest_beside-second.result) c.deref-3.ensures.value c.highest_beside-second.ensures)))
 
 pub returns-clause-plain : goal.returns-clause-plain
@@ -76,7 +87,14 @@ returns-clause-plain c =
     let one = c.in_ok-assign.ensures.plain in
     let two = c.in_ok-enter.ensures.plain in
     let clauses : c.enter.new.self.clauses ≡ s.clauses ++ c.args.line.clause.items ∷ [] =
-    ap (λ (x : State). x.clauses) two ∙ (λ i. (ap (λ (x : State). x.clauses) (one ∙ (λ j. record { clauses = c.cut.new.self.clauses; trail = c.because.result ∷ c.cut.new.self.assignment.trail; lines = map line_of c.cut.new.self.lines.items })) ∙ ap (λ (x : State). x.clauses) c.cut.ensures.plain) i ++ c.deref-4.ensures.value i ∷ []) in
+    ap (λ (x : State). x.clauses) two
+    ∙ (λ i. (ap (λ (x : State). x.clauses) (one
+    ∙ (λ j. record {
+      clauses = c.cut.new.self.clauses;
+      trail = c.because.result ∷ c.cut.new.self.assignment.trail;
+      lines =
+          map line_of c.cut.new.self.lines.items;
+    })) ∙ ap (λ (x : State). x.clauses) c.cut.ensures.plain) i ++ c.deref-4.ensures.value i ∷ []) in
     let trail : c.enter.new.self.assignment.trail ≡ with_asserted (length s.clauses) (find (is_current t) c.args.line.clause.items) (cut (back d) t) =
     ap (λ (x : State). x.trail) two ∙ ap (λ (x : State). x.trail) one
     ∙ (λ i. c.because.ensures i ∷ shorter b i)
@@ -84,7 +102,8 @@ returns-clause-plain c =
     ∙ sym (ap (λ o. with_asserted (length s.clauses) o (cut (back d) t)) (found d)) in
     let lines : map line_of c.push.new.self.items ≡ map line_of s.lines.items ++ line_of c.args.line ∷ [] =
     ap (map line_of) c.in_ok-push.ensures.items ∙ map_push line_of c.enter.new.self.lines.items c.args.line
-    ∙ ap (λ ls. ls ++ line_of c.args.line ∷ []) (ap (λ (x : State). x.lines) two ∙ ap (λ (x : State). x.lines) one ∙ ap (λ (x : State). x.lines) c.cut.ensures.plain) in
+    ∙ ap (λ ls. ls ++ line_of c.args.line ∷ []) (ap (λ (x : State). x.lines) two ∙ ap (λ (x : State). x.lines) one
+    ∙ ap (λ (x : State). x.lines) c.cut.ensures.plain) in
     λ i. record { clauses = clauses i; trail = trail i; lines = lines i }
 
 pub returns-clause-indexed : goal.returns-clause-indexed
@@ -96,6 +115,9 @@ returns-clause-indexed c =
     record {
       looked = record { watches = k.watches; same = k.same; distinct = k.distinct; idle = k.idle };
       reached =
-          subst (λ m. IsReached m (plain_of (record c.enter.new.self { lines = c.push.new.self }))) (sym (c.enter.ensures.variables ∙ c.in_ok-assign.ensures.variables ∙ c.cut.ensures.variables))
-          (subst (IsReached n) (sym (returns-clause-plain c)) (learnt_reached n (plain_of s) (line_of c.args.line) c.in-Some.asserting c.requires.indexed.reached c.requires.level c.requires.walked (found d)));
+          subst (λ m. IsReached m (plain_of (record c.enter.new.self { lines = c.push.new.self })))
+          (sym (c.enter.ensures.variables ∙ c.in_ok-assign.ensures.variables ∙ c.cut.ensures.variables))
+          (subst (IsReached n) (sym (returns-clause-plain c))
+          (learnt_reached n (plain_of s) (line_of c.args.line) c.in-Some.asserting c.requires.indexed.reached c.requires.level c.requires.walked
+          (found d)));
     }

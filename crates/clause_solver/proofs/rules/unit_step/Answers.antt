@@ -11,7 +11,8 @@ returns-in_ok-assign-in-Some-clause-indexed c =
     let n = s.assignment.variables in
     let u = c.in-Some.ensures in
     let e = c.in_ok-assign-in-Some.ensures in
-    let plain = e.plain ∙ (λ i. record { clauses = u.clauses i; trail = c.because.ensures i ∷ (u.assignment i).trail; lines = map line_of (u.lines i).items }) in
+    let plain =
+    e.plain ∙ (λ i. record { clauses = u.clauses i; trail = c.because.ensures i ∷ (u.assignment i).trail; lines = map line_of (u.lines i).items }) in
     record {
       looked = e.looked;
       reached =

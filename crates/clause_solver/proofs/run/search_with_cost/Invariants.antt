@@ -11,5 +11,6 @@ invariant-loop-steps l = record {
   variables : l.state.assignment.variables ≡ l.variables;
   indexed : IsIndexed l.state;
   same : end_within_cost l.left (end_within l.variables (l.budget - l.steps) (plain_of l.state)) ≡ end_within_budget l.clauses l.variables l.budget;
-  cost : (l.budget - l.left) + cost_within l.left (end_within l.variables (l.budget - l.steps) (plain_of l.state)) ≡ cost_within_budget l.clauses l.variables l.budget;
+  cost : (l.budget - l.left) + cost_within l.left (end_within l.variables (l.budget - l.steps) (plain_of l.state))
+      ≡ cost_within_budget l.clauses l.variables l.budget;
 }

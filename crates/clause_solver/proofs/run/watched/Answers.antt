@@ -18,21 +18,31 @@ at c = get_or_read c.args.clauses.now c.loop-number.number c.clause-clause.resul
 below : (c : After-first_two-first) → ClauseBelow c.args.variables c.clause-clause.result.now
 below c = subst (ClauseBelow c.args.variables) (sym (at c)) (each_at (ClauseBelow c.args.variables) c.args.clauses.now c.loop-number.number c.requires.below tt)
 
-watched : (c : After-first_two-first) → IsWatched [] c.clause-clause.result.now (record { first = c.first_two-first.result.0; second = c.first_two-first.result.1 }) (eqb (length c.clause-clause.result.now) 1) (eqb (length c.clause-clause.result.now) 0)
+watched : (c : After-first_two-first) → IsWatched [] c.clause-clause.result.now (record {
+  first =
+      c.first_two-first.result.0;
+  second = c.first_two-first.result.1;
+}) (eqb (length c.clause-clause.result.now) 1) (eqb (length c.clause-clause.result.now) 0)
 watched c =
     let x : List Literal = c.clause-clause.result.now in
     let once : HasNoRepeat x = subst HasNoRepeat (sym (at c)) (no_repeat_at c.args.clauses.now c.loop-number.number c.requires.no_repeat (within c)) in
-    subst (λ (p : Literal × Literal). IsWatched [] x (record { first = p.0; second = p.1 }) (eqb (length x) 1) (eqb (length x) 0)) (sym c.first_two-first.ensures) (given_watched x once)
+    subst (λ (p : Literal × Literal). IsWatched [] x (record {
+      first =
+          p.0;
+      second = p.1;
+    }) (eqb (length x) 1) (eqb (length x) 0)) (sym c.first_two-first.ensures) (given_watched x once)
 
 pub enter-requires-clause-first : goal.enter-requires-clause-first
 enter-requires-clause-first c =
     let d = (goal.at.enter-requires-clause-first c).After-first_two-first in
-    λ pos. code_listed c.args.variables c.loop-number.watches c.clause-clause.result.now c.first_two-first.result.0 c.loop-number.invariant.watches.lists_room (below d) ((watched d).first_in pos)
+    λ pos. code_listed c.args.variables c.loop-number.watches c.clause-clause.result.now c.first_two-first.result.0 c.loop-number.invariant.watches.lists_room
+    (below d) ((watched d).first_in pos)
 
 pub enter-requires-clause-second : goal.enter-requires-clause-second
 enter-requires-clause-second c =
     let d = (goal.at.enter-requires-clause-second c).After-first_two-first in
-    λ pos. code_listed c.args.variables c.loop-number.watches c.clause-clause.result.now c.first_two-first.result.1 c.loop-number.invariant.watches.lists_room (below d) ((watched d).second_in pos)
+    λ pos. code_listed c.args.variables c.loop-number.watches c.clause-clause.result.now c.first_two-first.result.1 c.loop-number.invariant.watches.lists_room
+    (below d) ((watched d).second_in pos)
 
 pub loop-number-preserved : goal.loop-number-preserved
 loop-number-preserved c =

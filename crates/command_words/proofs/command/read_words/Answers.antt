@@ -23,5 +23,6 @@ returns c =
     let words = map string_bytes c.args.words.now in
     let app = c.in_ok-program.ensures in
     let long = sym c.has_short.ensures ∙ c.if-has_short.false in
-    let fails = fault_there _ c.in-Err.error (c.in-Err.ensures.kinds (ap is_simple_and_free app)) (λ memory. true≢false (sym (c.is_want_of_memory.ensures memory) ∙ c.if-is_want_of_memory.false)) in
+    let fails = fault_there _ c.in-Err.error (c.in-Err.ensures.kinds (ap is_simple_and_free app)) (λ memory.
+    true≢false (sym (c.is_want_of_memory.ensures memory) ∙ c.if-is_want_of_memory.false)) in
     sym (refused words long (ap (λ a. none (fault_of a words)) (sym app) ∙ fails))

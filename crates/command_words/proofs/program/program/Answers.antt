@@ -14,7 +14,10 @@ returns c =
     let bare = ap app_of_fields (c.subcommand_required-program.ensures ∙ three) ∙ ap (on_top with_settings) c.new.ensures.app in
     let case = c.in_ok-subcommand.ensures.shape c.new-case.ensures.local ∙ ap₂ with_subcommand bare (ap (λ (a : App). a.top) c.new-case.ensures.app) in
     let init = c.in_ok-subcommand-2.ensures.shape c.in_ok-init.ensures.plain ∙ ap₂ with_subcommand case (ap (λ (a : App). a.top) c.in_ok-init.ensures.shape) in
-    let batch = c.in_ok-subcommand-3.ensures.shape c.in_ok-batch.ensures.plain ∙ ap₂ with_subcommand init (ap (λ (a : App). a.top) c.in_ok-batch.ensures.shape) in
-    let audit = c.in_ok-subcommand-4.ensures.shape c.in_ok-audit.ensures.plain ∙ ap₂ with_subcommand batch (ap (λ (a : App). a.top) c.in_ok-audit.ensures.shape) in
-    let selfrun = c.in_ok-subcommand-5.ensures.shape c.in_ok-selfrun.ensures.plain ∙ ap₂ with_subcommand audit (ap (λ (a : App). a.top) c.in_ok-selfrun.ensures.shape) in
+    let batch =
+    c.in_ok-subcommand-3.ensures.shape c.in_ok-batch.ensures.plain ∙ ap₂ with_subcommand init (ap (λ (a : App). a.top) c.in_ok-batch.ensures.shape) in
+    let audit =
+    c.in_ok-subcommand-4.ensures.shape c.in_ok-audit.ensures.plain ∙ ap₂ with_subcommand batch (ap (λ (a : App). a.top) c.in_ok-audit.ensures.shape) in
+    let selfrun =
+    c.in_ok-subcommand-5.ensures.shape c.in_ok-selfrun.ensures.plain ∙ ap₂ with_subcommand audit (ap (λ (a : App). a.top) c.in_ok-selfrun.ensures.shape) in
     c.in_ok-program.ensures.shape c.in_ok-serve.ensures.plain ∙ ap₂ with_subcommand selfrun (ap (λ (a : App). a.top) c.in_ok-serve.ensures.shape)

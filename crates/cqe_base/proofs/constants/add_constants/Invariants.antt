@@ -6,4 +6,5 @@ use Rattle.cqe_base.proofs.constants.add_constants.Given as goal
 
 abbrev pub invariant-loop-place : goal.invariant-loop-place
 invariant-loop-place l = (text : List ℕ) →
-    option_or (get_by_text l.by_name text) (from_place l.domain l.place (drop l.place l.names) text) ≡ option_or (get_by_text l.fn.by_name text) (from_place l.domain 0 l.names text)
+    option_or (get_by_text l.by_name text) (from_place l.domain l.place (drop l.place l.names) text)
+    ≡ option_or (get_by_text l.fn.by_name text) (from_place l.domain 0 l.names text)

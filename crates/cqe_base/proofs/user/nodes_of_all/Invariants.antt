@@ -7,4 +7,5 @@ use Rattle.cqe_base.proofs.user.nodes_of_all.Given as goal
 abbrev pub invariant-loop-sentence : goal.invariant-loop-sentence
 invariant-loop-sentence l =
     (l.total ≤ 2 ^ 32)
-    × (min (l.total + sum_by (nodes l.schema) (map formula_of (drop l.sentence-index l.sentences))) (2 ^ 32) ≡ min (sum_by (nodes l.schema) (map formula_of l.sentences)) (2 ^ 32))
+    × (min (l.total + sum_by (nodes l.schema) (map formula_of (drop l.sentence-index l.sentences))) (2 ^ 32)
+    ≡ min (sum_by (nodes l.schema) (map formula_of l.sentences)) (2 ^ 32))

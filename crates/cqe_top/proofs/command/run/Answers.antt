@@ -8,25 +8,29 @@ pub run_selfrun-end-requires-clause-some_user : goal.run_selfrun-end-requires-cl
 run_selfrun-end-requires-clause-some_user g c =
     let read = c.in-Ok-Some-Selfrun in
     let run = read.words in
-    (kept (map string_bytes c.args.words.now) (runs_selfrun run.seed run.users run.asks) (sym read.ensures ∙ ap (option_map reading_in) (read.field-0-is ∙ ap Some read.field-0-0-is))).some_user
+    (kept (map string_bytes c.args.words.now) (runs_selfrun run.seed run.users run.asks) (sym read.ensures
+    ∙ ap (option_map reading_in) (read.field-0-is ∙ ap Some read.field-0-0-is))).some_user
 
 pub run_selfrun-end-requires-clause-few_users : goal.run_selfrun-end-requires-clause-few_users
 run_selfrun-end-requires-clause-few_users g c =
     let read = c.in-Ok-Some-Selfrun in
     let run = read.words in
-    (kept (map string_bytes c.args.words.now) (runs_selfrun run.seed run.users run.asks) (sym read.ensures ∙ ap (option_map reading_in) (read.field-0-is ∙ ap Some read.field-0-0-is))).few_users
+    (kept (map string_bytes c.args.words.now) (runs_selfrun run.seed run.users run.asks) (sym read.ensures
+    ∙ ap (option_map reading_in) (read.field-0-is ∙ ap Some read.field-0-0-is))).few_users
 
 pub run_selfrun-end-requires-clause-some_ask : goal.run_selfrun-end-requires-clause-some_ask
 run_selfrun-end-requires-clause-some_ask g c =
     let read = c.in-Ok-Some-Selfrun in
     let run = read.words in
-    (kept (map string_bytes c.args.words.now) (runs_selfrun run.seed run.users run.asks) (sym read.ensures ∙ ap (option_map reading_in) (read.field-0-is ∙ ap Some read.field-0-0-is))).some_ask
+    (kept (map string_bytes c.args.words.now) (runs_selfrun run.seed run.users run.asks) (sym read.ensures
+    ∙ ap (option_map reading_in) (read.field-0-is ∙ ap Some read.field-0-0-is))).some_ask
 
 pub run_selfrun-end-requires-clause-few_asks : goal.run_selfrun-end-requires-clause-few_asks
 run_selfrun-end-requires-clause-few_asks g c =
     let read = c.in-Ok-Some-Selfrun in
     let run = read.words in
-    (kept (map string_bytes c.args.words.now) (runs_selfrun run.seed run.users run.asks) (sym read.ensures ∙ ap (option_map reading_in) (read.field-0-is ∙ ap Some read.field-0-0-is))).few_asks
+    (kept (map string_bytes c.args.words.now) (runs_selfrun run.seed run.users run.asks) (sym read.ensures
+    ∙ ap (option_map reading_in) (read.field-0-is ∙ ap Some read.field-0-0-is))).few_asks
 
 pub run_over_files-requires-in-Ok-Some-Serve-clause-bounds : goal.run_over_files-requires-in-Ok-Some-Serve-clause-bounds
 run_over_files-requires-in-Ok-Some-Serve-clause-bounds g c κs within =

@@ -12,9 +12,11 @@ returns g c = record {
   promise = record {
     end = c.run-end.result;
     of_status = c.status_of.ensures ∙ ap status_of c.report_of-report.ensures;
-    complaint = λ told. subst (λ report. AppendsUnless (complaint_of report) (g.E.Sink.written c.args.complaints.now) (g.E.Sink.written c.complain.new.complaints)
+    complaint =
+        λ told. subst (λ report. AppendsUnless (complaint_of report) (g.E.Sink.written c.args.complaints.now) (g.E.Sink.written c.complain.new.complaints)
         (Rose (g.E.Sink.faults c.args.complaints.now) (g.E.Sink.faults c.complain.new.complaints))) c.report_of-report.ensures (c.complain.ensures.given told);
-    command = subst (λ read. OfReading (scene_of (shelf_of g.F.Shelf g.F.D.Disk c.args.shelf.now c.run-end.new.shelf) (input_of g.S.Source c.args.source.now c.run-end.new.source)
+    command = subst (λ read.
+        OfReading (scene_of (shelf_of g.F.Shelf g.F.D.Disk c.args.shelf.now c.run-end.new.shelf) (input_of g.S.Source c.args.source.now c.run-end.new.source)
         (output_of g.K.Sink c.args.sink.now c.run-end.new.sink) (links_of g.L.Links c.args.links.now c.run-end.new.links)) read c.run-end.result)
         (sym c.run-end.ensures.command.1) c.run-end.ensures.command.2;
     cause = c.run-end.ensures.cause;

@@ -18,4 +18,5 @@ returns-in-Some-clause-part g c = λ told.
 pub returns-in-None-clause-all : goal.returns-in-None-clause-all
 returns-in-None-clause-all g c = λ told.
     let none : None ≡ slice_get c.args.users.now c.args.number = sym (slice_get_past c.args.users.now c.args.number c.in-None.ensures.lookup.3) in
-    subst (λ user. g.E.Sink.written c.args.complaints.now ≡ g.E.Sink.written c.args.complaints.now ++ user_line user c.args.why) none (sym (append-nil (g.E.Sink.written c.args.complaints.now)))
+    subst (λ user. g.E.Sink.written c.args.complaints.now
+    ≡ g.E.Sink.written c.args.complaints.now ++ user_line user c.args.why) none (sym (append-nil (g.E.Sink.written c.args.complaints.now)))

@@ -21,30 +21,35 @@ use Rattle.cqe_top.specs.declared.end.CommandEnd.TheVariants as ends
 use Rattle.cqe_top.proofs.Causes.{files_cause, init_cause, batch_cause, audit_cause, serve_cause}
 use Rattle.cqe_top.proofs.Finding.{is_named, one_named, named_at, nobody_named}
 use Rattle.cqe_top.proofs.Good.{unread, init_succeeds, batch_succeeds, audit_succeeds, nobody_succeeds}
-use Rattle.cqe_top.proofs.Over.{serve_over, init_caused, some_rose, same_journals, touches_over, init_over, others_over, bytes_over, images_over, batch_over, batch_left, serve_left, one_of}
+use Rattle.cqe_top.proofs.Over.{serve_over, init_caused, some_rose, same_journals, touches_over, init_over, others_over, bytes_over, images_over, batch_over}
+use Rattle.cqe_top.proofs.Over.{batch_left, serve_left, one_of}
 use Rattle.cqe_top.proofs.Serving.{serve_succeeds}
 use Rattle.cqe_top.proofs.Users.{batch_names_are}
 use Rattle.cqe_top.proofs.over_files.run_over_files.Goals as goal
 
 pub run_batch-end-requires-clause-names : goal.run_batch-end-requires-clause-names
 run_batch-end-requires-clause-names g c =
-    ap has_duplicate (ap (λ users. map (λ user. user.name) (map named_user users)) c.as_slice.ensures.value ∙ batch_names_are c.in-Ok.inputs.policy.users.items) ∙ c.in-Ok.ensures.names
+    ap has_duplicate (ap (λ users. map (λ user. user.name) (map named_user users)) c.as_slice.ensures.value ∙ batch_names_are c.in-Ok.inputs.policy.users.items)
+    ∙ c.in-Ok.ensures.names
 
 pub run_serve-end-requires-clause-names : goal.run_serve-end-requires-clause-names
 run_serve-end-requires-clause-names g c κs within =
-    ap has_duplicate (ap (λ users. map (λ user. user.name) (map named_user users)) c.as_slice.ensures.value ∙ batch_names_are c.in-Ok.inputs.policy.users.items) ∙ c.in-Ok.ensures.names
+    ap has_duplicate (ap (λ users. map (λ user. user.name) (map named_user users)) c.as_slice.ensures.value ∙ batch_names_are c.in-Ok.inputs.policy.users.items)
+    ∙ c.in-Ok.ensures.names
 
 -- ---- files that weren't read
 
 pub returns-in-Err-clause-cause : goal.returns-in-Err-clause-cause
 returns-in-Err-clause-cause g c =
-    let scene : Scene = scene_of (shelf_of g.F.Shelf g.F.D.Disk c.args.shelf.now c.read_files.new.shelf) (input_of g.S.Source c.args.source.now c.args.source.now)
+    let scene : Scene =
+    scene_of (shelf_of g.F.Shelf g.F.D.Disk c.args.shelf.now c.read_files.new.shelf) (input_of g.S.Source c.args.source.now c.args.source.now)
     (output_of g.K.Sink c.args.sink.now c.args.sink.now) (links_of g.L.Links c.args.links.now c.args.links.now) in
     files_cause scene c.in-Err.end c.in-Err.ensures.cause
 
 pub returns-in-Err-clause-command : goal.returns-in-Err-clause-command
 returns-in-Err-clause-command g c =
-    let scene : Scene = scene_of (shelf_of g.F.Shelf g.F.D.Disk c.args.shelf.now c.read_files.new.shelf) (input_of g.S.Source c.args.source.now c.args.source.now)
+    let scene : Scene =
+    scene_of (shelf_of g.F.Shelf g.F.D.Disk c.args.shelf.now c.read_files.new.shelf) (input_of g.S.Source c.args.source.now c.args.source.now)
     (output_of g.K.Sink c.args.sink.now c.args.sink.now) (links_of g.L.Links c.args.links.now c.args.links.now) in
     unread scene (names_of_files c.args.files) c.args.task c.in-Err.end
     (record { refused = c.in-Err.ensures.refused; looks = c.in-Err.ensures.looks; disks = c.in-Err.ensures.disks })
@@ -56,13 +61,16 @@ pub returns-in-Init-clause-cause : goal.returns-in-Init-clause-cause
 returns-in-Init-clause-cause g c =
     let read = c.in-Ok.ensures in
     let ran = c.run_init-end.ensures in
-    let scene : Scene = scene_of (shelf_of g.F.Shelf g.F.D.Disk c.args.shelf.now c.run_init-end.new.shelf) (input_of g.S.Source c.args.source.now c.args.source.now)
+    let scene : Scene =
+    scene_of (shelf_of g.F.Shelf g.F.D.Disk c.args.shelf.now c.run_init-end.new.shelf) (input_of g.S.Source c.args.source.now c.args.source.now)
     (output_of g.K.Sink c.args.sink.now c.args.sink.now) (links_of g.L.Links c.args.links.now c.args.links.now) in
     let files = names_of_files c.args.files in
     let inputs = c.in-Ok.inputs in
-    let made = init_over g.F.Shelf g.F.D.Disk c.args.shelf.now c.read_files.new.shelf c.run_init-end.new.shelf read.disks read.counts files (header_bytes inputs.header)
+    let made = init_over g.F.Shelf g.F.D.Disk c.args.shelf.now c.read_files.new.shelf c.run_init-end.new.shelf read.disks read.counts files
+    (header_bytes inputs.header)
     inputs.policy c.as_slice.result.now c.run_init-end.result c.as_slice.ensures.value read.later ran.ends in
-    let caused = init_caused g.F.Shelf.tells g.F.D.Disk.reads g.F.D.Disk.image (header_bytes inputs.header) files.journals (names_of (map policy_user_of inputs.policy.users.items))
+    let caused = init_caused g.F.Shelf.tells g.F.D.Disk.reads g.F.D.Disk.image (header_bytes inputs.header) files.journals
+    (names_of (map policy_user_of inputs.policy.users.items))
     (change_on scene.shelf) c.run_init-end.result made in
     init_cause scene inputs.policy.users c.run_init-end.result caused.0 caused.1
 
@@ -72,11 +80,14 @@ returns-in-Init-clause-command g c =
     let ran = c.run_init-end.ensures in
     let files = names_of_files c.args.files in
     let inputs = c.in-Ok.inputs in
-    let scene : Scene = scene_of (shelf_of g.F.Shelf g.F.D.Disk c.args.shelf.now c.run_init-end.new.shelf) (input_of g.S.Source c.args.source.now c.args.source.now)
+    let scene : Scene =
+    scene_of (shelf_of g.F.Shelf g.F.D.Disk c.args.shelf.now c.run_init-end.new.shelf) (input_of g.S.Source c.args.source.now c.args.source.now)
     (output_of g.K.Sink c.args.sink.now c.args.sink.now) (links_of g.L.Links c.args.links.now c.args.links.now) in
-    let made = init_over g.F.Shelf g.F.D.Disk c.args.shelf.now c.read_files.new.shelf c.run_init-end.new.shelf read.disks read.counts files (header_bytes inputs.header)
+    let made = init_over g.F.Shelf g.F.D.Disk c.args.shelf.now c.read_files.new.shelf c.run_init-end.new.shelf read.disks read.counts files
+    (header_bytes inputs.header)
     inputs.policy c.as_slice.result.now c.run_init-end.result c.as_slice.ensures.value read.later ran.ends in
-    let caused = init_caused g.F.Shelf.tells g.F.D.Disk.reads g.F.D.Disk.image (header_bytes inputs.header) files.journals (names_of (map policy_user_of inputs.policy.users.items))
+    let caused = init_caused g.F.Shelf.tells g.F.D.Disk.reads g.F.D.Disk.image (header_bytes inputs.header) files.journals
+    (names_of (map policy_user_of inputs.policy.users.items))
     (change_on scene.shelf) c.run_init-end.result made in
     let runs : RunsInit scene.shelf files inputs.policy.users c.run_init-end.result = record {
       over_files = λ told. (
@@ -90,12 +101,14 @@ returns-in-Init-clause-command g c =
         },
       );
       looks = λ told. ran.looked ∙ read.both told;
-      within = one_of g.F.Shelf.tells g.F.D.Disk.reads g.F.D.Disk.image (header_bytes inputs.header) files.journals c.as_slice.result.now inputs.policy.users.items _
+      within =
+          one_of g.F.Shelf.tells g.F.D.Disk.reads g.F.D.Disk.image (header_bytes inputs.header) files.journals c.as_slice.result.now inputs.policy.users.items _
           c.run_init-end.result c.as_slice.ensures.value ran.ends;
     } in
     let does : OfInit scene files (ends.Init inputs.policy.users c.run_init-end.result) = record {
       ends = runs;
-      succeeds = init_succeeds scene files inputs.policy.users c.run_init-end.result runs (init_cause scene inputs.policy.users c.run_init-end.result caused.0 caused.1);
+      succeeds = init_succeeds scene files inputs.policy.users c.run_init-end.result runs
+          (init_cause scene inputs.policy.users c.run_init-end.result caused.0 caused.1);
       reads_nothing = refl;
       writes_nothing = refl;
       listens_nowhere = refl;
@@ -108,10 +121,12 @@ pub returns-in-Batch-clause-cause : goal.returns-in-Batch-clause-cause
 returns-in-Batch-clause-cause g c =
     let read = c.in-Ok.ensures in
     let ran = c.run_batch-end.ensures in
-    let scene : Scene = scene_of (shelf_of g.F.Shelf g.F.D.Disk c.args.shelf.now c.run_batch-end.new.shelf) (input_of g.S.Source c.args.source.now c.run_batch-end.new.source)
+    let scene : Scene =
+    scene_of (shelf_of g.F.Shelf g.F.D.Disk c.args.shelf.now c.run_batch-end.new.shelf) (input_of g.S.Source c.args.source.now c.run_batch-end.new.source)
     (output_of g.K.Sink c.args.sink.now c.run_batch-end.new.sink) (links_of g.L.Links c.args.links.now c.args.links.now) in
     batch_cause scene c.in-Ok.inputs.policy.users c.run_batch-end.result ran.read_cause ran.write_cause
-    (λ is. rose_since (g.F.Shelf.faults c.args.shelf.now) (g.F.Shelf.faults c.read_files.new.shelf) (g.F.Shelf.faults c.run_batch-end.new.shelf) read.later (ran.shelf_cause is))
+    (λ is. rose_since (g.F.Shelf.faults c.args.shelf.now) (g.F.Shelf.faults c.read_files.new.shelf) (g.F.Shelf.faults c.run_batch-end.new.shelf) read.later
+    (ran.shelf_cause is))
     (λ is. some_rose g.F.Shelf g.F.D.Disk c.args.shelf.now c.read_files.new.shelf c.run_batch-end.new.shelf read.disks read.counts (ran.disk_cause is))
 
 pub returns-in-Batch-clause-command : goal.returns-in-Batch-clause-command
@@ -120,7 +135,8 @@ returns-in-Batch-clause-command g c =
     let ran = c.run_batch-end.ensures in
     let files = names_of_files c.args.files in
     let inputs = c.in-Ok.inputs in
-    let scene : Scene = scene_of (shelf_of g.F.Shelf g.F.D.Disk c.args.shelf.now c.run_batch-end.new.shelf) (input_of g.S.Source c.args.source.now c.run_batch-end.new.source)
+    let scene : Scene =
+    scene_of (shelf_of g.F.Shelf g.F.D.Disk c.args.shelf.now c.run_batch-end.new.shelf) (input_of g.S.Source c.args.source.now c.run_batch-end.new.source)
     (output_of g.K.Sink c.args.sink.now c.run_batch-end.new.sink) (links_of g.L.Links c.args.links.now c.args.links.now) in
     let runs : RunsBatch scene.shelf scene.input scene.output files inputs.policy.users c.run_batch-end.result = record {
       over_files = λ told. (
@@ -130,13 +146,17 @@ returns-in-Batch-clause-command g c =
         read.read told,
         record {
           of_policy = refl;
-          touches = touches_over g.F.Shelf g.F.D.Disk c.args.shelf.now c.read_files.new.shelf c.run_batch-end.new.shelf read.disks read.counts files inputs.policy c.as_slice.result.now
+          touches = touches_over g.F.Shelf g.F.D.Disk c.args.shelf.now c.read_files.new.shelf c.run_batch-end.new.shelf read.disks read.counts files
+              inputs.policy c.as_slice.result.now
               c.as_slice.ensures.value ran.disks;
           journals = batch_left inputs.policy inputs.world (header_bytes inputs.header) c.as_slice.result.now _ _ c.run_batch-end.result
-              (same_journals g.F.Shelf g.F.D.Disk c.args.shelf.now c.read_files.new.shelf c.run_batch-end.new.shelf read.disks read.counts files) c.as_slice.ensures.value
+              (same_journals g.F.Shelf g.F.D.Disk c.args.shelf.now c.read_files.new.shelf c.run_batch-end.new.shelf read.disks read.counts files)
+              c.as_slice.ensures.value
               (ran.journals told);
-          answers = λ in_told out_told. batch_over inputs.policy inputs.world (header_bytes inputs.header) c.as_slice.result.now _ _ c.run_batch-end.result _ _ _ _
-              (same_journals g.F.Shelf g.F.D.Disk c.args.shelf.now c.read_files.new.shelf c.run_batch-end.new.shelf read.disks read.counts files) c.as_slice.ensures.value
+          answers =
+              λ in_told out_told. batch_over inputs.policy inputs.world (header_bytes inputs.header) c.as_slice.result.now _ _ c.run_batch-end.result _ _ _ _
+              (same_journals g.F.Shelf g.F.D.Disk c.args.shelf.now c.read_files.new.shelf c.run_batch-end.new.shelf read.disks read.counts files)
+              c.as_slice.ensures.value
               (ran.ends told in_told out_told);
         },
       );
@@ -145,8 +165,10 @@ returns-in-Batch-clause-command g c =
     } in
     let does : OfBatch scene files (ends.Batch inputs.policy.users c.run_batch-end.result) = record {
       ends = runs;
-      succeeds = batch_succeeds scene files inputs.policy.users c.run_batch-end.result runs (batch_cause scene inputs.policy.users c.run_batch-end.result ran.read_cause ran.write_cause
-          (λ is. rose_since (g.F.Shelf.faults c.args.shelf.now) (g.F.Shelf.faults c.read_files.new.shelf) (g.F.Shelf.faults c.run_batch-end.new.shelf) read.later (ran.shelf_cause is))
+      succeeds = batch_succeeds scene files inputs.policy.users c.run_batch-end.result runs
+          (batch_cause scene inputs.policy.users c.run_batch-end.result ran.read_cause ran.write_cause
+          (λ is. rose_since (g.F.Shelf.faults c.args.shelf.now) (g.F.Shelf.faults c.read_files.new.shelf)
+          (g.F.Shelf.faults c.run_batch-end.new.shelf) read.later (ran.shelf_cause is))
           (λ is. some_rose g.F.Shelf g.F.D.Disk c.args.shelf.now c.read_files.new.shelf c.run_batch-end.new.shelf read.disks read.counts (ran.disk_cause is)));
       listens_nowhere = refl;
     } in
@@ -159,7 +181,8 @@ returns-in_default-clause-command g c =
     let read = c.in-Ok.ensures in
     let files = names_of_files c.args.files in
     let inputs = c.in-Ok.inputs in
-    let scene : Scene = scene_of (shelf_of g.F.Shelf g.F.D.Disk c.args.shelf.now c.read_files.new.shelf) (input_of g.S.Source c.args.source.now c.args.source.now)
+    let scene : Scene =
+    scene_of (shelf_of g.F.Shelf g.F.D.Disk c.args.shelf.now c.read_files.new.shelf) (input_of g.S.Source c.args.source.now c.args.source.now)
     (output_of g.K.Sink c.args.sink.now c.args.sink.now) (links_of g.L.Links c.args.links.now c.args.links.now) in
     let finds : FindsNobody scene.shelf scene.output files c.in-Audit.name.now c.in-Audit.json = record {
       over_files = λ told. (
@@ -167,7 +190,8 @@ returns-in_default-clause-command g c =
         inputs.world,
         header_bytes inputs.header,
         read.read told,
-        nobody_named c.in-Audit.name.now inputs.policy.users.items (c.in_default.ensures.place ∙ ap (position (is_named c.in-Audit.name.now)) c.as_slice.ensures.value),
+        nobody_named c.in-Audit.name.now inputs.policy.users.items (c.in_default.ensures.place
+            ∙ ap (position (is_named c.in-Audit.name.now)) c.as_slice.ensures.value),
       );
       looks = read.both;
       disks = read.disks;
@@ -185,10 +209,12 @@ pub returns-in-Audit-clause-cause : goal.returns-in-Audit-clause-cause
 returns-in-Audit-clause-cause g c =
     let read = c.in-Ok.ensures in
     let ran = c.run_audit.ensures in
-    let scene : Scene = scene_of (shelf_of g.F.Shelf g.F.D.Disk c.args.shelf.now c.run_audit.new.shelf) (input_of g.S.Source c.args.source.now c.args.source.now)
+    let scene : Scene =
+    scene_of (shelf_of g.F.Shelf g.F.D.Disk c.args.shelf.now c.run_audit.new.shelf) (input_of g.S.Source c.args.source.now c.args.source.now)
     (output_of g.K.Sink c.args.sink.now c.run_audit.new.sink) (links_of g.L.Links c.args.links.now c.args.links.now) in
     audit_cause scene c.in-Audit.name c.run_audit.result ran.write_cause
-    (λ is. rose_since (g.F.Shelf.faults c.args.shelf.now) (g.F.Shelf.faults c.read_files.new.shelf) (g.F.Shelf.faults c.run_audit.new.shelf) read.later (ran.shelf_cause is))
+    (λ is. rose_since (g.F.Shelf.faults c.args.shelf.now) (g.F.Shelf.faults c.read_files.new.shelf) (g.F.Shelf.faults c.run_audit.new.shelf) read.later
+    (ran.shelf_cause is))
 
 pub returns-in-Audit-clause-command : goal.returns-in-Audit-clause-command
 returns-in-Audit-clause-command g c =
@@ -199,9 +225,11 @@ returns-in-Audit-clause-command g c =
     let name = c.in-Audit.name.now in
     let user = c.index-user.result.now in
     let found = c.in-Some.ensures.place ∙ ap (position (is_named name)) c.as_slice.ensures.value in
-    let within : c.in-Some.place < length inputs.policy.users.items = subst (λ users. c.in-Some.place < length users) c.as_slice.ensures.value c.in-Some.ensures.within in
+    let within : c.in-Some.place < length inputs.policy.users.items =
+    subst (λ users. c.in-Some.place < length users) c.as_slice.ensures.value c.in-Some.ensures.within in
     let is : string_bytes user.name ≡ name = named_at name inputs.policy.users.items c.in-Some.place user found within c.index-user.ensures in
-    let scene : Scene = scene_of (shelf_of g.F.Shelf g.F.D.Disk c.args.shelf.now c.run_audit.new.shelf) (input_of g.S.Source c.args.source.now c.args.source.now)
+    let scene : Scene =
+    scene_of (shelf_of g.F.Shelf g.F.D.Disk c.args.shelf.now c.run_audit.new.shelf) (input_of g.S.Source c.args.source.now c.args.source.now)
     (output_of g.K.Sink c.args.sink.now c.run_audit.new.sink) (links_of g.L.Links c.args.links.now c.args.links.now) in
     let runs : RunsAudit scene.shelf scene.output files name c.in-Audit.json name c.run_audit.result = record {
       name_is = refl;
@@ -213,20 +241,28 @@ returns-in-Audit-clause-command g c =
         (
           policy_user_of user,
           one_named name inputs.policy.users.items c.in-Some.place user user found c.index-user.ensures within,
-          λ out_told. subst (λ (journals : Journals). IsEnd inputs.policy.schema inputs.world (header_bytes inputs.header) (string_bytes user.name) (profile_of user) (journals.bytes (string_bytes user.name))
-              (journals.before (string_bytes user.name)) (journals.now (string_bytes user.name)) c.in-Audit.json c.run_audit.result (g.K.Sink.written c.args.sink.now) (g.K.Sink.written c.run_audit.new.sink))
-              (same_journals g.F.Shelf g.F.D.Disk c.args.shelf.now c.read_files.new.shelf c.run_audit.new.shelf read.disks read.counts files) (ran.ends told out_told),
+          λ out_told. subst (λ (journals : Journals).
+              IsEnd inputs.policy.schema inputs.world (header_bytes inputs.header) (string_bytes user.name) (profile_of user)
+              (journals.bytes (string_bytes user.name))
+              (journals.before (string_bytes user.name)) (journals.now (string_bytes user.name)) c.in-Audit.json c.run_audit.result
+              (g.K.Sink.written c.args.sink.now) (g.K.Sink.written c.run_audit.new.sink))
+              (same_journals g.F.Shelf g.F.D.Disk c.args.shelf.now c.read_files.new.shelf c.run_audit.new.shelf read.disks read.counts files)
+              (ran.ends told out_told),
         ),
       );
       looks = λ told. ran.looked ∙ read.both told;
-      others = λ told. others_over g.F.Shelf g.F.D.Disk c.args.shelf.now c.read_files.new.shelf c.run_audit.new.shelf read.disks read.counts files.journals name (string_bytes user.name) is ran.disks;
+      others = λ told.
+          others_over g.F.Shelf g.F.D.Disk c.args.shelf.now c.read_files.new.shelf c.run_audit.new.shelf read.disks read.counts files.journals name
+          (string_bytes user.name) is ran.disks;
       bytes = λ told. bytes_over g.F.Shelf g.F.D.Disk c.args.shelf.now c.read_files.new.shelf c.run_audit.new.shelf read.disks read.counts (ran.bytes told);
       images = λ told. images_over g.F.Shelf g.F.D.Disk c.args.shelf.now c.read_files.new.shelf c.run_audit.new.shelf read.disks read.counts (ran.images told);
     } in
     let does : OfAudit scene files name c.in-Audit.json (ends.Audit c.in-Audit.name c.run_audit.result) = record {
       ends = runs;
-      succeeds = audit_succeeds scene files name c.in-Audit.json c.in-Audit.name c.run_audit.result runs (audit_cause scene c.in-Audit.name c.run_audit.result ran.write_cause
-          (λ is. rose_since (g.F.Shelf.faults c.args.shelf.now) (g.F.Shelf.faults c.read_files.new.shelf) (g.F.Shelf.faults c.run_audit.new.shelf) read.later (ran.shelf_cause is)));
+      succeeds = audit_succeeds scene files name c.in-Audit.json c.in-Audit.name c.run_audit.result runs
+          (audit_cause scene c.in-Audit.name c.run_audit.result ran.write_cause
+          (λ is. rose_since (g.F.Shelf.faults c.args.shelf.now) (g.F.Shelf.faults c.read_files.new.shelf) (g.F.Shelf.faults c.run_audit.new.shelf) read.later
+          (ran.shelf_cause is)));
       reads_nothing = refl;
       listens_nowhere = refl;
     } in
@@ -238,10 +274,12 @@ pub returns-clause-cause : goal.returns-clause-cause
 returns-clause-cause g c =
     let read = c.in-Ok.ensures in
     let ran = c.run_serve-end.ensures in
-    let scene : Scene = scene_of (shelf_of g.F.Shelf g.F.D.Disk c.args.shelf.now c.run_serve-end.new.shelf) (input_of g.S.Source c.args.source.now c.args.source.now)
+    let scene : Scene =
+    scene_of (shelf_of g.F.Shelf g.F.D.Disk c.args.shelf.now c.run_serve-end.new.shelf) (input_of g.S.Source c.args.source.now c.args.source.now)
     (output_of g.K.Sink c.args.sink.now c.args.sink.now) (links_of g.L.Links c.args.links.now c.run_serve-end.new.links) in
     serve_cause scene c.in-Ok.inputs.policy.users c.run_serve-end.result ran.links_cause
-    (λ is. rose_since (g.F.Shelf.faults c.args.shelf.now) (g.F.Shelf.faults c.read_files.new.shelf) (g.F.Shelf.faults c.run_serve-end.new.shelf) read.later (ran.shelf_cause is))
+    (λ is. rose_since (g.F.Shelf.faults c.args.shelf.now) (g.F.Shelf.faults c.read_files.new.shelf) (g.F.Shelf.faults c.run_serve-end.new.shelf) read.later
+    (ran.shelf_cause is))
     (λ is. some_rose g.F.Shelf g.F.D.Disk c.args.shelf.now c.read_files.new.shelf c.run_serve-end.new.shelf read.disks read.counts (ran.disk_cause is))
 
 pub returns-clause-command : goal.returns-clause-command
@@ -251,9 +289,11 @@ returns-clause-command g c =
     let files = names_of_files c.args.files in
     let inputs = c.in-Ok.inputs in
     let listening = c.in-Serve.listening in
-    let scene : Scene = scene_of (shelf_of g.F.Shelf g.F.D.Disk c.args.shelf.now c.run_serve-end.new.shelf) (input_of g.S.Source c.args.source.now c.args.source.now)
+    let scene : Scene =
+    scene_of (shelf_of g.F.Shelf g.F.D.Disk c.args.shelf.now c.run_serve-end.new.shelf) (input_of g.S.Source c.args.source.now c.args.source.now)
     (output_of g.K.Sink c.args.sink.now c.args.sink.now) (links_of g.L.Links c.args.links.now c.run_serve-end.new.links) in
-    let runs : RunsServe scene.shelf scene.links files listening.address.now listening.workers listening.sessions inputs.policy.users c.run_serve-end.result = record {
+    let runs : RunsServe scene.shelf scene.links files listening.address.now listening.workers listening.sessions inputs.policy.users c.run_serve-end.result =
+    record {
       over_files = λ told. (
         policy_value_of inputs.policy,
         inputs.world,
@@ -261,13 +301,16 @@ returns-clause-command g c =
         read.read told,
         record {
           of_policy = refl;
-          touches = touches_over g.F.Shelf g.F.D.Disk c.args.shelf.now c.read_files.new.shelf c.run_serve-end.new.shelf read.disks read.counts files inputs.policy c.as_slice.result.now
+          touches = touches_over g.F.Shelf g.F.D.Disk c.args.shelf.now c.read_files.new.shelf c.run_serve-end.new.shelf read.disks read.counts files
+              inputs.policy c.as_slice.result.now
               c.as_slice.ensures.value ran.disks;
           journals = serve_left inputs.policy inputs.world (header_bytes inputs.header) c.as_slice.result.now _ _ c.run_serve-end.result
-              (same_journals g.F.Shelf g.F.D.Disk c.args.shelf.now c.read_files.new.shelf c.run_serve-end.new.shelf read.disks read.counts files) c.as_slice.ensures.value
+              (same_journals g.F.Shelf g.F.D.Disk c.args.shelf.now c.read_files.new.shelf c.run_serve-end.new.shelf read.disks read.counts files)
+              c.as_slice.ensures.value
               (ran.journals told);
           serves = λ links_told. serve_over inputs.policy inputs.world (header_bytes inputs.header) c.as_slice.result.now _ _ c.run_serve-end.result _ _ _ _
-              (same_journals g.F.Shelf g.F.D.Disk c.args.shelf.now c.read_files.new.shelf c.run_serve-end.new.shelf read.disks read.counts files) c.as_slice.ensures.value
+              (same_journals g.F.Shelf g.F.D.Disk c.args.shelf.now c.read_files.new.shelf c.run_serve-end.new.shelf read.disks read.counts files)
+              c.as_slice.ensures.value
               (ran.ends told links_told);
         },
       );
@@ -281,9 +324,11 @@ returns-clause-command g c =
     } in
     let does : OfServe scene files listening.address.now listening.workers listening.sessions (ends.Serve inputs.policy.users c.run_serve-end.result) = record {
       ends = runs;
-      succeeds = serve_succeeds c.law_openings.ensures.unrefused scene files listening.address.now listening.workers listening.sessions inputs.policy.users c.run_serve-end.result runs
+      succeeds = serve_succeeds c.law_openings.ensures.unrefused scene files listening.address.now listening.workers listening.sessions inputs.policy.users
+          c.run_serve-end.result runs
           (serve_cause scene inputs.policy.users c.run_serve-end.result ran.links_cause
-          (λ is. rose_since (g.F.Shelf.faults c.args.shelf.now) (g.F.Shelf.faults c.read_files.new.shelf) (g.F.Shelf.faults c.run_serve-end.new.shelf) read.later (ran.shelf_cause is))
+          (λ is. rose_since (g.F.Shelf.faults c.args.shelf.now) (g.F.Shelf.faults c.read_files.new.shelf)
+          (g.F.Shelf.faults c.run_serve-end.new.shelf) read.later (ran.shelf_cause is))
           (λ is. some_rose g.F.Shelf g.F.D.Disk c.args.shelf.now c.read_files.new.shelf c.run_serve-end.new.shelf read.disks read.counts (ran.disk_cause is)));
       reads_nothing = refl;
       writes_nothing = refl;

@@ -13,7 +13,8 @@ pub returns-in_err-place : goal.returns-in_err-place
 returns-in_err-place g c = record {
   replied = λ schema world header served.
       let seats = c.args.seats.now.items in
-      let found : position (is_named c.args.name.now) seats ≡ None = ap (position (is_named c.args.name.now)) (sym c.as_slice.ensures.value) ∙ sym c.in_err-place.ensures.place in
+      let found : position (is_named c.args.name.now) seats ≡ None =
+      ap (position (is_named c.args.name.now)) (sym c.as_slice.ensures.value) ∙ sym c.in_err-place.ensures.place in
       subst (λ told. Tells schema world c.args.name.now c.args.text.now seats seats (option_map reply_of told)) (sym c.from_residual.ensures)
       (told_nobody schema world c.args.name.now c.args.text.now seats found);
 }
@@ -21,15 +22,21 @@ returns-in_err-place g c = record {
 pub settle_at-requires-clause-user : goal.settle_at-requires-clause-user
 settle_at-requires-clause-user g c =
     let seats = c.args.seats.now.items in
-    let found : position (is_named c.args.name.now) seats ≡ Some c.in_ok-place.place = ap (position (is_named c.args.name.now)) (sym c.as_slice.ensures.value) ∙ sym c.in_ok-place.ensures.place in
+    let found : position (is_named c.args.name.now) seats ≡ Some c.in_ok-place.place =
+    ap (position (is_named c.args.name.now)) (sym c.as_slice.ensures.value) ∙ sym c.in_ok-place.ensures.place in
     let is = position-Some (is_named c.args.name.now) seats c.in_ok-place.place c.index_mut-seat.result.now found in
-    subst (λ (s : DeskSeat _ _ _). (seat_kept s).user ≡ profile_of (seat_user s)) (sym c.index_mut-seat.ensures.value) (all_at (λ (s : DeskSeat _ _ _). (seat_kept s).user ≡ profile_of (seat_user s)) seats c.in_ok-place.place c.index_mut-seat.result.now is.0 c.requires.users)
+    subst (λ (s : DeskSeat _ _ _). (seat_kept s).user
+    ≡ profile_of (seat_user s)) (sym c.index_mut-seat.ensures.value)
+    (all_at (λ (s : DeskSeat _ _ _). (seat_kept s).user
+    ≡ profile_of (seat_user s)) seats c.in_ok-place.place c.index_mut-seat.result.now is.0 c.requires.users)
 
 pub returns : goal.returns
 returns g c = record {
   replied = λ schema world header served.
       let seats = c.args.seats.now.items in
-      let found : position (is_named c.args.name.now) seats ≡ Some c.in_ok-place.place = ap (position (is_named c.args.name.now)) (sym c.as_slice.ensures.value) ∙ sym c.in_ok-place.ensures.place in
-      told_seat schema world c.args.name.now c.args.text.now header seats c.in_ok-place.place c.index_mut-seat.result.now c.settle_at.new.seat (reply_of c.settle_at.result)
+      let found : position (is_named c.args.name.now) seats ≡ Some c.in_ok-place.place =
+      ap (position (is_named c.args.name.now)) (sym c.as_slice.ensures.value) ∙ sym c.in_ok-place.ensures.place in
+      told_seat schema world c.args.name.now c.args.text.now header seats c.in_ok-place.place c.index_mut-seat.result.now c.settle_at.new.seat
+      (reply_of c.settle_at.result)
       found c.index_mut-seat.ensures.value served c.settle_at.ensures;
 }

@@ -10,14 +10,17 @@ pub give_disk-requires-clause-out : goal.give_disk-requires-clause-out
 give_disk-requires-clause-out g c =
     let split = c.pop.ensures.items ∙ ap (λ o. c.pop.new.self.items ++ option_to_list o) c.in-Some.is in
     ap (g.F.Shelf.is_out c.loop-seat.shelf) c.as_str.ensures.value
-    ∙ given_out _ _ _ _ _ _ _ _ c.requires.distinct c.requires.out c.requires.later c.pop.new.self.items c.loop-seat.seats.items c.in-Some.seat _ _ _ split c.loop-seat.invariant.so_far
+    ∙ given_out _ _ _ _ _ _ _ _ c.requires.distinct c.requires.out c.requires.later c.pop.new.self.items c.loop-seat.seats.items c.in-Some.seat _ _ _ split
+    c.loop-seat.invariant.so_far
 
 pub give_disk-requires-clause-later : goal.give_disk-requires-clause-later
 give_disk-requires-clause-later g c =
     let split = c.pop.ensures.items ∙ ap (λ o. c.pop.new.self.items ++ option_to_list o) c.in-Some.is in
-    let least = given_later _ _ _ _ _ _ _ _ c.requires.distinct c.requires.out c.requires.later c.pop.new.self.items c.loop-seat.seats.items c.in-Some.seat _ _ _ split c.loop-seat.invariant.so_far in
+    let least = given_later _ _ _ _ _ _ _ _ c.requires.distinct c.requires.out c.requires.later c.pop.new.self.items c.loop-seat.seats.items c.in-Some.seat _ _
+    _ split c.loop-seat.invariant.so_far in
     let closed = c.close_desk-disk.ensures.closed.later in
-    subst (λ n. g.F.Shelf.disk_faults c.loop-seat.shelf n ≤ g.F.D.Disk.faults c.close_desk-disk.result.0) (sym c.as_str.ensures.value) (omega (arith, least, closed))
+    subst (λ n. g.F.Shelf.disk_faults c.loop-seat.shelf n
+    ≤ g.F.D.Disk.faults c.close_desk-disk.result.0) (sym c.as_str.ensures.value) (omega (arith, least, closed))
 
 pub loop-seat-preserved : goal.loop-seat-preserved
 loop-seat-preserved g c =
@@ -25,13 +28,26 @@ loop-seat-preserved g c =
     let given = c.give_disk.ensures in
     let closed = c.close_desk-disk.ensures.closed in
     record {
-      so_far = given_more _ _ _ _ _ _ _ _ c.requires.distinct c.requires.out c.requires.later c.pop.new.self.items c.loop-seat.seats.items c.in-Some.seat c.close_desk-disk.result.0
-          (record { holds = λ told. closed.holds (g.met.F.Shelf.tells_disks told); legal = closed.legal; added = closed.added; idle = closed.idle; later = closed.later; cause = closed.cause; shut = closed.shut; still = closed.still }) _ _ _ _ _ _ c.as_str.result.now c.as_str.ensures.value split c.loop-seat.invariant.so_far
+      so_far = given_more _ _ _ _ _ _ _ _ c.requires.distinct c.requires.out c.requires.later c.pop.new.self.items c.loop-seat.seats.items c.in-Some.seat
+          c.close_desk-disk.result.0
+          (record {
+            holds = λ told. closed.holds (g.met.F.Shelf.tells_disks told);
+            legal = closed.legal;
+            added = closed.added;
+            idle = closed.idle;
+            later =
+                closed.later;
+            cause = closed.cause;
+            shut = closed.shut;
+            still =
+                closed.still;
+          }) _ _ _ _ _ _ c.as_str.result.now c.as_str.ensures.value split c.loop-seat.invariant.so_far
           (λ told. given.held told) given.disks given.back given.others_out given.count given.other_counts;
       faults = given.faults ∙ c.loop-seat.invariant.faults;
       looked = given.looked ∙ c.loop-seat.invariant.looked;
       files = λ name. given.files name ∙ c.loop-seat.invariant.files name;
-      broke = broke_more c.pop.new.self.items c.in-Some.seat c.loop-seat.seats.items _ _ c.loop-seat.is_broken split c.loop-seat.invariant.broke c.close_desk-disk.ensures.broke;
+      broke = broke_more c.pop.new.self.items c.in-Some.seat c.loop-seat.seats.items _ _ c.loop-seat.is_broken split c.loop-seat.invariant.broke
+          c.close_desk-disk.ensures.broke;
     }
 
 pub returns-clause-broke : goal.returns-clause-broke

@@ -14,4 +14,14 @@ returns g c =
     let b : length (mine one.1.0) ≡ length (mine c.in-Ok-split.second) + one.1.1 = search rules in
     let d : length (mine two.0.0) ≡ length (mine one.1.0) + two.0.1 = search rules in
     let e : length (mine two.1.0) ≡ length (mine one.0.0) + two.1.1 = search rules in
-    omega (arith, a, b, d, e, ap length none, ap length c.in-Ok-split.ensures.mine, ap length c.close.ensures.mine, interleaves_length _ _ _ c.meet.ensures.mine)
+    omega (
+      arith,
+      a,
+      b,
+      d,
+      e,
+      ap length none,
+      ap length c.in-Ok-split.ensures.mine,
+      ap length c.close.ensures.mine,
+      interleaves_length _ _ _ c.meet.ensures.mine,
+    )

@@ -11,6 +11,8 @@ returns-in_ok-push_lines c =
     let wanted : c.args.cnf.now.lrat ≡ true = sym c.lrat.ensures ∙ c.if-lrat.true in
     let first : string_bytes c.push_str.new.self ≡ old ++ codes "s UNSATISFIABLE\n" = c.in_ok-push_str.ensures.bytes in
     let second : string_bytes c.push_lines.new.text ≡ string_bytes c.push_str.new.self ++ lines =
-    c.in_ok-push_lines.ensures ∙ (λ i. string_bytes c.push_str.new.self ++ lrat_text ((c.len.ensures ∙ ap length c.clauses.ensures.clauses) i + 1) (map line_of (c.deref.ensures.value i))) in
+    c.in_ok-push_lines.ensures
+    ∙ (λ i. string_bytes c.push_str.new.self
+    ++ lrat_text ((c.len.ensures ∙ ap length c.clauses.ensures.clauses) i + 1) (map line_of (c.deref.ensures.value i))) in
     second ∙ ap (λ b. b ++ lines) first ∙ append_assoc old (codes "s UNSATISFIABLE\n") lines
     ∙ ap (λ b. old ++ (codes "s UNSATISFIABLE\n" ++ cond b lines [])) (sym wanted)

@@ -14,13 +14,25 @@ returns-in-Err-clause-ends g c =
     let last = c.serve.new.shelf in
     let so_far = c.loop-number.invariant in
     let user = c.index-users-number.result in
-    let named = name_at c.args.users.now c.loop-number.number user c.as_str.result.now (omega (arith, c.loop-number-test.true)) c.index-users-number.is c.as_str.ensures.value in
+    let named = name_at c.args.users.now c.loop-number.number user c.as_str.result.now
+    (omega (arith, c.loop-number-test.true)) c.index-users-number.is c.as_str.ensures.value in
     subst (λ end. IsEnd shelf.tells disk.reads disk.image (header_bytes c.args.header.now) c.args.directory.now (user_names c.args.users.now)
-    (record { old = shelf.disk first; new = shelf.disk last; before = shelf.disk_faults first; now = shelf.disk_faults last; shelf_before = shelf.faults first; shelf_now = shelf.faults last }) end)
+    (record {
+      old = shelf.disk first;
+      new = shelf.disk last;
+      before = shelf.disk_faults first;
+      now = shelf.disk_faults last;
+      shelf_before =
+          shelf.faults first;
+      shelf_now = shelf.faults last;
+    }) end)
     (sym c.end_of.ensures)
-    (ends shelf.tells disk.reads disk.image (header_bytes c.args.header.now) c.args.directory.now (user_names c.args.users.now) c.requires.names c.law_journals_differ.ensures
-    (shelf.disk first) (shelf.disk mid) (shelf.disk last) (shelf.disk_faults first) (shelf.disk_faults mid) (shelf.disk_faults last) (shelf.faults first) (shelf.faults mid) (shelf.faults last)
-    c.loop-number.number c.as_str.result.now named so_far.ready c.in-Err.ensures.disks so_far.counts so_far.later c.in-Err.why c.in-Err.ensures.reason c.in-Err.ensures.kept)
+    (ends shelf.tells disk.reads disk.image (header_bytes c.args.header.now) c.args.directory.now
+    (user_names c.args.users.now) c.requires.names c.law_journals_differ.ensures
+    (shelf.disk first) (shelf.disk mid) (shelf.disk last) (shelf.disk_faults first) (shelf.disk_faults mid) (shelf.disk_faults last) (shelf.faults first)
+    (shelf.faults mid) (shelf.faults last)
+    c.loop-number.number c.as_str.result.now named so_far.ready c.in-Err.ensures.disks so_far.counts so_far.later c.in-Err.why c.in-Err.ensures.reason
+    c.in-Err.ensures.kept)
 
 pub loop-number-preserved : goal.loop-number-preserved
 loop-number-preserved g c =
@@ -32,9 +44,11 @@ loop-number-preserved g c =
     let so_far = c.loop-number.invariant in
     let served = c.in_default.ensures in
     let user = c.index-users-number.result in
-    let named = name_at c.args.users.now c.loop-number.number user c.as_str.result.now (omega (arith, c.loop-number-test.true)) c.index-users-number.is c.as_str.ensures.value in
+    let named = name_at c.args.users.now c.loop-number.number user c.as_str.result.now
+    (omega (arith, c.loop-number-test.true)) c.index-users-number.is c.as_str.ensures.value in
     record {
-      ready = λ t. one_more disk.reads disk.image (header_bytes c.args.header.now) c.args.directory.now (user_names c.args.users.now) c.requires.names c.law_journals_differ.ensures
+      ready = λ t. one_more disk.reads disk.image (header_bytes c.args.header.now) c.args.directory.now
+          (user_names c.args.users.now) c.requires.names c.law_journals_differ.ensures
           (shelf.disk first) (shelf.disk mid) (shelf.disk last) c.loop-number.number c.as_str.result.now named (so_far.ready t) served.disks (served.ready t);
       out = λ name. served.out name ∙ so_far.out name;
       counts = λ name. omega (arith, served.counts name, so_far.counts name);

@@ -17,5 +17,6 @@ returns-in-Ok-clause-reason g c =
     IfErr-weaker c.make-disk.result.1 _ _
     (λ why. reason_of disk.tells shelf.tells (header_bytes c.args.header.now) (disk.reads c.in-Ok.disk) (bytes_on disk.reads held)
     (disk.faults c.in-Ok.disk) (shelf.disk_faults c.args.shelf.now journal) (disk.faults c.make-disk.result.0) (shelf.disk_faults c.give_disk.new.self journal)
-    g.met.F.Shelf.tells_disks (λ told. taken_reads disk.reads disk.image held c.in-Ok.disk (c.in-Ok.ensures.taken told)) (omega (arith, count)) (omega (arith, back))
+    g.met.F.Shelf.tells_disks (λ told. taken_reads disk.reads disk.image held c.in-Ok.disk (c.in-Ok.ensures.taken told)) (omega (arith, count))
+    (omega (arith, back))
     0 (shelf.faults c.args.shelf.now) 0 (shelf.faults c.give_disk.new.self) none_rose why) c.make-disk.ensures.reason

@@ -10,7 +10,8 @@ returns-clause-added g c told =
     let piece_is : take (length c.args.text.now + 4) c.deref.result.now ≡ piece_of c.args.kind c.args.text.now =
     ap (λ (l : List ℕ). take (length c.args.text.now + 4) l) c.deref.ensures.value ∙ c.fill_start.ensures.piece in
     on_ok_weaker c.put.result
-    (λ is. added R c.args.gate (c.requires.ends told) c.args.kind c.args.text.now c.requires.low c.requires.high c.requires.short (g.D.Disk.reads c.put.new.disk)
+    (λ is. added R c.args.gate (c.requires.ends told) c.args.kind c.args.text.now c.requires.low c.requires.high c.requires.short
+    (g.D.Disk.reads c.put.new.disk)
     (is ∙ ap (λ (l : List ℕ). with_piece R c.args.gate 1 l) piece_is))
     (c.put.ensures.written told)
 
@@ -20,7 +21,8 @@ returns-clause-ends g c told =
     let piece_is : take (length c.args.text.now + 4) c.deref.result.now ≡ piece_of c.args.kind c.args.text.now =
     ap (λ (l : List ℕ). take (length c.args.text.now + 4) l) c.deref.ensures.value ∙ c.fill_start.ensures.piece in
     on_both c.put.result
-    (λ is fits. ends_behind R c.args.gate (c.requires.ends told) c.args.kind c.args.text.now c.requires.low c.requires.high c.requires.short (g.D.Disk.reads c.put.new.disk)
+    (λ is fits. ends_behind R c.args.gate (c.requires.ends told) c.args.kind c.args.text.now c.requires.low c.requires.high c.requires.short
+    (g.D.Disk.reads c.put.new.disk)
     (is ∙ ap (λ (l : List ℕ). with_piece R c.args.gate 1 l) piece_is) fits)
     (c.put.ensures.written told) (c.put.ensures.fits told)
 

@@ -1,4 +1,5 @@
-use Rattle.std.proofs.Common.{◌≡◌, ◌≢◌, IfSome, IfNone, slice_index_or, ◌+◌, ◌≤◌, ◌<◌, ◌^◌, ◌∷◌, ◌++◌, [], ℕ, List, length, drop, map, sym, ◌∙◌, ap, subst, arith, rules}
+use Rattle.std.proofs.Common.{◌≡◌, ◌≢◌, IfSome, IfNone, slice_index_or, ◌+◌, ◌≤◌, ◌<◌, ◌^◌, ◌∷◌, ◌++◌, [], ℕ, List, length, drop, map, sym, ◌∙◌, ap, subst}
+use Rattle.std.proofs.Common.{arith, rules}
 use Rattle.std.proofs.lemmas.List.{map-append, length-map, take_rest}
 use Rattle.std.proofs.lemmas.Result.{err_from_is_err_and}
 use Rattle.std.proofs.lemmas.List.Elements.{All-nil, All-cons, All-append, All-same}
@@ -15,7 +16,8 @@ loop-init g c =
       so_far = λ told. at_header R (drop 72 R) (map recorded c.new-records.result.items) (c.requires.long told)
           (ap (λ l. map recorded l) c.new-records.ensures.items) (sym (take_rest R 72));
       each = All-same IsRecord c.new-records.result.items [] c.new-records.ensures.items (All-nil IsRecord);
-      only = only_none R (g.D.Disk.image c.args.disk.now) (g.D.Disk.moment c.args.disk.now) (g.D.Disk.image_since c.args.disk.now) (g.D.Disk.faults c.args.disk.now)
+      only = only_none R (g.D.Disk.image c.args.disk.now) (g.D.Disk.moment c.args.disk.now) (g.D.Disk.image_since c.args.disk.now)
+          (g.D.Disk.faults c.args.disk.now)
           (λ t d le is. g.met.D.Disk.counts_now c.args.disk.now t d le is) (λ d is. g.met.D.Disk.only_now c.args.disk.now d is);
     }
 

@@ -22,5 +22,6 @@ returns-clause-moments g c told =
     over_both (g.D.Disk.moment c.args.disk.now) (g.D.Disk.moment c.write_synced.new.disk) (g.D.Disk.moment c.write_synced-2.new.disk)
     (g.D.Disk.image_since c.write_synced.new.disk) (g.D.Disk.image_since c.write_synced-2.new.disk) (IsBetween R c.args.gate c.args.piece.now)
     c.write_synced.ensures.time.later c.write_synced-2.ensures.time
-    (λ d is. torn_piece R c.args.gate within c.args.piece.now d (subst (λ at. Torn at (length c.args.piece.now) R d) place (c.write_synced.ensures.moments d is)))
+    (λ d is. torn_piece R c.args.gate within c.args.piece.now d
+    (subst (λ at. Torn at (length c.args.piece.now) R d) place (c.write_synced.ensures.moments d is)))
     (λ d is. torn_after R c.args.gate within c.args.piece.now (g.D.Disk.reads c.write_synced.new.disk) holds d (c.write_synced-2.ensures.moments d is))

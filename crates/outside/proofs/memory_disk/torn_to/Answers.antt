@@ -9,4 +9,5 @@ returns c =
     let short : length c.args.left.now ≤ c.args.size = search rules in
     let holds : Holds c.args.image.now c.args.at c.args.left.now c.in_ok-new.new.items = search rules in
     let grown : c.extend_from_slice.new.self.items ≡ c.in_ok-new.new.items ++ c.args.past_the_end.now = search rules in
-    torn_front c.args.at c.args.size c.args.image.now c.args.left.now c.args.past_the_end.now _ within short (grown ∙ ap (λ (l : List ℕ). l ++ c.args.past_the_end.now) holds)
+    torn_front c.args.at c.args.size c.args.image.now c.args.left.now c.args.past_the_end.now _ within short
+    (grown ∙ ap (λ (l : List ℕ). l ++ c.args.past_the_end.now) holds)

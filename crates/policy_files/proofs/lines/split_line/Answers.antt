@@ -9,7 +9,8 @@ returns-in-Some-clause-lines c =
     let bytes = c.args.bytes.now in
     let at = c.in-Some.at in
     let first : TextLine = record { bytes = take at bytes; ended = true } in
-    let all : take (length bytes - (at + 1)) (drop (at + 1) bytes) ≡ drop (at + 1) bytes = take_all (length bytes - (at + 1)) (drop (at + 1) bytes) (omega (arith, length-drop (at + 1) bytes)) in
+    let all : take (length bytes - (at + 1)) (drop (at + 1) bytes) ≡ drop (at + 1) bytes =
+    take_all (length bytes - (at + 1)) (drop (at + 1) bytes) (omega (arith, length-drop (at + 1) bytes)) in
     first_line bytes at (sym c.line_feed.ensures ∙ c.in-Some.is) ∙ ap (λ (rest : List ℕ). first ∷ text_lines rest) (sym all)
 
 pub returns-in-None-clause-lines : goal.returns-in-None-clause-lines

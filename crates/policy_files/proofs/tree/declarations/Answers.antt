@@ -11,7 +11,11 @@ use Rattle.policy_files.proofs.tree.declarations.Goals as goal
 pub loop-key-preserved : goal.loop-key-preserved
 loop-key-preserved c =
     let first : c.loop-key.key-iterator ≡ (c.in-Some.key.now, c.in-Some.value.now) ∷ c.next.new.self = search rules in
-    let made : declaration_of c.in_ok-declaration.field-0 ≡ record { name = string_bytes c.in-Some.key.now; parts = texts_in (view c.in-Some.value.now) } = search rules in
+    let made : declaration_of c.in_ok-declaration.field-0 ≡ record {
+      name =
+          string_bytes c.in-Some.key.now;
+      parts = texts_in (view c.in-Some.value.now);
+    } = search rules in
     let grown : c.push.new.self.items ≡ c.loop-key.declared.items ++ c.in_ok-declaration.field-0 ∷ [] = search rules in
     let behind = declarations (members_view c.next.new.self) in
     let ascend = subst Ascend first c.loop-key.invariant.ascend in
@@ -20,7 +24,8 @@ loop-key-preserved c =
           ∙ ap (λ (l : List Declaration). l ++ behind) (map-append declaration_of c.loop-key.declared.items (c.in_ok-declaration.field-0 ∷ []))
           ∙ append_assoc (map declaration_of c.loop-key.declared.items) (declaration_of c.in_ok-declaration.field-0 ∷ []) behind
           ∙ ap (λ (d : Declaration). map declaration_of c.loop-key.declared.items ++ d ∷ behind) made
-          ∙ ap (λ (l : List Declaration). map declaration_of c.loop-key.declared.items ++ l) (sym (declared_first (c.in-Some.key.now, c.in-Some.value.now) c.next.new.self ascend))
+          ∙ ap (λ (l : List Declaration). map declaration_of c.loop-key.declared.items ++ l)
+          (sym (declared_first (c.in-Some.key.now, c.in-Some.value.now) c.next.new.self ascend))
           ∙ ap (λ m. map declaration_of c.loop-key.declared.items ++ declarations (members_view m)) (sym first) ∙ c.loop-key.invariant.left;
       ascend = rest_ascends (c.in-Some.key.now, c.in-Some.value.now) c.next.new.self ascend;
     }

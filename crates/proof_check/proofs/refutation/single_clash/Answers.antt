@@ -14,4 +14,5 @@ returns-then-is_other c =
     (ap (is_other c.loop-other.found) (sym c.opposite-literal.ensures) ∙ sym c.is_other.ensures ∙ (search rules))
 
 pub returns : goal.returns
-returns c = all_walked c.args.first.now.clause c.args.second.now c.loop-other.other-index c.loop-other.found (omega (arith, c.loop-other-test.false)) c.loop-other.invariant
+returns c = all_walked c.args.first.now.clause c.args.second.now c.loop-other.other-index c.loop-other.found
+    (omega (arith, c.loop-other-test.false)) c.loop-other.invariant

@@ -15,4 +15,5 @@ loop-number-init g c = record {
 pub returns-in-End-clause-reads : goal.returns-in-End-clause-reads
 returns-in-End-clause-reads g c = λ told.
     let reads = c.in-End.ensures.reads told in
-    script_ends g.T.Script.step c.loop-number.number (g.T.Script.said c.args.start) (g.T.Script.said c.loop-number.script) _ _ _ _ (c.loop-number.invariant.so_far told) reads.0 reads.1
+    script_ends g.T.Script.step c.loop-number.number (g.T.Script.said c.args.start) (g.T.Script.said c.loop-number.script) _ _ _ _
+    (c.loop-number.invariant.so_far told) reads.0 reads.1

@@ -15,7 +15,8 @@ use Rattle.selfrun_engine.proofs.run.answers.Goals as goal
 
 pub run_batch-requires-clause-names : goal.run_batch-requires-clause-names
 run_batch-requires-clause-names g c =
-    ap has_duplicate (ap (λ users. map (λ user. user.name) (map named_user users)) c.as_slice-users.ensures.value ∙ batch_names_are c.args.policy.now.users.items) ∙ c.requires.names
+    ap has_duplicate (ap (λ users. map (λ user. user.name) (map named_user users)) c.as_slice-users.ensures.value
+    ∙ batch_names_are c.args.policy.now.users.items) ∙ c.requires.names
 
 pub returns-in-Done-run_batch : goal.returns-in-Done-run_batch
 returns-in-Done-run_batch g c = λ items read named.
@@ -24,11 +25,17 @@ returns-in-Done-run_batch g c = λ items read named.
     let same = c.as_slice-users.ensures.value in
     let header = header_bytes c.args.header.now in
     let made = disk_named c.run_init.new.shelf in
-    let journals = journals_on memory_bytes IsMemoryImage (codes "journals") made (disk_named c.run_batch.new.shelf) (disk_faults_of c.run_init.new.shelf) (disk_faults_of c.run_batch.new.shelf) in
-    let ready = subst (λ us. Readies memory_bytes IsMemoryImage header (codes "journals") (user_names us) (disk_named c.new-shelf.result) made (length (user_names us)) (length (user_names us))) same (c.in-Done.ensures.ends tt) in
-    let none : list_any is_some c.in-Done-run_batch.refusals.items ≡ false = ap (list_any is_some) (sym c.deref.ensures.value) ∙ sym c.has_refusal.ensures ∙ c.if-has_refusal.false in
-    batch_undisturbed policy.schema c.args.world.now header journals (map named_user users) items c.args.script.items (source_left c.new-source.result) (source_left c.run_batch.new.source)
-    (sink_written c.new-output.result) (sink_written c.run_batch.new.sink) (map named_user c.as_slice-users.result.now) c.in-Done-run_batch.refusals.items c.in-Done-run_batch.is_broken
+    let journals = journals_on memory_bytes IsMemoryImage (codes "journals") made (disk_named c.run_batch.new.shelf) (disk_faults_of c.run_init.new.shelf)
+    (disk_faults_of c.run_batch.new.shelf) in
+    let ready = subst (λ us.
+    Readies memory_bytes IsMemoryImage header (codes "journals") (user_names us) (disk_named c.new-shelf.result) made (length (user_names us))
+    (length (user_names us))) same (c.in-Done.ensures.ends tt) in
+    let none : list_any is_some c.in-Done-run_batch.refusals.items ≡ false =
+    ap (list_any is_some) (sym c.deref.ensures.value) ∙ sym c.has_refusal.ensures ∙ c.if-has_refusal.false in
+    batch_undisturbed policy.schema c.args.world.now header journals (map named_user users) items c.args.script.items (source_left c.new-source.result)
+    (source_left c.run_batch.new.source)
+    (sink_written c.new-output.result) (sink_written c.run_batch.new.sink)
+    (map named_user c.as_slice-users.result.now) c.in-Done-run_batch.refusals.items c.in-Done-run_batch.is_broken
     c.new-source.ensures.left read c.new-output.ensures.empty c.if-is_broken.false (ap (map named_user) same) none
     (all_empty memory_bytes IsMemoryImage header (codes "journals") (disk_named c.new-shelf.result) made users c.new-shelf.ensures.no_disks ready) named
     (c.in-Done-run_batch.ensures.ends tt tt tt)

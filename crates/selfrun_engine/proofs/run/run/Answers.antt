@@ -10,6 +10,9 @@ answers-requires-clause-names g c = names_differ c.in-Ok.policy c.in-Ok.ensures.
 pub returns : goal.returns
 returns g c =
     let made = c.in_ok-made in
-    tallied c.args.seed c.args.users c.args.asks (omega (arith, c.requires.some_user)) c.in-Ok.policy c.in-Ok-read_facts.world made.made.policy.items c.deref.result.now made.made.facts.items c.deref-2.result.now made.made.script.items
-    (sink_written c.in_ok-output.output) c.tally_in.result c.deref.ensures.value made.ensures.policy c.in-Ok.ensures.read c.deref-2.ensures.value made.ensures.read c.in-Ok-read_facts.ensures.read
+    tallied c.args.seed c.args.users c.args.asks
+    (omega (arith, c.requires.some_user)) c.in-Ok.policy c.in-Ok-read_facts.world made.made.policy.items c.deref.result.now made.made.facts.items
+    c.deref-2.result.now made.made.script.items
+    (sink_written c.in_ok-output.output) c.tally_in.result c.deref.ensures.value made.ensures.policy c.in-Ok.ensures.read c.deref-2.ensures.value
+    made.ensures.read c.in-Ok-read_facts.ensures.read
     made.ensures.asks (c.tally_in.ensures ∙ ap tally_in c.bytes.ensures) c.in_ok-output.ensures

@@ -11,7 +11,11 @@ returns-clause-ends g c shelf_told links_told =
     let heard = c.in-Ok.ensures in
     let back = c.take_back_all.ensures in
     let door_told = g.met.L.Links.tells_doors links_told in
-    ends_of c.args.registry.now.schema.now c.args.registry.now.world.now (header_bytes c.args.registry.now.header.now) (journals_on g.F.D.Disk.reads g.F.D.Disk.image c.args.registry.now.directory.now (g.F.Shelf.disk c.args.shelf.now) (g.F.Shelf.disk c.serve_opened-end.new.shelf) (g.F.Shelf.disk_faults c.args.shelf.now) (g.F.Shelf.disk_faults c.serve_opened-end.new.shelf)) c.args.registry.now.users.now g.L.D.Door.tells door_told g.L.D.Door.given g.L.D.Door.left g.L.D.Door.faults g.L.D.Door.back c.in-Ok.doors.items c.serve_opened-end.result.1.items (heard.fresh links_told)
+    ends_of c.args.registry.now.schema.now c.args.registry.now.world.now (header_bytes c.args.registry.now.header.now)
+    (journals_on g.F.D.Disk.reads g.F.D.Disk.image c.args.registry.now.directory.now (g.F.Shelf.disk c.args.shelf.now)
+    (g.F.Shelf.disk c.serve_opened-end.new.shelf) (g.F.Shelf.disk_faults c.args.shelf.now) (g.F.Shelf.disk_faults c.serve_opened-end.new.shelf))
+    c.args.registry.now.users.now g.L.D.Door.tells door_told g.L.D.Door.given g.L.D.Door.left g.L.D.Door.faults g.L.D.Door.back c.in-Ok.doors.items
+    c.serve_opened-end.result.1.items (heard.fresh links_told)
     (g.L.Links.given c.args.links.now) (g.L.Links.given c.take_back_all.new.links) (g.L.Links.back c.args.links.now) (g.L.Links.back c.take_back_all.new.links)
     (back.given links_told ∙ ap (λ n. n + sum_by g.L.D.Door.given c.serve_opened-end.result.1.items) (heard.given links_told))
     (back.back links_told ∙ ap (λ l. l ++ flat_map g.L.D.Door.back c.serve_opened-end.result.1.items) (heard.back links_told))
@@ -25,7 +29,8 @@ returns-clause-ended g c links_told done =
     let none = new_given g.L.D.Door.given g.L.D.Door.back c.in-Ok.doors.items (heard.fresh links_told) in
     let gave = back.given links_told ∙ ap (λ n. n + sum_by g.L.D.Door.given c.serve_opened-end.result.1.items) (heard.given links_told) in
     let ended = back.ended ∙ ap (λ n. n + sum_by (λ door. one_if_any (g.L.D.Door.ends door)) c.serve_opened-end.result.1.items) heard.ended in
-    at_end g.L.D.Door.left c.serve_opened-end.result.1.items (g.L.Links.at_hand c.take_back_all.new.links) (heard.all links_told (omega (arith, some))) (back.at_hand links_told) _ _ (λ most. omega (arith, most, none, gave, ended))
+    at_end g.L.D.Door.left c.serve_opened-end.result.1.items (g.L.Links.at_hand c.take_back_all.new.links) (heard.all links_told (omega (arith, some)))
+    (back.at_hand links_told) _ _ (λ most. omega (arith, most, none, gave, ended))
     (c.serve_opened-end.ensures.ended (g.met.L.Links.tells_doors links_told) done)
 
 pub returns-clause-limited : goal.returns-clause-limited
@@ -45,7 +50,8 @@ returns-clause-heard g c links_told done = c.take_back_all.ensures.listened link
 pub returns-clause-journals : goal.returns-clause-journals
 returns-clause-journals g c shelf_told =
     leaves_journals c.args.registry.now.schema.now c.args.registry.now.world.now (header_bytes c.args.registry.now.header.now)
-    (journals_on g.F.D.Disk.reads g.F.D.Disk.image c.args.registry.now.directory.now (g.F.Shelf.disk c.args.shelf.now) (g.F.Shelf.disk c.serve_opened-end.new.shelf)
+    (journals_on g.F.D.Disk.reads g.F.D.Disk.image c.args.registry.now.directory.now (g.F.Shelf.disk c.args.shelf.now)
+    (g.F.Shelf.disk c.serve_opened-end.new.shelf)
     (g.F.Shelf.disk_faults c.args.shelf.now) (g.F.Shelf.disk_faults c.serve_opened-end.new.shelf)) c.args.registry.now.users.now g.L.D.Door.tells
     g.L.D.Door.given g.L.D.Door.left g.L.D.Door.faults g.L.D.Door.back c.in-Ok.doors.items c.serve_opened-end.result.1.items
     c.serve_opened-end.result.0 (c.serve_opened-end.ensures.ends shelf_told)

@@ -14,6 +14,7 @@ invariant-loop-door g l = record {
   count : length l.parts.items ≡ length (into_iter_items l.door-iterator);
   those : All (λ part. ArePassesOf part l.counters) l.parts.items;
   opened : All (λ part. HaveSeenOpenings (fixeds_of l.counters) (passes_in part)) l.parts.items;
-  fresh : (before : Passes g.row.D.Denot) → All (AreParts before) l.fn.parts.items → All (IsFresh l.counters before) l.crew.items × All (AreParts before) l.parts.items;
+  fresh : (before : Passes g.row.D.Denot) → All (AreParts before) l.fn.parts.items → All (IsFresh l.counters before) l.crew.items
+      × All (AreParts before) l.parts.items;
   room : vec_capacity l.crew ≡ vec_capacity l.initial.crew;
 }

@@ -30,7 +30,9 @@ loop-worker-init g c =
 
 pub meet-requires-clause-those : goal.meet-requires-clause-those
 meet-requires-clause-those g c =
-    let back = next_of (IsBack c.args.counters.now) c.args.crew.items c.loop-worker.yielded _ _ c.in-Some.worker c.loop-worker.invariant.rest c.in-Some.ensures.steps.0 c.requires.crew in
+    let back = next_of
+    (IsBack c.args.counters.now) c.args.crew.items c.loop-worker.yielded _ _ c.in-Some.worker c.loop-worker.invariant.rest c.in-Some.ensures.steps.0
+    c.requires.crew in
     subst (ArePassesOf c.into_passes.result) back.counters_are c.into_passes.ensures.passes
 
 pub loop-worker-preserved : goal.loop-worker-preserved
@@ -51,7 +53,8 @@ loop-worker-preserved g c =
       these = c.meet.ensures.passes;
       on = on_then first old new so_far.on met.on;
       all_on = All-push (λ worker. AreOn (job_passes worker.job) c.meet.new.passes) c.loop-worker.yielded c.in-Some.worker
-          (All-weaker (λ worker. AreOn (job_passes worker.job) c.loop-worker.passes) (λ worker. AreOn (job_passes worker.job) c.meet.new.passes) (λ worker on. on_then (passes_in (job_passes worker.job)) old new on met.on) c.loop-worker.yielded so_far.all_on)
+          (All-weaker (λ worker. AreOn (job_passes worker.job) c.loop-worker.passes) (λ worker. AreOn (job_passes worker.job) c.meet.new.passes) (λ worker on.
+          on_then (passes_in (job_passes worker.job)) old new on met.on) c.loop-worker.yielded so_far.all_on)
           (subst (λ (passes : Passes g.row.D.Denot). AreOn passes c.meet.new.passes) c.into_passes.ensures.same met.those_on);
       own = λ weight place.
           let both = own_met weight place c.args.counters.now.counters.items old (passes_in c.into_passes.result) new c.meet.ensures.met in

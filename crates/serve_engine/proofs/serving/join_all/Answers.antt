@@ -20,7 +20,9 @@ loop-part-init g c = record {
 }
 
 pub meet-requires-clause-those : goal.meet-requires-clause-those
-meet-requires-clause-those g c = next_of (λ part. ArePassesOf part c.args.counters.now) c.args.parts.items c.loop-part.yielded _ _ c.in-Some.part c.loop-part.invariant.rest c.in-Some.ensures.steps.0 c.requires.those
+meet-requires-clause-those g c =
+    next_of (λ part. ArePassesOf part c.args.counters.now) c.args.parts.items c.loop-part.yielded _ _ c.in-Some.part c.loop-part.invariant.rest
+    c.in-Some.ensures.steps.0 c.requires.those
 
 pub loop-part-preserved : goal.loop-part-preserved
 loop-part-preserved g c =

@@ -9,5 +9,6 @@ use Rattle.serve_engine.proofs.serving.outcome_of.Goals as goal
 
 pub returns-else-any : goal.returns-else-any
 returns-else-any g c =
-    let any = any_from_yields_List (λ (worker : Worker g.row.J.Denot g.row.O.Denot). has_failed worker.ended) _ _ c.any.result c.any.ensures.ran (YieldsList-from_slice c.args.crew.now cc) (λ x b q k. search (rules, tests)) in
+    let any = any_from_yields_List (λ (worker : Worker g.row.J.Denot g.row.O.Denot). has_failed worker.ended) _ _ c.any.result c.any.ensures.ran
+    (YieldsList-from_slice c.args.crew.now cc) (λ x b q k. search (rules, tests)) in
     ap (λ (b : Bool). if b then LinksFailed else Served) (sym c.if-any.false ∙ any)

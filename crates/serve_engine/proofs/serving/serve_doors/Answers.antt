@@ -24,14 +24,22 @@ pub returns-in_default-clause-on : goal.returns-in_default-clause-on
 returns-in_default-clause-on g c = on_same (passes_in c.args.passes.now)
 
 pub returns-in_default-clause-served : goal.returns-in_default-clause-served
-returns-in_default-clause-served g c =
-    (0, λ t. [], none_served g.O.Door.tells g.O.Door.given g.O.Door.left g.O.Door.faults g.O.Door.back (IsServedBy c.args.counters.now c.args.passes.now) c.args.doors.items, refl, omega arith, λ t weight place. omega arith)
+returns-in_default-clause-served g c = (
+  0,
+  λ t. [],
+  none_served g.O.Door.tells g.O.Door.given g.O.Door.left g.O.Door.faults g.O.Door.back
+      (IsServedBy c.args.counters.now c.args.passes.now) c.args.doors.items,
+  refl,
+  omega arith,
+  λ t weight place. omega arith,
+)
 
 pub returns-in_default-split_all-clause-served : goal.returns-in_default-split_all-clause-served
 returns-in_default-split_all-clause-served g c = (
   0,
   λ t. [],
-  none_served g.O.Door.tells g.O.Door.given g.O.Door.left g.O.Door.faults g.O.Door.back (IsServedBy c.args.counters.now c.split_all.new.passes) c.args.doors.items,
+  none_served g.O.Door.tells g.O.Door.given g.O.Door.left g.O.Door.faults g.O.Door.back
+      (IsServedBy c.args.counters.now c.split_all.new.passes) c.args.doors.items,
   refl,
   omega arith,
   λ t weight place. let same = c.split_all.ensures.own weight place in omega (arith, same),
@@ -41,15 +49,18 @@ pub crew_of-crew-requires-clause-opened : goal.crew_of-crew-requires-clause-open
 crew_of-crew-requires-clause-opened g c κs within =
     let fixeds = fixeds_of c.args.counters.now in
     let first = passes_in c.args.passes.now in
-    All-weaker (AreParts c.args.passes.now) (λ part. HaveSeenOpenings fixeds (passes_in part)) (λ part is. openings_later fixeds first (passes_in part) is.on c.requires.opened) c.in-Some.parts.items c.in-Some.ensures.parts
+    All-weaker (AreParts c.args.passes.now) (λ part. HaveSeenOpenings fixeds (passes_in part)) (λ part is.
+    openings_later fixeds first (passes_in part) is.on c.requires.opened) c.in-Some.parts.items c.in-Some.ensures.parts
 
 pub serve_all-requires-clause-running : goal.serve_all-requires-clause-running
 serve_all-requires-clause-running g c κs within =
-    All-weaker (IsFresh c.args.counters.now c.args.passes.now) (λ worker. worker.ended ≡ None) (λ worker is. is.running) c.crew_of-crew.result.items (c.crew_of-crew.ensures.fresh c.args.passes.now c.in-Some.ensures.parts)
+    All-weaker (IsFresh c.args.counters.now c.args.passes.now) (λ worker. worker.ended ≡ None) (λ worker is. is.running) c.crew_of-crew.result.items
+    (c.crew_of-crew.ensures.fresh c.args.passes.now c.in-Some.ensures.parts)
 
 pub serve_all-requires-clause-none : goal.serve_all-requires-clause-none
 serve_all-requires-clause-none g c κs within =
-    All-weaker (IsFresh c.args.counters.now c.args.passes.now) (λ worker. job_runs worker.job ≡ 0) (λ worker is. is.none) c.crew_of-crew.result.items (c.crew_of-crew.ensures.fresh c.args.passes.now c.in-Some.ensures.parts)
+    All-weaker (IsFresh c.args.counters.now c.args.passes.now) (λ worker. job_runs worker.job ≡ 0) (λ worker is. is.none) c.crew_of-crew.result.items
+    (c.crew_of-crew.ensures.fresh c.args.passes.now c.in-Some.ensures.parts)
 
 pub serve_all-requires-clause-room : goal.serve_all-requires-clause-room
 serve_all-requires-clause-room g c κs within =
@@ -64,7 +75,8 @@ dismiss-requires-clause-room g c κs within =
     let items = c.args.doors.ok.0 in
     let doors = ap length c.crew_of-crew.ensures.doors in
     let crew = length-map c.crew_of-crew.result.items (λ worker. worker.door) in
-    let same = as_long g.O.Door.tells g.O.Door.given g.O.Door.left g.O.Door.ends g.O.Door.faults g.O.Door.back c.crew_of-crew.result.items c.in-Ok.crew.items c.in-Ok.ensures.served in
+    let same = as_long g.O.Door.tells g.O.Door.given g.O.Door.left g.O.Door.ends g.O.Door.faults g.O.Door.back c.crew_of-crew.result.items c.in-Ok.crew.items
+    c.in-Ok.ensures.served in
     let space = c.in-Ok-Ok.ensures'.room in
     omega (arith, counted, items, doors, crew, same, space)
 
@@ -73,8 +85,10 @@ dismiss-requires-clause-crew g c κs within =
     let first = c.args.passes.now in
     let counters = c.args.counters.now in
     All-from_recursion (IsBack counters) c.in-Ok.crew.items
-    (are_back g.O.Door.tells g.O.Door.given g.O.Door.left g.O.Door.ends g.O.Door.faults g.O.Door.back counters first c.crew_of-crew.result.items c.in-Ok.crew.items
-    (recursion_from_All (IsFresh counters first) c.crew_of-crew.result.items (c.crew_of-crew.ensures.fresh first c.in-Some.ensures.parts)) c.in-Ok.ensures.served)
+    (are_back g.O.Door.tells g.O.Door.given g.O.Door.left g.O.Door.ends g.O.Door.faults g.O.Door.back counters first c.crew_of-crew.result.items
+    c.in-Ok.crew.items
+    (recursion_from_All (IsFresh counters first) c.crew_of-crew.result.items (c.crew_of-crew.ensures.fresh first c.in-Some.ensures.parts))
+    c.in-Ok.ensures.served)
 
 pub dismiss-requires-clause-rest : goal.dismiss-requires-clause-rest
 dismiss-requires-clause-rest g c κs within =
@@ -82,7 +96,8 @@ dismiss-requires-clause-rest g c κs within =
     let items = c.args.doors.ok.0 in
     let doors = ap length c.crew_of-crew.ensures.doors in
     let crew = length-map c.crew_of-crew.result.items (λ worker. worker.door) in
-    let same = as_long g.O.Door.tells g.O.Door.given g.O.Door.left g.O.Door.ends g.O.Door.faults g.O.Door.back c.crew_of-crew.result.items c.in-Ok.crew.items c.in-Ok.ensures.served in
+    let same = as_long g.O.Door.tells g.O.Door.given g.O.Door.left g.O.Door.ends g.O.Door.faults g.O.Door.back c.crew_of-crew.result.items c.in-Ok.crew.items
+    c.in-Ok.ensures.served in
     let rest = c.in-Some.ensures.rest in
     let total = rest.2 in
     (rest.0, rest.1, omega (arith, counted, items, doors, crew, same, total))
@@ -93,7 +108,9 @@ dismiss-requires-in-Err-clause-crew g c κs within =
     let counters = c.args.counters.now in
     let same : c.in-Err.crew.items ≡ c.crew_of-crew.result.items = cc (c.in-Err.ensures.refused) in
     All-same (IsBack counters) c.in-Err.crew.items c.crew_of-crew.result.items same
-    (All-weaker (IsFresh counters first) (IsBack counters) (λ worker is. record { counters_are = is.counters_are; shares_are = is.parts.shares_are }) c.crew_of-crew.result.items (c.crew_of-crew.ensures.fresh first c.in-Some.ensures.parts))
+    (All-weaker (IsFresh counters first) (IsBack counters) (λ worker is.
+    record { counters_are = is.counters_are; shares_are = is.parts.shares_are }) c.crew_of-crew.result.items
+    (c.crew_of-crew.ensures.fresh first c.in-Some.ensures.parts))
 
 pub dismiss-requires-in-Err-clause-rest : goal.dismiss-requires-in-Err-clause-rest
 dismiss-requires-in-Err-clause-rest g c κs within =
@@ -108,20 +125,26 @@ dismiss-requires-in-Err-clause-rest g c κs within =
     (rest.0, rest.1, omega (arith, counted, items, doors, crew, as_many, total))
 
 pub returns-in-Ok-clause-on : goal.returns-in-Ok-clause-on
-returns-in-Ok-clause-on g c = on_then (passes_in c.args.passes.now) (passes_in c.split_all.new.passes) (passes_in c.dismiss.new.passes) c.in-Some.ensures.on c.dismiss.ensures.on
+returns-in-Ok-clause-on g c =
+    on_then (passes_in c.args.passes.now) (passes_in c.split_all.new.passes) (passes_in c.dismiss.new.passes) c.in-Some.ensures.on c.dismiss.ensures.on
 
 pub returns-in-Ok-clause-served : goal.returns-in-Ok-clause-served
 returns-in-Ok-clause-served g c =
     let first = c.args.passes.now in
-    served_together g.O.Door.tells g.O.Door.given g.O.Door.left g.O.Door.ends g.O.Door.faults g.O.Door.back c.args.counters.now first c.dismiss.new.passes c.args.limit c.outcome_of-outcome.result c.args.doors.items c.dismiss.result.items
-    c.crew_of-crew.result.items c.in-Ok.crew.items c.crew_of-crew.ensures.doors c.dismiss.ensures.doors (search rules) c.requires.whole c.requires.unended (c.crew_of-crew.ensures.fresh first c.in-Some.ensures.parts) c.dismiss.ensures.all_on c.in-Ok.ensures.reached c.in-Ok.ensures.served c.in-Ok.ensures.limit
+    served_together g.O.Door.tells g.O.Door.given g.O.Door.left g.O.Door.ends g.O.Door.faults g.O.Door.back c.args.counters.now first c.dismiss.new.passes
+    c.args.limit c.outcome_of-outcome.result c.args.doors.items c.dismiss.result.items
+    c.crew_of-crew.result.items c.in-Ok.crew.items c.crew_of-crew.ensures.doors c.dismiss.ensures.doors (search rules) c.requires.whole c.requires.unended
+    (c.crew_of-crew.ensures.fresh first c.in-Some.ensures.parts) c.dismiss.ensures.all_on c.in-Ok.ensures.reached c.in-Ok.ensures.served
+    c.in-Ok.ensures.limit
     (λ weight place.
     let all = c.dismiss.ensures.own weight place in
     let rest = c.split_all.ensures.own weight place in
     omega (arith, all, rest))
 
 pub returns-in-Err-clause-on : goal.returns-in-Err-clause-on
-returns-in-Err-clause-on g c = on_then (passes_in c.args.passes.now) (passes_in c.split_all.new.passes) (passes_in c.dismiss-in-Err.new.passes) c.in-Some.ensures.on c.dismiss-in-Err.ensures.on
+returns-in-Err-clause-on g c =
+    on_then (passes_in c.args.passes.now) (passes_in c.split_all.new.passes)
+    (passes_in c.dismiss-in-Err.new.passes) c.in-Some.ensures.on c.dismiss-in-Err.ensures.on
 
 pub returns-in-Err-clause-served : goal.returns-in-Err-clause-served
 returns-in-Err-clause-served g c =
@@ -140,6 +163,7 @@ returns-in-Err-clause-served g c =
           let rest = c.split_all.ensures.own weight place in
           let none = sum_none (λ worker. own_weight weight place (passes_in (job_passes worker.job))) c.in-Err.crew.items
           (All-same (λ worker. own_weight weight place (passes_in (job_passes worker.job)) ≡ 0) c.in-Err.crew.items c.crew_of-crew.result.items same
-          (All-weaker (IsFresh c.args.counters.now c.args.passes.now) (λ worker. own_weight weight place (passes_in (job_passes worker.job)) ≡ 0) (λ worker is. is.parts.none_own weight place) c.crew_of-crew.result.items fresh)) in
+          (All-weaker (IsFresh c.args.counters.now c.args.passes.now) (λ worker. own_weight weight place (passes_in (job_passes worker.job))
+          ≡ 0) (λ worker is. is.parts.none_own weight place) c.crew_of-crew.result.items fresh)) in
           omega (arith, all, rest, none),
     )

@@ -43,18 +43,23 @@ loop-keeper-preserved g c =
     let many = so_far.counts.0 in
     let same = so_far.counts.1 in
     let more = read_more c.args.keepers.items c.loop-keeper.yielded _ _ c.in-Some.keeper so_far.rest c.in-Some.ensures.steps.0 in
-    let counters = taken_first c.loop-keeper.counters.items c.remove.result c.remove.new.self.items (omega (arith, many, more)) c.remove.ensures.value c.remove.ensures.items in
-    let passes = taken_first c.loop-keeper.passes.items c.remove-in-loop-keeper.result c.remove-in-loop-keeper.new.self.items (omega (arith, many, same, more)) c.remove-in-loop-keeper.ensures.value c.remove-in-loop-keeper.ensures.items in
+    let counters = taken_first c.loop-keeper.counters.items c.remove.result c.remove.new.self.items
+    (omega (arith, many, more)) c.remove.ensures.value c.remove.ensures.items in
+    let passes = taken_first c.loop-keeper.passes.items c.remove-in-loop-keeper.result c.remove-in-loop-keeper.new.self.items
+    (omega (arith, many, same, more)) c.remove-in-loop-keeper.ensures.value c.remove-in-loop-keeper.ensures.items in
     let first = ap length counters in
     let second = ap length passes in
     let read = length-append c.loop-keeper.yielded (c.in-Some.keeper ∷ []) in
-    let place = subst (λ ps. ArePasses ps (c.remove.result ∷ c.remove.new.self.items)) passes (subst (λ cs. ArePasses c.loop-keeper.passes.items cs) counters so_far.place) in
+    let place = subst (λ ps. ArePasses ps (c.remove.result ∷ c.remove.new.self.items)) passes
+    (subst (λ cs. ArePasses c.loop-keeper.passes.items cs) counters so_far.place) in
     let all = subst (AllByRecursion (λ pass. shares pass ≡ 65)) passes so_far.all in
     record {
       rest = read_on c.args.keepers.items c.loop-keeper.yielded _ _ _ so_far.rest c.in-Some.ensures.steps.0;
       keepers = regrown keeper_of c.loop-keeper.seats.items _ _ c.loop-keeper.yielded c.in-Some.keeper c.push_reserved.ensures.items refl so_far.keepers;
-      counters = returned seat_counter c.loop-keeper.seats.items _ _ c.loop-keeper.counters.items c.remove.new.self.items _ c.remove.result c.push_reserved.ensures.items c.from_parts-desk.ensures.counter counters so_far.counters;
-      passes = returned seat_pass c.loop-keeper.seats.items _ _ c.loop-keeper.passes.items c.remove-in-loop-keeper.new.self.items _ c.remove-in-loop-keeper.result c.push_reserved.ensures.items c.from_parts-desk.ensures.pass passes so_far.passes;
+      counters = returned seat_counter c.loop-keeper.seats.items _ _ c.loop-keeper.counters.items c.remove.new.self.items _ c.remove.result
+          c.push_reserved.ensures.items c.from_parts-desk.ensures.counter counters so_far.counters;
+      passes = returned seat_pass c.loop-keeper.seats.items _ _ c.loop-keeper.passes.items c.remove-in-loop-keeper.new.self.items _
+          c.remove-in-loop-keeper.result c.push_reserved.ensures.items c.from_parts-desk.ensures.pass passes so_far.passes;
       counts = (omega (arith, many, first, read), omega (arith, same, first, second));
       place = place.1;
       all = all.1;

@@ -20,7 +20,8 @@ new-counters-requires g c =
     record {
       passes = apart.places;
       desks = subst (AreDesksOf c.args.users.now) (sym kept) c.requires.desks;
-      legal = subst (HaveSeenLegal (map kept_by counters)) (sym apart.passes) (subst (λ fs. HaveSeenLegal fs (map seat_pass c.args.seats.items)) (sym kept) c.requires.legal);
+      legal = subst (HaveSeenLegal (map kept_by counters)) (sym apart.passes)
+          (subst (λ fs. HaveSeenLegal fs (map seat_pass c.args.seats.items)) (sym kept) c.requires.legal);
     }
 
 pub serve_doors-outcome-requires-clause-these : goal.serve_doors-outcome-requires-clause-these
@@ -31,14 +32,17 @@ serve_doors-outcome-requires-clause-opened g c κs within =
     let made = c.new-counters.ensures in
     let apart = c.take_apart-keepers.ensures in
     subst (λ ps. HaveSeenOpenings (map kept_by c.new-counters.result.0.counters.items) ps) (sym (made.passes ∙ apart.passes))
-    (subst (λ cs. HaveSeenOpenings (map kept_by cs) (map seat_pass c.args.seats.items)) (sym (made.counters ∙ apart.counters)) (apart_opened c.args.seats.items c.requires.fresh))
+    (subst (λ cs. HaveSeenOpenings (map kept_by cs) (map seat_pass c.args.seats.items)) (sym (made.counters ∙ apart.counters))
+    (apart_opened c.args.seats.items c.requires.fresh))
 
 pub serve_doors-outcome-requires-clause-shares : goal.serve_doors-outcome-requires-clause-shares
-serve_doors-outcome-requires-clause-shares g c κs within = subst (AllByRecursion (λ pass. shares pass ≡ 65)) (sym c.new-counters.ensures.passes) c.take_apart-keepers.ensures.all
+serve_doors-outcome-requires-clause-shares g c κs within =
+    subst (AllByRecursion (λ pass. shares pass ≡ 65)) (sym c.new-counters.ensures.passes) c.take_apart-keepers.ensures.all
 
 pub serve_doors-outcome-requires-clause-turns : goal.serve_doors-outcome-requires-clause-turns
 serve_doors-outcome-requires-clause-turns g c κs within =
-    subst (AllByRecursion (λ pass. 9367487224930631680 ≤ turns pass)) (sym (c.new-counters.ensures.passes ∙ c.take_apart-keepers.ensures.passes)) (apart_turns c.args.seats.items c.requires.turns)
+    subst (AllByRecursion (λ pass. 9367487224930631680 ≤ turns pass)) (sym (c.new-counters.ensures.passes ∙ c.take_apart-keepers.ensures.passes))
+    (apart_turns c.args.seats.items c.requires.turns)
 
 pub put_together-seats-requires-clause-room : goal.put_together-seats-requires-clause-room
 put_together-seats-requires-clause-room g c =
@@ -60,10 +64,12 @@ put_together-seats-requires-clause-count g c =
 pub put_together-seats-requires-clause-passes : goal.put_together-seats-requires-clause-passes
 put_together-seats-requires-clause-passes g c =
     let parts = c.into_parts-counters.ensures in
-    subst (λ ps. ArePasses ps c.into_parts-counters.result.0.items) (sym parts.passes) (subst (λ cs. ArePasses c.serve_doors-outcome.new.passes.passes.items cs) (sym parts.counters) c.serve_doors-outcome.ensures.these.are)
+    subst (λ ps. ArePasses ps c.into_parts-counters.result.0.items) (sym parts.passes)
+    (subst (λ cs. ArePasses c.serve_doors-outcome.new.passes.passes.items cs) (sym parts.counters) c.serve_doors-outcome.ensures.these.are)
 
 pub put_together-seats-requires-clause-all : goal.put_together-seats-requires-clause-all
-put_together-seats-requires-clause-all g c = subst (AllByRecursion (λ pass. shares pass ≡ 65)) (sym c.into_parts-counters.ensures.passes) c.serve_doors-outcome.ensures.shares
+put_together-seats-requires-clause-all g c =
+    subst (AllByRecursion (λ pass. shares pass ≡ 65)) (sym c.into_parts-counters.ensures.passes) c.serve_doors-outcome.ensures.shares
 
 pub returns-clause-on : goal.returns-clause-on
 returns-clause-on g c =
@@ -71,9 +77,12 @@ returns-clause-on g c =
     let apart = c.take_apart-keepers.ensures in
     let parts = c.into_parts-counters.ensures in
     let again = c.put_together-seats.ensures in
-    let first = subst (λ ps. AllZip (λ earlier later. IsPrefix (seen earlier) (seen later)) ps c.serve_doors-outcome.new.passes.passes.items) (made.passes ∙ apart.passes) c.serve_doors-outcome.ensures.on in
-    seats_on c.args.seats.items c.put_together-seats.result.items (again.keepers ∙ apart.keepers) (again.counters ∙ parts.counters ∙ made.counters ∙ apart.counters)
-    (subst (λ ps. AllZip (λ earlier later. IsPrefix (seen earlier) (seen later)) (map seat_pass c.args.seats.items) ps) (sym (again.passes ∙ parts.passes)) first)
+    let first = subst (λ ps. AllZip (λ earlier later. IsPrefix (seen earlier) (seen later)) ps c.serve_doors-outcome.new.passes.passes.items)
+    (made.passes ∙ apart.passes) c.serve_doors-outcome.ensures.on in
+    seats_on c.args.seats.items c.put_together-seats.result.items (again.keepers ∙ apart.keepers)
+    (again.counters ∙ parts.counters ∙ made.counters ∙ apart.counters)
+    (subst (λ ps. AllZip (λ earlier later. IsPrefix (seen earlier) (seen later)) (map seat_pass c.args.seats.items) ps)
+    (sym (again.passes ∙ parts.passes)) first)
 
 pub returns-clause-served : goal.returns-clause-served
 returns-clause-served g c =
@@ -84,19 +93,32 @@ returns-clause-served g c =
       served.0,
       served.1,
       served_still g.O.Door.tells g.O.Door.given g.O.Door.left g.O.Door.faults g.O.Door.back _ (IsServedAt c.args.users.now c.put_together-seats.result.items)
-          (λ visit marks is. served_at c.args.users.now c.put_together-seats.result.items (map kept_by c.new-counters.result.0.counters.items) c.serve_doors-outcome.new.passes.passes.items
+          (λ visit marks is.
+          served_at c.args.users.now c.put_together-seats.result.items
+          (map kept_by c.new-counters.result.0.counters.items) c.serve_doors-outcome.new.passes.passes.items
           (ap (map kept_by) (sym (again.counters ∙ parts.counters))) (sym (again.passes ∙ parts.passes)) visit marks
-          (λ schema world all. subst (λ us. Served schema world us (members_of (map kept_by c.new-counters.result.0.counters.items) c.serve_doors-outcome.new.passes.passes.items) visit marks) made.users (is schema world all)))
+          (λ schema world all.
+          subst (λ us. Served schema world us
+          (members_of (map kept_by c.new-counters.result.0.counters.items) c.serve_doors-outcome.new.passes.passes.items) visit marks) made.users
+          (is schema world all)))
           served.0 served.1 c.args.doors.items c.serve_doors-outcome.result.1.items served.2,
       served.3,
       served.4,
       λ t. subst (λ ps. OwnMore (map seat_pass c.args.seats.items) ps (served.1 t)) (sym (again.passes ∙ parts.passes))
-          (subst (λ ps. OwnMore ps c.serve_doors-outcome.new.passes.passes.items (served.1 t)) (made.passes ∙ c.take_apart-keepers.ensures.passes) (served.5 t)),
+          (subst (λ ps. OwnMore ps c.serve_doors-outcome.new.passes.passes.items (served.1 t)) (made.passes ∙ c.take_apart-keepers.ensures.passes)
+          (served.5 t)),
     )
 
 pub returns-in_default-clause-on : goal.returns-in_default-clause-on
 returns-in_default-clause-on g c = seats_same c.args.seats.items
 
 pub returns-in_default-clause-served : goal.returns-in_default-clause-served
-returns-in_default-clause-served g c =
-    (0, λ t. [], none_served g.O.Door.tells g.O.Door.given g.O.Door.left g.O.Door.faults g.O.Door.back (IsServedAt c.args.users.now c.args.seats.items) c.args.doors.items, refl, omega arith, λ t weight place. omega arith)
+returns-in_default-clause-served g c = (
+  0,
+  λ t. [],
+  none_served g.O.Door.tells g.O.Door.given g.O.Door.left g.O.Door.faults g.O.Door.back
+      (IsServedAt c.args.users.now c.args.seats.items) c.args.doors.items,
+  refl,
+  omega arith,
+  λ t weight place. omega arith,
+)

@@ -26,12 +26,21 @@ loop-seat-preserved g c =
     record {
       rest = read_on c.args.seats.items c.loop-seat.yielded _ _ _ so_far.rest c.in-Some.ensures.steps.0;
       keepers = grown keeper_of _ _ c.loop-seat.yielded c.in-Some.seat c.push_reserved-in-loop-seat-2.ensures.items so_far.keepers;
-      counters = grown seat_counter _ _ c.loop-seat.yielded c.in-Some.seat (c.push_reserved.ensures.items ∙ ap (λ x. c.loop-seat.counters.items ++ x ∷ []) parts.counter) so_far.counters;
-      passes = grown seat_pass _ _ c.loop-seat.yielded c.in-Some.seat (c.push_reserved-in-loop-seat.ensures.items ∙ ap (λ x. c.loop-seat.passes.items ++ x ∷ []) parts.pass) so_far.passes;
-      places = subst (λ ps. ArePasses ps c.push_reserved.new.self.items) (sym c.push_reserved-in-loop-seat.ensures.items) (subst (ArePasses (c.loop-seat.passes.items ++ c.into_parts-counter.result.1 ∷ [])) (sym c.push_reserved.ensures.items)
-          (passes_more c.loop-seat.passes.items c.loop-seat.counters.items c.into_parts-counter.result.1 c.into_parts-counter.result.0 so_far.places parts.place));
-      all = subst (AllByRecursion (λ pass. shares pass ≡ 65)) (sym c.push_reserved-in-loop-seat.ensures.items) (shares_more c.loop-seat.passes.items c.into_parts-counter.result.1 so_far.all parts.all);
-      rooms = (c.push_reserved-in-loop-seat-2.ensures.capacity ∙ so_far.rooms.0, c.push_reserved.ensures.capacity ∙ so_far.rooms.1, c.push_reserved-in-loop-seat.ensures.capacity ∙ so_far.rooms.2);
+      counters = grown seat_counter _ _ c.loop-seat.yielded c.in-Some.seat (c.push_reserved.ensures.items
+          ∙ ap (λ x. c.loop-seat.counters.items ++ x ∷ []) parts.counter) so_far.counters;
+      passes = grown seat_pass _ _ c.loop-seat.yielded c.in-Some.seat (c.push_reserved-in-loop-seat.ensures.items
+          ∙ ap (λ x. c.loop-seat.passes.items ++ x ∷ []) parts.pass) so_far.passes;
+      places = subst (λ ps. ArePasses ps c.push_reserved.new.self.items) (sym c.push_reserved-in-loop-seat.ensures.items)
+          (subst (ArePasses (c.loop-seat.passes.items ++ c.into_parts-counter.result.1 ∷ [])) (sym c.push_reserved.ensures.items)
+          (passes_more c.loop-seat.passes.items c.loop-seat.counters.items c.into_parts-counter.result.1 c.into_parts-counter.result.0 so_far.places
+          parts.place));
+      all = subst (AllByRecursion (λ pass. shares pass ≡ 65)) (sym c.push_reserved-in-loop-seat.ensures.items)
+          (shares_more c.loop-seat.passes.items c.into_parts-counter.result.1 so_far.all parts.all);
+      rooms = (
+        c.push_reserved-in-loop-seat-2.ensures.capacity ∙ so_far.rooms.0,
+        c.push_reserved.ensures.capacity ∙ so_far.rooms.1,
+        c.push_reserved-in-loop-seat.ensures.capacity ∙ so_far.rooms.2,
+      );
     }
 
 pub push_reserved-requires : goal.push_reserved-requires
@@ -40,7 +49,8 @@ push_reserved-requires g c =
     let space = so_far.rooms.1 in
     let enough = c.requires.room.1 in
     let counted = c.loop-seat.counters.ok.0 in
-    room_left seat_counter c.loop-seat.counters.items c.args.seats.items c.loop-seat.yielded _ _ c.in-Some.seat _ _ so_far.counters so_far.rest c.in-Some.ensures.steps.0 counted (omega (arith, space, enough))
+    room_left seat_counter c.loop-seat.counters.items c.args.seats.items c.loop-seat.yielded _ _ c.in-Some.seat _ _ so_far.counters so_far.rest
+    c.in-Some.ensures.steps.0 counted (omega (arith, space, enough))
 
 pub push_reserved-requires-in-loop-seat : goal.push_reserved-requires-in-loop-seat
 push_reserved-requires-in-loop-seat g c =
@@ -48,7 +58,8 @@ push_reserved-requires-in-loop-seat g c =
     let space = so_far.rooms.2 in
     let enough = c.requires.room.2 in
     let counted = c.loop-seat.passes.ok.0 in
-    room_left seat_pass c.loop-seat.passes.items c.args.seats.items c.loop-seat.yielded _ _ c.in-Some.seat _ _ so_far.passes so_far.rest c.in-Some.ensures.steps.0 counted (omega (arith, space, enough))
+    room_left seat_pass c.loop-seat.passes.items c.args.seats.items c.loop-seat.yielded _ _ c.in-Some.seat _ _ so_far.passes so_far.rest
+    c.in-Some.ensures.steps.0 counted (omega (arith, space, enough))
 
 pub push_reserved-requires-in-loop-seat-2 : goal.push_reserved-requires-in-loop-seat-2
 push_reserved-requires-in-loop-seat-2 g c =
@@ -56,13 +67,19 @@ push_reserved-requires-in-loop-seat-2 g c =
     let space = so_far.rooms.0 in
     let enough = c.requires.room.0 in
     let counted = c.loop-seat.keepers.ok.0 in
-    room_left keeper_of c.loop-seat.keepers.items c.args.seats.items c.loop-seat.yielded _ _ c.in-Some.seat _ _ so_far.keepers so_far.rest c.in-Some.ensures.steps.0 counted (omega (arith, space, enough))
+    room_left keeper_of c.loop-seat.keepers.items c.args.seats.items c.loop-seat.yielded _ _ c.in-Some.seat _ _ so_far.keepers so_far.rest
+    c.in-Some.ensures.steps.0 counted (omega (arith, space, enough))
 
 pub returns-clause-keepers : goal.returns-clause-keepers
-returns-clause-keepers g c = grown_all keeper_of c.loop-seat.keepers.items c.args.seats.items c.loop-seat.yielded _ c.loop-seat.invariant.keepers c.loop-seat.invariant.rest (search rules)
+returns-clause-keepers g c =
+    grown_all keeper_of c.loop-seat.keepers.items c.args.seats.items c.loop-seat.yielded _ c.loop-seat.invariant.keepers c.loop-seat.invariant.rest
+    (search rules)
 
 pub returns-clause-counters : goal.returns-clause-counters
-returns-clause-counters g c = grown_all seat_counter c.loop-seat.counters.items c.args.seats.items c.loop-seat.yielded _ c.loop-seat.invariant.counters c.loop-seat.invariant.rest (search rules)
+returns-clause-counters g c =
+    grown_all seat_counter c.loop-seat.counters.items c.args.seats.items c.loop-seat.yielded _ c.loop-seat.invariant.counters c.loop-seat.invariant.rest
+    (search rules)
 
 pub returns-clause-passes : goal.returns-clause-passes
-returns-clause-passes g c = grown_all seat_pass c.loop-seat.passes.items c.args.seats.items c.loop-seat.yielded _ c.loop-seat.invariant.passes c.loop-seat.invariant.rest (search rules)
+returns-clause-passes g c =
+    grown_all seat_pass c.loop-seat.passes.items c.args.seats.items c.loop-seat.yielded _ c.loop-seat.invariant.passes c.loop-seat.invariant.rest (search rules)

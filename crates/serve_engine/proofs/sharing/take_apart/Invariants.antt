@@ -15,5 +15,6 @@ invariant-loop-seat g l = record {
   passes : l.passes.items ≡ map seat_pass l.yielded;
   places : ArePasses l.passes.items l.counters.items;
   all : AllByRecursion (λ pass. shares pass ≡ 65) l.passes.items;
-  rooms : (vec_capacity l.keepers ≡ vec_capacity l.initial.keepers) × (vec_capacity l.counters ≡ vec_capacity l.initial.counters) × (vec_capacity l.passes ≡ vec_capacity l.initial.passes);
+  rooms : (vec_capacity l.keepers ≡ vec_capacity l.initial.keepers) × (vec_capacity l.counters ≡ vec_capacity l.initial.counters)
+      × (vec_capacity l.passes ≡ vec_capacity l.initial.passes);
 }

@@ -42,9 +42,11 @@ returns-clause-passes g c =
     let desk = c.index-counter.result.now in
     let low : c.args.place < length counters = omega (arith, c.requires.place, length-map counters kept_by) in
     record {
-      are = passes_set passes counters c.args.place c.ask.new.pass desk c.requires.passes.are (subst (λ d. IsPassOf c.ask.new.pass d) c.index-counter.ensures c.ask.ensures.pass);
+      are = passes_set passes counters c.args.place c.ask.new.pass desk c.requires.passes.are
+          (subst (λ d. IsPassOf c.ask.new.pass d) c.index-counter.ensures c.ask.ensures.pass);
       legal = legal_set counters passes c.args.place c.ask.new.pass desk low c.requires.passes.legal
-          (subst (λ d. IsLegal (kept_by d).schema (kept_by d).world (kept_by d).user (history_of (seen c.ask.new.pass))) c.index-counter.ensures c.ask.ensures.legal);
+          (subst (λ d. IsLegal (kept_by d).schema (kept_by d).world (kept_by d).user (history_of (seen c.ask.new.pass))) c.index-counter.ensures
+          c.ask.ensures.legal);
     }
 
 pub returns-clause-asked : goal.returns-clause-asked
@@ -54,7 +56,10 @@ returns-clause-asked g c =
     let place = c.args.place in
     let low : place < length counters = omega (arith, c.requires.place, length-map counters kept_by) in
     let asked = c.ask.ensures in
-    asked_at passes counters place c.index_mut-pass.result.now c.ask.new.pass c.index-counter.result.now ((c.args.text.now, reply_of c.ask.result) ∷ []) low c.requires.passes.are
-    (subst (λ d. Asks (kept_by d) (slice_index_or passes place c.index_mut-pass.result.now) c.ask.new.pass ((c.args.text.now, reply_of c.ask.result) ∷ [])) c.index-counter.ensures
+    asked_at passes counters place c.index_mut-pass.result.now c.ask.new.pass c.index-counter.result.now
+    ((c.args.text.now, reply_of c.ask.result) ∷ []) low c.requires.passes.are
+    (subst (λ d. Asks (kept_by d) (slice_index_or passes place c.index_mut-pass.result.now) c.ask.new.pass ((c.args.text.now, reply_of c.ask.result) ∷ []))
+    c.index-counter.ensures
     (subst (λ p. Asks (kept_by c.index-counter.result.now) p c.ask.new.pass ((c.args.text.now, reply_of c.ask.result) ∷ [])) c.index_mut-pass.ensures.value
-    (asks_once (kept_by c.index-counter.result.now) c.index_mut-pass.result.now c.ask.new.pass c.args.text.now c.ask.result asked.asked asked.used.0 asked.used.1)))
+    (asks_once (kept_by c.index-counter.result.now) c.index_mut-pass.result.now c.ask.new.pass c.args.text.now c.ask.result asked.asked asked.used.0
+    asked.used.1)))

@@ -17,7 +17,9 @@ loop-init g c =
     let counters = c.args.counters.now in
     let left = g.S.Source.left c.args.source.now in
     record {
-      so_far = nothing_yet g.S.Source.tells g.K.Sink.tells (users_of counters) (fixeds_of counters) left (passes_in c.args.passes.now) (g.K.Sink.written c.args.sink.now) (sym (owners_are counters.counters.items) ∙ counters.owned) (unread c.new-buffer.result left) (ap (λ a. a ++ left) c.new-buffer.ensures.ahead);
+      so_far = nothing_yet g.S.Source.tells g.K.Sink.tells (users_of counters) (fixeds_of counters) left (passes_in c.args.passes.now)
+          (g.K.Sink.written c.args.sink.now) (sym (owners_are counters.counters.items) ∙ counters.owned) (unread c.new-buffer.result left)
+          (ap (λ a. a ++ left) c.new-buffer.ensures.ahead);
       passes = c.requires.passes;
       place = tt;
       held = refl;
@@ -27,12 +29,14 @@ loop-init g c =
     }
 
 pub returns-in-End-clause-session : goal.returns-in-End-clause-session
-returns-in-End-clause-session g c = ends_input _ _ _ _ _ _ _ _ _ _ _ _ c.loop.invariant.so_far (omega (arith, c.loop-test.true)) (λ s. (c.in-End.ensures.reads s).0)
+returns-in-End-clause-session g c =
+    ends_input _ _ _ _ _ _ _ _ _ _ _ _ c.loop.invariant.so_far (omega (arith, c.loop-test.true)) (λ s. (c.in-End.ensures.reads s).0)
 
 pub returns-in-TooLong-clause-session : goal.returns-in-TooLong-clause-session
 returns-in-TooLong-clause-session g c =
     let long = c.end_too_long.ensures in
-    ends_long _ _ _ _ _ _ _ _ _ _ _ _ c.loop.invariant.so_far (g.K.Sink.written c.end_too_long.new.sink) c.loop.invariant.place (passes_kept (passes_in c.args.passes.now) c.args.counters.now.counters.items c.requires.passes.are) (omega (arith, c.loop-test.true))
+    ends_long _ _ _ _ _ _ _ _ _ _ _ _ c.loop.invariant.so_far (g.K.Sink.written c.end_too_long.new.sink) c.loop.invariant.place
+    (passes_kept (passes_in c.args.passes.now) c.args.counters.now.counters.items c.requires.passes.are) (omega (arith, c.loop-test.true))
     (λ s. (c.in-TooLong.ensures.reads s).0) c.end_too_long.result long.ends long.whole long.part
 
 pub returns-in-TooLong-clause-write_cause : goal.returns-in-TooLong-clause-write_cause
@@ -54,9 +58,14 @@ pub returns-in-Err-clause-session : goal.returns-in-Err-clause-session
 returns-in-Err-clause-session g c =
     let counters = c.args.counters.now in
     let same = c.read_request-request.ensures ∙ ap (λ l. request_of l) c.line.ensures.line in
-    ends_cut _ _ _ _ _ _ _ _ _ _ _ _ c.loop.invariant.so_far (unread c.read_line.new.buffer (g.S.Source.left c.read_line.new.source)) c.read_line.new.buffer.line c.reply_to-next.result.0 (text_of c.reply_to-next.result.1) (passes_in c.reply_to-next.new.passes)
-    (g.K.Sink.written c.write_reply.new.sink) (desks_counted (users_of counters) (fixeds_of counters) c.loop.invariant.so_far.own) (passes_kept (passes_in c.args.passes.now) counters.counters.items c.requires.passes.are) (omega (arith, c.loop-test.true)) (λ s. c.in-Line.ensures.reads s)
-    (subst (λ r. Replies (users_of counters) (fixeds_of counters) c.loop.who r c.reply_to-next.result.0 (text_of c.reply_to-next.result.1) (passes_in c.loop.passes) (passes_in c.reply_to-next.new.passes)) same c.reply_to-next.ensures.replies) c.in-Err.ensures.part
+    ends_cut _ _ _ _ _ _ _ _ _ _ _ _ c.loop.invariant.so_far
+    (unread c.read_line.new.buffer (g.S.Source.left c.read_line.new.source)) c.read_line.new.buffer.line c.reply_to-next.result.0
+    (text_of c.reply_to-next.result.1) (passes_in c.reply_to-next.new.passes)
+    (g.K.Sink.written c.write_reply.new.sink) (desks_counted (users_of counters) (fixeds_of counters) c.loop.invariant.so_far.own)
+    (passes_kept (passes_in c.args.passes.now) counters.counters.items c.requires.passes.are) (omega (arith, c.loop-test.true))
+    (λ s. c.in-Line.ensures.reads s)
+    (subst (λ r. Replies (users_of counters) (fixeds_of counters) c.loop.who r c.reply_to-next.result.0 (text_of c.reply_to-next.result.1)
+    (passes_in c.loop.passes) (passes_in c.reply_to-next.new.passes)) same c.reply_to-next.ensures.replies) c.in-Err.ensures.part
 
 pub returns-in-Err-clause-write_cause : goal.returns-in-Err-clause-write_cause
 returns-in-Err-clause-write_cause g c = λ is. rose_since _ _ _ c.loop.invariant.sink_later (c.in-Err.ensures.cause.failed refl)
@@ -65,9 +74,14 @@ pub returns-then-is_quit-clause-session : goal.returns-then-is_quit-clause-sessi
 returns-then-is_quit-clause-session g c =
     let counters = c.args.counters.now in
     let same = c.read_request-request.ensures ∙ ap (λ l. request_of l) c.line.ensures.line in
-    ends_quit _ _ _ _ _ _ _ _ _ _ _ _ c.loop.invariant.so_far (unread c.read_line.new.buffer (g.S.Source.left c.read_line.new.source)) c.read_line.new.buffer.line c.reply_to-next.result.0 (text_of c.reply_to-next.result.1) (passes_in c.reply_to-next.new.passes)
-    (g.K.Sink.written c.write_reply.new.sink) (desks_counted (users_of counters) (fixeds_of counters) c.loop.invariant.so_far.own) (passes_kept (passes_in c.args.passes.now) counters.counters.items c.requires.passes.are) (omega (arith, c.loop-test.true)) (λ s. c.in-Line.ensures.reads s)
-    (subst (λ r. Replies (users_of counters) (fixeds_of counters) c.loop.who r c.reply_to-next.result.0 (text_of c.reply_to-next.result.1) (passes_in c.loop.passes) (passes_in c.reply_to-next.new.passes)) same c.reply_to-next.ensures.replies) c.in-Ok.ensures.all
+    ends_quit _ _ _ _ _ _ _ _ _ _ _ _ c.loop.invariant.so_far
+    (unread c.read_line.new.buffer (g.S.Source.left c.read_line.new.source)) c.read_line.new.buffer.line c.reply_to-next.result.0
+    (text_of c.reply_to-next.result.1) (passes_in c.reply_to-next.new.passes)
+    (g.K.Sink.written c.write_reply.new.sink) (desks_counted (users_of counters) (fixeds_of counters) c.loop.invariant.so_far.own)
+    (passes_kept (passes_in c.args.passes.now) counters.counters.items c.requires.passes.are) (omega (arith, c.loop-test.true))
+    (λ s. c.in-Line.ensures.reads s)
+    (subst (λ r. Replies (users_of counters) (fixeds_of counters) c.loop.who r c.reply_to-next.result.0 (text_of c.reply_to-next.result.1)
+    (passes_in c.loop.passes) (passes_in c.reply_to-next.new.passes)) same c.reply_to-next.ensures.replies) c.in-Ok.ensures.all
     (sym (ap is_quit same) ∙ sym c.is_quit.ensures ∙ c.if-is_quit.true)
 
 pub loop-preserved : goal.loop-preserved
@@ -76,9 +90,14 @@ loop-preserved g c =
     let same = c.read_request-request.ensures ∙ ap (λ l. request_of l) c.line.ensures.line in
     let before = c.loop.invariant in
     record {
-      so_far = goes_on_more _ _ _ _ _ _ _ _ _ _ _ _ before.so_far (unread c.read_line.new.buffer (g.S.Source.left c.read_line.new.source)) c.read_line.new.buffer.line c.reply_to-next.result.0 (text_of c.reply_to-next.result.1) (passes_in c.reply_to-next.new.passes)
-          (g.K.Sink.written c.write_reply.new.sink) (desks_counted (users_of counters) (fixeds_of counters) c.loop.invariant.so_far.own) (passes_kept (passes_in c.args.passes.now) counters.counters.items c.requires.passes.are) (omega (arith, c.loop-test.true)) (λ s. c.in-Line.ensures.reads s)
-          (subst (λ r. Replies (users_of counters) (fixeds_of counters) c.loop.who r c.reply_to-next.result.0 (text_of c.reply_to-next.result.1) (passes_in c.loop.passes) (passes_in c.reply_to-next.new.passes)) same c.reply_to-next.ensures.replies) c.in-Ok.ensures.all
+      so_far = goes_on_more _ _ _ _ _ _ _ _ _ _ _ _ before.so_far
+          (unread c.read_line.new.buffer (g.S.Source.left c.read_line.new.source)) c.read_line.new.buffer.line c.reply_to-next.result.0
+          (text_of c.reply_to-next.result.1) (passes_in c.reply_to-next.new.passes)
+          (g.K.Sink.written c.write_reply.new.sink) (desks_counted (users_of counters) (fixeds_of counters) c.loop.invariant.so_far.own)
+          (passes_kept (passes_in c.args.passes.now) counters.counters.items c.requires.passes.are) (omega (arith, c.loop-test.true))
+          (λ s. c.in-Line.ensures.reads s)
+          (subst (λ r. Replies (users_of counters) (fixeds_of counters) c.loop.who r c.reply_to-next.result.0 (text_of c.reply_to-next.result.1)
+          (passes_in c.loop.passes) (passes_in c.reply_to-next.new.passes)) same c.reply_to-next.ensures.replies) c.in-Ok.ensures.all
           (sym (ap is_quit same) ∙ sym c.is_quit.ensures ∙ c.if-is_quit.false);
       passes = c.reply_to-next.ensures.passes;
       place = c.reply_to-next.ensures.place;
@@ -89,7 +108,8 @@ loop-preserved g c =
     }
 
 pub returns-clause-session : goal.returns-clause-session
-returns-clause-session g c = ends_many _ _ _ _ _ _ _ _ _ _ _ _ c.loop.invariant.so_far (omega (arith, c.loop-test.false)) (omega (arith, c.loop.auto.counter-end))
+returns-clause-session g c =
+    ends_many _ _ _ _ _ _ _ _ _ _ _ _ c.loop.invariant.so_far (omega (arith, c.loop-test.false)) (omega (arith, c.loop.auto.counter-end))
 
 pub returns-in-End-clause-hides : goal.returns-in-End-clause-hides
 returns-in-End-clause-hides g c = all_hide c.law_hides.ensures (fixeds_of c.args.counters.now) (passes_in c.loop.passes) c.loop.invariant.passes.legal
@@ -101,10 +121,12 @@ pub returns-in-ReadFault-clause-hides : goal.returns-in-ReadFault-clause-hides
 returns-in-ReadFault-clause-hides g c = all_hide c.law_hides.ensures (fixeds_of c.args.counters.now) (passes_in c.loop.passes) c.loop.invariant.passes.legal
 
 pub returns-in-Err-clause-hides : goal.returns-in-Err-clause-hides
-returns-in-Err-clause-hides g c = all_hide c.law_hides.ensures (fixeds_of c.args.counters.now) (passes_in c.reply_to-next.new.passes) c.reply_to-next.ensures.passes.legal
+returns-in-Err-clause-hides g c =
+    all_hide c.law_hides.ensures (fixeds_of c.args.counters.now) (passes_in c.reply_to-next.new.passes) c.reply_to-next.ensures.passes.legal
 
 pub returns-then-is_quit-clause-hides : goal.returns-then-is_quit-clause-hides
-returns-then-is_quit-clause-hides g c = all_hide c.law_hides.ensures (fixeds_of c.args.counters.now) (passes_in c.reply_to-next.new.passes) c.reply_to-next.ensures.passes.legal
+returns-then-is_quit-clause-hides g c =
+    all_hide c.law_hides.ensures (fixeds_of c.args.counters.now) (passes_in c.reply_to-next.new.passes) c.reply_to-next.ensures.passes.legal
 
 pub returns-clause-hides : goal.returns-clause-hides
 returns-clause-hides g c = all_hide c.law_hides.ensures (fixeds_of c.args.counters.now) (passes_in c.loop.passes) c.loop.invariant.passes.legal

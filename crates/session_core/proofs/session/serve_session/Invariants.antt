@@ -8,7 +8,8 @@ use Rattle.session_core.proofs.session.serve_session.Given as goal
 -- as many lines as were counted were answered
 abbrev pub invariant-loop : goal.invariant-loop
 invariant-loop g l = record {
-  so_far : SoFar g.S.Source.tells g.K.Sink.tells (users_of l.counters) (fixeds_of l.counters) (g.S.Source.left l.fn.source) (passes_in l.fn.passes) (g.K.Sink.written l.fn.sink)
+  so_far : SoFar g.S.Source.tells g.K.Sink.tells (users_of l.counters) (fixeds_of l.counters) (g.S.Source.left l.fn.source) (passes_in l.fn.passes)
+      (g.K.Sink.written l.fn.sink)
       (unread l.buffer (g.S.Source.left l.source)) (passes_in l.passes) (g.K.Sink.written l.sink) l.who l.counter;
   passes : ArePassesOf l.passes l.counters;
   place : IfSome l.who (λ place. place < length (fixeds_of l.counters));

@@ -8,7 +8,8 @@ holds_for_each-loop-index-preserved t c =
 
 pub holds_for_each-returns-then-not-holds_with : goal.holds_for_each-returns-then-not-holds_with
 holds_for_each-returns-then-not-holds_with t c =
-    sym (one_fails _ c.args.domain _ c.loop-index.index (subst (λ n. c.loop-index.index < n) c.domain_size-index-end.ensures.size c.loop-index-test.true) (sym c.holds_with.ensures ∙ c.if-not-holds_with.true))
+    sym (one_fails _ c.args.domain _ c.loop-index.index (subst (λ n. c.loop-index.index < n) c.domain_size-index-end.ensures.size c.loop-index-test.true)
+    (sym c.holds_with.ensures ∙ c.if-not-holds_with.true))
 
 pub holds_for_some-loop-index-preserved : goal.holds_for_some-loop-index-preserved
 holds_for_some-loop-index-preserved t c =
@@ -16,4 +17,5 @@ holds_for_some-loop-index-preserved t c =
 
 pub holds_for_some-returns-then-holds_with : goal.holds_for_some-returns-then-holds_with
 holds_for_some-returns-then-holds_with t c =
-    sym (one_passes _ c.args.domain _ c.loop-index.index (subst (λ n. c.loop-index.index < n) c.domain_size-index-end.ensures.size c.loop-index-test.true) (sym c.holds_with.ensures ∙ c.if-holds_with.true))
+    sym (one_passes _ c.args.domain _ c.loop-index.index (subst (λ n. c.loop-index.index < n) c.domain_size-index-end.ensures.size c.loop-index-test.true)
+    (sym c.holds_with.ensures ∙ c.if-holds_with.true))

@@ -18,14 +18,27 @@ countermodel-requires-clause-unknown c =
     let user = profile_of c.args.user.now in
     let entries = map answered_query_of c.args.entries.now in
     (λ k. entails (c.in_ok-view.ensures.schema k) (c.in_ok-view.ensures.log k) (c.in_ok-goal.ensures k, true))
-    ∙ unknown c.args.schema.now user entries c.args.secret (omega (arith, length-map c.args.user.now.secrets.items formula_of, c.args.user.now.secrets.ok.0, c.requires.secret)) c.law_admissible.ensures c.law_alike.ensures.kept c.known.ensures c.requires.limits.sentences c.requires.legal
+    ∙ unknown c.args.schema.now user entries c.args.secret
+    (omega (
+      arith,
+      length-map c.args.user.now.secrets.items formula_of,
+      c.args.user.now.secrets.ok.0,
+      c.requires.secret,
+    )) c.law_admissible.ensures c.law_alike.ensures.kept c.known.ensures c.requires.limits.sentences c.requires.legal
 
 pub returns-clause-hides : goal.returns-clause-hides
 returns-clause-hides c =
     let user = profile_of c.args.user.now in
     let entries = map answered_query_of c.args.entries.now in
-    of_found (IsCountermodel (schema_of c.in_ok-view.view) (log_of c.in_ok-view.view) (formula_of c.in_ok-goal.goal, true)) (HidesSecret c.args.schema.now user entries c.args.secret)
-    (λ other is. hidden c.args.schema.now user entries c.args.secret (omega (arith, length-map c.args.user.now.secrets.items formula_of, c.args.user.now.secrets.ok.0, c.requires.secret)) other c.law_alike.ensures.disjunctions c.law_alike.ensures.alike c.law_alike.ensures.replies c.requires.legal
+    of_found (IsCountermodel (schema_of c.in_ok-view.view) (log_of c.in_ok-view.view) (formula_of c.in_ok-goal.goal, true))
+    (HidesSecret c.args.schema.now user entries c.args.secret)
+    (λ other is. hidden c.args.schema.now user entries c.args.secret
+    (omega (
+      arith,
+      length-map c.args.user.now.secrets.items formula_of,
+      c.args.user.now.secrets.ok.0,
+      c.requires.secret,
+    )) other c.law_alike.ensures.disjunctions c.law_alike.ensures.alike c.law_alike.ensures.replies c.requires.legal
     (subst (λ schema. IsCountermodel schema (log user entries) (guard_at user c.args.secret, true) other) c.in_ok-view.ensures.schema
     (subst (λ told. IsCountermodel (schema_of c.in_ok-view.view) told (guard_at user c.args.secret, true) other) c.in_ok-view.ensures.log
     (subst (λ goal. IsCountermodel (schema_of c.in_ok-view.view) (log_of c.in_ok-view.view) (goal, true) other) c.in_ok-goal.ensures is))))

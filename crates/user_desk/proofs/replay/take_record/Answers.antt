@@ -15,7 +15,9 @@ overflow_cast-number c =
 pub returns-in_default-clause-taken : goal.returns-in_default-clause-taken
 returns-in_default-clause-taken c =
     let count = count_of c.entries.result.now (kept_history c.args.log.now) c.entries.ensures in
-    let why = no_text (kept_schema c.args.log.now) c.args.next.now.text.items c.deref.result.now c.law_sentences_are_ascii.ensures c.deref.ensures.value c.in_default.ensures.cases.0 in
+    let why = no_text
+    (kept_schema c.args.log.now) c.args.next.now.text.items c.deref.result.now c.law_sentences_are_ascii.ensures c.deref.ensures.value
+    c.in_default.ensures.cases.0 in
     (count, why.0, why.1)
 
 pub returns-in-Code-clause-taken : goal.returns-in-Code-clause-taken
@@ -28,4 +30,5 @@ returns-in-Code-clause-taken c =
     let count = count_of c.entries.result.now history c.entries.ensures in
     let refused = code_refuses schema world user history kind c.in-Ok.text.now c.in-Code.code _ count (rw c.in-Code.is at c.in_ok-code.ensures.weighed) in
     subst (λ why. RefusesRecord schema world user history (kind, c.args.next.now.text.items) why) (sym c.refused_by.ensures)
-    (subst (λ t. RefusesRecord schema world user history (kind, t) (refused_by c.in-Code.code (length c.entries.result.now))) (c.in-Ok.ensures.cases.0 ∙ c.deref.ensures.value) refused)
+    (subst (λ t. RefusesRecord schema world user history (kind, t) (refused_by c.in-Code.code (length c.entries.result.now)))
+    (c.in-Ok.ensures.cases.0 ∙ c.deref.ensures.value) refused)

@@ -26,8 +26,11 @@ pub returns : goal.returns
 returns g c =
     let lent : c.deref_mut.result.now ≡ c.seat_all-all.result.items = search rules in
     let whole = lent_whole c.seat_all-all.result.len c.work_all.new.all c.seat_all-all.result.items (search rules) (search rules) in
-    let t = together g.O.Door.tells g.J.Job.tells g.O.Door.given g.O.Door.left g.O.Door.ends g.O.Door.faults g.O.Door.back g.J.Job.room g.J.Job.ran g.J.Job.numbers g.J.Job.stands g.J.Job.keeps (g.met.J.Job g.world.𝓛 g.world.𝓜 g.world.𝓡 ((λ s x. x), (λ x. x), (λ x. x), λ x. x)).stands_none c.args.limit
+    let t = together g.O.Door.tells g.J.Job.tells g.O.Door.given g.O.Door.left g.O.Door.ends g.O.Door.faults g.O.Door.back g.J.Job.room g.J.Job.ran
+    g.J.Job.numbers g.J.Job.stands g.J.Job.keeps
+    (g.met.J.Job g.world.𝓛 g.world.𝓜 g.world.𝓡 ((λ s x. x), (λ x. x), (λ x. x), λ x. x)).stands_none c.args.limit
     c.args.crew.items c.join_all-crew.result.items c.deref_mut.result.now c.work_all.new.all _ _
-    (ap (map (λ (s : Seated g.row.J.Denot g.row.O.Denot). s.worker)) lent ∙ c.seat_all-all.ensures.workers) c.requires.none c.work_all.ensures.count c.work_all.ensures.worked
+    (ap (map (λ (s : Seated g.row.J.Denot g.row.O.Denot). s.worker)) lent
+    ∙ c.seat_all-all.ensures.workers) c.requires.none c.work_all.ensures.count c.work_all.ensures.worked
     whole c.join_all-crew.ensures.workers c.join_all-crew.ensures.drawn c.end.ensures in
     record { refused = tt; served = t.served; limit = t.at_most; reached = t.at_limit; numbers = t.differ }

@@ -13,6 +13,7 @@ invariant-loop g l = record {
   count : length (drawn l.seated.drawer) ≡ l.counter;
   below : sum_by (is_below l.limit) (drawn l.seated.drawer) ≡ l.counter;
   few : l.counter ≤ l.limit;
-  has_run : HasRun g.O.Door.tells g.J.Job.tells g.O.Door.given g.O.Door.left g.O.Door.ends g.O.Door.faults g.O.Door.back g.J.Job.room g.J.Job.ran g.J.Job.numbers g.J.Job.stands g.J.Job.keeps
+  has_run : HasRun g.O.Door.tells g.J.Job.tells g.O.Door.given g.O.Door.left g.O.Door.ends g.O.Door.faults g.O.Door.back g.J.Job.room g.J.Job.ran
+      g.J.Job.numbers g.J.Job.stands g.J.Job.keeps
       (drawn l.seated.drawer) l.initial.seated.worker l.seated.worker;
 }

@@ -18,7 +18,8 @@ pub returns-clause-read : goal.returns-clause-read
 returns-clause-read c =
     let same : c.into_bytes-2.result.items ≡ facts_text (statements c.args.seed) = search rules in
     let text : c.into_bytes-2.result.items ≡ string_bytes c.in_ok-facts.facts = search rules in
-    file_reads c.law_canonical_forms_read.ensures c.args.seed c.into_bytes-2.result.items same (subst (λ b. IsUtf8 b) (sym text) (IsUtf8-string_bytes c.in_ok-facts.facts))
+    file_reads c.law_canonical_forms_read.ensures c.args.seed c.into_bytes-2.result.items same
+    (subst (λ b. IsUtf8 b) (sym text) (IsUtf8-string_bytes c.in_ok-facts.facts))
 
 pub returns-clause-asks : goal.returns-clause-asks
 returns-clause-asks c =

@@ -23,7 +23,10 @@ loop-number-preserved c =
     record {
       trees = λ seed at.
           ap (map view) c.in_ok-push.ensures.items ∙ map-append view c.loop-number.list.items (Table made ∷ [])
-          ∙ (λ i. so_far.trees seed at i ++ (view-Table made ∙ ap table c.in_ok-user_table.ensures ∙ one_tree seed k (620 + 3 * k) drawn.result refl (drawn.ensures.drawn seed (620 + 3 * k) (so_far.after seed 620 at))) i ∷ [])
+          ∙ (λ i. so_far.trees seed at i
+          ++ (view-Table made ∙ ap table c.in_ok-user_table.ensures
+          ∙ one_tree seed k (620 + 3 * k) drawn.result refl (drawn.ensures.drawn seed (620 + 3 * k) (so_far.after seed 620 at))) i ∷ [])
           ∙ sym (trees_more seed k);
-      after = λ seed n at. drawn.ensures.after seed (n + 3 * k) (so_far.after seed n at) ∙ ap (λ (m : ℕ). state_after seed m) {x = n + 3 * k + 3} {y = n + 3 * (k + 1)} (omega arith);
+      after = λ seed n at. drawn.ensures.after seed (n + 3 * k) (so_far.after seed n at)
+          ∙ ap (λ (m : ℕ). state_after seed m) {x = n + 3 * k + 3} {y = n + 3 * (k + 1)} (omega arith);
     }

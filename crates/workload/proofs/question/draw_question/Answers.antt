@@ -14,8 +14,10 @@ returns-clause-drawn c = λ seed n at.
     let two = state_at seed (n + 1) (n + 2) (state_of first.new.self) (state_of second.new.self) one second.ensures.state (omega arith) in
     let three = state_at seed (n + 2) (n + 3) (state_of second.new.self) (state_of third.new.self) two third.ensures.state (omega arith) in
     c.question_of.ensures
-    ∙ (λ i. question_of (draw_at seed n 6 (state_of c.args.draws.now) first.result at first.ensures.number i) (draw_at seed (n + 1) 40 (state_of first.new.self) second.result one second.ensures.number i)
-    (draw_at seed (n + 2) 40 (state_of second.new.self) third.result two third.ensures.number i) (draw_at seed (n + 3) 12 (state_of third.new.self) fourth.result three fourth.ensures.number i))
+    ∙ (λ i. question_of (draw_at seed n 6 (state_of c.args.draws.now) first.result at first.ensures.number i)
+    (draw_at seed (n + 1) 40 (state_of first.new.self) second.result one second.ensures.number i)
+    (draw_at seed (n + 2) 40 (state_of second.new.self) third.result two third.ensures.number i)
+    (draw_at seed (n + 3) 12 (state_of third.new.self) fourth.result three fourth.ensures.number i))
 
 pub returns-clause-after : goal.returns-clause-after
 returns-clause-after c = λ seed n at.

@@ -5,7 +5,8 @@ use Rattle.workload.proofs.Asking.{script_more, no_ask}
 use Rattle.workload.proofs.question.script_text.Goals as goal
 
 pub loop-number-init : goal.loop-number-init
-loop-number-init c = λ seed n at. (c.new-text.ensures.bytes ∙ sym (no_ask seed n c.args.users), at ∙ ap (λ (m : ℕ). state_after seed m) {x = n} {y = n + 0} (omega arith))
+loop-number-init c =
+    λ seed n at. (c.new-text.ensures.bytes ∙ sym (no_ask seed n c.args.users), at ∙ ap (λ (m : ℕ). state_after seed m) {x = n} {y = n + 0} (omega arith))
 
 pub loop-number-preserved : goal.loop-number-preserved
 loop-number-preserved c = λ seed n at.

@@ -12,6 +12,7 @@ loop-number-preserved c = λ seed at.
     let n = c.loop-number._number in
     let person = c.draw-person.ensures in
     let disease = c.draw-disease.ensures in
-    let more = illness_drawn seed n (state_of c.loop-number.draws) c.draw-person.result c.draw-disease.result (state_of c.draw-disease.new.self) (state_of c.draw-person.new.self)
+    let more = illness_drawn seed n (state_of c.loop-number.draws) c.draw-person.result c.draw-disease.result (state_of c.draw-disease.new.self)
+    (state_of c.draw-person.new.self)
     so_far.1 person.number person.state disease.number disease.state in
     (c.in_ok-push.ensures.items ∙ (λ i. so_far.0 i ++ more.is i ∷ []) ∙ sym (illnesses_more seed n), more.now)

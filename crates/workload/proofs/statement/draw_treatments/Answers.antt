@@ -16,8 +16,10 @@ loop-number-preserved c = λ seed at.
     let so_far = c.loop-number.invariant seed at in
     let n = c.loop-number._number in
     let person = c.draw-person.result in
-    let more = treatment_drawn seed n (state_of c.loop-number.draws) person (state_of c.draw-person.new.self) so_far.1 c.draw-person.ensures.number c.draw-person.ensures.state in (
-      treatments_added seed n c.args.before.items c.loop-number.all.items c.push.new.self.items c.push-in-loop-number.new.self.items (Drug person) (Has person 0)
+    let more = treatment_drawn seed n (state_of c.loop-number.draws) person
+    (state_of c.draw-person.new.self) so_far.1 c.draw-person.ensures.number c.draw-person.ensures.state in (
+      treatments_added seed n c.args.before.items c.loop-number.all.items c.push.new.self.items c.push-in-loop-number.new.self.items (Drug person)
+          (Has person 0)
           so_far.0 c.in_ok-push.ensures.items c.in_ok-push-2.ensures.items more.is,
       more.now,
     )

@@ -6,6 +6,8 @@ use Rattle.case_engine.proofs.script.Script.add_domain.Goals as goal
 
 pub invariant_of-self-2 : goal.invariant_of-self-2
 invariant_of-self-2 c = record {
-  sound = sound_domain _ _ _ _ (declaration_of c.args.declared) _ _ _ c.args.self.now.sound (grind (arith, common_steps)) (grind (arith, common_steps, c.in_ok-domains.ensures))
-      (grind (arith, common_steps, c.in_ok-relations.ensures)) c.in_ok-schema.ensures.accepted.0 c.in_ok-schema.ensures.accepted.1 c.law_views_without_entries.ensures;
+  sound = sound_domain _ _ _ _ (declaration_of c.args.declared) _ _ _ c.args.self.now.sound (grind (arith, common_steps))
+      (grind (arith, common_steps, c.in_ok-domains.ensures))
+      (grind (arith, common_steps, c.in_ok-relations.ensures)) c.in_ok-schema.ensures.accepted.0 c.in_ok-schema.ensures.accepted.1
+      c.law_views_without_entries.ensures;
 }

@@ -9,5 +9,8 @@ pub returns-then-not-keeps_limits-clause-refused : goal.returns-then-not-keeps_l
 returns-then-not-keeps_limits-clause-refused c =
     let counted = c.nodes-count.ensures in
     let summed = c.saturating_add.ensures in
-    known_refused (script_is c.args.self.now) c.args.self.now.schema c.args.self.now.view_nodes c.nodes-count.result c.saturating_add.result (formula_of c.in_ok-sentence.sentence) c.args.self.now.sound (λ few. omega (arith, counted, few)) (λ many. omega (arith, counted, many)) c.law_views_without_entries.ensures
-    _ c.in_ok-sentence.ensures.read (grind (arith, common_steps, summed, counted)) (grind (arith, common_steps, c.keeps_limits.ensures, c.len.ensures, c.if-not-keeps_limits.true))
+    known_refused (script_is c.args.self.now) c.args.self.now.schema c.args.self.now.view_nodes c.nodes-count.result c.saturating_add.result
+    (formula_of c.in_ok-sentence.sentence) c.args.self.now.sound (λ few. omega (arith, counted, few))
+    (λ many. omega (arith, counted, many)) c.law_views_without_entries.ensures
+    _ c.in_ok-sentence.ensures.read (grind (arith, common_steps, summed, counted))
+    (grind (arith, common_steps, c.keeps_limits.ensures, c.len.ensures, c.if-not-keeps_limits.true))

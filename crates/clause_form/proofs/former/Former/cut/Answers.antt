@@ -8,7 +8,8 @@ cut_to-requires c =
     let formulas = c.requires.0 in
     let more = c.requires.1 in
     subst (λ (s : FormSize). s.clauses ≤ length c.args.self.now.clauses) (sym c.requires.3)
-    (subst (λ (f : Form). length (form_of formulas).clauses ≤ length f.clauses) (sym c.requires.2) (cut_within c.law_clause_form_is_prefix.ensures formulas more))
+    (subst (λ (f : Form). length (form_of formulas).clauses ≤ length f.clauses) (sym c.requires.2)
+    (cut_within c.law_clause_form_is_prefix.ensures formulas more))
 
 pub returns : goal.returns
 returns c =

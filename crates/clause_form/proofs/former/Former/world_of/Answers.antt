@@ -23,7 +23,8 @@ loop-fact-init c = record {
 pub add_fact-requires-clause-of_schema : goal.add_fact-requires-clause-of_schema
 add_fact-requires-clause-of_schema c =
     let entries = c.self.inside.facts.entries in
-    let turn : (length c.loop-fact.yielded < length entries) × (slice_get entries (length c.loop-fact.yielded) ≡ Some (c.in-Some.fact.now, c.in-Some.number.now)) = search (rules, iter_turn) in
+    let turn : (length c.loop-fact.yielded < length entries)
+    × (slice_get entries (length c.loop-fact.yielded) ≡ Some (c.in-Some.fact.now, c.in-Some.number.now)) = search (rules, iter_turn) in
     passes_at (is_fact_of c.args.schema.now) entries (length c.loop-fact.yielded) (c.in-Some.fact.now, c.in-Some.number.now)
     (subst (λ (f : Form). list_all (λ e. is_fact_of c.args.schema.now e.fact) f.numbering.facts ≡ true) (sym c.self.view_is) c.requires.of_schema) turn.1
 
@@ -32,11 +33,13 @@ loop-fact-preserved-in-Continue-1 c =
     let yielded = c.loop-fact.yielded in
     let signs = sign_at c.args.model.now.values.items in
     let sign : signs c.in-Some.number.now ≡ true = sym c.sign_of.ensures ∙ c.if-sign_of.true in
-    let turned : map deref_pair (yielded ++ (c.in-Some.fact, c.in-Some.number) ∷ []) ≡ map deref_pair yielded ++ (c.in-Some.fact.now, c.in-Some.number.now) ∷ [] = map-append deref_pair yielded ((c.in-Some.fact, c.in-Some.number) ∷ []) in
+    let turned : map deref_pair (yielded ++ (c.in-Some.fact, c.in-Some.number) ∷ [])
+    ≡ map deref_pair yielded ++ (c.in-Some.fact.now, c.in-Some.number.now) ∷ [] = map-append deref_pair yielded ((c.in-Some.fact, c.in-Some.number) ∷ []) in
     record {
       members =
           subst (λ (es : List (Fact × ℕ)). HasFacts c.add_fact.new.world (true_facts (numbered_facts es) signs)) (sym turned)
-          (fact_joins c.loop-fact.world c.add_fact.new.world (map deref_pair yielded) c.in-Some.fact.now c.in-Some.number.now signs c.loop-fact.invariant.members sign c.in_ok-add_fact.ensures);
+          (fact_joins c.loop-fact.world c.add_fact.new.world
+          (map deref_pair yielded) c.in-Some.fact.now c.in-Some.number.now signs c.loop-fact.invariant.members sign c.in_ok-add_fact.ensures);
       few =
           let one = len_joins c.loop-fact.world c.add_fact.new.world c.in-Some.fact.now c.in_ok-add_fact.ensures in
           let before = c.loop-fact.invariant.few in
@@ -49,5 +52,6 @@ returns c =
     let entries = c.self.inside.facts.entries in
     let signs = sign_at c.args.model.now.values.items in
     let all : map deref_pair c.loop-fact.yielded ≡ entries = search (rules, iter_end) in
-    world_has c.loop-fact.world (numbered_facts entries) signs (subst (λ (es : List (Fact × ℕ)). HasFacts c.loop-fact.world (true_facts (numbered_facts es) signs)) all c.loop-fact.invariant.members)
+    world_has c.loop-fact.world (numbered_facts entries) signs
+    (subst (λ (es : List (Fact × ℕ)). HasFacts c.loop-fact.world (true_facts (numbered_facts es) signs)) all c.loop-fact.invariant.members)
     ∙ ap (λ (f : Form). world_of f.numbering.facts signs) c.self.view_is

@@ -12,6 +12,7 @@ use Rattle.clause_form.proofs.former.Former.world_of.Given as goal
 
 abbrev pub invariant-loop-fact : goal.invariant-loop-fact
 invariant-loop-fact l = record {
-  members : (q : Fact) → set.contains l.world q ≡ list_any (eq_by_cmp fact_cmp q) (true_facts (numbered_facts (map deref_pair l.yielded)) (sign_at l.model.values.items));
+  members : (q : Fact)
+      → set.contains l.world q ≡ list_any (eq_by_cmp fact_cmp q) (true_facts (numbered_facts (map deref_pair l.yielded)) (sign_at l.model.values.items));
   few : set.len l.world ≤ length l.yielded;
 }

@@ -16,10 +16,12 @@ read c =
 
 pub returns-then-variable-len : goal.returns-then-variable-len
 returns-then-variable-len c =
-    get_or_read c.self.inside.levels.items c.variable-variable.result c.index.result.now (let ok = c.self.inside.levels.ok.0 in omega (arith, c.len.ensures, c.if-variable-len.true)) c.index.ensures 0
+    get_or_read c.self.inside.levels.items c.variable-variable.result c.index.result.now (let ok = c.self.inside.levels.ok.0 in
+    omega (arith, c.len.ensures, c.if-variable-len.true)) c.index.ensures 0
     ∙ read (goal.at.returns-then-variable-len c).After-len
 
 pub returns-else-variable-len : goal.returns-else-variable-len
 returns-else-variable-len c =
-    sym (get_or_past c.self.inside.levels.items c.variable-variable.result 0 (let ok = c.self.inside.levels.ok.0 in omega (arith, c.len.ensures, c.if-variable-len.false)))
+    sym (get_or_past c.self.inside.levels.items c.variable-variable.result 0 (let ok = c.self.inside.levels.ok.0 in
+    omega (arith, c.len.ensures, c.if-variable-len.false)))
     ∙ read (goal.at.returns-else-variable-len c).After-len

@@ -27,8 +27,16 @@ invariant_of-self-2 c =
     let literal = c.literal-literal.ensures in
     let more : c.level_with-decisions.result ≡ level (c.args.entry ∷ t) =
     c.level_with-decisions.ensures ∙ ap (λ k. cond (is_decided c.args.entry) (k + 1) k) c.self.invariant.level_is ∙ sym (level-cons c.args.entry t) in
-    let below : c.variable-variable.result < a.variables = (let v : c.args.self.now.variables ≡ a.variables = ap (λ (s : Assigning). s.variables) (sym c.self.view_is) in let is = c.variable-variable.ensures.variable ∙ ap variable_of literal in let b = c.requires.below in omega arith) in
-    let free : is_assigned t c.variable-variable.result ≡ false = ap (is_assigned t) (c.variable-variable.ensures.variable ∙ ap variable_of literal) ∙ ap (λ (s : Assigning). is_assigned s.trail (variable_of (assigned_literal c.args.entry))) c.self.view_is ∙ c.requires.free in
-    let size : c.len-size.result ≡ length t + 1 = (let e = length-reverse a.trail.items in let ok = a.trail.ok.0 in let more_items = c.in_ok-push.ensures.len in omega (arith, c.len-size.ensures)) in
-    push_kept a.variables t a.truths.items a.levels.items a.places.items a.decisions a.next c.self.invariant c.args.entry (reverse c.push.new.self.items) c.code.result c.variable-variable.result c.len-size.result c.level_with-decisions.result
-    (ap reverse c.in_ok-push.ensures.items ∙ reverse_push a.trail.items c.args.entry) (c.code.ensures ∙ ap code_of literal) (c.variable-variable.ensures.variable ∙ ap variable_of literal) size more below free
+    let below : c.variable-variable.result < a.variables =
+    (let v : c.args.self.now.variables ≡ a.variables = ap (λ (s : Assigning). s.variables) (sym c.self.view_is) in
+    let is = c.variable-variable.ensures.variable ∙ ap variable_of literal in let b = c.requires.below in omega arith) in
+    let free : is_assigned t c.variable-variable.result ≡ false =
+    ap (is_assigned t) (c.variable-variable.ensures.variable ∙ ap variable_of literal)
+    ∙ ap (λ (s : Assigning). is_assigned s.trail (variable_of (assigned_literal c.args.entry))) c.self.view_is ∙ c.requires.free in
+    let size : c.len-size.result ≡ length t + 1 =
+    (let e = length-reverse a.trail.items in let ok = a.trail.ok.0 in let more_items = c.in_ok-push.ensures.len in omega (arith, c.len-size.ensures)) in
+    push_kept a.variables t a.truths.items a.levels.items a.places.items a.decisions a.next c.self.invariant c.args.entry
+    (reverse c.push.new.self.items) c.code.result c.variable-variable.result c.len-size.result c.level_with-decisions.result
+    (ap reverse c.in_ok-push.ensures.items
+    ∙ reverse_push a.trail.items c.args.entry) (c.code.ensures ∙ ap code_of literal)
+    (c.variable-variable.ensures.variable ∙ ap variable_of literal) size more below free

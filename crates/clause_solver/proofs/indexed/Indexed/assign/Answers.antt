@@ -18,9 +18,13 @@ visit_all-requires-clause-watching c =
     let s = c.args.self.now in
     let d = (goal.at.visit_all-requires-clause-watching c).After-push in
     let o : c.opposite.result ≡ opposite (assigned_literal c.args.entry) = c.opposite.ensures ∙ ap opposite c.literal-literal.ensures in
-    subst (λ (a : Assigning). IsWatching a.variables a.trail s.watches.sorted (lists_of s.watches) s.watches.pairs.items (units_of s.watches) s.watches.falsified c.opposite.result (get_or (lists_of s.watches) (code_of c.opposite.result) [])) (sym c.in_ok-push.ensures)
-    (subst (λ l. IsWatching s.assignment.variables (c.args.entry ∷ s.assignment.trail) s.watches.sorted (lists_of s.watches) s.watches.pairs.items (units_of s.watches) s.watches.falsified l (get_or (lists_of s.watches) (code_of l) [])) (sym o)
-    (looks_begin s.assignment.variables c.args.entry s.assignment.trail (distinct d) s.watches.sorted (lists_of s.watches) s.watches.pairs.items (units_of s.watches) s.watches.falsified (Positive 0) c.requires.looked.watches c.requires.steady))
+    subst (λ (a : Assigning).
+    IsWatching a.variables a.trail s.watches.sorted (lists_of s.watches) s.watches.pairs.items (units_of s.watches) s.watches.falsified c.opposite.result
+    (get_or (lists_of s.watches) (code_of c.opposite.result) [])) (sym c.in_ok-push.ensures)
+    (subst (λ l. IsWatching s.assignment.variables (c.args.entry ∷ s.assignment.trail) s.watches.sorted (lists_of s.watches) s.watches.pairs.items
+    (units_of s.watches) s.watches.falsified l (get_or (lists_of s.watches) (code_of l) [])) (sym o)
+    (looks_begin s.assignment.variables c.args.entry s.assignment.trail (distinct d) s.watches.sorted (lists_of s.watches) s.watches.pairs.items
+    (units_of s.watches) s.watches.falsified (Positive 0) c.requires.looked.watches c.requires.steady))
 
 pub returns-clause-looked : goal.returns-clause-looked
 returns-clause-looked c =

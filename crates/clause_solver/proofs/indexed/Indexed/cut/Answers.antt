@@ -28,7 +28,8 @@ returns-clause-looked c =
     let n = s.assignment.variables in
     let t : List Assigned = cut c.args.k s.assignment.trail in
     let base : IsWatching n t s.watches.sorted (lists_of s.watches) s.watches.pairs.items [] None (Positive 0) [] =
-    watching_cut n s.assignment.trail s.watches.sorted (lists_of s.watches) s.watches.pairs.items (units_of s.watches) s.watches.falsified (Positive 0) k.watches c.args.k k.distinct c.requires.lower in
+    watching_cut n s.assignment.trail s.watches.sorted (lists_of s.watches) s.watches.pairs.items (units_of s.watches) s.watches.falsified
+    (Positive 0) k.watches c.args.k k.distinct c.requires.lower in
     record {
       watches =
           same_watching l.assignment.variables l.assignment.trail (Positive 0) [] _ _ _ _ _ _ _ _ _ _
@@ -41,6 +42,7 @@ returns-clause-looked c =
       same =
           subst (λ cs. HaveSameLiterals cs c.clear.new.self.sorted) (sym v.clauses)
           (subst (λ ds. HaveSameLiterals s.clauses ds) (sym (c.clear.ensures.sorted ∙ ap (λ w. w.sorted) v.watches)) k.same);
-      distinct = subst (λ m. IsDistinct m l.assignment.trail) (sym v.variables) (subst (IsDistinct n) (sym (trail c)) (cut_distinct n c.args.k s.assignment.trail k.distinct));
+      distinct = subst (λ m. IsDistinct m l.assignment.trail) (sym v.variables)
+          (subst (IsDistinct n) (sym (trail c)) (cut_distinct n c.args.k s.assignment.trail k.distinct));
       idle = v.resolvent ∙ k.idle ∙ ap (λ m. record { variables = m; clause = [] }) (sym v.variables);
     }

@@ -18,14 +18,18 @@ within c =
     let s = c.loop-least.self in
     let k = c.loop-least.invariant.indexed.looked in
     let e = c.in-Some.ensures.least in
-    unit_within s.assignment.variables s.assignment.trail k.distinct s.clauses s.watches.sorted k.same (lists_of s.watches) s.watches.pairs.items (units_of s.watches) s.watches.falsified (Positive 0) k.watches c.loop-least.invariant.falsified c.loop-least.invariant.indexed.reached.no_repeat c.in-Some.least e.there e.low
+    unit_within s.assignment.variables s.assignment.trail k.distinct s.clauses s.watches.sorted k.same (lists_of s.watches) s.watches.pairs.items
+    (units_of s.watches) s.watches.falsified
+    (Positive 0) k.watches c.loop-least.invariant.falsified c.loop-least.invariant.indexed.reached.no_repeat c.in-Some.least e.there e.low
 
 listed : (c : In-Some) → c.in-Some.least < length c.loop-least.self.watches.pairs.items
 listed c =
     let s = c.loop-least.self in
     let k = c.loop-least.invariant.indexed.looked in
     let e = c.in-Some.ensures.least in
-    unit_listed s.assignment.variables s.assignment.trail k.distinct s.clauses s.watches.sorted k.same (lists_of s.watches) s.watches.pairs.items (units_of s.watches) s.watches.falsified (Positive 0) k.watches c.loop-least.invariant.falsified c.loop-least.invariant.indexed.reached.no_repeat c.in-Some.least e.there e.low
+    unit_listed s.assignment.variables s.assignment.trail k.distinct s.clauses s.watches.sorted k.same (lists_of s.watches) s.watches.pairs.items
+    (units_of s.watches) s.watches.falsified
+    (Positive 0) k.watches c.loop-least.invariant.falsified c.loop-least.invariant.indexed.reached.no_repeat c.in-Some.least e.there e.low
 
 pub index-requires : goal.index-requires
 index-requires c = subst (λ m. c.in-Some.least < m) (sym c.loop-least.self.watches.pairs.ok.0) (listed (goal.at.index-requires c).In-Some)
@@ -33,8 +37,11 @@ index-requires c = subst (λ m. c.in-Some.least < m) (sym c.loop-least.self.watc
 abbrev at : In-Some-open_watched → In-Some
 at c = (goal.at.returns-in-Some-open_watched-clause-first c).In-Some
 
-found : (c : In-Some-open_watched) → IsOpenOf c.loop-least.self.assignment.trail (get_or c.loop-least.self.watches.pairs.items c.in-Some.least no_pair) c.in-Some-open_watched.literal
-found c = subst (λ p. IsOpenOf c.loop-least.self.assignment.trail p c.in-Some-open_watched.literal) (get_or_read c.loop-least.self.watches.pairs.items c.in-Some.least c.index.result.now (listed (at c)) c.index.ensures no_pair) c.in-Some-open_watched.ensures.some
+found : (c : In-Some-open_watched)
+    → IsOpenOf c.loop-least.self.assignment.trail (get_or c.loop-least.self.watches.pairs.items c.in-Some.least no_pair) c.in-Some-open_watched.literal
+found c = subst (λ p. IsOpenOf c.loop-least.self.assignment.trail p c.in-Some-open_watched.literal)
+    (get_or_read c.loop-least.self.watches.pairs.items c.in-Some.least c.index.result.now (listed (at c)) c.index.ensures no_pair)
+    c.in-Some-open_watched.ensures.some
 
 pub returns-in-Some-open_watched-clause-first : goal.returns-in-Some-open_watched-clause-first
 returns-in-Some-open_watched-clause-first c =
@@ -42,7 +49,9 @@ returns-in-Some-open_watched-clause-first c =
     let v = c.loop-least.invariant in
     let k = v.indexed.looked in
     let e = c.in-Some.ensures.least in
-    sym (is_first_unit s.assignment.variables s.assignment.trail k.distinct s.clauses s.watches.sorted k.same (lists_of s.watches) s.watches.pairs.items (units_of s.watches) s.watches.falsified (Positive 0) k.watches v.falsified v.indexed.reached.no_repeat c.in-Some.least e.there e.low c.in-Some-open_watched.literal (found c))
+    sym (is_first_unit s.assignment.variables s.assignment.trail k.distinct s.clauses s.watches.sorted k.same (lists_of s.watches) s.watches.pairs.items
+    (units_of s.watches) s.watches.falsified
+    (Positive 0) k.watches v.falsified v.indexed.reached.no_repeat c.in-Some.least e.there e.low c.in-Some-open_watched.literal (found c))
     ∙ (λ i. first_unit (v.assignment i).trail 0 (v.clauses i))
 
 pub returns-in-Some-open_watched-clause-number : goal.returns-in-Some-open_watched-clause-number
@@ -55,9 +64,11 @@ returns-in-Some-open_watched-clause-below c =
     let k = v.indexed.looked in
     let e = c.in-Some.ensures.least in
     let l = c.in-Some-open_watched.literal in
-    let has = open_in s.assignment.variables s.assignment.trail k.distinct s.clauses s.watches.sorted k.same (lists_of s.watches) s.watches.pairs.items (units_of s.watches) s.watches.falsified (Positive 0) k.watches v.falsified v.indexed.reached.no_repeat c.in-Some.least e.there e.low l (found c) in
+    let has = open_in s.assignment.variables s.assignment.trail k.distinct s.clauses s.watches.sorted k.same (lists_of s.watches) s.watches.pairs.items
+    (units_of s.watches) s.watches.falsified (Positive 0) k.watches v.falsified v.indexed.reached.no_repeat c.in-Some.least e.there e.low l (found c) in
     subst (λ (a : Assigning). variable_of l < a.variables) v.assignment
-    (each_has (λ m. variable_of m < s.assignment.variables) (get_or s.clauses c.in-Some.least []) l (each_at (ClauseBelow s.assignment.variables) s.clauses c.in-Some.least v.indexed.reached.below tt) has)
+    (each_has (λ m. variable_of m < s.assignment.variables) (get_or s.clauses c.in-Some.least []) l
+    (each_at (ClauseBelow s.assignment.variables) s.clauses c.in-Some.least v.indexed.reached.below tt) has)
 
 pub returns-in-Some-open_watched-clause-free : goal.returns-in-Some-open_watched-clause-free
 returns-in-Some-open_watched-clause-free c =
@@ -66,7 +77,8 @@ returns-in-Some-open_watched-clause-free c =
     let k = v.indexed.looked in
     let e = c.in-Some.ensures.least in
     let l = c.in-Some-open_watched.literal in
-    let unit = is_unit_literal s.assignment.variables s.assignment.trail k.distinct s.clauses s.watches.sorted k.same (lists_of s.watches) s.watches.pairs.items (units_of s.watches) s.watches.falsified (Positive 0) k.watches v.falsified v.indexed.reached.no_repeat c.in-Some.least e.there e.low l (found c) in
+    let unit = is_unit_literal s.assignment.variables s.assignment.trail k.distinct s.clauses s.watches.sorted k.same (lists_of s.watches) s.watches.pairs.items
+    (units_of s.watches) s.watches.falsified (Positive 0) k.watches v.falsified v.indexed.reached.no_repeat c.in-Some.least e.there e.low l (found c) in
     subst (λ (a : Assigning). is_assigned a.trail (variable_of l) ≡ false) v.assignment
     (is_unit s.assignment.trail (get_or s.clauses c.in-Some.least []) l unit).unassigned
 
@@ -81,8 +93,10 @@ loop-least-preserved c =
     let n = s.assignment.variables in
     let t = s.assignment.trail in
     let left = c.drop_unit.ensures.units i e in
-    let closed = subst (AreClosed t) (get_or_read s.watches.pairs.items i c.index.result.now (listed d) c.index.ensures no_pair) c.in_default-open_watched.ensures.none in
-    let true_one = no_open n t k.distinct s.clauses s.watches.sorted k.same (lists_of s.watches) s.watches.pairs.items (units_of s.watches) s.watches.falsified (Positive 0) k.watches v.falsified v.indexed.reached.no_repeat i e.there e.low closed in
+    let closed = subst (AreClosed t)
+    (get_or_read s.watches.pairs.items i c.index.result.now (listed d) c.index.ensures no_pair) c.in_default-open_watched.ensures.none in
+    let true_one = no_open n t k.distinct s.clauses s.watches.sorted k.same (lists_of s.watches) s.watches.pairs.items (units_of s.watches) s.watches.falsified
+    (Positive 0) k.watches v.falsified v.indexed.reached.no_repeat i e.there e.low closed in
     record {
       assignment = v.assignment;
       clauses = v.clauses;
@@ -91,8 +105,11 @@ loop-least-preserved c =
       indexed = record {
         looked = record {
           watches =
-              same_watching n t (Positive 0) [] _ _ _ _ _ _ _ _ _ _ c.drop_unit.ensures.sorted (ap (λ ls. map (λ v. v.items) ls.items) c.drop_unit.ensures.lists) (ap (λ ps. ps.items) c.drop_unit.ensures.pairs) refl c.drop_unit.ensures.falsified
-              (unit_dropped n t k.distinct s.clauses s.watches.sorted k.same (lists_of s.watches) s.watches.pairs.items (units_of s.watches) s.watches.falsified (Positive 0) k.watches i (units_of c.drop_unit.new.self) true_one left.fewer left.others);
+              same_watching n t (Positive 0) [] _ _ _ _ _ _ _ _ _ _ c.drop_unit.ensures.sorted
+              (ap (λ ls. map (λ v. v.items) ls.items) c.drop_unit.ensures.lists)
+              (ap (λ ps. ps.items) c.drop_unit.ensures.pairs) refl c.drop_unit.ensures.falsified
+              (unit_dropped n t k.distinct s.clauses s.watches.sorted k.same (lists_of s.watches) s.watches.pairs.items (units_of s.watches) s.watches.falsified
+              (Positive 0) k.watches i (units_of c.drop_unit.new.self) true_one left.fewer left.others);
           same = subst (HaveSameLiterals s.clauses) (sym c.drop_unit.ensures.sorted) k.same;
           distinct = k.distinct;
           idle = k.idle;
@@ -106,5 +123,6 @@ returns-clause-first c =
     let s = c.loop-least.self in
     let v = c.loop-least.invariant in
     let k = v.indexed.looked in
-    let none = no_unit_clause s.assignment.variables s.assignment.trail k.distinct s.clauses s.watches.sorted k.same (lists_of s.watches) s.watches.pairs.items (units_of s.watches) s.watches.falsified (Positive 0) k.watches v.falsified c.in_default.ensures.none in
+    let none = no_unit_clause s.assignment.variables s.assignment.trail k.distinct s.clauses s.watches.sorted k.same (lists_of s.watches) s.watches.pairs.items
+    (units_of s.watches) s.watches.falsified (Positive 0) k.watches v.falsified c.in_default.ensures.none in
     sym none ∙ (λ i. first_unit (v.assignment i).trail 0 (v.clauses i))

@@ -10,7 +10,8 @@ loop-times-preserved c =
     let line = line_of c.loop-times.line in
     let counted : c.current_count.result ≡ current_count trail line.clause = c.current_count.ensures ∙ ap (current_count trail) c.deref.ensures.value in
     let more : c.args.keep < current_count trail line.clause = subst (λ n. c.args.keep < n) counted c.if-current_count-keep.false in
-    let latest : c.latest_against-latest.result ≡ latest_against trail line.clause = c.latest_against-latest.ensures ∙ ap (latest_against trail) c.deref-in-loop-times.ensures.value in
+    let latest : c.latest_against-latest.result ≡ latest_against trail line.clause =
+    c.latest_against-latest.ensures ∙ ap (latest_against trail) c.deref-in-loop-times.ensures.value in
     analysis_more c.args.clauses.now trail c.args.keep (length c.args.trail.now) c.loop-times.times line _ c.loop-times-test.true more
     (c.in_ok-resolve_with.ensures ∙ ap (λ o. resolved_with c.args.clauses.now o line) latest)
     ∙ c.loop-times.invariant

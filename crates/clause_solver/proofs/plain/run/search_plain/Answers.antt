@@ -32,14 +32,16 @@ pub returns-then-left-cost-3 : goal.returns-then-left-cost-3
 returns-then-left-cost-3 c =
     let old = state_of c.loop-steps.state in
     let one : c.args.budget - c.loop-steps.steps ≡ suc (c.args.budget - (c.loop-steps.steps + 1)) = omega arith in
-    let h : step c.args.variables old ≡ Ends c.in-Satisfied.cost (Model c.in-Satisfied.signs.values.items) = rw c.in-Satisfied.is at c.in_ok-cost.ensures.step in
+    let h : step c.args.variables old ≡ Ends c.in-Satisfied.cost (Model c.in-Satisfied.signs.values.items) =
+    rw c.in-Satisfied.is at c.in_ok-cost.ensures.step in
     sym (ended_past c.args.variables c.loop-steps.left c.in-Satisfied.cost _ _ old _ one h c.if-left-cost-3.true) ∙ c.loop-steps.invariant.same
 
 pub returns-in-Satisfied : goal.returns-in-Satisfied
 returns-in-Satisfied c =
     let old = state_of c.loop-steps.state in
     let one : c.args.budget - c.loop-steps.steps ≡ suc (c.args.budget - (c.loop-steps.steps + 1)) = omega arith in
-    let h : step c.args.variables old ≡ Ends c.in-Satisfied.cost (Model c.in-Satisfied.signs.values.items) = rw c.in-Satisfied.is at c.in_ok-cost.ensures.step in
+    let h : step c.args.variables old ≡ Ends c.in-Satisfied.cost (Model c.in-Satisfied.signs.values.items) =
+    rw c.in-Satisfied.is at c.in_ok-cost.ensures.step in
     sym (ended_within c.args.variables c.loop-steps.left c.in-Satisfied.cost _ _ old _ one h c.if-left-cost-3.false) ∙ c.loop-steps.invariant.same
 
 pub loop-steps-preserved : goal.loop-steps-preserved
@@ -55,4 +57,5 @@ loop-steps-preserved c =
 
 pub returns : goal.returns
 returns c =
-    sym (no_step c.args.variables c.loop-steps.left (c.args.budget - c.loop-steps.steps) (state_of c.loop-steps.state) (omega arith)) ∙ c.loop-steps.invariant.same
+    sym (no_step c.args.variables c.loop-steps.left (c.args.budget - c.loop-steps.steps) (state_of c.loop-steps.state) (omega arith))
+    ∙ c.loop-steps.invariant.same

@@ -9,8 +9,10 @@ use Rattle.clause_solver.proofs.plain.trail.level_of.Goals.{then-is_decided, els
 counted : (c : goal.Joined-variable) → c.if-is_decided.decisions ≡ level (reverse (take (c.loop-e.e-index + 1) c.args.trail.now))
 counted c =
     elim c.if-is_decided.branch [
-      | then-is_decided w ↦ level_step c.args.trail.now c.loop-e.e-index c.e-item.result c.loop-e.decisions _ c.loop-e-test.true c.e-item.is c.loop-e.invariant.counted (chosen_true _ _ _ _ (sym c.is_decided.ensures ∙ w.if-is_decided.true) w.decisions-is)
-      | else-is_decided w ↦ level_step c.args.trail.now c.loop-e.e-index c.e-item.result c.loop-e.decisions _ c.loop-e-test.true c.e-item.is c.loop-e.invariant.counted (chosen_false _ _ _ _ (sym c.is_decided.ensures ∙ w.if-is_decided.false) w.decisions-is)
+      | then-is_decided w ↦ level_step c.args.trail.now c.loop-e.e-index c.e-item.result c.loop-e.decisions _ c.loop-e-test.true c.e-item.is
+          c.loop-e.invariant.counted (chosen_true _ _ _ _ (sym c.is_decided.ensures ∙ w.if-is_decided.true) w.decisions-is)
+      | else-is_decided w ↦ level_step c.args.trail.now c.loop-e.e-index c.e-item.result c.loop-e.decisions _ c.loop-e-test.true c.e-item.is
+          c.loop-e.invariant.counted (chosen_false _ _ _ _ (sym c.is_decided.ensures ∙ w.if-is_decided.false) w.decisions-is)
     ]
 
 room : (c : goal.Joined-variable) → c.if-is_decided.decisions ≤ c.loop-e.e-index + 1
@@ -19,7 +21,8 @@ room c = elim c.if-is_decided.branch [ then-is_decided w ↦ omega arith | else-
 item : (c : goal.Joined-variable) → c.variable-in-loop-e.result ≡ variable_of (assigned_literal c.e-item.result)
 item c = c.variable-in-loop-e.ensures.variable ∙ ap variable_of c.literal.ensures
 
-chosen : (c : goal.Joined-variable) → c.if-variable.found ≡ cond (eqb (variable_of c.args.literal) (variable_of (assigned_literal c.e-item.result))) c.if-is_decided.decisions c.loop-e.found
+chosen : (c : goal.Joined-variable)
+    → c.if-variable.found ≡ cond (eqb (variable_of c.args.literal) (variable_of (assigned_literal c.e-item.result))) c.if-is_decided.decisions c.loop-e.found
 chosen c =
     elim c.if-variable.branch [
       | then-variable w ↦ chosen_true _ _ _ _ (eq-eqb _ _ (sym c.variable.ensures.variable ∙ w.if-variable.true ∙ item c)) w.found-is
@@ -30,6 +33,7 @@ pub loop-e-preserved : goal.loop-e-preserved
 loop-e-preserved c =
     record {
       counted = counted c;
-      found = level_of_step c.args.trail.now c.loop-e.e-index c.e-item.result c.args.literal _ _ _ c.loop-e-test.true c.e-item.is (counted c) c.loop-e.invariant.found (chosen c);
+      found = level_of_step c.args.trail.now c.loop-e.e-index c.e-item.result c.args.literal _ _ _ c.loop-e-test.true c.e-item.is
+          (counted c) c.loop-e.invariant.found (chosen c);
       room = room c;
     }

@@ -26,10 +26,14 @@ same_size : (c : In_ok-push) → length c.args.clause.now ≡ length (sorted c)
 same_size c = sym (length_permutation c.args.clause.now (sorted c) c.in_ok-sort_clause.ensures)
 
 low : (c : In_ok-push) (n : ℕ) → ClauseBelow n c.args.clause.now → ClauseBelow n (sorted c)
-low c n h = recursion_from_All (λ l. variable_of l < n) (sorted c) (All-permutation (λ l. variable_of l < n) c.args.clause.now (sorted c) c.in_ok-sort_clause.ensures (All-from_recursion (λ l. variable_of l < n) c.args.clause.now h))
+low c n h = recursion_from_All (λ l. variable_of l < n) (sorted c)
+    (All-permutation (λ l. variable_of l < n) c.args.clause.now (sorted c) c.in_ok-sort_clause.ensures
+    (All-from_recursion (λ l. variable_of l < n) c.args.clause.now h))
 
-watched : (c : In_ok-push) (t : List Assigned) → IsWatched t c.args.clause.now (pair c) (eqb (length c.args.clause.now) 1) (eqb (length c.args.clause.now) 0) → IsWatched t (sorted c) (pair c) (eqb (length (sorted c)) 1) (eqb (length (sorted c)) 0)
-watched c t w = subst (λ m. IsWatched t (sorted c) (pair c) (eqb m 1) (eqb m 0)) (same_size c) (watched_same t c.args.clause.now (sorted c) (same_has c) (same_size c) (pair c) _ _ w)
+watched : (c : In_ok-push) (t : List Assigned) → IsWatched t c.args.clause.now (pair c) (eqb (length c.args.clause.now) 1) (eqb (length c.args.clause.now) 0)
+    → IsWatched t (sorted c) (pair c) (eqb (length (sorted c)) 1) (eqb (length (sorted c)) 0)
+watched c t w = subst (λ m. IsWatched t (sorted c) (pair c) (eqb m 1) (eqb m 0)) (same_size c)
+    (watched_same t c.args.clause.now (sorted c) (same_has c) (same_size c) (pair c) _ _ w)
 
 number : (c : In_ok-push) (n : ℕ) (t : List Assigned) → AreWatches n t c.args.self.now → c.len-number.result ≡ length c.args.self.now.sorted
 number c n t h = c.len-number.ensures ∙ c.args.self.now.pairs.ok.0 ∙ h.pairs_room
@@ -47,12 +51,14 @@ returns-then-is_empty-clause-watches c =
     let none : length c.args.clause.now ≡ 0 = eqb-true (length c.args.clause.now) 0 (sym c.is_empty.ensures ∙ c.if-is_empty.true) in
     λ n t h b w.
     same_watching n t (Positive 0) [] _ _ _ _ _ _ _ _ _ _ (pushed d) refl c.in_ok-push.ensures.items refl c.lower.ensures
-    (entered_empty n t s.sorted (lists_of s) s.pairs.items (units_of s) s.falsified (Positive 0) h (sorted d) (pair d) (low d n b) c.len-number.result (number d n t h) (size_zero d none) (w.empty none).0 (watched d t w))
+    (entered_empty n t s.sorted (lists_of s) s.pairs.items (units_of s) s.falsified (Positive 0) h (sorted d) (pair d) (low d n b) c.len-number.result
+    (number d n t h) (size_zero d none) (w.empty none).0 (watched d t w))
 
 pub returns-then-is_empty-clause-sorted : goal.returns-then-is_empty-clause-sorted
 returns-then-is_empty-clause-sorted c =
     let d = (goal.at.returns-then-is_empty-clause-sorted c).In_ok-push in
-    λ cs h. subst (λ x. HaveSameLiterals (cs ++ c.args.clause.now ∷ []) x) (sym (pushed d)) (same_more cs c.args.self.now.sorted c.args.clause.now (sorted d) h (same_has d) (same_size d))
+    λ cs h. subst (λ x. HaveSameLiterals (cs ++ c.args.clause.now ∷ []) x) (sym (pushed d))
+    (same_more cs c.args.self.now.sorted c.args.clause.now (sorted d) h (same_has d) (same_size d))
 
 positive : (m : ℕ) → eqb m 0 ≡ false → 0 < m
 positive m e = let ne = eqb-false m 0 e in grind arith
@@ -72,11 +78,13 @@ returns-clause-watches c =
     λ n t h b w.
     same_watching n t (Positive 0) [] _ _ _ _ _ _ (units_of c.add_unit.new.self) _ _ _
     (w2.sorted ∙ w1.sorted ∙ u.sorted ∙ pushed d)
-    (w2.lists ∙ ap (λ ls. set ls k2 (get_or ls k2 [] ++ v2 ∷ [])) (w1.lists ∙ ap (λ ls. set (map (λ v. v.items) ls.items) k1 (get_or (map (λ v. v.items) ls.items) k1 [] ++ v1 ∷ [])) u.lists))
+    (w2.lists ∙ ap (λ ls. set ls k2 (get_or ls k2 [] ++ v2 ∷ [])) (w1.lists
+    ∙ ap (λ ls. set (map (λ v. v.items) ls.items) k1 (get_or (map (λ v. v.items) ls.items) k1 [] ++ v1 ∷ [])) u.lists))
     (ap (λ v. v.items) (w2.pairs ∙ w1.pairs ∙ u.pairs) ∙ c.in_ok-push.ensures.items)
     (w2.units ∙ w1.units)
     (w2.falsified ∙ w1.falsified ∙ u.falsified)
-    (entered_watched n t s.sorted (lists_of s) s.pairs.items (units_of s) s.falsified (Positive 0) h (sorted d) (pair d) (low d n b) c.len-number.result (number d n t h)
+    (entered_watched n t s.sorted (lists_of s) s.pairs.items (units_of s) s.falsified (Positive 0) h (sorted d) (pair d) (low d n b) c.len-number.result
+    (number d n t h)
     (let e = same_size d in omega arith)
     (low_listed s k1 (c.requires.first pos)) (low_listed s k2 (c.requires.second pos))
     (units_of c.add_unit.new.self)
@@ -86,4 +94,6 @@ returns-clause-watches c =
 pub returns-clause-sorted : goal.returns-clause-sorted
 returns-clause-sorted c =
     let d = (goal.at.returns-clause-sorted c).In_ok-push in
-    λ cs h. subst (λ x. HaveSameLiterals (cs ++ c.args.clause.now ∷ []) x) (sym (c.in_ok-watch-2.ensures.sorted ∙ c.in_ok-watch.ensures.sorted ∙ c.in_ok-add_unit.ensures.sorted ∙ pushed d)) (same_more cs c.args.self.now.sorted c.args.clause.now (sorted d) h (same_has d) (same_size d))
+    λ cs h. subst (λ x. HaveSameLiterals (cs ++ c.args.clause.now ∷ []) x)
+    (sym (c.in_ok-watch-2.ensures.sorted ∙ c.in_ok-watch.ensures.sorted ∙ c.in_ok-add_unit.ensures.sorted ∙ pushed d))
+    (same_more cs c.args.self.now.sorted c.args.clause.now (sorted d) h (same_has d) (same_size d))

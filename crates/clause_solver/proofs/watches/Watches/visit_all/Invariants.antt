@@ -9,5 +9,7 @@ invariant-loop-i l = record {
   most : l.kept ≤ l.i;
   size : length l.list.items ≡ length l.initial.list.items;
   sorted : l.self.sorted ≡ l.initial.self.sorted;
-  watching : IsWatching l.assignment.variables l.assignment.trail l.self.sorted (set (lists_of l.self) (code_of l.literal) (take l.kept l.list.items ++ drop l.i l.list.items)) l.self.pairs.items (units_of l.self) l.self.falsified l.literal (drop l.i l.list.items);
+  watching : IsWatching l.assignment.variables l.assignment.trail l.self.sorted
+      (set (lists_of l.self) (code_of l.literal) (take l.kept l.list.items ++ drop l.i l.list.items)) l.self.pairs.items
+      (units_of l.self) l.self.falsified l.literal (drop l.i l.list.items);
 }

@@ -22,7 +22,8 @@ placed c =
     let size = length-view c.self.inside _ c.self.view_is in
     let low : c.args.number < length c.self.inside.ends.items = omega arith in
     subst (λ xs. IsPlaced c.start_of-start.result c.index-end.result.now (length xs)) (sym c.deref.ensures.value)
-    (placed_inside c.self.inside c.self.invariant c.args.number _ _ low (c.start_of-start.ensures ∙ ap (λ es. start_of 0 es c.args.number) c.as_slice.ensures.value) c.index-end.ensures)
+    (placed_inside c.self.inside c.self.invariant c.args.number _ _ low (c.start_of-start.ensures
+    ∙ ap (λ es. start_of 0 es c.args.number) c.as_slice.ensures.value) c.index-end.ensures)
 
 pub slice_bounds-result-count : goal.slice_bounds-result-count
 slice_bounds-result-count c = (placed c).ordered
@@ -44,4 +45,5 @@ returns c =
     let size = length-view c.self.inside _ c.self.view_is in
     let low : c.args.number < length c.self.inside.ends.items = omega arith in
     ap (λ xs. slice_range xs c.start_of-start.result c.index-end.result.now) c.deref.ensures.value
-    ∙ part_inside c.self.inside _ c.self.view_is c.args.number _ _ _ low (c.start_of-start.ensures ∙ ap (λ es. start_of 0 es c.args.number) c.as_slice.ensures.value) c.index-end.ensures
+    ∙ part_inside c.self.inside _ c.self.view_is c.args.number _ _ _ low (c.start_of-start.ensures
+    ∙ ap (λ es. start_of 0 es c.args.number) c.as_slice.ensures.value) c.index-end.ensures

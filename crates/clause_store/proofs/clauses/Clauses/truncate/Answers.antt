@@ -13,14 +13,21 @@ pub invariant_of-self : goal.invariant_of-self
 invariant_of-self c =
     let size = length-view c.self.inside _ c.self.view_is in
     let low : c.args.len ≤ length c.self.inside.ends.items = omega arith in
-    let at : c.start_of-end.result ≡ start_of 0 c.self.inside.ends.items c.args.len = c.start_of-end.ensures ∙ ap (λ es. start_of 0 es c.args.len) c.as_slice.ensures.value in
-    rw (c.truncate.ensures.items, c.truncate-2.ensures.items, at, length-take-start c.self.inside.ends.items c.self.inside.literals.items c.args.len c.self.invariant)
+    let at : c.start_of-end.result ≡ start_of 0 c.self.inside.ends.items c.args.len =
+    c.start_of-end.ensures ∙ ap (λ es. start_of 0 es c.args.len) c.as_slice.ensures.value in
+    rw (
+      c.truncate.ensures.items,
+      c.truncate-2.ensures.items,
+      at,
+      length-take-start c.self.inside.ends.items c.self.inside.literals.items c.args.len c.self.invariant,
+    )
     (ascends-take 0 c.self.inside.ends.items (length c.self.inside.literals.items) c.args.len low c.self.invariant)
 
 pub returns : goal.returns
 returns c =
     let size = length-view c.self.inside _ c.self.view_is in
     let low : c.args.len ≤ length c.self.inside.ends.items = omega arith in
-    let at : c.start_of-end.result ≡ start_of 0 c.self.inside.ends.items c.args.len = c.start_of-end.ensures ∙ ap (λ es. start_of 0 es c.args.len) c.as_slice.ensures.value in
+    let at : c.start_of-end.result ≡ start_of 0 c.self.inside.ends.items c.args.len =
+    c.start_of-end.ensures ∙ ap (λ es. start_of 0 es c.args.len) c.as_slice.ensures.value in
     rw (c.truncate.ensures.items, c.truncate-2.ensures.items, at)
     (parts-take c.self.inside.ends.items c.self.inside.literals.items c.args.len low c.self.invariant ∙ ap (take c.args.len) c.self.view_is)

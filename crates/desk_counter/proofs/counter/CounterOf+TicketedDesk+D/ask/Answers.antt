@@ -15,7 +15,9 @@ use Rattle.desk_counter.proofs.Asking.{one_fixed, adds_at_most_one, asked_in_tur
 use Rattle.desk_counter.proofs.counter.CounterOf+TicketedDesk+D.ask.Goals as goal
 
 pub leave-requires-clause-grows : goal.leave-requires-clause-grows
-leave-requires-clause-grows g c = adds_at_most_one (fixed_in c.enter-turn.result.value) _ (view_of c.args.pass.now) c.ticket-ticket.ensures.0 c.enter-turn.ensures.view c.settle-reply.ensures.adds
+leave-requires-clause-grows g c =
+    adds_at_most_one (fixed_in c.enter-turn.result.value) _
+    (view_of c.args.pass.now) c.ticket-ticket.ensures.0 c.enter-turn.ensures.view c.settle-reply.ensures.adds
 
 pub returns-clause-asked : goal.returns-clause-asked
 returns-clause-asked g c =
@@ -23,8 +25,11 @@ returns-clause-asked g c =
     let value = c.enter-turn.result.value in
     let same = one_fixed _ (fixed_in value) kept c.enter-turn.ensures.fixed c.requires.pass.kept in
     let entered = c.enter-turn.ensures in
-    let adds = subst (λ t. Adds (fixed_in value) t c.args.text.now (pairs_in value) (pairs_in c.settle-reply.new.self) c.settle-reply.result) c.ticket-ticket.ensures.0 c.settle-reply.ensures.adds in
-    asked_in_turn kept c.enter-turn.result.ticket (pairs_in value) (pairs_in c.settle-reply.new.self) _ entered.view entered.later entered.whole entered.fresh entered.mine c.leave.ensures.view c.leave.ensures.mine
+    let adds = subst (λ t.
+    Adds (fixed_in value) t c.args.text.now (pairs_in value) (pairs_in c.settle-reply.new.self) c.settle-reply.result) c.ticket-ticket.ensures.0
+    c.settle-reply.ensures.adds in
+    asked_in_turn kept c.enter-turn.result.ticket (pairs_in value)
+    (pairs_in c.settle-reply.new.self) _ entered.view entered.later entered.whole entered.fresh entered.mine c.leave.ensures.view c.leave.ensures.mine
     (subst (λ f. Adds f c.enter-turn.result.ticket c.args.text.now (pairs_in value) (pairs_in c.settle-reply.new.self) c.settle-reply.result) same adds)
 
 pub returns-clause-reply : goal.returns-clause-reply

@@ -17,35 +17,49 @@ use Rattle.desk_counter.proofs.Closing.{closed_legal, closed_sizes, closed_whole
 use Rattle.desk_counter.proofs.counter.CounterOf+TicketedDesk+D.close.Goals as goal
 
 pub returns-clause-history : goal.returns-clause-history
-returns-clause-history g c = ap (λ (d : Desk g.row.D.Denot g.D.Disk). desk_history d) c.into_desk-desk.ensures ∙ sym (history_in c.close.result) ∙ ap (λ ps. history_of ps) c.close.ensures.entries
+returns-clause-history g c =
+    ap (λ (d : Desk g.row.D.Denot g.D.Disk). desk_history d) c.into_desk-desk.ensures ∙ sym (history_in c.close.result)
+    ∙ ap (λ ps. history_of ps) c.close.ensures.entries
 
 pub returns-clause-added : goal.returns-clause-added
-returns-clause-added g c = ap (λ ps. history_of ps) (sym c.close.ensures.entries ∙ c.close.ensures.added) ∙ history_all (pairs_in (first_value c.args.self.turnstile)) (mine c.args.pass)
+returns-clause-added g c =
+    ap (λ ps. history_of ps) (sym c.close.ensures.entries ∙ c.close.ensures.added)
+    ∙ history_all (pairs_in (first_value c.args.self.turnstile)) (mine c.args.pass)
 
 pub returns-clause-in_flight : goal.returns-clause-in_flight
-returns-clause-in_flight g c = ap (λ (d : Desk g.row.D.Denot g.D.Disk). entry_in_flight d) c.into_desk-desk.ensures ∙ sym (flying_in c.close.result) ∙ ap (λ ps. flying ps) c.close.ensures.entries
+returns-clause-in_flight g c =
+    ap (λ (d : Desk g.row.D.Denot g.D.Disk). entry_in_flight d) c.into_desk-desk.ensures ∙ sym (flying_in c.close.result)
+    ∙ ap (λ ps. flying ps) c.close.ensures.entries
 
 pub returns-clause-kept : goal.returns-clause-kept
 returns-clause-kept g c =
-    ap (λ (d : Desk g.row.D.Denot g.D.Disk). fixed_of d) c.into_desk-desk.ensures ∙ one_fixed _ (fixed_in c.close.result) (kept_by c.args.self) c.close.ensures.fixed c.requires.pass.kept
+    ap (λ (d : Desk g.row.D.Denot g.D.Disk). fixed_of d) c.into_desk-desk.ensures
+    ∙ one_fixed _ (fixed_in c.close.result) (kept_by c.args.self) c.close.ensures.fixed c.requires.pass.kept
 
 pub returns-clause-legal : goal.returns-clause-legal
-returns-clause-legal g c = closed_legal c.into_desk-desk.result (kept_by c.args.self) (seen c.args.pass) (returns-clause-kept g c) (returns-clause-history g c) (returns-clause-in_flight g c) c.known.ensures.legal
+returns-clause-legal g c =
+    closed_legal c.into_desk-desk.result (kept_by c.args.self) (seen c.args.pass) (returns-clause-kept g c) (returns-clause-history g c)
+    (returns-clause-in_flight g c) c.known.ensures.legal
 
 pub returns-clause-sizes : goal.returns-clause-sizes
-returns-clause-sizes g c = closed_sizes c.into_desk-desk.result (kept_by c.args.self) (seen c.args.pass) (returns-clause-kept g c) (returns-clause-history g c) (returns-clause-in_flight g c) c.known.ensures.sizes
+returns-clause-sizes g c =
+    closed_sizes c.into_desk-desk.result (kept_by c.args.self) (seen c.args.pass) (returns-clause-kept g c) (returns-clause-history g c)
+    (returns-clause-in_flight g c) c.known.ensures.sizes
 
 pub returns-clause-whole : goal.returns-clause-whole
 returns-clause-whole g c =
-    closed_whole c.into_desk-desk.result (kept_by c.args.self) (seen c.args.pass) (returns-clause-kept g c) (returns-clause-history g c) (returns-clause-in_flight g c) g.D.Disk.tells (λ i. g.D.Disk.image (desk_disk c.into_desk-desk.result) i) c.known.ensures.whole
+    closed_whole c.into_desk-desk.result (kept_by c.args.self) (seen c.args.pass) (returns-clause-kept g c) (returns-clause-history g c)
+    (returns-clause-in_flight g c) g.D.Disk.tells (λ i. g.D.Disk.image (desk_disk c.into_desk-desk.result) i) c.known.ensures.whole
 
 pub returns-clause-images : goal.returns-clause-images
 returns-clause-images g c =
-    closed_images c.into_desk-desk.result (kept_by c.args.self) (seen c.args.pass) (returns-clause-kept g c) (returns-clause-history g c) (returns-clause-in_flight g c) g.D.Disk.tells (λ i. g.D.Disk.image (desk_disk c.into_desk-desk.result) i) c.known.ensures.images
+    closed_images c.into_desk-desk.result (kept_by c.args.self) (seen c.args.pass) (returns-clause-kept g c) (returns-clause-history g c)
+    (returns-clause-in_flight g c) g.D.Disk.tells (λ i. g.D.Disk.image (desk_disk c.into_desk-desk.result) i) c.known.ensures.images
 
 pub returns-clause-cause : goal.returns-clause-cause
 returns-clause-cause g c =
-    closed_cause c.into_desk-desk.result (kept_by c.args.self) (seen c.args.pass) (returns-clause-kept g c) (returns-clause-history g c) (returns-clause-in_flight g c) g.D.Disk.faults c.known.ensures.cause
+    closed_cause c.into_desk-desk.result (kept_by c.args.self) (seen c.args.pass) (returns-clause-kept g c) (returns-clause-history g c)
+    (returns-clause-in_flight g c) g.D.Disk.faults c.known.ensures.cause
 
 pub returns-clause-since : goal.returns-clause-since
 returns-clause-since g c =
@@ -56,12 +70,15 @@ returns-clause-since g c =
     g.D.Disk.tells → is_sealed kept.standing ≡ false → (i : List ℕ) → g.D.Disk.image_since (desk_disk c.into_desk-desk.result) (g.D.Disk.moment f.disk) i
     → StandsWithin kept.schema kept.header (length kept.opening) (history_of (seen c.args.pass) ++ option_to_list (flying (seen c.args.pass))) i) same
     (closed_since c.into_desk-desk.result kept (seen c.args.pass) same (returns-clause-history g c) (returns-clause-in_flight g c) g.D.Disk.tells
-    (λ i. g.D.Disk.image_since (desk_disk c.into_desk-desk.result) (g.D.Disk.moment (fixed_of c.into_desk-desk.result).disk) i) c.known.ensures.begins c.known.ensures.since)
+    (λ i. g.D.Disk.image_since (desk_disk c.into_desk-desk.result) (g.D.Disk.moment (fixed_of c.into_desk-desk.result).disk) i) c.known.ensures.begins
+    c.known.ensures.since)
 
 pub returns-clause-still : goal.returns-clause-still
 returns-clause-still g c =
-    closed_still c.into_desk-desk.result (kept_by c.args.self) (seen c.args.pass) (returns-clause-kept g c) (returns-clause-history g c) (returns-clause-in_flight g c) c.known.ensures.begins c.known.ensures.still
+    closed_still c.into_desk-desk.result (kept_by c.args.self) (seen c.args.pass) (returns-clause-kept g c) (returns-clause-history g c)
+    (returns-clause-in_flight g c) c.known.ensures.begins c.known.ensures.still
 
 pub returns-clause-idle : goal.returns-clause-idle
 returns-clause-idle g c =
-    closed_idle c.into_desk-desk.result (kept_by c.args.self) (seen c.args.pass) (returns-clause-kept g c) (returns-clause-history g c) (returns-clause-in_flight g c) c.known.ensures.none c.known.ensures.idle
+    closed_idle c.into_desk-desk.result (kept_by c.args.self) (seen c.args.pass) (returns-clause-kept g c) (returns-clause-history g c)
+    (returns-clause-in_flight g c) c.known.ensures.none c.known.ensures.idle

@@ -12,12 +12,15 @@ use Rattle.desk_counter.proofs.counter.CounterOf+TicketedDesk+D.new.Goals as goa
 
 pub returns-in-Ok-clause-first : goal.returns-in-Ok-clause-first
 returns-in-Ok-clause-first g c =
-    ap (λ (v : TicketedDesk g.row.D.Denot g.D.Disk). history_of (pairs_in v)) c.in-Ok.ensures.first ∙ history_in c.in_ok-value.value ∙ ap (λ (d : Desk g.row.D.Denot g.D.Disk). desk_history d) c.in_ok-value.ensures.desk
+    ap (λ (v : TicketedDesk g.row.D.Denot g.D.Disk). history_of (pairs_in v)) c.in-Ok.ensures.first ∙ history_in c.in_ok-value.value
+    ∙ ap (λ (d : Desk g.row.D.Denot g.D.Disk). desk_history d) c.in_ok-value.ensures.desk
 
 pub returns-in-Ok-clause-history : goal.returns-in-Ok-clause-history
 returns-in-Ok-clause-history g c =
-    ap (λ (v : View Item (Fixed g.row.D.Denot)). history_of v.seen) c.in-Ok.ensures.view ∙ history_in c.in_ok-value.value ∙ ap (λ (d : Desk g.row.D.Denot g.D.Disk). desk_history d) c.in_ok-value.ensures.desk
+    ap (λ (v : View Item (Fixed g.row.D.Denot)). history_of v.seen) c.in-Ok.ensures.view ∙ history_in c.in_ok-value.value
+    ∙ ap (λ (d : Desk g.row.D.Denot g.D.Disk). desk_history d) c.in_ok-value.ensures.desk
 
 pub returns-in-Ok-clause-in_flight : goal.returns-in-Ok-clause-in_flight
 returns-in-Ok-clause-in_flight g c =
-    ap (λ (v : View Item (Fixed g.row.D.Denot)). flying v.seen) c.in-Ok.ensures.view ∙ flying_in c.in_ok-value.value ∙ ap (λ (d : Desk g.row.D.Denot g.D.Disk). entry_in_flight d) c.in_ok-value.ensures.desk
+    ap (λ (v : View Item (Fixed g.row.D.Denot)). flying v.seen) c.in-Ok.ensures.view ∙ flying_in c.in_ok-value.value
+    ∙ ap (λ (d : Desk g.row.D.Denot g.D.Disk). entry_in_flight d) c.in_ok-value.ensures.desk

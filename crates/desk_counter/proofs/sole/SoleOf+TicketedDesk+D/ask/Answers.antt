@@ -11,4 +11,5 @@ pub returns-clause-settled : goal.returns-clause-settled
 returns-clause-settled g c state is =
     let kept : Fixed g.row.D.Denot = kept_in c.args.self.now in
     let asked = c.ask-reply.ensures.asked in
-    adds_ask kept c.args.text.now asked.found (seen c.ask-reply.new.pass) state (subst (λ ps. IsState kept.standing (state_shown kept ps) state) (sym (asked.whole c.args.self.now.all)) is) c.ask-reply.result asked.adds
+    adds_ask kept c.args.text.now asked.found (seen c.ask-reply.new.pass) state
+    (subst (λ ps. IsState kept.standing (state_shown kept ps) state) (sym (asked.whole c.args.self.now.all)) is) c.ask-reply.result asked.adds

@@ -6,4 +6,6 @@ use Rattle.desk_counter.proofs.DeskSettles.{opening_pairs}
 use Rattle.desk_counter.proofs.ticketed_desk.TicketedDesk.new.Goals as goal
 
 pub returns-in-Ok-clause-opening : goal.returns-in-Ok-clause-opening
-returns-in-Ok-clause-opening g c = subst (λ (ts : List ℕ). IsOpening (pairs_of ts (desk_history c.args.desk) 0 (entry_in_flight c.args.desk))) (sym c.in-Ok.ensures) (opening_pairs _ (desk_history c.args.desk) (entry_in_flight c.args.desk))
+returns-in-Ok-clause-opening g c =
+    subst (λ (ts : List ℕ). IsOpening (pairs_of ts (desk_history c.args.desk) 0 (entry_in_flight c.args.desk))) (sym c.in-Ok.ensures)
+    (opening_pairs _ (desk_history c.args.desk) (entry_in_flight c.args.desk))

@@ -12,7 +12,13 @@ pub push_byte-requires : goal.push_byte-requires
 push_byte-requires t c =
     elim c.if-number-ge10.branch [
       | then-number-ge10 w ↦
-          omega (arith, ap length w.self-is, ap length w.push_decimal.ensures, length-append c.args.self.now (decimal (c.args.number / 10)), length-last c.args.number w.if-number-ge10.true (omega arith))
+          omega (
+            arith,
+            ap length w.self-is,
+            ap length w.push_decimal.ensures,
+            length-append c.args.self.now (decimal (c.args.number / 10)),
+            length-last c.args.number w.if-number-ge10.true (omega arith),
+          )
       | else-number-ge10 w ↦ omega (arith, ap length w.self-is, length-digit c.args.number w.if-number-ge10.false)
     ]
 

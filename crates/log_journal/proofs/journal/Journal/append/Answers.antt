@@ -5,7 +5,8 @@ use Rattle.log_journal.proofs.journal.Journal.append.Goals as goal
 
 pub returns-in-Ok-clause-kept : goal.returns-in-Ok-clause-kept
 returns-in-Ok-clause-kept g c told c' is =
-    subst (λ b. Adds (g.D.Disk.reads (disk_of c.args.self.now)) (c.args.kind, c.args.text.now) b) (sym (c.in-Ok.ensures.durable c' is)) (c.in-Ok.ensures.added told)
+    subst (λ b. Adds (g.D.Disk.reads (disk_of c.args.self.now)) (c.args.kind, c.args.text.now) b) (sym (c.in-Ok.ensures.durable c' is))
+    (c.in-Ok.ensures.added told)
 
 pub returns-in-Ok-clause-moments : goal.returns-in-Ok-clause-moments
 returns-in-Ok-clause-moments g c told whole = c.put_record.ensures.moments told

@@ -14,5 +14,8 @@ loop-call-preserved c =
     let here : call ≡ get_or calls index call = search rules in
     let grown = take_more calls index call within ∙ ap (λ (x : Call). take index calls ++ x ∷ []) (sym here) in
     let bytes : c.in_ok-next.next.0.items ≡ bytes_after_operation c.loop-call.bytes.items call.operation call.failed = search rules in
-    let image : image_after_operation c.loop-call.bytes.items (λ d. d ≡ c.loop-call.image.items) call.operation call.failed c.in_ok-next.next.1.items = search rules in
-    picked_more c.args.self.now.first.items (take index calls) _ call c.loop-call.bytes.items c.loop-call.image.items c.in_ok-next.next.0.items c.in_ok-next.next.1.items grown c.loop-call.invariant bytes image
+    let image : image_after_operation c.loop-call.bytes.items (λ d. d ≡ c.loop-call.image.items) call.operation call.failed c.in_ok-next.next.1.items =
+    search rules in
+    picked_more c.args.self.now.first.items
+    (take index calls) _ call c.loop-call.bytes.items c.loop-call.image.items c.in_ok-next.next.0.items c.in_ok-next.next.1.items grown
+    c.loop-call.invariant bytes image

@@ -30,7 +30,8 @@ abbrev pub invariant-both-loop-self : goal.invariant-both-loop-self
 invariant-both-loop-self l = record {
   same : IsSameText l.fn.self l.self;
   shorter : length l.self.tokens < length l.fn.self.tokens;
-  so_far : ChainGoesOn And conjunction (unary l.fn.self.schema l.fn.self.refusal (inside l.fn.self.schema l.fn.self.refusal l.room) (binders l.scope)) (formula_of l.left) l.self.tokens
+  so_far : ChainGoesOn And conjunction (unary l.fn.self.schema l.fn.self.refusal (inside l.fn.self.schema l.fn.self.refusal l.room) (binders l.scope))
+      (formula_of l.left) l.self.tokens
       (both (unary l.fn.self.schema l.fn.self.refusal (inside l.fn.self.schema l.fn.self.refusal l.room) (binders l.scope)) l.fn.self.tokens);
 }
 
@@ -41,7 +42,8 @@ abbrev pub invariant-either-loop-self : goal.invariant-either-loop-self
 invariant-either-loop-self l = record {
   same : IsSameText l.fn.self l.self;
   shorter : length l.self.tokens < length l.fn.self.tokens;
-  so_far : ChainGoesOn Or disjunction (both (unary l.fn.self.schema l.fn.self.refusal (inside l.fn.self.schema l.fn.self.refusal l.room) (binders l.scope))) (formula_of l.left) l.self.tokens
+  so_far : ChainGoesOn Or disjunction (both (unary l.fn.self.schema l.fn.self.refusal (inside l.fn.self.schema l.fn.self.refusal l.room) (binders l.scope)))
+      (formula_of l.left) l.self.tokens
       (either (unary l.fn.self.schema l.fn.self.refusal (inside l.fn.self.schema l.fn.self.refusal l.room) (binders l.scope)) l.fn.self.tokens);
 }
 

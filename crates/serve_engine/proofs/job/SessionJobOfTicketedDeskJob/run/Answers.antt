@@ -34,7 +34,8 @@ invariant_of-self g c =
     record {
       many = passes_many new counters are;
       held = at_each new counters are;
-      opened = each_opened new counters are (openings_later fixeds old new (sees_more old new (of_passes session.who fixeds old new session.asks session.desks)) openings);
+      opened = each_opened new counters are
+          (openings_later fixeds old new (sees_more old new (of_passes session.who fixeds old new session.asks session.desks)) openings);
       legal = each_legal new counters are after.legal;
     }
 
@@ -43,7 +44,8 @@ returns-clause-room g c =
     let job = c.args.self.now in
     let session = c.serve_session-ended.ensures.session in
     let no_more = talks_few (users_of job.counters.now) session.talks in
-    of_room session.who (fixeds_of job.counters.now) (passes_in job.passes) (passes_in c.serve_session-ended.new.passes) session.asks (omega (arith, session.few, no_more)) session.desks
+    of_room session.who (fixeds_of job.counters.now) (passes_in job.passes) (passes_in c.serve_session-ended.new.passes) session.asks
+    (omega (arith, session.few, no_more)) session.desks
 
 pub returns-clause-keeps : goal.returns-clause-keeps
 returns-clause-keeps g c =
@@ -63,9 +65,11 @@ returns-clause-visit g c =
     let session = says.session in
     let later = members_later fixeds old new (sees_more old new (of_passes session.who fixeds old new session.asks session.desks)) in
     let openings = have_opened old counters (are_passes old counters job.many job.held) job.opened in
-    λ untouched first visits stood. served_more job.counters.now first.passes job.passes now.passes visits _ (marks_of session.who fixeds old new session.asks session.desks) stood later
+    λ untouched first visits stood.
+    served_more job.counters.now first.passes job.passes now.passes visits _ (marks_of session.who fixeds old new session.asks session.desks) stood later
     (λ schema world within. session_served g.Src.Source.tells g.Snk.Sink.tells (users_of job.counters.now) fixeds c.serve_session-ended.result
-    (g.Src.Source.held c.args.source.now) (g.Src.Source.held now.source) (g.Src.Source.left c.args.source.now) old new (g.Snk.Sink.written c.args.sink.now) (g.Snk.Sink.written now.sink)
+    (g.Src.Source.held c.args.source.now) (g.Src.Source.held now.source) (g.Src.Source.left c.args.source.now) old new (g.Snk.Sink.written c.args.sink.now)
+    (g.Snk.Sink.written now.sink)
     (g.Src.Source.faults c.args.source.now) (g.Snk.Sink.faults c.args.sink.now) (g.Src.Source.faults now.source) (g.Snk.Sink.faults now.sink)
     session untouched says.held says.read_cause says.write_cause schema world within openings)
     (λ weight place. of_own weight place session.who fixeds old new session.asks session.desks)

@@ -23,14 +23,17 @@ load-requires g c =
 pub returns-clause-fixed : goal.returns-clause-fixed
 returns-clause-fixed g c =
     let here = ap (λ (p : Pass g.row.V-Item.Denot g.row.V-Fixed.Denot). p.badge.views) (sym c.replace-badge.ensures.value) ∙ c.into_seat-seat.ensures.2 in
-    (joining g.V.Recorded.entries g.V.Recorded.fixed c.args.pass.now c.args.other _ _ here c.into_seat.ensures.2 _ _ (ap (λ m. m.0) c.join_seat.ensures.2) c.load.ensures.2 _ c.into_badge.ensures.2).agreed
+    (joining g.V.Recorded.entries g.V.Recorded.fixed c.args.pass.now c.args.other _ _ here c.into_seat.ensures.2 _ _
+    (ap (λ m. m.0) c.join_seat.ensures.2) c.load.ensures.2 _ c.into_badge.ensures.2).agreed
 
 pub returns-clause-mine : goal.returns-clause-mine
 returns-clause-mine g c =
     let here = ap (λ (p : Pass g.row.V-Item.Denot g.row.V-Fixed.Denot). p.badge.views) (sym c.replace-badge.ensures.value) ∙ c.into_seat-seat.ensures.2 in
-    (joining g.V.Recorded.entries g.V.Recorded.fixed c.args.pass.now c.args.other _ _ here c.into_seat.ensures.2 _ _ (ap (λ m. m.0) c.join_seat.ensures.2) c.load.ensures.2 _ c.into_badge.ensures.2).mine_of_both
+    (joining g.V.Recorded.entries g.V.Recorded.fixed c.args.pass.now c.args.other _ _ here c.into_seat.ensures.2 _ _
+    (ap (λ m. m.0) c.join_seat.ensures.2) c.load.ensures.2 _ c.into_badge.ensures.2).mine_of_both
 
 pub returns-clause-apart : goal.returns-clause-apart
 returns-clause-apart g c =
     let here = ap (λ (p : Pass g.row.V-Item.Denot g.row.V-Fixed.Denot). p.badge.views) (sym c.replace-badge.ensures.value) ∙ c.into_seat-seat.ensures.2 in
-    (joining g.V.Recorded.entries g.V.Recorded.fixed c.args.pass.now c.args.other _ _ here c.into_seat.ensures.2 _ _ (ap (λ m. m.0) c.join_seat.ensures.2) c.load.ensures.2 _ c.into_badge.ensures.2).apart
+    (joining g.V.Recorded.entries g.V.Recorded.fixed c.args.pass.now c.args.other _ _ here c.into_seat.ensures.2 _ _
+    (ap (λ m. m.0) c.join_seat.ensures.2) c.load.ensures.2 _ c.into_badge.ensures.2).apart

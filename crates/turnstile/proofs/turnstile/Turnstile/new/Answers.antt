@@ -12,7 +12,9 @@ pub new-requires : goal.new-requires
 new-requires g c =
     let value : c.of-about.result.value ≡ c.args.value = search rules in
     let items : c.push.new.self.items ≡ Some c.args.value ∷ [] = (first_of (search rules, grind (arith, common_steps))) in
-    subst (λ (x : g.row.V.Denot × List (Option g.row.V.Denot)). TurnstileRule g.V.Recorded.entries g.V.Recorded.fixed (g.V.Recorded.fixed x.0) (g.V.Recorded.entries x.0) (opening (1 ∷ 1 ∷ []) x.1 (opening_view (g.V.Recorded.entries x.0) (g.V.Recorded.fixed x.0))))
+    subst (λ (x : g.row.V.Denot × List (Option g.row.V.Denot)).
+    TurnstileRule g.V.Recorded.entries g.V.Recorded.fixed (g.V.Recorded.fixed x.0) (g.V.Recorded.entries x.0)
+    (opening (1 ∷ 1 ∷ []) x.1 (opening_view (g.V.Recorded.entries x.0) (g.V.Recorded.fixed x.0))))
     (λ i. (sym value i, sym items i))
     (opens g.V.Recorded.entries g.V.Recorded.fixed (g.V.Recorded.fixed c.args.value) (g.V.Recorded.entries c.args.value) c.args.value c.requires refl refl)
 

@@ -19,8 +19,10 @@ use Rattle.user_desk.proofs.desk.Desk.record.Goals as goal
 pub returns-then-is_err-clause-moments : goal.returns-then-is_err-clause-moments
 returns-then-is_err-clause-moments g c told c' here =
     let desk = c.args.self.now in
-    still_holds _ _ _ _ _ _ _ _ _ _ _ desk.kept c.known.ensures.legal c.known.ensures.sizes c.args.text.now (ap is_sealed c.requires.opened) c.requires.whole told c'
-    (g.met.D.Disk.only_now (stored_disk desk.store) c' (subst (λ d. g.D.Disk.image_since d (g.D.Disk.moment (stored_disk desk.store)) c') c.reserve.ensures.disk here))
+    still_holds _ _ _ _ _ _ _ _ _ _ _ desk.kept c.known.ensures.legal c.known.ensures.sizes c.args.text.now
+    (ap is_sealed c.requires.opened) c.requires.whole told c'
+    (g.met.D.Disk.only_now (stored_disk desk.store) c'
+    (subst (λ d. g.D.Disk.image_since d (g.D.Disk.moment (stored_disk desk.store)) c') c.reserve.ensures.disk here))
 
 pub invariant_of-self-in-Ok-append : goal.invariant_of-self-in-Ok-append
 invariant_of-self-in-Ok-append g c =
@@ -30,21 +32,30 @@ invariant_of-self-in-Ok-append g c =
     let next : Recorded = (c.kind_of.result, c.as_bytes.result.now) in
     let bytes : List ℕ = g.D.Disk.reads (stored_disk store) in
     let same = c.in-Ok.ensures.same in
-    let legal = legal_back _ _ _ _ _ _ (kept_history desk.log) _ entry _ same.schema same.world same.user c.in-Ok.ensures.unchanged c.in-Ok.ensures.entry c.in-Ok.ensures.legal in
-    let sizes = sizes_back _ _ _ _ (kept_history desk.log) _ entry _ same.schema same.user c.in-Ok.ensures.unchanged c.in-Ok.ensures.entry c.in-Ok.ensures.sizes in
+    let legal = legal_back _ _ _ _ _ _
+    (kept_history desk.log) _ entry _ same.schema same.world same.user c.in-Ok.ensures.unchanged c.in-Ok.ensures.entry c.in-Ok.ensures.legal in
+    let sizes =
+    sizes_back _ _ _ _ (kept_history desk.log) _ entry _ same.schema same.user c.in-Ok.ensures.unchanged c.in-Ok.ensures.entry c.in-Ok.ensures.sizes in
     let read = λ (told : g.D.Disk.tells). subst (λ d. g.D.Disk.image d bytes) c.reserve.ensures.disk (g.met.D.Disk.read_is_image (stored_disk store) told) in
-    let is = record_of_answer (kept_schema desk.log) c.args.text.now c.as_bytes.result.now (formula_of c.args.query) c.args.mark c.kind_of.result c.as_bytes.ensures.value c.kind_of.ensures.back c.requires.answer.read in
-    let grows = growing _ _ _ _ _ _ _ _ _ _ _ entry next bytes desk.kept c.requires.opened c.requires.whole c.known.ensures.legal c.known.ensures.sizes legal sizes read is in
+    let is = record_of_answer (kept_schema desk.log) c.args.text.now c.as_bytes.result.now
+    (formula_of c.args.query) c.args.mark c.kind_of.result c.as_bytes.ensures.value c.kind_of.ensures.back c.requires.answer.read in
+    let grows = growing _ _ _ _ _ _ _ _ _ _ _ entry next bytes desk.kept c.requires.opened c.requires.whole c.known.ensures.legal c.known.ensures.sizes legal
+    sizes read is in
     let again = c.commit.ensures.same in
-    let grown = c.commit.ensures.added ∙ ap (λ (h : History). h ++ prepared_entry c.in-Ok.prepared ∷ []) c.in-Ok.ensures.unchanged ∙ ap (λ e. kept_history desk.log ++ e ∷ []) c.in-Ok.ensures.entry in
+    let grown = c.commit.ensures.added ∙ ap (λ (h : History). h ++ prepared_entry c.in-Ok.prepared ∷ []) c.in-Ok.ensures.unchanged
+    ∙ ap (λ e. kept_history desk.log ++ e ∷ []) c.in-Ok.ensures.entry in
     record {
       still = λ count none. absurd (omega (arith, count, desk.since.begins, ap length grown, length-append (kept_history desk.log) (entry ∷ [])));
-      kept = kept_added _ _ _ _ _ _ _ _ _ entry next bytes grows _ _ _ _ _ _ _ (again.schema ∙ same.schema) (again.world ∙ same.world) (again.user ∙ same.user) grown
+      kept = kept_added _ _ _ _ _ _ _ _ _ entry next bytes grows _ _ _ _ _ _ _ (again.schema ∙ same.schema) (again.world ∙ same.world)
+          (again.user ∙ same.user) grown
           c.append.ensures.journal c.in-Ok-append.ensures.whole c.in-Ok-append.ensures.added;
       since = since_added g.D.Disk.tells (λ i. g.D.Disk.image (stored_disk desk.store) i) _ _ _ _ _ _ _ entry next bytes grows
-          (λ i. g.D.Disk.image_since (stored_disk desk.store) (g.D.Disk.moment (opened_disk desk.store)) i) (λ i. g.D.Disk.image_since (stored_disk c.append.new.self) (g.D.Disk.moment (opened_disk c.append.new.self)) i) desk.opened _ desk.since
-          (λ told. split_moments g.D.Disk.moment g.D.Disk.image_since (opened_disk desk.store) (opened_disk c.append.new.self) (stored_disk desk.store) (stored_disk store) (stored_disk c.append.new.self) (λ i. KeepsOrAdds bytes next i)
-          c.reserve.ensures.disk (c.append.ensures.opened ∙ c.reserve.ensures.opened) c.known-2.ensures.time.later c.append.ensures.time (c.append.ensures.moments told))
+          (λ i. g.D.Disk.image_since (stored_disk desk.store) (g.D.Disk.moment (opened_disk desk.store)) i) (λ i.
+          g.D.Disk.image_since (stored_disk c.append.new.self) (g.D.Disk.moment (opened_disk c.append.new.self)) i) desk.opened _ desk.since
+          (λ told. split_moments g.D.Disk.moment g.D.Disk.image_since (opened_disk desk.store) (opened_disk c.append.new.self) (stored_disk desk.store)
+          (stored_disk store) (stored_disk c.append.new.self) (λ i. KeepsOrAdds bytes next i)
+          c.reserve.ensures.disk (c.append.ensures.opened ∙ c.reserve.ensures.opened) c.known-2.ensures.time.later c.append.ensures.time
+          (c.append.ensures.moments told))
           _ _ _ (again.schema ∙ same.schema) grown;
     }
 
@@ -56,19 +67,27 @@ invariant_of-self-in-Err g c =
     let next : Recorded = (c.kind_of.result, c.as_bytes.result.now) in
     let bytes : List ℕ = g.D.Disk.reads (stored_disk store) in
     let same = c.in-Ok.ensures.same in
-    let legal = legal_back _ _ _ _ _ _ (kept_history desk.log) _ entry _ same.schema same.world same.user c.in-Ok.ensures.unchanged c.in-Ok.ensures.entry c.in-Ok.ensures.legal in
-    let sizes = sizes_back _ _ _ _ (kept_history desk.log) _ entry _ same.schema same.user c.in-Ok.ensures.unchanged c.in-Ok.ensures.entry c.in-Ok.ensures.sizes in
+    let legal = legal_back _ _ _ _ _ _
+    (kept_history desk.log) _ entry _ same.schema same.world same.user c.in-Ok.ensures.unchanged c.in-Ok.ensures.entry c.in-Ok.ensures.legal in
+    let sizes =
+    sizes_back _ _ _ _ (kept_history desk.log) _ entry _ same.schema same.user c.in-Ok.ensures.unchanged c.in-Ok.ensures.entry c.in-Ok.ensures.sizes in
     let read = λ (told : g.D.Disk.tells). subst (λ d. g.D.Disk.image d bytes) c.reserve.ensures.disk (g.met.D.Disk.read_is_image (stored_disk store) told) in
-    let is = record_of_answer (kept_schema desk.log) c.args.text.now c.as_bytes.result.now (formula_of c.args.query) c.args.mark c.kind_of.result c.as_bytes.ensures.value c.kind_of.ensures.back c.requires.answer.read in
-    let grows = growing _ _ _ _ _ _ _ _ _ _ _ entry next bytes desk.kept c.requires.opened c.requires.whole c.known.ensures.legal c.known.ensures.sizes legal sizes read is in
+    let is = record_of_answer (kept_schema desk.log) c.args.text.now c.as_bytes.result.now
+    (formula_of c.args.query) c.args.mark c.kind_of.result c.as_bytes.ensures.value c.kind_of.ensures.back c.requires.answer.read in
+    let grows = growing _ _ _ _ _ _ _ _ _ _ _ entry next bytes desk.kept c.requires.opened c.requires.whole c.known.ensures.legal c.known.ensures.sizes legal
+    sizes read is in
     record {
       still = λ count none. absurd (some_not_none none);
-      kept = kept_flying _ _ _ _ _ _ _ _ _ entry next bytes grows _ _ _ _ _ _ _ _ same.schema same.world same.user c.in-Ok.ensures.unchanged (c.into_entry.ensures ∙ c.in-Ok.ensures.entry)
+      kept = kept_flying _ _ _ _ _ _ _ _ _ entry next bytes grows _ _ _ _ _ _ _ _ same.schema same.world same.user c.in-Ok.ensures.unchanged
+          (c.into_entry.ensures ∙ c.in-Ok.ensures.entry)
           c.append.ensures.journal c.in-Err.ensures.failed c.in-Err.ensures.either;
       since = since_flying g.D.Disk.tells (λ i. g.D.Disk.image (stored_disk desk.store) i) _ _ _ _ _ _ _ entry next bytes grows
-          (λ i. g.D.Disk.image_since (stored_disk desk.store) (g.D.Disk.moment (opened_disk desk.store)) i) (λ i. g.D.Disk.image_since (stored_disk c.append.new.self) (g.D.Disk.moment (opened_disk c.append.new.self)) i) desk.opened _ desk.since
-          (λ told. split_moments g.D.Disk.moment g.D.Disk.image_since (opened_disk desk.store) (opened_disk c.append.new.self) (stored_disk desk.store) (stored_disk store) (stored_disk c.append.new.self) (λ i. KeepsOrAdds bytes next i)
-          c.reserve.ensures.disk (c.append.ensures.opened ∙ c.reserve.ensures.opened) c.known-2.ensures.time.later c.append.ensures.time (c.append.ensures.moments told))
+          (λ i. g.D.Disk.image_since (stored_disk desk.store) (g.D.Disk.moment (opened_disk desk.store)) i) (λ i.
+          g.D.Disk.image_since (stored_disk c.append.new.self) (g.D.Disk.moment (opened_disk c.append.new.self)) i) desk.opened _ desk.since
+          (λ told. split_moments g.D.Disk.moment g.D.Disk.image_since (opened_disk desk.store) (opened_disk c.append.new.self) (stored_disk desk.store)
+          (stored_disk store) (stored_disk c.append.new.self) (λ i. KeepsOrAdds bytes next i)
+          c.reserve.ensures.disk (c.append.ensures.opened ∙ c.reserve.ensures.opened) c.known-2.ensures.time.later c.append.ensures.time
+          (c.append.ensures.moments told))
           _ _ _ _ same.schema c.in-Ok.ensures.unchanged (c.into_entry.ensures ∙ c.in-Ok.ensures.entry);
     }
 
@@ -80,13 +99,18 @@ returns-in-Ok-append-clause-moments g c told c' here =
     let next : Recorded = (c.kind_of.result, c.as_bytes.result.now) in
     let bytes : List ℕ = g.D.Disk.reads (stored_disk store) in
     let same = c.in-Ok.ensures.same in
-    let legal = legal_back _ _ _ _ _ _ (kept_history desk.log) _ entry _ same.schema same.world same.user c.in-Ok.ensures.unchanged c.in-Ok.ensures.entry c.in-Ok.ensures.legal in
-    let sizes = sizes_back _ _ _ _ (kept_history desk.log) _ entry _ same.schema same.user c.in-Ok.ensures.unchanged c.in-Ok.ensures.entry c.in-Ok.ensures.sizes in
+    let legal = legal_back _ _ _ _ _ _
+    (kept_history desk.log) _ entry _ same.schema same.world same.user c.in-Ok.ensures.unchanged c.in-Ok.ensures.entry c.in-Ok.ensures.legal in
+    let sizes =
+    sizes_back _ _ _ _ (kept_history desk.log) _ entry _ same.schema same.user c.in-Ok.ensures.unchanged c.in-Ok.ensures.entry c.in-Ok.ensures.sizes in
     let read = λ (told : g.D.Disk.tells). subst (λ d. g.D.Disk.image d bytes) c.reserve.ensures.disk (g.met.D.Disk.read_is_image (stored_disk store) told) in
-    let is = record_of_answer (kept_schema desk.log) c.args.text.now c.as_bytes.result.now (formula_of c.args.query) c.args.mark c.kind_of.result c.as_bytes.ensures.value c.kind_of.ensures.back c.requires.answer.read in
-    let grows = growing _ _ _ _ _ _ _ _ _ _ _ entry next bytes desk.kept c.requires.opened c.requires.whole c.known.ensures.legal c.known.ensures.sizes legal sizes read is in
+    let is = record_of_answer (kept_schema desk.log) c.args.text.now c.as_bytes.result.now
+    (formula_of c.args.query) c.args.mark c.kind_of.result c.as_bytes.ensures.value c.kind_of.ensures.back c.requires.answer.read in
+    let grows = growing _ _ _ _ _ _ _ _ _ _ _ entry next bytes desk.kept c.requires.opened c.requires.whole c.known.ensures.legal c.known.ensures.sizes legal
+    sizes read is in
     let since = subst (λ d. g.D.Disk.image_since (stored_disk c.append.new.self) (g.D.Disk.moment d) c') (sym c.reserve.ensures.disk) here in
-    moment_holds _ _ _ _ _ _ _ _ _ entry next bytes grows c.args.text.now (formula_of c.args.query) c.args.mark c.requires.answer refl told c' (c.append.ensures.moments told c' since)
+    moment_holds _ _ _ _ _ _ _ _ _ entry next bytes grows c.args.text.now (formula_of c.args.query) c.args.mark c.requires.answer refl told c'
+    (c.append.ensures.moments told c' since)
 
 pub returns-in-Err-clause-settled : goal.returns-in-Err-clause-settled
 returns-in-Err-clause-settled g c =
@@ -94,8 +118,10 @@ returns-in-Err-clause-settled g c =
     let entry : AnsweredQuery = record { query = formula_of c.args.query; mark = c.args.mark; length = length c.args.text.now } in
     let standing = standing_of desk.standing in
     let rose = subst (λ d. Rose (g.D.Disk.faults d) (g.D.Disk.faults (stored_disk c.append.new.self))) c.reserve.ensures.disk c.in-Err.ensures.cause in
-    let flies = ap (λ (h : History). shown h standing (Some (prepared_entry c.in-Ok.prepared))) c.in-Ok.ensures.unchanged ∙ ap (λ (e : AnsweredQuery). shown (kept_history desk.log) standing (Some e)) c.in-Ok.ensures.entry in
-    failure_settles (kept_schema desk.log) (kept_world desk.log) (kept_user desk.log) (state_of desk) _ c.args.text.now (formula_of c.args.query) c.args.mark _ _
+    let flies = ap (λ (h : History). shown h standing (Some (prepared_entry c.in-Ok.prepared))) c.in-Ok.ensures.unchanged
+    ∙ ap (λ (e : AnsweredQuery). shown (kept_history desk.log) standing (Some e)) c.in-Ok.ensures.entry in
+    failure_settles (kept_schema desk.log) (kept_world desk.log) (kept_user desk.log) (state_of desk) _ c.args.text.now
+    (formula_of c.args.query) c.args.mark _ _
     (ap standing_of c.requires.opened) (ap (λ (o : Option AnsweredQuery). is_some o) c.requires.whole) c.requires.answer rose
     (ap (λ (e : AnsweredQuery). shown (kept_history c.prepare.new.self) standing (Some e)) c.into_entry.ensures ∙ flies)
 
@@ -107,19 +133,25 @@ returns-in-Err-clause-moments g c told c' here =
     let next : Recorded = (c.kind_of.result, c.as_bytes.result.now) in
     let bytes : List ℕ = g.D.Disk.reads (stored_disk store) in
     let same = c.in-Ok.ensures.same in
-    let legal = legal_back _ _ _ _ _ _ (kept_history desk.log) _ entry _ same.schema same.world same.user c.in-Ok.ensures.unchanged c.in-Ok.ensures.entry c.in-Ok.ensures.legal in
-    let sizes = sizes_back _ _ _ _ (kept_history desk.log) _ entry _ same.schema same.user c.in-Ok.ensures.unchanged c.in-Ok.ensures.entry c.in-Ok.ensures.sizes in
+    let legal = legal_back _ _ _ _ _ _
+    (kept_history desk.log) _ entry _ same.schema same.world same.user c.in-Ok.ensures.unchanged c.in-Ok.ensures.entry c.in-Ok.ensures.legal in
+    let sizes =
+    sizes_back _ _ _ _ (kept_history desk.log) _ entry _ same.schema same.user c.in-Ok.ensures.unchanged c.in-Ok.ensures.entry c.in-Ok.ensures.sizes in
     let read = λ (told : g.D.Disk.tells). subst (λ d. g.D.Disk.image d bytes) c.reserve.ensures.disk (g.met.D.Disk.read_is_image (stored_disk store) told) in
-    let is = record_of_answer (kept_schema desk.log) c.args.text.now c.as_bytes.result.now (formula_of c.args.query) c.args.mark c.kind_of.result c.as_bytes.ensures.value c.kind_of.ensures.back c.requires.answer.read in
-    let grows = growing _ _ _ _ _ _ _ _ _ _ _ entry next bytes desk.kept c.requires.opened c.requires.whole c.known.ensures.legal c.known.ensures.sizes legal sizes read is in
+    let is = record_of_answer (kept_schema desk.log) c.args.text.now c.as_bytes.result.now
+    (formula_of c.args.query) c.args.mark c.kind_of.result c.as_bytes.ensures.value c.kind_of.ensures.back c.requires.answer.read in
+    let grows = growing _ _ _ _ _ _ _ _ _ _ _ entry next bytes desk.kept c.requires.opened c.requires.whole c.known.ensures.legal c.known.ensures.sizes legal
+    sizes read is in
     let since = subst (λ d. g.D.Disk.image_since (stored_disk c.append.new.self) (g.D.Disk.moment d) c') (sym c.reserve.ensures.disk) here in
-    moment_holds _ _ _ _ _ _ _ _ _ entry next bytes grows c.args.text.now (formula_of c.args.query) c.args.mark c.requires.answer refl told c' (c.append.ensures.moments told c' since)
+    moment_holds _ _ _ _ _ _ _ _ _ entry next bytes grows c.args.text.now (formula_of c.args.query) c.args.mark c.requires.answer refl told c'
+    (c.append.ensures.moments told c' since)
 
 pub returns-in-Ok-append-clause-opening : goal.returns-in-Ok-append-clause-opening
 returns-in-Ok-append-clause-opening g c =
     let desk = c.args.self.now in
     let entry : AnsweredQuery = record { query = formula_of c.args.query; mark = c.args.mark; length = length c.args.text.now } in
-    let grown = c.commit.ensures.added ∙ ap (λ (h : History). h ++ prepared_entry c.in-Ok.prepared ∷ []) c.in-Ok.ensures.unchanged ∙ ap (λ e. kept_history desk.log ++ e ∷ []) c.in-Ok.ensures.entry in
+    let grown = c.commit.ensures.added ∙ ap (λ (h : History). h ++ prepared_entry c.in-Ok.prepared ∷ []) c.in-Ok.ensures.unchanged
+    ∙ ap (λ e. kept_history desk.log ++ e ∷ []) c.in-Ok.ensures.entry in
     record {
       count = refl;
       entries = ap (λ (h : History). take desk.opened h) grown ∙ take-append-le desk.opened (kept_history desk.log) (entry ∷ []) desk.since.begins;

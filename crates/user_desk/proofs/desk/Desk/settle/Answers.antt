@@ -8,9 +8,11 @@ returns-in-Some-clause-settled g c state at = c.in-Some.ensures.answers state at
 pub returns-in-Some-clause-moments : goal.returns-in-Some-clause-moments
 returns-in-Some-clause-moments g c told served c' here =
     let desk = c.args.self.now in
-    code_holds _ _ _ _ _ _ _ _ _ _ _ desk.kept c.known.ensures.legal c.known.ensures.sizes c.args.text.now served c.in-Some.ensures.adds told c' (g.met.D.Disk.only_now (stored_disk desk.store) c' here)
+    code_holds _ _ _ _ _ _ _ _ _ _ _ desk.kept c.known.ensures.legal c.known.ensures.sizes c.args.text.now served c.in-Some.ensures.adds told c'
+    (g.met.D.Disk.only_now (stored_disk desk.store) c' here)
 
 pub returns-in-Err-clause-moments : goal.returns-in-Err-clause-moments
 returns-in-Err-clause-moments g c told served c' here =
     let desk = c.args.self.now in
-    still_holds _ _ _ _ _ _ _ _ _ _ _ desk.kept c.known.ensures.legal c.known.ensures.sizes c.args.text.now served c.in_default.ensures.whole told c' (g.met.D.Disk.only_now (stored_disk desk.store) c' here)
+    still_holds _ _ _ _ _ _ _ _ _ _ _ desk.kept c.known.ensures.legal c.known.ensures.sizes c.args.text.now served c.in_default.ensures.whole told c'
+    (g.met.D.Disk.only_now (stored_disk desk.store) c' here)

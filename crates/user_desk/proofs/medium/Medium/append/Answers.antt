@@ -9,7 +9,8 @@ returns-in-Ok-clause-moments g c = rw c.in-Journal.is (λ told. c.append.ensures
 pub returns-in-Err-clause-either : goal.returns-in-Err-clause-either
 returns-in-Err-clause-either g c =
     rw c.in-Journal.is
-    (λ told c' here. c.append.ensures.moments told (rw c.in-Journal.is at c.requires.whole) c' (g.met.D.Disk.counts_now _ _ c' c.append.ensures.time.later here))
+    (λ told c' here.
+    c.append.ensures.moments told (rw c.in-Journal.is at c.requires.whole) c' (g.met.D.Disk.counts_now _ _ c' c.append.ensures.time.later here))
 
 pub returns-in-Err-clause-moments : goal.returns-in-Err-clause-moments
 returns-in-Err-clause-moments g c = rw c.in-Journal.is (λ told. c.append.ensures.moments told (rw c.in-Journal.is at c.requires.whole))

@@ -14,7 +14,8 @@ examine-requires-clause-all_nodes c =
     let kept = c.args.self.now.kept in
     let schema = c.args.self.now.schema.now in
     let query = formula_of c.args.query.now in
-    let fits = c.law_limits.ensures.queries schema (profile_of c.args.self.now.user.now) (map answered_query_of c.args.self.now.entries.items) query kept.limits c.requires.small in
+    let fits = c.law_limits.ensures.queries schema (profile_of c.args.self.now.user.now)
+    (map answered_query_of c.args.self.now.entries.items) query kept.limits c.requires.small in
     subst (λ s. log_nodes s (log_of c.args.self.now.view) + nodes s query ≤ 60000) (sym kept.schema_is)
     (subst (λ told. log_nodes schema told + nodes schema query ≤ 60000) (sym kept.log_is) (fits.log_nodes true))
 
@@ -29,4 +30,5 @@ returns-clause-rule c =
 pub returns-clause-undecided : goal.returns-clause-undecided
 returns-clause-undecided c =
     let self = c.args.self.now in
-    mark_by_cost c.law_undecided_is_cost.ensures (kept_schema self) (kept_world self) (kept_user self) (kept_history self) (formula_of c.args.query.now) _ (returns-clause-rule c)
+    mark_by_cost c.law_undecided_is_cost.ensures (kept_schema self) (kept_world self) (kept_user self) (kept_history self) (formula_of c.args.query.now) _
+    (returns-clause-rule c)
