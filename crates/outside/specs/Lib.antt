@@ -3,6 +3,7 @@ pub mod Streams
 pub mod MemoryStreams
 pub mod Disk
 pub mod Record
+-- proofs, which ghost members name; no definitions
 pub mod RecordLaws
 pub mod MemoryDisk
 pub mod MemoryFiles
