@@ -89,8 +89,8 @@ secret hiv(ann)
 
 /// Keys in another order, upper case digits, an absent `know` and a budget: numbers go by the keys'
 /// bytes.
-const TURNED: &str = r#"users = [{budget = 4000000, secrets = ["takes(ann,
-        aspirin)"], method = "refusal", name = "Ann2",
+const TURNED: &str =
+    r#"users = [{budget = 4000000, secrets = ["takes(ann, aspirin)"], method = "refusal", name = "Ann2",
   token = "BA7816BF8F01CFEA414140DE5DAE2223B00361A396177A9CB410FF61F20015AD"}]
 relations = {takes = ["person", "drugs"], Zed = [], hiv = ["person"]}
 domains = {person = ["bob", "ann"], drugs = ["aspirin"]}
