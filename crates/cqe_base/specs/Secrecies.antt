@@ -1,8 +1,8 @@
 -- Secrecies: sentences of which a user must conclude neither that they are true nor that they are
 -- false.
 use Rattle.std.specs.Prelude.{◌≡◌, ◌≤◌, ◌<◌, ℕ, ◌+◌, ◌*◌, true, false, List, [], ◌∷◌, ◌++◌, length}
-use Rattle.std.specs.Prelude.{Contains}
-use Rattle.std.specs.List.{flat_map}
+use Rattle.std.specs.Prelude.{Bool, Contains}
+use Rattle.std.specs.List.{flat_map, list_all}
 use Rattle.cqe_base.specs.declared.user.Method.TheVariants.{Lying}
 use Rattle.cqe_base.specs.Schema.{DatabaseSchema, is_valid_schema}
 use Rattle.cqe_base.specs.Facts.{FactSet}
@@ -12,8 +12,21 @@ use Rattle.cqe_base.specs.Censor.{admitted}
 
 -- the secrets that secrecies and other secrets make: each secrecy and its negation, and then the
 -- others
-abbrev pub secrets_of : List Formula → List Formula → List Formula
-secrets_of secrecies others = flat_map (λ q. q ∷ negation q ∷ []) secrecies ++ others
+abbrev pub with_secrecies : List Formula → List Formula → List Formula
+with_secrecies secrecies others = flat_map (λ q. q ∷ negation q ∷ []) secrecies ++ others
+
+-- secrecies make two secrets each
+abbrev pub SecretsAreCounted : Type 0
+SecretsAreCounted =
+    (secrecies others : List Formula)
+    → length (with_secrecies secrecies others) ≡ 2 * length secrecies + length others
+
+-- what passes for each secrecy, for its negation and for each other secret passes for all
+abbrev pub SecretsAllPass : Type 0
+SecretsAllPass =
+    (test : Formula → Bool) (secrecies others : List Formula)
+    → list_all test secrecies ≡ true → list_all (λ q. test (negation q)) secrecies ≡ true
+    → list_all test others ≡ true → list_all test (with_secrecies secrecies others) ≡ true
 
 -- the secrecy with this number: the first sentence of the pair
 abbrev pub secrecy_at : UserProfile → ℕ → Formula
@@ -39,7 +52,7 @@ pub record HasSecrecies (user : UserProfile) (secrecies : List Formula) : Type 0
 abbrev pub SecretsHaveSecrecies : Type 0
 SecretsHaveSecrecies =
     (user : UserProfile) (secrecies others : List Formula)
-    → user.secrets ≡ secrets_of secrecies others → user.pairs ≡ length secrecies
+    → user.secrets ≡ with_secrecies secrecies others → user.pairs ≡ length secrecies
     → HasSecrecies user secrecies
 
 -- each sentence of a pair is protected both ways
