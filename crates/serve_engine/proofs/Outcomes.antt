@@ -273,6 +273,11 @@ module _ {D G O : Type 0} {g h : _} (told : Type 0) (given_of left_of ends_of fa
             (λ worker less is. let fewer = less is in omega (arith, all, fewer)) after rest.1,
       )
 
+  -- the runs reach the limit, together with the numbers that were lost, and these are fewer than the workers
+  abbrev AtLimit : ℕ → List (Worker (SessionJobOf (TicketedDesk D g) D G h) O) → Type 0
+  AtLimit limit after = (limit ≤ sum_by (λ other. job_runs other.job) after + sum_by (λ other. lost other.ended) after)
+      × (0 + sum_by (λ other. lost other.ended) after < 0 + length after)
+
   -- how the workers served together
   pub has_outcome : (limit : ℕ) (before after : List (Worker (SessionJobOf (TicketedDesk D g) D G h) O))
       → AllByRecursion (λ worker. faults_of worker.door ≡ 0) before → AllByRecursion (λ worker. ends_of worker.door ≡ 0) before
@@ -281,19 +286,15 @@ module _ {D G O : Type 0} {g h : _} (told : Type 0) (given_of left_of ends_of fa
       → HasOutcome told left_of ends_of faults_of limit (outcome_of after) (sum_by (λ worker. job_runs worker.job) after) (map (λ worker. worker.door) after)
   has_outcome limit before after whole unended reached was =
       of_any (list_any (λ worker. has_failed worker.ended) after) refl
-      (have_ended AtLimit before after whole
+      (have_ended (AtLimit limit after) before after whole
       (every_both (λ worker. worker.ended ≡ Some LimitReached → limit ≤ sum_by (λ other. job_runs other.job) after + sum_by (λ other. lost other.ended) after)
       (λ worker. worker.ended ≡ Some LimitReached → 0 + sum_by (λ other. lost other.ended) after < 0 + length after)
-      (λ worker. worker.ended ≡ Some LimitReached → AtLimit) (λ worker most fewer is. (most is, fewer is)) after reached
+      (λ worker. worker.ended ≡ Some LimitReached → AtLimit limit after) (λ worker most fewer is. (most is, fewer is)) after reached
       (fewer_lost 0 0 (omega arith) after).1)
       was)
     where
-      abbrev AtLimit : Type 0
-      AtLimit = (limit ≤ sum_by (λ other. job_runs other.job) after + sum_by (λ other. lost other.ended) after)
-          × (0 + sum_by (λ other. lost other.ended) after < 0 + length after)
-
       of_any : (any : Bool) → list_any (λ worker. has_failed worker.ended) after ≡ any
-          → Ended told left_of faults_of AtLimit any (map (λ worker. worker.door) after)
+          → Ended told left_of faults_of (AtLimit limit after) any (map (λ worker. worker.door) after)
           → HasOutcome told left_of ends_of faults_of limit (if any then LinksFailed else Served) (sum_by (λ worker. job_runs worker.job) after)
           (map (λ worker. worker.door) after)
       of_any true is failed = failed
