@@ -2,7 +2,7 @@
 //! status.
 ghost use Rattle.std.specs.Prelude.{◌≡◌, Option, map, string_bytes};
 ghost use Rattle.command_words.specs.Readings.{Reading, reading_of};
-ghost use Rattle.desk_crew.specs.Shelved.{NoneOut};
+ghost use Rattle.outside.specs.Shelf.{NoneOut};
 ghost use Rattle.cqe_top.specs.Promise.{Promise, OfReading, Always};
 ghost use Rattle.cqe_top.specs.Reports.{HasCause};
 ghost use Rattle.cqe_top.specs.Scene.{scene_of, shelf_of, input_of, output_of, links_of};
