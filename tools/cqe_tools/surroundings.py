@@ -204,10 +204,12 @@ def not_handed_on(why):
 
 
 def disk_fault(said, context):
+    advice = ("look at the disk (df, dmesg, ulimit -f); then start the machine again or mount the disk anew before the "
+              "program, because after a failed sync it may show bytes that never reached the disk")
+    if context.words and context.words[0] == "init":
+        advice += "; remove the journal that init couldn't make, which has no record, and call init again"
     return Finding(said, "A write or a sync of a journal failed: in batch and serve its user got error 40 from then "
-                   "on, and init stopped there.", None,
-                   "look at the disk (df, dmesg, ulimit -f); then start the machine again or mount the disk anew "
-                   "before the program, because after a failed sync it may show bytes that never reached the disk")
+                   "on, and init stopped there.", None, advice)
 
 
 def memory(said, context):
