@@ -101,6 +101,13 @@ class Statuses(Produced):
             ran = self.around("serve", "--listen", address)
         self.assertExplains(ran, 12, [], "cqe: links fault", "in use", address)
 
+    def test_13_too_little_memory(self):
+        """The facts file is read whole: 200 megabytes of a hole, which takes no room on the disk."""
+        with open(self.facts, "wb") as facts:
+            facts.truncate(200_000_000)
+        ran = self.around("init", before="ulimit -v 100000; ")
+        self.assertExplains(ran, 13, [], "cqe: out of memory", "ulimit -v", "init")
+
 
 class Causes(Produced):
     """Each cause for which a journal is refused that isn't produced in test_explain_run."""
@@ -156,6 +163,18 @@ class Replies(Produced):
         self.init()
         ran = self.around("batch", given=f"eve 1 ask exists g: five . {SIX}\n")
         self.assertExplains(ran, 0, ["eve 1 error 21"], "eve 1 error 21", "97,656", "20,000")
+
+    def test_no_memory_for_a_question(self):
+        """How much the program takes differs; somewhere between too little to start and enough it starts and lacks it."""
+        self.write(FIVE.replace('z = []', 'z = []\npair = ["five", "five"]'), FACTS)
+        self.init()
+        text = "".join(f"forall {name}: five . " for name in "abcde") + "pair(a, b) or pair(c, d) or pair(e, a)"
+        for kilobytes in range(6_000, 64_000, 500):
+            ran = self.around("batch", given=f"eve 1 ask {text}\n", before=f"ulimit -v {kilobytes}; ")
+            if "eve 1 error 50" in ran[1]:
+                self.assertExplains(ran, 0, ["eve 1 error 50"], "eve 1 error 50", "ask again")
+                return
+        self.fail("no limit of memory gave error 50")
 
 
 if __name__ == "__main__":
