@@ -258,6 +258,48 @@ class Command(InDirectory):
         self.assertEqual(ran.returncode, 9)
         self.assertIn("shelf fault", ran.stderr)
 
+    def in_a_shell(self, command, cqe):
+        """A wrapper around a stand-in, called by a line of a shell in which it is "$0" -- "$1"."""
+        return subprocess.run(["sh", "-c", command, EXPLAIN, cqe], stdin=subprocess.DEVNULL, capture_output=True,
+                              text=True, timeout=60)
+
+    def test_replies_that_cannot_be_written(self):
+        """The program has written all into a pipe and ended with 0 when the write of the wrapper fails."""
+        cqe = self.stand_in("print('yes'); print('no')")
+        for stream, why in ((">/dev/full", "No space left"), (">&-", "it is closed")):
+            with self.subTest(stream):
+                ran = self.in_a_shell(f'"$0" -- "$1" case {stream}', cqe)
+                self.assertEqual(ran.returncode, 7)
+                self.assertIn(f"standard output: {why}", ran.stderr)
+                self.assertIn("asking again is safe", ran.stderr)
+
+    def test_a_program_that_fails_besides(self):
+        cqe = self.stand_in("print('yes'); print('cqe: journal eve not a journal', file=sys.stderr); sys.exit(10)")
+        ran = self.in_a_shell('"$0" -- "$1" case >/dev/full', cqe)
+        self.assertEqual(ran.returncode, 10)
+        self.assertIn("'eve'", ran.stderr)
+
+    def test_an_input_that_cannot_be_read(self):
+        """The program is to find that by itself."""
+        body = ("try:\n    os.read(0, 1)\nexcept OSError:\n    print('cqe: read fault', file=sys.stderr)\n"
+                "    sys.exit(6)")
+        for stream in ("<&-", "0>/dev/null"):
+            with self.subTest(stream):
+                ran = self.in_a_shell(f'"$0" -- "$1" case {stream}', self.stand_in(body))
+                self.assertEqual((ran.returncode, ran.stdout), (6, ""))
+                self.assertIn("cqe batch .. < SCRIPT", ran.stderr)
+
+    def test_streams_that_are_closed(self):
+        cqe = self.stand_in("print('yes'); print('cqe: write fault', file=sys.stderr); sys.exit(7)")
+        ran = self.in_a_shell('"$0" -- "$1" case 2>&-', cqe)
+        self.assertEqual((ran.returncode, ran.stdout, ran.stderr), (7, "yes\n", ""))
+        self.assertEqual(self.in_a_shell('"$0" <&-', cqe).returncode, 2)
+
+    def test_files_that_cannot_be_read(self):
+        ran = self.filtered("cqe: facts 1 2\n", "--policy", self.file("p", POLICY), "--facts", "/nowhere/facts")
+        self.assertEqual(ran.returncode, 0)
+        self.assertRegex(ran.stderr, "^cqe-explain: .*--facts.*: /nowhere/facts\n$")
+
     def test_a_signal_goes_to_the_program_and_comes_back(self):
         cqe = self.stand_in("print('* restarted', flush=True); signal.pause()")
         running = subprocess.Popen([EXPLAIN, "--", cqe, "serve"], stdout=subprocess.PIPE, stderr=subprocess.DEVNULL)

@@ -20,7 +20,7 @@ from cqe_tools.lab import Lab
 from cqe_tools.lab_examples import Files
 
 PAGE = program.TOP / "tools/cqe_tools/lab.html"
-EXAMPLES = ["ward", "clinic", "hospital", "statistics"]
+EXAMPLES = ["ward", "clinic", "registry", "hospital", "statistics"]
 GARBAGE = ["", " ", "\0", "\x1b[31m", "<img src=x onerror=alert(1)>", "</script><script>alert(1)</script>", "'\"&;",
            "../../etc/passwd", "\ud800", "\u202eabc", "a" * 5000, "hiv(\u00e4nn)", "%s%n", "{}", "wait\0"[4:]]
 OTHER_KINDS = [None, True, 1.5, -1, 10 ** 40, [], {}, ["x"], "1"]
@@ -238,6 +238,12 @@ class Examples(OneLab):
                          {(("drug(ann) -> hiv(ann)", "drug(bob) -> hiv(bob)"), ("hiv(ann)",), 1_000_000)})
         self.assertEqual((shown["facts"]["items"], shown["questions"]),
                          (["hiv(ann)", "drug(ann)"], ["drug(ann)", "hiv(ann)", "hiv(bob)"]))
+
+    def test_the_method_of_a_case_stands_first(self):
+        shown = self.lab.opened(example="registry")
+        self.assertEqual([user["method"] for user in shown["users"]], ["refusal", "lying", "combined"])
+        self.assertEqual(shown["questions"], ["drug(ann)", "not drug(ann)", "hiv(bob)"])
+        self.assertIn("in the case itself the method is refusal", shown["story"])
 
 
 class FilesOfOnesOwn(OneLab):

@@ -22,6 +22,7 @@ SCALE = 0.68
 SHOWN = {
     "ward": (["nurse", "clerk", "head"], ["hiv(ann) or hiv(bob)", "hiv(ann)"]),
     "clinic": (["lying", "refusal", "combined"], ["drug(ann)"]),
+    "registry": (["refusal", "lying", "combined"], ["drug(ann)", "not drug(ann)"]),
     "hospital": (["registry", "press"], ["has(p17, hiv) or has(p23, hiv)", "has(p17, hiv)"]),
     "statistics": (["bank", "owner", "newspaper", "pupils"],
                    ["exists f: firm . in_branch(f, brewery) and in_region(f, south) and made_loss(f)"]),
@@ -31,6 +32,8 @@ LAST = {
     # The head was told yes to the first: a no would tell of bob.
     "ward": (["no", "refused", "refused"], "yes"),
     "clinic": (["no", "refused", "no"], "yes"),
+    # That she doesn't take the drug is false, and a no would say so. Who was told no before is told yes to its opposite.
+    "registry": (["refused", "yes", "yes"], "no"),
     # Who refuses looks at both answers. The press was told yes to the first: a no would tell of p23.
     "hospital": (["refused", "refused"], "yes"),
     "statistics": (["yes", "refused", "yes", "no"], "yes"),

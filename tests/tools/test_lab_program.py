@@ -109,6 +109,12 @@ class Examples(WithProgram):
         self.assertExample("clinic", [("lying", text) for text in texts], ["no", "no", "no"],
                            {"drug(ann)": "yes", "hiv(ann)": "yes", "hiv(bob)": "no"})
 
+    def test_registry(self):
+        """As the comment at the end of the case has it, where the last question is asked twice."""
+        texts = ["drug(ann)", "not drug(ann)", "hiv(bob)", "hiv(bob)"]
+        self.assertExample("registry", [("refusal", text) for text in texts], ["refused", "refused", "no", "no"],
+                           {"drug(ann)": "yes", "not drug(ann)": "no", "hiv(bob)": "no"})
+
     def test_hospital(self):
         """The first question of each of the two who know most, since theirs take long, and all of the others."""
         all_asks = list(zip(asks("hospital"), replies_in(printed("docs/TUTORIAL.md", "trainee 1 no\n")), strict=True))

@@ -8,12 +8,13 @@ import subprocess
 import sys
 import threading
 
-from . import words
+from . import surroundings, words
 from .explaining import COMPLAINT, Context, Explainer, of_status, printed
 from .places import Text
 
 KEPT_SCRIPT = 64 * 1024 * 1024  # bytes of a script from a pipe that are kept for pointing at
-NOT_STARTED = 127
+WRONG_WORDS, NOT_STARTED = 2, 127
+WRITE_FAULT = 7  # the program's own status where a reply can't be written
 
 ABOUT = """Says in plain words what the complaints ('cqe: ..') and the replies 'error ..' of cqe mean, where, and
 what to do:
@@ -52,8 +53,12 @@ def main(arguments):
 
 def follow(given):
     """Explains the lines of standard input; what isn't the program's goes through as it is."""
+    note_unread(given)
     context = Context(given.policy, given.facts, given.script, given.journals, given.listen)
     explainer = Explainer(context)
+    if sys.stdin is None:
+        print("cqe-explain: there is no standard input", file=sys.stderr)
+        return WRONG_WORDS
     if sys.stdin.isatty():
         print("cqe-explain: reading what cqe said from standard input", file=sys.stderr)
     for line in split(sys.stdin.buffer.read()):
@@ -63,18 +68,34 @@ def follow(given):
     return 0
 
 
+def note_unread(given):
+    """Says which of the named files can't be read, since without it less is explained."""
+    for option in ("policy", "facts", "script"):
+        name = getattr(given, option)
+        if name is not None and Text.of_file(name) is None:
+            print(f"cqe-explain: the file behind --{option} can't be read, so no place in it is shown: {name}",
+                  file=sys.stderr)
+
+
 def split(data):
     return [line.removesuffix("\r") for line in data.decode("utf-8", "surrogateescape").removesuffix("\n").split("\n")]
 
 
 def show(lines, stream):
     """Writes lines; a reader who went away is no fault."""
+    if stream is None:
+        return
     try:
         for line in lines:
             stream.buffer.write(line.encode("utf-8", "surrogateescape") + b"\n")
         stream.flush()
     except (OSError, ValueError):
-        os.dup2(os.open(os.devnull, os.O_WRONLY), stream.fileno())
+        give_up(stream)
+
+
+def give_up(stream):
+    """Lets further writes to a stream go nowhere, Python's own at its end too."""
+    os.dup2(os.open(os.devnull, os.O_WRONLY), stream.fileno())
 
 
 def words_of(command):
@@ -90,8 +111,8 @@ class Wrapped:
 
     def __init__(self, command, read):
         self.lines = []
-        self.script = None
         self.read = read  # whether the command reads a script from standard input
+        self.unwritten = None  # why a reply couldn't be handed on
         given, self.kept = self.source()
         self.child = subprocess.Popen(command, stdin=given, stdout=subprocess.PIPE, stderr=subprocess.PIPE)
         for number in (signal.SIGTERM, signal.SIGHUP):
@@ -101,15 +122,15 @@ class Wrapped:
 
     def source(self):
         """What the program gets as standard input, and the script's bytes where they can be read beside it."""
-        try:
-            kind = os.fstat(0).st_mode
-        except OSError:
-            return None, None
         if not self.read:
             return None, None
-        if stat.S_ISREG(kind):
-            size = os.fstat(0).st_size
-            return None, os.pread(0, min(size, KEPT_SCRIPT), os.lseek(0, 0, os.SEEK_CUR))
+        try:
+            found = os.fstat(0)
+            if stat.S_ISREG(found.st_mode):
+                return None, os.pread(0, min(found.st_size, KEPT_SCRIPT), os.lseek(0, 0, os.SEEK_CUR))
+            os.read(0, 0)
+        except OSError:  # what can't be read here can't be read by the program, which is to say so
+            return None, None
         return subprocess.PIPE, bytearray()
 
     def run(self):
@@ -140,13 +161,9 @@ class Wrapped:
     def pass_on(self):
         """Hands the program's replies on, and keeps them."""
         for line in self.child.stdout:
-            try:
-                sys.stdout.buffer.write(line)
-                sys.stdout.buffer.flush()
-            except OSError:
-                # Nobody reads any more: the program is to see that, and Python isn't to try again at its end.
-                self.child.stdout.close()
-                os.dup2(os.open(os.devnull, os.O_WRONLY), 1)
+            self.unwritten = fault_of_write(line)
+            if self.unwritten is not None:
+                self.child.stdout.close()  # so that the program sees it at its next reply
                 break
             self.keep(line)
 
@@ -156,11 +173,23 @@ class Wrapped:
             if line.startswith(COMPLAINT.encode()):
                 self.keep(line)
             else:
-                sys.stderr.buffer.write(line)
-                sys.stderr.flush()
+                show([line.removesuffix(b"\n").decode("utf-8", "surrogateescape")], sys.stderr)
 
     def keep(self, line):
         self.lines.append(line.removesuffix(b"\n").decode("utf-8", "surrogateescape"))
+
+
+def fault_of_write(line):
+    """Why a reply can't be written to standard output; None where it was."""
+    if sys.stdout is None:
+        return "it is closed"
+    try:
+        sys.stdout.buffer.write(line)
+        sys.stdout.buffer.flush()
+    except OSError as error:
+        give_up(sys.stdout)
+        return error.strerror
+    return None
 
 
 def wrap(given, command):
@@ -186,6 +215,9 @@ def wrap(given, command):
     found = explainer.findings()
     if status != 0 and not any(sort == "complaint" for sort, _ in explainer.said):
         found.append((of_status(status if status > 0 else 128 - status), 1))
+    if status == 0 and run.unwritten is not None:
+        found.append((surroundings.not_handed_on(run.unwritten), 1))
+        status = WRITE_FAULT
     show(printed(found), sys.stderr)
     return end_as(status)
 

@@ -18,6 +18,7 @@ USERS = re.compile(r"[ \t]*\[\[[ \t]*users[ \t]*\]\]")
 EXAMPLES = {
     "ward": ("A ward: three users, one of each method", ("ward.policy", "ward.facts", "ward.batch")),
     "clinic": ("A clinic: one case, tried with each method", ("clinic.case",)),
+    "registry": ("A disease registry: one case, tried with each method", ("registry.case",)),
     "hospital": ("The hospital of the tutorial", ("hospital.policy", "hospital.facts", "hospital.batch")),
     "statistics": ("A statistics office: who knows his own figure",
                    ("statistics.policy", "statistics.facts", "statistics.batch")),

@@ -12,6 +12,8 @@ import stat
 
 from .places import Finding, quoted
 
+UNWRITTEN = ("look for a full disk (df) or a reader that ended (a pipe to head); asking again is safe, and the same "
+             "questions get the same history's replies")
 ADDRESS = re.compile(r"(\[[^\]]*\]|[^:\[\]]*):([0-9]+)")
 
 
@@ -191,16 +193,23 @@ def read_fault(said, context):
 
 def write_fault(said, context):
     return Finding(said, "Standard output couldn't be written; a beginning of the replies was, and of one ask more the "
-                   "answer may be in its journal.", None,
-                   "look for a full disk (df) or a reader that ended (a pipe to head); asking again is safe, and the "
-                   "same questions get the same history's replies")
+                   "answer may be in its journal.", None, UNWRITTEN)
+
+
+def not_handed_on(why):
+    """What is to be said where cqe-explain itself couldn't write a reply of the program."""
+    return Finding(f"cqe-explain: standard output: {why}", "The replies couldn't be written; a beginning of them was. "
+                   "The program itself ended well: it answered all, and the answers are in the journals where there "
+                   "are any.", None, UNWRITTEN)
 
 
 def disk_fault(said, context):
+    advice = ("look at the disk (df, dmesg, ulimit -f); then start the machine again or mount the disk anew before the "
+              "program, because after a failed sync it may show bytes that never reached the disk")
+    if context.words and context.words[0] == "init":
+        advice += "; remove the journal that init couldn't make, which has no record, and call init again"
     return Finding(said, "A write or a sync of a journal failed: in batch and serve its user got error 40 from then "
-                   "on, and init stopped there.", None,
-                   "look at the disk (df, dmesg, ulimit -f); then start the machine again or mount the disk anew "
-                   "before the program, because after a failed sync it may show bytes that never reached the disk")
+                   "on, and init stopped there.", None, advice)
 
 
 def memory(said, context):
