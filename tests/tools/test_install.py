@@ -152,6 +152,30 @@ class Package(Temporary):
         self.assertLessEqual({"usr/bin/cqe", "usr/share/man/man1/cqe-ask.1.gz"}, files_below(self.place / "tree"))
 
 
+    @unittest.skipUnless(shutil.which("dpkg") and os.geteuid() == 0, "needs dpkg and its rights")
+    def test_dpkg_installs_it_and_takes_it_away(self) -> None:
+        """Below a root of its own, in which there is nothing else."""
+        root = self.place / "root"
+        for directory in ("info", "updates"):
+            (root / "var/lib/dpkg" / directory).mkdir(parents=True)
+        (root / "var/lib/dpkg/status").write_text("")
+        dpkg = ["dpkg", f"--root={root}", "--log=/dev/null", "--force-depends", "--force-script-chrootless"]
+        for version in ("1.2", "1.3"):  # the second time it is an upgrade
+            self.run_at("env", f"PROGRAM={self.program}", f"VERSION={version}", TOP / "contrib/debian/build-deb",
+                        self.place)
+            (package,) = self.place.glob(f"cqe_{version}_*.deb")
+            self.run_at(*dpkg, "--install", package)
+        self.assertEqual(self.run_at(*dpkg, "--verify", "cqe").stdout, "")
+        found = self.run_at("dpkg-query", f"--admindir={root}/var/lib/dpkg", "--show", "cqe").stdout
+        self.assertEqual(found, "cqe\t1.3\n")
+        self.assertEqual(self.run_at(root / "usr/bin/cqe", "case").stdout, "stand-in case\n")
+        self.assertIn("usage: cqe-ask", self.run_at(root / "usr/bin/cqe-ask", "--help").stdout)
+        (root / "usr/share/cqe/client/__pycache__").mkdir()
+        (root / "usr/share/cqe/client/__pycache__/cqe.pyc").write_text("")
+        self.run_at(*dpkg, "--remove", "cqe")
+        self.assertEqual([path for path in files_below(root) if not path.startswith("var/lib/dpkg")], [])
+
+
 @unittest.skipUnless(shutil.which("bash"), "needs bash")
 class Completion(Temporary):
     def completed(self, *words: str) -> list[str]:
