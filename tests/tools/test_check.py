@@ -4,9 +4,12 @@ import os
 import stat
 import subprocess
 import sys
+import unittest.mock
 
 import program
-from told import CHECK, FACTS, POLICY, InDirectory, changed
+from told import CHECK, FACTS, POLICY, InDirectory, changed  # makes the tools' modules found, too
+
+from cqe_tools import checking
 
 # Who is open and why somebody isn't is worked out by the rules of admission, over the facts hiv(ann) and lies(bob, w1).
 USERS = """
@@ -148,6 +151,16 @@ class Checked(InDirectory):
         for words in (["policy"], ["--json", "policy", "facts"]):
             with self.subTest(words):
                 self.assertEqual(subprocess.run([CHECK, *words], capture_output=True).returncode, 2)
+
+    def test_a_directory_of_the_path_that_cannot_be_looked_into(self):
+        """As one of another account; here it is one whose name is too long."""
+        path = f"/{'x' * 300}{os.pathsep}{self.directory}"
+        with unittest.mock.patch.dict(os.environ, {"PATH": path}):
+            os.environ.pop("CQE", None)
+            self.assertRaises(checking.Unusable, checking.program, self.directory / "tools")
+            cqe = self.file("cqe", "#!/bin/sh\n")
+            cqe.chmod(0o755)
+            self.assertEqual(checking.program(self.directory / "tools"), str(cqe.resolve()))
 
     def test_a_program_that_is_not_there(self):
         ran = self.check(POLICY, env={**os.environ, "CQE": str(self.directory / "none")})
