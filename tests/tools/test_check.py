@@ -1,5 +1,6 @@
 """What cqe-check says of policies, beside what the censors' rules say of them."""
 
+import json
 import os
 import stat
 import subprocess
@@ -124,6 +125,20 @@ class Checked(InDirectory):
         self.assertIn("know[0]", noted["zoe"][0])
 
     @program.needed
+    def test_a_secret_that_costs_too_much_to_test(self):
+        """Twelve pigeons in eleven holes: that two sit in one takes a search far more than 4,000,000 resolutions."""
+        pigeons, holes = ([f"{name}{number}" for number in range(count)] for name, count in (("p", 12), ("h", 11)))
+        policy = changed(('["person", "ward"]', '["person", "ward"]\nsits = ["pigeon", "hole"]'),
+                         ('["w1"]', f'["w1"]\npigeon = {json.dumps(pigeons)}\nhole = {json.dumps(holes)}'),
+                         ('["hiv(ann) -> hiv(bob)"]', '["forall p: pigeon . exists h: hole . sits(p, h)"]'),
+                         ('["hiv(ann)"]', '["exists h: hole . exists p: pigeon . exists q: pigeon . '
+                          'p != q and sits(p, h) and sits(q, h)"]'))
+        ran = self.check(policy)
+        self.assertEqual((ran.returncode, ran.stderr), (1, ""))
+        self.assertEqual(self.rows(ran.stdout)["eve"][1], "closed")
+        self.assertIn("secrets[0] costs too much to test", ran.stdout)
+
+    @program.needed
     def test_files_that_are_refused(self):
         ran = self.check(changed(("hiv(ann) -> hiv(bob)", "hiv(ann) => hiv(bob)")))
         self.assertEqual((ran.returncode, ran.stderr), (1, ""))
@@ -182,7 +197,7 @@ if sys.argv[1] == "batch":
 
 
 class Spent(InDirectory):
-    """A search of the greatest budget takes long, so a stand-in for the program says that it is spent."""
+    """A stand-in for the program says of each search that it is spent."""
 
     def test_a_secret_that_costs_too_much(self):
         for spent in ("undecided", "error 24"):
