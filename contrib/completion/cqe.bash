@@ -1,4 +1,4 @@
-# Completion of the commands cqe, cqe-ask and cqe-lab for bash.
+# Completion of the command cqe and of its tools for bash.
 
 # The options of a command of cqe.
 _cqe_options() {
@@ -26,7 +26,7 @@ _cqe_users() {
 _cqe_unused() {
     local option word
     for option; do
-        for word in "${COMP_WORDS[@]:2}"; do
+        for word in "${COMP_WORDS[@]:1:COMP_CWORD - 1}"; do
             [[ $word == "$option" ]] && continue 2
         done
         echo "$option"
@@ -36,7 +36,7 @@ _cqe_unused() {
 # The value of an option, or status 1 where the option has none. An = is a word of its own here.
 _cqe_value() {
     case $1 in
-        --policy | --facts | --phrase-file | --history | --ca | --cert | --key)
+        --policy | --facts | --script | --phrase-file | --history | --ca | --cert | --key)
             compopt -o filenames 2> /dev/null
             mapfile -t COMPREPLY < <(compgen -f -- "$2")
             ;;
@@ -46,19 +46,34 @@ _cqe_value() {
             ;;
         --user) mapfile -t COMPREPLY < <(compgen -W "$(_cqe_users)" -- "$2") ;;
         --listen) mapfile -t COMPREPLY < <(compgen -W 127.0.0.1:7007 -- "$2") ;;
-        --seed | --users | --asks | --workers | --sessions | --connect-timeout | --reply-timeout) ;;
+        --seed | --users | --asks | --status | --workers | --sessions | --connect-timeout | --reply-timeout) ;;
         *) return 1 ;;
     esac
 }
 
-# The words of cqe-lab: its one option, or a policy and its facts.
-_cqe_lab() {
+# The words of cqe-check and cqe-lab: their one option, or a policy and its facts.
+_cqe_files() {
     if [[ $1 == -* ]]; then
         mapfile -t COMPREPLY < <(compgen -W --help -- "$1")
     elif ((COMP_CWORD < 3)); then
         compopt -o filenames 2> /dev/null
         mapfile -t COMPREPLY < <(compgen -f -- "$1")
     fi
+}
+
+# The words of cqe-explain, up to a command behind --.
+_cqe_explain() {
+    local place
+    for ((place = 1; place < COMP_CWORD; place++)); do
+        [[ ${COMP_WORDS[place]} == -- ]] || continue
+        compopt -o filenames 2> /dev/null
+        mapfile -t COMPREPLY < <(compgen -c -f -- "$2")
+        return
+    done
+    _cqe_value "$1" "$2" && return
+    # shellcheck disable=SC2046 # each option is a word of its own
+    mapfile -t COMPREPLY < <(compgen -W "$(_cqe_unused --policy --facts --script --journals --listen --status --help)" \
+        -- "$2")
 }
 
 _cqe() {
@@ -69,10 +84,20 @@ _cqe() {
     elif [[ $option == = ]]; then
         option=${COMP_WORDS[COMP_CWORD - 2]}
     fi
-    if [[ ${COMP_WORDS[0]##*/} == cqe-lab ]]; then
-        _cqe_lab "$current"
-        return
-    fi
+    case ${COMP_WORDS[0]##*/} in
+        cqe-check | cqe-lab)
+            _cqe_files "$current"
+            return
+            ;;
+        cqe-explain)
+            _cqe_explain "$option" "$current"
+            return
+            ;;
+        cqe-ready)
+            ((COMP_CWORD > 1)) || mapfile -t COMPREPLY < <(compgen -W 127.0.0.1:7007 -- "$current")
+            return
+            ;;
+    esac
     _cqe_value "$option" "$current" && return
     if [[ ${COMP_WORDS[0]##*/} == cqe-ask ]]; then
         choices="--phrase-file --history --connect-timeout --reply-timeout --tls --ca --cert --key --help"
@@ -86,4 +111,4 @@ _cqe() {
     mapfile -t COMPREPLY < <(compgen -W "$(_cqe_unused $choices)" -- "$current")
 }
 
-complete -F _cqe cqe cqe-ask cqe-lab
+complete -F _cqe cqe cqe-ask cqe-check cqe-explain cqe-lab cqe-ready

@@ -1,12 +1,16 @@
 """What cqe-check says of policies, beside what the censors' rules say of them."""
 
+import json
 import os
 import stat
 import subprocess
 import sys
+import unittest.mock
 
 import program
-from told import CHECK, FACTS, POLICY, InDirectory, changed
+from told import CHECK, FACTS, POLICY, InDirectory, changed  # makes the tools' modules found, too
+
+from cqe_tools import checking
 
 # Who is open and why somebody isn't is worked out by the rules of admission, over the facts hiv(ann) and lies(bob, w1).
 USERS = """
@@ -121,6 +125,20 @@ class Checked(InDirectory):
         self.assertIn("know[0]", noted["zoe"][0])
 
     @program.needed
+    def test_a_secret_that_costs_too_much_to_test(self):
+        """Twelve pigeons in eleven holes: that two sit in one takes a search far more than 4,000,000 resolutions."""
+        pigeons, holes = ([f"{name}{number}" for number in range(count)] for name, count in (("p", 12), ("h", 11)))
+        policy = changed(('["person", "ward"]', '["person", "ward"]\nsits = ["pigeon", "hole"]'),
+                         ('["w1"]', f'["w1"]\npigeon = {json.dumps(pigeons)}\nhole = {json.dumps(holes)}'),
+                         ('["hiv(ann) -> hiv(bob)"]', '["forall p: pigeon . exists h: hole . sits(p, h)"]'),
+                         ('["hiv(ann)"]', '["exists h: hole . exists p: pigeon . exists q: pigeon . '
+                          'p != q and sits(p, h) and sits(q, h)"]'))
+        ran = self.check(policy)
+        self.assertEqual((ran.returncode, ran.stderr), (1, ""))
+        self.assertEqual(self.rows(ran.stdout)["eve"][1], "closed")
+        self.assertIn("secrets[0] costs too much to test", ran.stdout)
+
+    @program.needed
     def test_files_that_are_refused(self):
         ran = self.check(changed(("hiv(ann) -> hiv(bob)", "hiv(ann) => hiv(bob)")))
         self.assertEqual((ran.returncode, ran.stderr), (1, ""))
@@ -149,6 +167,16 @@ class Checked(InDirectory):
             with self.subTest(words):
                 self.assertEqual(subprocess.run([CHECK, *words], capture_output=True).returncode, 2)
 
+    def test_a_directory_of_the_path_that_cannot_be_looked_into(self):
+        """As one of another account; here it is one whose name is too long."""
+        path = f"/{'x' * 300}{os.pathsep}{self.directory}"
+        with unittest.mock.patch.dict(os.environ, {"PATH": path}):
+            os.environ.pop("CQE", None)
+            self.assertRaises(checking.Unusable, checking.program, self.directory / "tools")
+            cqe = self.file("cqe", "#!/bin/sh\n")
+            cqe.chmod(0o755)
+            self.assertEqual(checking.program(self.directory / "tools"), str(cqe.resolve()))
+
     def test_a_program_that_is_not_there(self):
         ran = self.check(POLICY, env={**os.environ, "CQE": str(self.directory / "none")})
         self.assertEqual((ran.returncode, ran.stdout), (2, ""))
@@ -169,7 +197,7 @@ if sys.argv[1] == "batch":
 
 
 class Spent(InDirectory):
-    """A search of the greatest budget takes long, so a stand-in for the program says that it is spent."""
+    """A stand-in for the program says of each search that it is spent."""
 
     def test_a_secret_that_costs_too_much(self):
         for spent in ("undecided", "error 24"):

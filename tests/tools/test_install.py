@@ -55,7 +55,7 @@ class Installed(Temporary):
         found = files_below(self.root)
         self.assertLessEqual(commands | pages | modules | pictures | units | examples, found)
         self.assertLessEqual({"share/man/man1/cqe-ask.1", "share/cqe/tools/cqe_tools/lab.html"}, found)
-        self.assertLessEqual({f"share/bash-completion/completions/{name}" for name in ("cqe", "cqe-ask", "cqe-lab")},
+        self.assertLessEqual({f"share/bash-completion/completions/{command.removeprefix('bin/')}" for command in commands},
                              found)
         self.assertEqual({path for path in found if path.startswith("bin/")}, commands)
         listed = (self.root / "share/cqe/installed-files").read_text().splitlines()
@@ -95,6 +95,14 @@ class Installed(Temporary):
             for source in TOP.glob(sources):
                 self.assertEqual((self.root / place / source.name).read_text(),
                                  source.read_text().replace("/usr/local", PREFIX))
+
+    def test_documents_name_each_other_as_they_lie(self) -> None:
+        self.make("install")
+        place = self.root / "share/doc/cqe"
+        for document in place.glob("*.md"):
+            text = document.read_text()
+            named = re.findall(r"(?<![\w/.])(?:docs/)?(?:pictures/\w+\.png|[A-Z_]{6,}\.md)\b", text)
+            self.assertEqual([name for name in named if not (place / name).is_file()], [], document.name)
 
     def test_uninstall_takes_away_its_own_files_alone(self) -> None:
         self.make("install")
@@ -142,6 +150,30 @@ class Package(Temporary):
         self.assertEqual((self.place / "tree").stat().st_mode & 0o777, 0o755)
         self.assertIn("usage: cqe-ask", self.run_at("tree/usr/bin/cqe-ask", "--help").stdout)
         self.assertLessEqual({"usr/bin/cqe", "usr/share/man/man1/cqe-ask.1.gz"}, files_below(self.place / "tree"))
+
+
+    @unittest.skipUnless(shutil.which("dpkg") and os.geteuid() == 0, "needs dpkg and its rights")
+    def test_dpkg_installs_it_and_takes_it_away(self) -> None:
+        """Below a root of its own, in which there is nothing else."""
+        root = self.place / "root"
+        for directory in ("info", "updates"):
+            (root / "var/lib/dpkg" / directory).mkdir(parents=True)
+        (root / "var/lib/dpkg/status").write_text("")
+        dpkg = ["dpkg", f"--root={root}", "--log=/dev/null", "--force-depends", "--force-script-chrootless"]
+        for version in ("1.2", "1.3"):  # the second time it is an upgrade
+            self.run_at("env", f"PROGRAM={self.program}", f"VERSION={version}", TOP / "contrib/debian/build-deb",
+                        self.place)
+            (package,) = self.place.glob(f"cqe_{version}_*.deb")
+            self.run_at(*dpkg, "--install", package)
+        self.assertEqual(self.run_at(*dpkg, "--verify", "cqe").stdout, "")
+        found = self.run_at("dpkg-query", f"--admindir={root}/var/lib/dpkg", "--show", "cqe").stdout
+        self.assertEqual(found, "cqe\t1.3\n")
+        self.assertEqual(self.run_at(root / "usr/bin/cqe", "case").stdout, "stand-in case\n")
+        self.assertIn("usage: cqe-ask", self.run_at(root / "usr/bin/cqe-ask", "--help").stdout)
+        (root / "usr/share/cqe/client/__pycache__").mkdir()
+        (root / "usr/share/cqe/client/__pycache__/cqe.pyc").write_text("")
+        self.run_at(*dpkg, "--remove", "cqe")
+        self.assertEqual([path for path in files_below(root) if not path.startswith("var/lib/dpkg")], [])
 
 
 @unittest.skipUnless(shutil.which("bash"), "needs bash")
@@ -193,10 +225,25 @@ class Completion(Temporary):
         said = self.run_at(TOP / "tools/cqe-lab", "--help").stdout
         self.assertEqual(self.completed("cqe-lab", "--"), sorted(set(re.findall(r"--[a-z-]+", said))))
 
+    def test_the_words_of_cqe_check_and_cqe_ready(self) -> None:
+        (self.place / "a.policy").write_text("")
+        self.assertEqual(self.completed("cqe-check", "a.p"), ["a.policy"])
+        self.assertEqual(self.completed("cqe-check", "--"), ["--help"])
+        self.assertEqual(self.completed("cqe-ready", ""), ["127.0.0.1:7007"])
+        self.assertEqual(self.completed("cqe-ready", "127.0.0.1:7007", ""), [])
+
+    def test_the_words_of_cqe_explain(self) -> None:
+        said = self.run_at(TOP / "tools/cqe-explain", "--help").stdout.partition("options:")[2]
+        self.assertEqual(set(self.completed("cqe-explain", "--")), set(re.findall(r"--[a-z]+", said)))
+        self.assertNotIn("--policy", self.completed("cqe-explain", "--policy", "p", "--"))
+        (self.place / "a.batch").write_text("")
+        self.assertEqual(self.completed("cqe-explain", "--script", "a."), ["a.batch"])
+        self.assertIn("bash", self.completed("cqe-explain", "--", "bas"))
+
     def test_each_command_has_it(self) -> None:
-        words = ["bash", "-c", 'source "$0"; complete -p cqe cqe-ask cqe-lab', TOP / "contrib/completion/cqe.bash"]
-        self.assertEqual(self.run_at(*words).stdout, "complete -F _cqe cqe\ncomplete -F _cqe cqe-ask\n"
-                         "complete -F _cqe cqe-lab\n")
+        commands = ["cqe", "cqe-ask", *sorted(tool.name for tool in TOP.glob("tools/cqe-*"))]
+        words = ["bash", "-c", 'source "$0"; complete -p "$@"', TOP / "contrib/completion/cqe.bash", *commands]
+        self.assertEqual(self.run_at(*words).stdout, "".join(f"complete -F _cqe {name}\n" for name in commands))
 
 
 if __name__ == "__main__":

@@ -1,9 +1,11 @@
-"""The manual pages: that man shows them without a warning, and that each sentence of cqe-sentences(7) is answered as said.
+"""The manual pages: that man shows them without a warning, that cqe(1) has all codes, that its files are good ones, and
+that each sentence of cqe-sentences(7) is answered as said.
 
 There a sentence stands behind .TP and .B, and its reply begins the next line: by the facts of the hospital in the
 sections EXAMPLES and SLIPS OF MEANING, over a small schema in SLIPS OF FORM.
 """
 
+import hashlib
 import re
 import shutil
 import subprocess
@@ -16,6 +18,8 @@ sys.path.insert(0, str(Path(__file__).resolve().parent))
 import program
 
 ROOT = Path(__file__).resolve().parents[2]
+CQE = ROOT / "docs" / "cqe.1"
+FORMATS = ROOT / "docs" / "FORMATS.md"
 SENTENCES = ROOT / "docs" / "cqe-sentences.7"
 HOSPITAL = ROOT / "examples" / "hospital"
 SMALL = """domain person = ann, bob
@@ -54,6 +58,58 @@ class Pages(unittest.TestCase):
                 shown = subprocess.run(["man", "--warnings", "-l", str(page)], capture_output=True, text=True)
                 self.assertEqual((shown.returncode, shown.stderr), (0, ""))
                 self.assertIn("NAME", shown.stdout)
+
+
+class Codes(unittest.TestCase):
+    """That what docs/FORMATS.md has a code for stands in cqe(1)."""
+
+    def rows(self, heading: str, column: int = 0) -> list[str]:
+        """A column of the first table behind a line that begins so."""
+        text = FORMATS.read_text(encoding="utf-8")
+        table = re.search(rf"^{re.escape(heading)}.*?\n\n?(\|.*?)\n\n", text, re.DOTALL | re.MULTILINE).group(1)
+        return [line.split("|")[column + 1].strip() for line in table.splitlines()[2:]]
+
+    def test_replies_and_complaints(self) -> None:
+        page = re.sub(r"\\f.", "", CQE.read_text(encoding="utf-8"))
+        for reply in self.rows("## Replies"):
+            for word in re.findall(r"`([a-z]+(?: \d+)?)", reply):
+                self.assertRegex(page, rf"\n\.BR? .*\b{word}\b", word)
+        statuses = self.rows("## Status and complaints")
+        self.assertEqual(len(statuses), 13)
+        for status, complaint in zip(statuses, self.rows("## Status and complaints", 2), strict=True):
+            said = re.match(r"`(cqe: [a-z ]*[a-z])", complaint)
+            self.assertRegex(page, rf'\n\.BR? {status}(\n| ", " "{re.escape(said[1])})' if said else r"\n\.B 0\n")
+        for cause in self.rows("CAUSE is the first of these"):
+            self.assertRegex(page, rf"\n\.BI? {re.match('`([a-z ]*[a-z])', cause)[1]}\b")
+
+    def test_kinds(self) -> None:
+        page = CQE.read_text(encoding="utf-8").partition(".SH KINDS\n")[2]
+        kinds = {title: re.findall(r"^\.BI? (\d)\b", text, re.MULTILINE)
+                 for title, text in re.findall(r"\.SS (\w+)\n(.*?)(?=\.S[SH] )", page, re.DOTALL)}
+        text = FORMATS.read_text(encoding="utf-8")
+        policy = text.partition("The first check that fails is the refusal:")[2].partition("\n")[0]
+        self.assertEqual(set(kinds["Policy"]), set(re.findall(r"\b[1-9]\b", policy)))
+        self.assertEqual(kinds["Scripts"], sorted(self.rows("Declarations may be mixed")))
+        self.assertEqual(kinds["Sentences"], self.rows("A text that is no sentence is refused"))
+        self.assertEqual(kinds["Facts"], ["1", "2", "3"])
+
+
+@program.needed
+class Files(unittest.TestCase):
+    """The files of the section FILES TO WRITE of cqe(1)."""
+
+    def test_they_are_good_ones(self) -> None:
+        page = CQE.read_text(encoding="utf-8").partition(".SH FILES TO WRITE\n")[2].partition(".SH ")[0]
+        page = page.replace("\\-", "-").replace("\\(aq", "'")
+        case, policy, facts = re.findall(r"^\.nf\n(.*?)^\.fi$", page, re.DOTALL | re.MULTILINE)
+        self.assertEqual(answers(["case"], case), ["no", "yes"])
+        self.assertIn(hashlib.sha256(b"night shift").hexdigest(), policy)
+        with tempfile.TemporaryDirectory() as place:
+            for name, content in (("policy", policy), ("facts", facts)):
+                Path(place, name).write_text(content)
+            files = ["--policy", f"{place}/policy", "--facts", f"{place}/facts", "--journals", place]
+            self.assertEqual(answers(["init", *files], ""), [])
+            self.assertEqual(answers(["batch", *files], "nurse 1 ask hiv(ann)\n"), ["nurse 1 no"])
 
 
 @program.needed

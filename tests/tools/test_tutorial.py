@@ -82,6 +82,8 @@ def free_port() -> str:
 def make_directory(directory: Path) -> dict[str, str]:
     """Puts the examples and the program there, and returns the environment in which they are found."""
     shutil.copytree(ROOT / "examples", directory / "examples")
+    for name in ("tools", "clients"):
+        (directory / name).symlink_to(ROOT / name)
     commands = directory / "commands"
     commands.mkdir()
     found = program.path()

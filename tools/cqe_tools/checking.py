@@ -37,15 +37,13 @@ def program(here):
     """The program: that of the environment variable CQE, the built one, one beside the tools, or that of the path."""
     named = os.environ.get("CQE")
     places = [Path(named)] if named else [here.parent / "crates/cqe/out/cqe", here / "cqe"]
+    if not named:
+        places += [Path(directory) / "cqe" for directory in os.environ.get("PATH", "").split(os.pathsep)]
     for place in places:
-        if place.is_file() and os.access(place, os.X_OK):
+        if os.path.isfile(place) and os.access(place, os.X_OK):  # is_file raises where a directory can't be looked into
             return str(place.resolve())
     if named:
         raise Unusable(f"the environment variable CQE names {named}, and there is no program")
-    for directory in os.environ.get("PATH", "").split(os.pathsep):
-        place = Path(directory) / "cqe"
-        if place.is_file() and os.access(place, os.X_OK):
-            return str(place.resolve())
     raise Unusable("there is no program cqe: name it by the environment variable CQE, or build it by ./cqe")
 
 
