@@ -86,13 +86,13 @@ marked_less marks m l = by (same_literal l m) refl
         ap (is_marked (set marks (code_of m) false)) (same_literal-true l m e) ∙ cleared_at marks (code_of m) ∙ sym (and_false (is_marked marks l))
     by false e = get_or-set_other marks (code_of m) (code_of l) false false (other_code l m e) ∙ sym (and_true (is_marked marks l))
 
--- a literal that is marked already
-pub marked_already : (marks : List Bool) (m : Literal) → is_marked marks m ≡ true → (l : Literal) → is_marked marks l ≡ (is_marked marks l || same_literal l m)
-marked_already marks m has l = by (same_literal l m) refl
+-- a literal that a clause has already
+pub has_already : (c : List Literal) (m : Literal) → has_literal c m ≡ true → (l : Literal) → has_literal c l ≡ (has_literal c l || same_literal l m)
+has_already c m has l = by (same_literal l m) refl
   where
-    by : (b : Bool) → same_literal l m ≡ b → is_marked marks l ≡ (is_marked marks l || b)
-    by true e = ap (is_marked marks) (same_literal-true l m e) ∙ has ∙ sym (or_true (is_marked marks l))
-    by false e = sym (or_false (is_marked marks l))
+    by : (b : Bool) → same_literal l m ≡ b → has_literal c l ≡ (has_literal c l || b)
+    by true e = ap (has_literal c) (same_literal-true l m e) ∙ has ∙ sym (or_true (has_literal c l))
+    by false e = sym (or_false (has_literal c l))
 
 -- the marks of a clause's literals go one after the other
 pub less_step : (a b s r : Bool) → b ≡ (a && not s) → (b && not r) ≡ (a && not (s || r))

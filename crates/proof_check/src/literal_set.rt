@@ -57,12 +57,20 @@ impl LiteralSet {
         ensures { IfOk result (λ _. (l : Literal)
             → has_literal self.new l ≡ (has_literal self.old l || same_literal l literal)) }
     {
-        make_room(&mut self.marks, literal)?;
-        let at = code(literal);
-        if !self.marks[at] {
-            self.touched.push(literal)?;
-            self.marks[at] = true;
+        if self.has(literal) {
+            return Ok(());
         }
+        self.insert(literal)
+    }
+
+    /// The same, without a look whether the set has the literal.
+    fn insert(&mut self, literal: Lit) -> Result<(), AllocError>
+        ensures { IfOk result (λ _. (l : Literal)
+            → has_literal self.new l ≡ (has_literal self.old l || same_literal l literal)) }
+    {
+        make_room(&mut self.marks, literal)?;
+        self.touched.push(literal)?;
+        self.marks[code(literal)] = true;
         Ok(())
     }
 

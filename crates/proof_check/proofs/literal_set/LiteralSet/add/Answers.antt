@@ -1,38 +1,6 @@
-use Rattle.std.proofs.Common.{◌≡◌, ◌<◌, length, ◌||◌, true, false, get_or, set, refl, sym, ap, subst, ◌∙◌}
-use Rattle.std.proofs.lemmas.List.{get_or_read}
-use Rattle.cqe_base.specs.Literal.{Literal, same_literal}
-use Rattle.proof_check.specs.LiteralSets.{is_marked, AreTouched}
-use Rattle.proof_check.proofs.LiteralSets.{has_marked, marked_more, marked_already, touched_less, touched_more}
+use Rattle.std.proofs.Common.{◌∙◌, sym}
+use Rattle.proof_check.proofs.LiteralSets.{has_already}
 use Rattle.proof_check.proofs.literal_set.LiteralSet.add.Goals as goal
 
-pub returns-in_ok-push : goal.returns-in_ok-push
-returns-in_ok-push c =
-    let marks = c.make_room.new.marks.items in
-    let before = c.self.inside.marks.items in
-    let touched = c.self.inside.touched.items in
-    let now = set marks c.code-at.result true in
-    let same = c.make_room.ensures.same in
-    let more : (l : Literal) → is_marked now l ≡ (is_marked marks l || same_literal l c.args.literal) = λ l.
-    ap (λ i. is_marked (set marks i true) l) c.code-at.ensures ∙ marked_more marks c.args.literal c.in_ok-make_room.ensures.room l in
-    let inside : AreTouched now c.push.new.self.items = subst (AreTouched now) (sym c.in_ok-push.ensures.items)
-    (touched_more now marks touched c.args.literal more (touched_less marks before touched (λ l e. sym (same l) ∙ e) c.self.invariant)) in
-    λ l.
-    has_marked now c.push.new.self.items _ refl inside l
-    ∙ more l
-    ∙ ap (λ b. b || same_literal l c.args.literal) (same l ∙ sym (has_marked before touched c.args.self.now c.self.view_is c.self.invariant l))
-
-pub returns-else-not-index : goal.returns-else-not-index
-returns-else-not-index c =
-    let marks = c.make_room.new.marks.items in
-    let before = c.self.inside.marks.items in
-    let touched = c.self.inside.touched.items in
-    let same = c.make_room.ensures.same in
-    let there : is_marked marks c.args.literal ≡ true =
-    ap (λ i. get_or marks i false) (sym c.code-at.ensures)
-    ∙ sym (get_or_read marks c.code-at.result c.index.result.now
-    (subst (λ i. i < length marks) (sym c.code-at.ensures) c.in_ok-make_room.ensures.room) c.index.ensures false)
-    ∙ c.if-not-index.false in
-    λ l.
-    has_marked marks touched _ refl (touched_less marks before touched (λ m e. sym (same m) ∙ e) c.self.invariant) l
-    ∙ marked_already marks c.args.literal there l
-    ∙ ap (λ b. b || same_literal l c.args.literal) (same l ∙ sym (has_marked before touched c.args.self.now c.self.view_is c.self.invariant l))
+pub returns-then-has : goal.returns-then-has
+returns-then-has c = λ l. has_already c.args.self.now c.args.literal (sym c.has.ensures ∙ c.if-has.true) l
