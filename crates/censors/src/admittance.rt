@@ -12,7 +12,7 @@ ghost use Rattle.censors.specs.Admitting.{probe_objection, secrets_objection, tr
 ghost use Rattle.censors.specs.Admitting.{objection_of, admission_of};
 
 use crate::disjunction;
-use cqe_base::laws::law_limits;
+use cqe_base::laws::{law_limits, law_secrecy};
 use cqe_base::schema::Schema;
 use cqe_base::sentence::Sentence;
 use cqe_base::user::{Method, User};
@@ -52,7 +52,12 @@ pub fn admit(
         ≡ admission_of schema.now world.now (profile_of user.now)) }
     ensures open { IfOk result (λ found. (found ≡ Admission.Open)
         ↔ (admitted schema.now world.now (profile_of user.now) ≡ true)) }
+    // A lying user with a secrecy is never admitted.
+    ensures liars { IfOk result (λ found. user.now.method ≡ Method.Lying → 1 ≤ user.now.pairs
+        → found ≡ Admission.Open → ⊥) }
 {
+    law_secrecy();
+    schema.known();
     match objection(alloc, schema, world, user)? {
         Some(found) => Ok(found),
         None => Ok(Admission::Open),

@@ -87,7 +87,9 @@ secrets_have_secrecies user secrecies others is count = record {
   where
     pairs : HasPairs user
     pairs = record {
-      enough = subst (λ secrets. 2 * user.pairs ≤ length secrets) (sym is) (subst (λ n. 2 * n ≤ length (with_secrecies secrecies others)) (sym count) (omega (arith, secrets_are_counted secrecies others)));
+      enough =
+          subst (λ secrets. 2 * user.pairs ≤ length secrets) (sym is)
+          (subst (λ n. 2 * n ≤ length (with_secrecies secrecies others)) (sym count) (omega (arith, secrets_are_counted secrecies others)));
       negated = λ k low.
           subst (λ secrets. slice_index_or secrets (2 * k + 1) falsum ≡ negation (slice_index_or secrets (2 * k) falsum)) (sym is)
           (pairs_at secrecies others k (subst (λ n. k < n) count low));

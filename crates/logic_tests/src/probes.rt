@@ -104,6 +104,7 @@ fn rule_view<'s>(rt: &impl Abort, alloc: Global, schema: &'s Schema) -> Result<V
         method: Method::Lying,
         know: Vec::new(alloc),
         secrets: Vec::new(alloc),
+        pairs: 0,
         budget: 10,
         token: None,
     };

@@ -12,10 +12,10 @@ use Rattle.cqe_base.specs.Facts.{FactSet}
 use Rattle.cqe_base.specs.Formula.{Formula, falsum}
 use Rattle.cqe_base.specs.Truth.{true_in}
 use Rattle.cqe_base.specs.Entailment.{entails, IsCountermodel}
-use Rattle.cqe_base.specs.History.{UserProfile, History, log, is_user_of}
+use Rattle.cqe_base.specs.History.{UserProfile, History, secret_at, log, is_user_of}
 use Rattle.cqe_base.specs.Censor.{guarded, guarded_by}
 use Rattle.cqe_base.specs.Hiding.{IsAlike, AdmittedAreAdmissible}
-use Rattle.cqe_base.specs.OtherWorlds.{secret_at, guard_by, guard_at, IsLegalSomewhere, LogsKeepSecrets, CountermodelsAreAlike, LegalEntriesReplyAlike}
+use Rattle.cqe_base.specs.OtherWorlds.{guard_by, guard_at, IsLegalSomewhere, LogsKeepSecrets, CountermodelsAreAlike, LegalEntriesReplyAlike}
 use Rattle.cqe_base.specs.OtherWorlds.{FalseDisjunctions}
 use Rattle.cqe_base.specs.Censor.{admission_budget}
 use Rattle.entailment.specs.Verdicts.{verdict_of_probe}
