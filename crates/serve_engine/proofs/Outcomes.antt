@@ -136,7 +136,7 @@ module _ {D G O : Type 0} {g h : _} (told : Type 0) (given_of left_of ends_of fa
   all_own counters first t weight place [] [] fresh was = refl
   all_own counters first t weight place (b ∷ before) (a ∷ after) fresh was =
       let stand = (was.0.back t).stand in
-      let none = ap (sum_by weight) (fresh.0.parts.none_own place) in
+      let none : own_weight weight place (passes_in (job_passes b.job)) ≡ 0 = ap (sum_by weight) (fresh.0.parts.none_own place) in
       let here = stand.own place weight
       ∙ weigh_more weight (own_at place (passes_in (job_passes b.job))) (entries_told place) stand.visit_marks in
       let rest = all_own counters first t weight place before after fresh.1 was.1 in

@@ -84,7 +84,8 @@ module _ {D : Type 0} where
   pub of_own : (weight : AnsweredQuery → ℕ) (place : ℕ) (who : Option ℕ) (fixeds : List (Fixed D)) (old new : List (Pass TurnItem (Fixed D)))
       (asks : List (Text × Reply)) (is : AsksOf who fixeds old new asks)
       → own_weight weight place new ≡ own_weight weight place old + sum_by weight (entries_told place (marks_of who fixeds old new asks is))
-  of_own weight place None fixeds old new asks is = let same = ap (own_weight weight place) is.0 in omega (arith, same)
+  of_own weight place None fixeds old new asks is = let same =
+      ap (λ (ps : List (Pass TurnItem (Fixed D))). own_weight weight place ps) is.0 in omega (arith, same)
   of_own weight place (Some other) fixeds old new asks is = at_own weight place is
 
 one_more : (weight : AnsweredQuery → ℕ) (z : ℕ × TurnItem) (zs : Entries TurnItem)

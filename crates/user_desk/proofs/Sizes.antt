@@ -1,7 +1,7 @@
 -- How many bytes the journal of a desk has.
 use Rattle.std.proofs.Common.{◌≡◌, ℕ, ◌+◌, ◌≤◌, max, List, [], ◌∷◌, ◌++◌, length, map, refl, sym, ap, ◌∙◌, subst, arith, length-append}
 use Rattle.std.specs.Prelude.{Option, Some, None, Result, Ok, Err, sum_by}
-use Rattle.std.proofs.lemmas.List.Sums.{sum_by-append}
+use Rattle.std.proofs.lemmas.List.Sums.{sum_by-append, sum_by-cons}
 use Rattle.cqe_base.specs.declared.user.Mark.{Mark}
 use Rattle.cqe_base.specs.Schema.{DatabaseSchema, Text}
 use Rattle.cqe_base.specs.Formula.{Formula}
@@ -33,7 +33,8 @@ written_size schema (one ∷ all) (entry ∷ entries) are =
     let tail : map (entry_of schema) all ≡ map Some entries = cc in
     let here = length_by one.1 (mark_of one.0) (reading schema one.1) entry head in
     let rest = written_size schema all entries tail in
-    omega (arith, here, rest, length-append one.1 (written all))
+    let one_more = sum_by-cons (λ (e : AnsweredQuery). 4 + e.length) entry entries in
+    omega (arith, here, rest, one_more, length-append one.1 (written all))
 
 -- a journal with a record more has no more bytes than before, or than it needs
 pub size_added : (schema : DatabaseSchema) (header : List ℕ) (entries entries' : History) (entry : AnsweredQuery) (next : Recorded)

@@ -30,14 +30,13 @@ returns-clause-ended g c links_told done =
     let gave = back.given links_told ∙ ap (λ n. n + sum_by g.L.D.Door.given c.serve_opened-end.result.1.items) (heard.given links_told) in
     let ended = back.ended ∙ ap (λ n. n + sum_by (λ door. one_if_any (g.L.D.Door.ends door)) c.serve_opened-end.result.1.items) heard.ended in
     at_end g.L.D.Door.left c.serve_opened-end.result.1.items (g.L.Links.at_hand c.take_back_all.new.links) (heard.all links_told (omega (arith, some)))
-    (back.at_hand links_told) _ _
+    (back.at_hand links_told) (c.serve_opened-end.ensures.ended (g.met.L.Links.tells_doors links_told) done)
     (λ most.
-    let most_ended = most.0 in
-    let most_doors = most.1 in
+    let with_ended = most.0 in
+    let with_doors = most.1 in
     let doors = c.serve_opened-end.ensures.doors in
     let count = heard.count in
-    (omega (arith, most_ended, none, gave, ended), omega (arith, most_doors, none, gave, doors, count)))
-    (c.serve_opened-end.ensures.ended (g.met.L.Links.tells_doors links_told) done)
+    (omega (arith, with_ended, none, gave, ended), omega (arith, with_doors, none, gave, doors, count)))
 
 pub returns-clause-left : goal.returns-clause-left
 returns-clause-left g c links_told all =

@@ -1,4 +1,4 @@
-use Rattle.std.proofs.Common.{◌∷◌, [], ◌∙◌, arith, length-append}
+use Rattle.std.proofs.Common.{◌∷◌, [], refl, sym, ◌∙◌, arith, rules, append-nil, length-append}
 use Rattle.std.proofs.lemmas.List.Sums.{sum_by-append}
 use Rattle.outside.specs.Visits.{one_if_any}
 use Rattle.worker_pool.proofs.Seating.{read_on, read_more}
@@ -11,6 +11,20 @@ take_back-requires g c =
     let more = read_more c.args.doors.items c.loop-door.yielded _ _ c.in-Some.door c.loop-door.invariant.rest c.in-Some.ensures.steps.0 in
     let enough = c.requires in
     omega (arith, out, more, enough)
+
+pub loop-door-init : goal.loop-door-init
+loop-door-init g c = record {
+  rest = search rules;
+  out = omega arith;
+  ended = omega arith;
+  given = λ t. omega arith;
+  left = λ t. omega arith;
+  at_hand = λ t. omega arith;
+  back = λ t. sym (append-nil (g.L.Links.back c.args.links.now));
+  listened = λ t. refl;
+  later = omega arith;
+  failed = λ none. absurd none;
+}
 
 pub loop-door-preserved : goal.loop-door-preserved
 loop-door-preserved g c =

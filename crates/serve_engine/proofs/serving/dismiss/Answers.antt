@@ -1,4 +1,4 @@
-use Rattle.std.proofs.Common.{◌≡◌, ◌+◌, [], ◌∷◌, ◌++◌, length, refl, sym, ap, subst, ◌∙◌, rules, arith}
+use Rattle.std.proofs.Common.{◌≡◌, ◌+◌, [], ◌∷◌, ◌++◌, length, refl, sym, ap, subst, ◌∙◌, rules, arith, sum_by, append-nil}
 use Rattle.std.specs.Vec.Iter.{into_iter_items}
 use Rattle.std.proofs.lemmas.List.Elements.{All-push, All-nil, All-weaker}
 use Rattle.session_core.specs.Members.{ArePassesOf, passes_in}
@@ -23,9 +23,7 @@ loop-worker-init g c =
       these = c.requires.these;
       on = on_same (passes_in c.args.passes.now);
       all_on = All-nil (λ worker. AreOn (job_passes worker.job) c.args.passes.now);
-      own = λ place weight.
-          let none = weigh_more weight (own_at place (passes_in c.args.passes.now)) (λ worker. own_at place (passes_in (job_passes worker.job))) [] in
-          omega (arith, none);
+      own = λ place weight. ap (sum_by weight) (sym (append-nil (own_at place (passes_in c.args.passes.now))));
       shares = (c.requires.rest.0, c.requires.rest.1, omega (arith, total, all));
       room = refl;
     }

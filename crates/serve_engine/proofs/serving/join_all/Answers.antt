@@ -3,7 +3,7 @@ use Rattle.std.specs.Vec.Iter.{into_iter_items}
 use Rattle.session_core.specs.Members.{ArePassesOf, passes_in}
 use Rattle.worker_pool.proofs.Seating.{read_on, next_of}
 use Rattle.serve_engine.specs.Passing.{HaveShares, NoneOwn}
-use Rattle.serve_engine.proofs.Owning.{own_met}
+use Rattle.serve_engine.proofs.Owning.{own_weight, own_met}
 use Rattle.serve_engine.proofs.Meeting.{on_same, on_then, have_met}
 use Rattle.serve_engine.proofs.serving.join_all.Goals as goal
 
@@ -41,7 +41,7 @@ loop-part-preserved g c =
       own = λ place weight.
           let both = own_met weight place c.args.counters.now.counters.items old (passes_in c.in-Some.part) new c.meet.ensures.met in
           let none = next_of NoneOwn c.args.parts.items c.loop-part.yielded _ _ c.in-Some.part so_far.rest step c.requires.none place in
-          let nothing = ap (sum_by weight) none in
+          let nothing : own_weight weight place (passes_in c.in-Some.part) ≡ 0 = ap (sum_by weight) none in
           let before = so_far.own place weight in
           omega (arith, both, nothing, before);
       shares = (so_far.shares.0 + 1, met.have, omega (arith, one_less, total));
