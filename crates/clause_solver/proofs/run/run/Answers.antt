@@ -1,25 +1,23 @@
-use Rattle.std.proofs.Common.{◌≡◌, ◌+◌, ◌-◌, ◌≤◌, suc, length, sym, ap, ◌∙◌, arith}
+use Rattle.std.proofs.Common.{◌≡◌, ◌+◌, ◌-◌, ◌≤◌, suc, length, refl, sym, ap, ◌∙◌, arith}
 use Rattle.cqe_base.specs.Machine.{State, Continues, Ends, Model, Refuted as MachineRefuted, step}
 use Rattle.clause_solver.specs.IndexedStates.{plain_of}
 use Rattle.clause_solver.proofs.Budget.{went_on, went_past, ended_within, ended_past, no_step}
 use Rattle.clause_solver.proofs.Costs.{cost_went_on, cost_went_past, cost_ended_within, cost_ended_past, cost_no_step, spent_cost, added_cost, end_from_start}
 use Rattle.clause_solver.proofs.Costs.{cost_from_start}
-use Rattle.clause_solver.proofs.run.search_with_cost.Goals as goal
+use Rattle.clause_solver.proofs.run.run.Goals as goal
 
 pub loop-steps-init : goal.loop-steps-init
 loop-steps-init c =
     let n = c.args.variables in
     let budget = c.args.budget in
-    let begun = c.in_ok-state.ensures.plain in
-    let clauses = ap (λ (s : State). length s.clauses) begun in
     let all : budget ≤ budget = omega arith in
     record {
-      room = omega (arith, clauses);
+      room = omega arith;
       left_room = all;
-      variables = c.in_ok-state.ensures.variables;
-      indexed = c.in_ok-state.ensures.indexed;
-      same = end_from_start n budget _ _ _ (omega arith) begun;
-      cost = cost_from_start n budget _ _ _ (omega arith) begun;
+      variables = c.requires.same;
+      indexed = c.requires.indexed;
+      same = end_from_start n budget _ _ _ (omega arith) refl;
+      cost = cost_from_start n budget _ _ _ (omega arith) refl;
     }
 
 pub returns-then-left-cost : goal.returns-then-left-cost
