@@ -57,8 +57,12 @@ SCRIPTS = {
     "a fact that is none": (HEAD + "fact hiv(carl)\n", "5 6", (6, 10, "carl"), ["'carl'"]),
     "a secret that is none": (HEAD + "secret hiv(ann) AND hiv(bob)\n", "6 6", (6, 17, "AND"), ["'secret'", "'and'"]),
     "a known text that is empty": (HEAD + "know \n", "6 6", (6, 6, ""), ["empty"]),
+    "a secrecy that is none": (HEAD + "secrecy hiv(carl)\n", "6 6", (6, 13, "carl"), ["'secrecy'", "'carl'"]),
+    "a secrecy alone": (HEAD + "secrecy\n", "1 6", (6, 1, "secrecy"), ["secrecy hiv(ann)"]),
+    "a secrecy with 15 secrets": (HEAD + "secret z()\n" * 14 + "secrecy z()\n", "7 20", (20, 1, "secrecy z()"),
+                                  ["17 secrets", "two"]),
     "a budget of nothing": (HEAD + "budget 0\n", "7 6", (6, 8, "0"), ["4,000,000"]),
-    "17 secrets": (HEAD + "secret z()\n" * 16, "7 21", (21, 1, "secret z()"), ["17th", "16"]),
+    "17 secrets": (HEAD + "secret z()\n" * 16, "7 21", (21, 1, "secret z()"), ["17 secrets", "16"]),
     # Six quantifiers over six constants: 6^6 instances and (6^6 - 1) / 5 inner nodes.
     "a large sentence": (SIX + "know " + "forall x: person . " * 6 + "z()\n", "7 6", None, ["55,987", "20,000"]),
     "an ask before a secret": ("domain d = a\nmethod lying\nask true\n", "8 3", (3, 1, "ask"), ["no 'secret'"]),

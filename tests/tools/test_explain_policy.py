@@ -9,6 +9,17 @@ FIVE = changed(('ward = ["w1"]', 'ward = ["w1"]\nfive = ["c1", "c2", "c3", "c4",
 SECOND = '[[users]]\nname = "eve"\nmethod = "lying"\nsecrets = ["false"]\n'
 
 
+# SIX has 19,531 nodes; three, two, one and no quantifier before z() have 156, 31, 6 and 1, and each 'and' is one more:
+# 19,531 + 2 * 157 + 4 * 32 + 3 * 7 + 3 * 2 = 20,000.
+LARGE = " and ".join([f"({SIX})"] + ["(" + "forall a: five . " * count + "z())"
+                                     for count in (3, 3, 2, 2, 2, 2, 1, 1, 1, 0, 0, 0)])
+
+
+def secrecies(text):
+    """The policy in version 2, with secrecies too."""
+    return changed(("= 1\n", "= 2\n"), ('["hiv(ann)"]', '["hiv(ann)"]\nsecrecies = ' + text))
+
+
 def know(text):
     """The policy with another sentence known."""
     return changed(("hiv(ann) -> hiv(bob)", text))
@@ -104,7 +115,21 @@ CASES = {
                      (14, 11, '["hiv(ann)"]'),
                      ["58,595", "40,000"]),
     "a name of two users": (POLICY + SECOND, "policy 8 users[1].name", (14, 8, '"eve"'), ["'eve'", "users[0]", ":9:8"]),
-    "version 2": (changed(("= 1\n", "= 2\n")), "policy 9", (1, 11, "2"), ["version", "2", "write version = 1"]),
+    "version 3": (changed(("= 1\n", "= 3\n")), "policy 9", (1, 11, "3"), ["version", "3", "write version = 1"]),
+    "secrecies in version 1": (changed(('["hiv(ann)"]', '["hiv(ann)"]\nsecrecies = ["hiv(bob)"]')),
+                               "policy 4 users[0].secrecies", (13, 1, "secrecies"), ["'secrecies'", "version = 2"]),
+    "secrecies that are a string": (secrecies('"hiv(bob)"'), "policy 3 users[0].secrecies", (13, 13, '"hiv(bob)"'),
+                                    ["string", "brackets"]),
+    "nine secrecies": (secrecies("[" + ", ".join(['"true"'] * 9) + "]"), "policy 7 users[0].secrecies", None,
+                       ["9 sentences", "8"]),
+    "a secrecy that is no sentence": (secrecies('["true", "hiv"]'), "policy 6 users[0].secrecies[1] 3 0", (13, 23, "hiv"),
+                                      ["secrecies[1]", "parentheses"]),
+    "17 secrets with those of secrecies": (secrecies("[" + ", ".join(['"true"'] * 8) + "]"), "policy 7 users[0].secrecies",
+                                           None, ["17", "16", "a secrecy makes two"]),
+    "no secret and no secrecy": (changed(("= 1\n", "= 2\n"), ('secrets = ["hiv(ann)"]\n', "")),
+                                 "policy 7 users[0].secrecies", None, ["0", "16"]),
+    "a large secrecy": (FIVE.replace("= 1\n", "= 2\n").replace('secrets = ["hiv(ann)"]', f'secrecies = ["{LARGE}"]'),
+                        "policy 7 users[0].secrecies[0]", None, ["20,000 nodes", "19,999", "secrecies[0]"]),
 }
 
 

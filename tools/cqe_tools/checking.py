@@ -13,9 +13,10 @@ import subprocess
 import tempfile
 from dataclasses import dataclass, field
 from pathlib import Path
+from typing import NamedTuple
 
 from . import schemas
-from .policies import view_nodes
+from .policies import SENTENCES, secrets_of, view_nodes
 from .sentences import nodes_of
 
 NOTHING = "false"  # the secret of a user from whom nothing is to be hidden
@@ -45,6 +46,16 @@ def program(here):
     if named:
         raise Unusable(f"the environment variable CQE names {named}, and there is no program")
     raise Unusable("there is no program cqe: name it by the environment variable CQE, or build it by ./cqe")
+
+
+class Made(NamedTuple):
+    """A made-up user."""
+
+    name: str
+    method: str
+    know: list
+    secrets: list
+    secrecies: list = []
 
 
 class Asker:
@@ -104,13 +115,15 @@ class Asker:
 
 def written(declarations, users, budget=schemas.BUDGET):
     """A policy as TOML: the same domains and relations, and these users, each with the same budget."""
-    lines = ["version = 1", "", "[domains]"]
+    version = 2 if any(user.secrecies for user in users) else 1
+    lines = [f"version = {version}", "", "[domains]"]
     lines += [f"{name} = {json.dumps(constants)}" for name, constants in declarations[0]]
     lines += ["", "[relations]"]
     lines += [f"{name} = {json.dumps(columns)}" for name, columns in declarations[1]]
-    for name, method, know, secrets in users:
-        lines += ["", "[[users]]", f'name = "{name}"', f'method = "{method}"', f"know = {json.dumps(know)}",
-                  f"secrets = {json.dumps(secrets)}", f"budget = {budget}"]
+    for user in users:
+        lines += ["", "[[users]]", f'name = "{user.name}"', f'method = "{user.method}"',
+                  f"know = {json.dumps(user.know)}", f"secrets = {json.dumps(user.secrets)}", f"budget = {budget}"]
+        lines += [f"secrecies = {json.dumps(user.secrecies)}"] if version == 2 else []
     return "\n".join(lines) + "\n"
 
 
@@ -124,10 +137,17 @@ def truths(asker, declarations, texts):
     result = {}
     for begin in range(0, len(texts), schemas.USERS):
         part = texts[begin:begin + schemas.USERS]
-        made = [(f"t{number}", "lying", [], [NOTHING]) for number in range(len(part))]
+        made = [Made(f"t{number}", "lying", [], [NOTHING]) for number in range(len(part))]
         asks = [(f"t{number}", text) for number, text in enumerate(part)]
         result.update(zip(part, asker.replies(declarations, made, asks)))
     return result
+
+
+def spent_searches(told):
+    """For which worlds an audit found that the search needs too much."""
+    secrecies = [f"{preposition} {secrecy['secrecy']}" for secrecy in told.get("secrecies", [])
+                 for preposition, key in (("with", "true"), ("without", "false")) if secrecy[key] is None]
+    return secrecies + [f"without {secret['secret']}" for secret in told["secrets"] if secret["world"] is None]
 
 
 @dataclass
@@ -174,10 +194,8 @@ class Check:
         result.contradicted = [index for index, text in enumerate(know) if self.truths.get(text) == "no"]
         result.sizes = self.sizes(user, told)
         self.note_truths(result, know)
-        for secret in told["secrets"]:
-            if secret["world"] is None:
-                result.notes.append(f"the search for a world without {secret['secret']} needs more than "
-                                    f"{schemas.BUDGET:,}")
+        for what in spent_searches(told):
+            result.notes.append(f"the search for a world {what} needs more than {schemas.BUDGET:,}")
         if not result.is_open:
             result.reasons = self.reasons(user, result)
         return result
@@ -197,10 +215,11 @@ class Check:
                                     f"{text}")
 
     def sizes(self, user, told):
-        texts = [*user.get("know", []), *user["secrets"]]
+        nodes = [nodes_of(self.schema, text.encode()) + (key == "secrecies")  # its negation has one more
+                 for key in SENTENCES for text in user.get(key, [])]
         return {
-            "sentence": max(nodes_of(self.schema, text.encode()) for text in texts),
-            "view": view_nodes(self.schema, user), "know": len(user.get("know", [])), "secrets": len(user["secrets"]),
+            "sentence": max(nodes), "view": view_nodes(self.schema, user), "know": len(user.get("know", [])),
+            "secrets": len(secrets_of(user)),
             "answers": len(told["entries"]),
         }
 
@@ -220,7 +239,7 @@ class Check:
         result = []
         for begin in range(0, len(groups), schemas.USERS):
             part = groups[begin:begin + schemas.USERS]
-            made = [(f"u{number}", "lying", [f"{free}() or ({text})" for text in know],
+            made = [Made(f"u{number}", "lying", [f"{free}() or ({text})" for text in know],
                      [f"not {free}() and ({text})" for text in hidden])
                     for number, (know, hidden) in enumerate(part)]
             try:
@@ -233,20 +252,23 @@ class Check:
 
     def reasons(self, user, standing):
         """Why a user is closed, in the order of the tests of admission."""
-        know, secrets = user.get("know", []), user["secrets"]
+        know, (names, secrets) = user.get("know", []), zip(*secrets_of(user))
         if user["method"] == "refusal" and standing.contradicted:
             return [f"the facts contradict what he knows, and refusal wants all of it to be true: know[{index}] is "
                     f"{know[index]}"
                     for index in standing.contradicted]
+        if user["method"] == "lying" and user.get("secrecies"):
+            return [f"a liar can have no secrecy, since he would have to deny a sentence and its negation: secrecies[0] "
+                    f"is {user['secrecies'][0]}"]
         absurd, *single = self.entailed([(know, [NOTHING])] + [(know, [secret]) for secret in secrets])
         if absurd == "yes":
             return ["what he knows contradicts itself, so it entails every secret"]
-        result = [f"what he knows entails secrets[{index}]: {secrets[index]}" for index,
+        result = [f"what he knows entails {names[index]}: {secrets[index]}" for index,
                   found in enumerate(single) if found == "yes"]
         if not result and user["method"] == "lying" and len(secrets) > 1:
             result = self.of_several(know, secrets)
         if not result:
-            result = [f"secrets[{index}] costs too much to test, the search needs more than {schemas.BUDGET:,}: "
+            result = [f"{names[index]} costs too much to test, the search needs more than {schemas.BUDGET:,}: "
                       f"{secrets[index]}"
                       for index, found in enumerate(single) if found == "spent"]
         return result or [f"the search of the admission needs more than {schemas.BUDGET:,}" if None not in single else

@@ -14,6 +14,7 @@ from .checking import Check, Refusal, Unusable, truths
 from .explaining import Context, Explainer
 from .lab_examples import stories_of_users
 from .places import Finding, Text, visible
+from .policies import secrets_of
 
 MARKS = ("yes", "no", "refused", "undecided")
 OF_THE_MACHINE = ("error 40", "error 41", "error 50")  # faults, of which another database says nothing
@@ -108,7 +109,8 @@ class Trial:
         with self.lock:
             standings = Check(self.asker, self.context.policy).standings(self.journals)
         return [{
-            "name": user["name"], "method": user["method"], "know": user.get("know", []), "secrets": user["secrets"],
+            "name": user["name"], "method": user["method"], "know": user.get("know", []),
+            "secrets": user.get("secrets", []), "secrecies": user.get("secrecies", []),
             "budget": budget_of(user), "is_open": standing.is_open, "reasons": standing.reasons,
             "notes": standing.notes, "story": story,
         } for standing, user, story in zip(standings, self.users.values(), stories)]
@@ -182,7 +184,7 @@ class Trial:
             raise Unusable("there is no such reply")
         with TemporaryDirectory(dir=self.place) as place:
             audit = self.audit_behind(Path(place), name, told[-1])
-            secrets = list(zip(self.users[name]["secrets"], (secret["world"] for secret in audit["secrets"])))
+            secrets = list(zip((text for _, text in secrets_of(self.users[name])), worlds_of(audit)))
             worlds = dict.fromkeys(tuple(world) for _, world in secrets if world is not None)
             return {
                 "user": name, "number": number, "standing": audit["standing"],
@@ -221,6 +223,12 @@ class Trial:
             "rows": [{"text": visible(bytes_of(one.text)), "here": one.reply, "there": reply}
                      for one, reply in zip(compared, there)][-MOST_ROWS:],
         }
+
+
+def worlds_of(audit):
+    """The other world of each secret of a user: of a secrecy its own, in which it is false, and that of its negation."""
+    return [secrecy[key] for secrecy in audit.get("secrecies", []) for key in ("false", "true")] + [
+        secret["world"] for secret in audit["secrets"]]
 
 
 def bytes_of(text):

@@ -9,19 +9,22 @@ from .sentences import Refused, nodes_of
 from .toml_places import plain, tree_of
 
 ROOT_KEYS = ("version", "domains", "relations", "users")
-USER_KEYS = ("name", "method", "know", "secrets", "budget", "token")
+USER_KEYS = ("name", "method", "know", "secrets", "secrecies", "budget", "token")
+OF_VERSION_2 = "secrecies"
+SENTENCES = ("know", "secrets", "secrecies")  # the keys with sentences
 METHODS = ("lying", "refusal", "combined")
 TOKEN = re.compile(r"[0-9A-Fa-f]{64}\Z")
 PLACE = re.compile(r"users\[(\d+)\]\.(\w+)(?:\[(\d+)\])?\Z")
 AT_LINE = re.compile(r"\(at line (\d+), column (\d+)\)")
 
 WANTED = {
-    "version": "the number 1", "domains": "a table of domains, as [domains] with lines like person = [\"ann\"]",
+    "version": "the number 1, or 2 for secrecies", "domains": "a table of domains, as [domains] with lines like person = [\"ann\"]",
     "relations": "a table of relations, as [relations] with lines like hiv = [\"person\"]",
     "users": "an array of tables, each begun by [[users]]",
     "name": "a string with a letter, then letters, digits and _, in ASCII, of at most 32 bytes",
     "method": "one of \"lying\", \"refusal\" and \"combined\", in small letters",
     "know": "an array of strings, each a sentence", "secrets": "an array of 1 to 16 strings, each a sentence",
+    "secrecies": "an array of at most 8 strings, each a sentence",
     "budget": "a whole number from 1 to 4000000, without quotes",
     "token": "a string of 64 hexadecimal digits: what  printf 'PASS PHRASE' | sha256sum  prints first",
 }
@@ -117,10 +120,17 @@ def is_utf8(data):
     return True
 
 
+def secrets_of(user):
+    """All secrets of a user with their names: each secrecy and its negation, and then the others."""
+    both = [named for index, text in enumerate(user.get("secrecies", []))
+            for named in ((f"secrecies[{index}]", text), (f"the negation of secrecies[{index}]", f"not ({text})"))]
+    return both + [(f"secrets[{index}]", text) for index, text in enumerate(user.get("secrets", []))]
+
+
 def view_nodes(schema, user):
-    """The nodes of a user's view without entries."""
-    known = sum(nodes_of(schema, text.encode()) for text in user.get("know", []))
-    return known + sum(1 + nodes_of(schema, text.encode()) for text in user["secrets"])
+    """The nodes of a user's view without entries; of a secrecy those of two secrets."""
+    known, secrets, secrecies = ([nodes_of(schema, text.encode()) for text in user.get(key, [])] for key in SENTENCES)
+    return sum(known) + sum(1 + nodes for nodes in secrets) + sum(3 + 2 * nodes for nodes in secrecies)
 
 
 def explain(said, kind, rest, policy):
@@ -260,7 +270,7 @@ def culprit(path, value, key):
             for number, item in enumerate(inner.value):
                 if item.kind != "string":
                     return path + (name, number), item
-    if key in ("know", "secrets", "users") and value.kind == "array":
+    if key in (*SENTENCES, "users") and value.kind == "array":
         for number, item in enumerate(value.value):
             if item.kind != ("table" if key == "users" else "string"):
                 return path + (number,), item
@@ -269,7 +279,7 @@ def culprit(path, value, key):
 
 def kind_fault(key, value):
     """Why a value isn't what its key wants."""
-    if value.kind != "string" or key in ("domains", "relations", "users", "know", "secrets", "version", "budget"):
+    if value.kind != "string" or key in ("domains", "relations", "users", *SENTENCES, "version", "budget"):
         article = "an" if value.kind in ("integer", "array") else "a" if value.kind != "other" else ""
         what = "a number with a point, a date or a time" if value.kind == "other" else f"{article} {value.kind}"
         if key in ("domains", "relations"):
@@ -290,7 +300,7 @@ def kind_advice(key, value):
         return f"write \"{meant}\"" if meant else None
     if key == "users" and value.kind == "table":
         return "write [[users]], with two brackets, before each user"
-    if key in ("know", "secrets") and value.kind == "string":
+    if key in SENTENCES and value.kind == "string":
         return f"put it in brackets: {key} = [\"..\"]"
     if key in ("budget", "version") and value.kind == "string":
         return "write the number without quotes"
@@ -309,6 +319,9 @@ def unknown_key(said, rest, policy):
     # The key is printed as it stands, so one with a line feed isn't whole here.
     if here:
         key = next((name for name in sorted(here.value) if name not in known and name.startswith(key)), key)
+    if user is not None and key == OF_VERSION_2:
+        return Finding(said, f"{quoted(key)} is no key {where} in a policy of version 1.",
+                       policy.spot_of_key(*path, key) if here else None, "write version = 2 at the top of the policy")
     meant = schemas.similar(key, known)
     advice = f"write '{meant}' for it" if meant else f"leave it out; the keys {where} are {', '.join(known)}"
     if user is not None and key in ROOT_KEYS:
@@ -355,6 +368,10 @@ def no_sentence(said, rest, policy):
     return Finding(said, meaning, policy.spot_in_text(value, found.start, found.end), found.advice)
 
 
+JOINED = {"know": "join several into one by 'and'", "secrets": "join several into one by 'or'",
+          "secrecies": "leave some out: two can't be joined into one"}
+
+
 def above_limit(said, rest, policy):
     user, key, index = place_of(rest, policy)
     if user is None:
@@ -374,22 +391,35 @@ def above_limit(said, rest, policy):
                        "write a number from 1 to 4000000, or leave the key out (1000000)")
     count = len(value.value) if value is not None and value.kind == "array" else None
     spot = policy.spot_of("users", user, key) if policy else None
-    most = schemas.KNOWN if key == "know" else schemas.SECRETS
+    most = {"know": schemas.KNOWN, "secrecies": schemas.SECRECIES}.get(key, schemas.SECRETS)
+    if key == "secrecies" and (count is None or count <= most):
+        return wrong_sum(said, policy, user, title, spot)
     if count is not None and (count > most or (key == "secrets" and count == 0)):
         least = "1 to " if key == "secrets" else "at most "
         return Finding(said, f"'{key}' of {title} has {texts.counted(count, 'sentence')}, and {least}{most} are "
                        f"allowed.", spot,
-                       "join several into one by 'and' (know) or 'or' (secrets)" if count else "give him at least one; "
-                       "secrets = [\"false\"] hides nothing")
+                       JOINED[key] if count else "give him at least one; secrets = [\"false\"] hides nothing")
     return great_view(said, policy, user, title, spot)
+
+
+def wrong_sum(said, policy, user, title, spot):
+    """All secrets of a user together are too many or none."""
+    found = ""
+    if policy and user < len(policy.users()):
+        given = policy.users()[user]
+        found = (f" {title[0].upper()}{title[1:]} has {len(secrets_of(given))}, of which "
+                 f"{2 * len(given.get('secrecies', []))} are those of secrecies.")
+    return Finding(said, f"A user has 1 to {schemas.SECRETS} secrets in all, and a secrecy makes two of them.{found}",
+                   spot, "give him fewer, or at least one; secrets = [\"false\"] hides nothing")
 
 
 def long_text(said, policy, user, key, index, title):
     value = policy.at("users", user, key, index) if policy else None
     advice = "say it with fewer or smaller quantifiers, or split it into several sentences"
     meaning = f"{key}[{index}] of {title} is too large"
+    most = schemas.SECRECY_NODES if key == "secrecies" else schemas.SENTENCE_NODES
     if value is None or value.kind != "string":
-        return Finding(said, meaning + ": more than 4,096 bytes, or more than 20,000 nodes.", None, advice)
+        return Finding(said, f"{meaning}: more than 4,096 bytes, or more than {most:,} nodes.", None, advice)
     size = len(value.value.encode("utf-8", "surrogateescape"))
     spot = policy.spot(value.start, value.end)
     if size > schemas.TEXT_BYTES:
@@ -400,7 +430,7 @@ def long_text(said, policy, user, key, index, title):
     except Refused:
         return Finding(said, meaning + ".", spot, advice)
     return Finding(said, f"{meaning}: it has {nodes:,} nodes with its quantifiers written out over their domains, and "
-                   f"at most {schemas.SENTENCE_NODES:,} are allowed.", spot, advice)
+                   f"at most {most:,} are allowed.", spot, advice)
 
 
 def great_view(said, policy, user, title, spot):
@@ -431,5 +461,5 @@ def double_user(said, rest, policy):
 def other_version(said, rest, policy):
     value = policy.at("version") if policy else None
     found = f", and here it is {value.value}" if value is not None else ""
-    return Finding(said, f"The version of a policy is 1{found}.",
-                   policy.spot(value.start, value.end) if value else None, "write version = 1")
+    return Finding(said, f"The version of a policy is 1 or 2{found}.",
+                   policy.spot(value.start, value.end) if value else None, "write version = 1, or 2 for secrecies")

@@ -4,11 +4,11 @@ import re
 
 from . import facts, schemas, texts
 from .places import Finding, Spot, quoted
-from .policies import METHODS, view_nodes
+from .policies import METHODS, secrets_of, view_nodes
 from .schemas import Schema, similar
 from .sentences import Refused, nodes_of, refusal_of, token_at
 
-WORDS = ("domain", "relation", "fact", "method", "know", "secret", "budget", "ask")
+WORDS = ("domain", "relation", "fact", "method", "know", "secret", "secrecy", "budget", "ask")
 DECLARATIONS = tuple(word.encode() for word in WORDS[:-1])
 BAD = re.compile(rb"[^\t\x20-\x7e]")
 BLANK = b" \t"
@@ -18,7 +18,7 @@ RELATION = re.compile(rb"relation[ \t][ \t]*([A-Za-z]\w*)[ \t]*\((.*)\)[ \t]*\Z"
 OTHER_WORDS = {
     "query": "ask", "question": "ask", "select": "ask", "ask:": "ask", "facts": "fact", "domains": "domain",
     "relations": "relation",
-    "secrets": "secret", "knows": "know", "knowledge": "know", "censor": "method", "table": "relation", "user": "know",
+    "secrets": "secret", "secrecies": "secrecy", "knows": "know", "knowledge": "know", "censor": "method", "table": "relation", "user": "know",
 }
 
 
@@ -53,7 +53,7 @@ class CaseScript:
 
     def __init__(self, text, before=None):
         self.domains, self.relations, self.facts = [], [], set()
-        self.known, self.secrets = [], []
+        self.known, self.secrets, self.secrecies = [], [], []
         self.method = self.budget = self.asked = None  # the number of the line
         self.method_word = ""
         for number, line in numbered(text):
@@ -63,6 +63,15 @@ class CaseScript:
 
     def schema(self):
         return Schema(self.domains, self.relations)
+
+    def sentences(self, word):
+        """The texts of the lines of a word."""
+        return {b"know": self.known, b"secret": self.secrets, b"secrecy": self.secrecies}[word]
+
+    def user(self):
+        """The user of the script, as one of a policy."""
+        return {key: [text.decode() for text in found] for key, found in
+                (("know", self.known), ("secrets", self.secrets), ("secrecies", self.secrecies))}
 
     def take(self, number, line):
         word, rest = word_and_rest(line)
@@ -76,8 +85,8 @@ class CaseScript:
             self.method, self.method_word = number, (rest or b"").decode("ascii", "replace")
         elif word == b"budget":
             self.budget = number
-        elif word in (b"know", b"secret") and rest is not None:
-            (self.known if word == b"know" else self.secrets).append(rest)
+        elif word in (b"know", b"secret", b"secrecy") and rest is not None:
+            self.sentences(word).append(rest)
         elif word == b"ask":
             self.asked = self.asked or number
 
@@ -135,7 +144,7 @@ PLAIN = {
     4: "with it the declarations are no schema",
     5: "it is no fact, or the 100,001st", 6: "its text is no sentence", 7: "a limit is passed",
     8: "it stands in the wrong order: declarations come before the first ask, method and budget once, a method and a "
-    "secret before an ask",
+    "secret or a secrecy before an ask",
 }
 
 
@@ -208,7 +217,8 @@ def case_shape(data):
 EXAMPLES = {
     "domain": "domain person = ann, bob", "relation": "relation hiv(person)", "fact": "fact hiv(ann)",
     "method": "method lying",
-    "know": "know forall x: person . drug(x) -> hiv(x)", "secret": "secret hiv(ann)", "budget": "budget 1000000",
+    "know": "know forall x: person . drug(x) -> hiv(x)", "secret": "secret hiv(ann)", "secrecy": "secrecy hiv(ann)",
+    "budget": "budget 1000000",
     "ask": "ask hiv(ann)",
 }
 
@@ -296,20 +306,22 @@ def above_limit(data, sort, before):
     if word == b"budget":
         return (f"has the budget {name_of(rest)}, and a budget is from 1 to {schemas.BUDGET:,}", begin, end,
                 "write a number from 1 to 4000000")
-    most, have = (schemas.KNOWN, before.known) if word == b"know" else (schemas.SECRETS, before.secrets)
+    most_nodes = schemas.SECRECY_NODES if word == b"secrecy" else schemas.SENTENCE_NODES
     try:
         nodes = nodes_of(before.schema(), rest)
         advice = ("say it with fewer or smaller quantifiers: one counts its sentence once for each constant of its "
                   "domain")
-        if nodes > schemas.SENTENCE_NODES:
-            return (f"has a sentence of {nodes:,} nodes, and at most {schemas.SENTENCE_NODES:,} are allowed", begin,
-                    end, advice)
-        if len(have) >= most:
-            return (f"is the {len(have) + 1}th '{name_of(word)}', and at most {most} are allowed", 0, end,
-                    "join several into one by 'and' (know) or 'or' (secret)")
-        user = {"know": [text.decode() for text in before.known], "secrets": [text.decode() for text in before.secrets]}
-        user["know" if word == b"know" else "secrets"].append(rest.decode())
-        view = view_nodes(before.schema(), user)
+        if nodes > most_nodes:
+            return (f"has a sentence of {nodes:,} nodes, and at most {most_nodes:,} are allowed", begin, end, advice)
+        before.sentences(word).append(rest)
+        if len(before.known) > schemas.KNOWN:
+            return (f"is the {len(before.known)}th 'know', and at most {schemas.KNOWN} are allowed", 0, end,
+                    "join several into one by 'and'")
+        secrets = len(secrets_of(before.user()))
+        if secrets > schemas.SECRETS:
+            return (f"makes {secrets} secrets, where a secrecy makes two, and at most {schemas.SECRETS} are allowed", 0,
+                    end, "join several secrets into one by 'or'")
+        view = view_nodes(before.schema(), before.user())
         return (f"makes a view of {view:,} nodes, and at most {schemas.FIRST_VIEW_NODES:,} are allowed", begin, end,
                 advice)
     except Refused:
@@ -320,7 +332,8 @@ def out_of_order(data, sort, before):
     word, _ = word_and_rest(data)
     name = word.decode("ascii", "replace")
     if word == b"ask":
-        wanting = [what for what, there in (("'method'", before.method), ("'secret'", before.secrets)) if not there]
+        wanting = [what for what, there in (("'method'", before.method),
+                                            ("'secret'", before.secrets or before.secrecies)) if not there]
         missing = " and no ".join(wanting) or "'method' or 'secret'"
         return f"asks before there is a method and a secret: there is no {missing} above", 0, 3, (
             "write method lying, refusal or combined, and at least one secret, above the first ask (secret false hides "
