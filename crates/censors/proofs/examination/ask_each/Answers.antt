@@ -30,7 +30,8 @@ ask-requires-clause-all_nodes c =
     c.loop-goal-test.true c.requires.goal_nodes)) in
     let other_nodes : log_nodes (schema_of c.loop-goal.view) (log_of c.loop-goal.view) + nodes (schema_of c.loop-goal.view) (formula_of c.args.premise.0.now)
     ≤ 60000 =
-    subst (λ schema. log_nodes schema (log_of c.loop-goal.view) + nodes schema (formula_of c.args.premise.0.now) ≤ 60000) (sym (ap schema_of c.loop-goal.invariant.same))
+    subst (λ schema. log_nodes schema (log_of c.loop-goal.view) + nodes schema (formula_of c.args.premise.0.now)
+    ≤ 60000) (sym (ap schema_of c.loop-goal.invariant.same))
     (subst (λ log. log_nodes (schema_of c.args.view.now) log + nodes (schema_of c.args.view.now) (formula_of c.args.premise.0.now)
     ≤ 60000) (sym (ap log_of c.loop-goal.invariant.same)) c.requires.all_nodes) in
     omega arith

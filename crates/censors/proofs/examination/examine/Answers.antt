@@ -7,8 +7,8 @@ use Rattle.censors.proofs.Found.{found_lying, found_refusal, found_combined, sam
 use Rattle.censors.proofs.Costs.{spent-by-cost, decide-undecided}
 use Rattle.censors.proofs.examination.examine.Goals as goal
 
-pub returns-in-Lying-clause-findings : goal.returns-in-Lying-clause-findings
-returns-in-Lying-clause-findings c =
+pub returns-in_ok-harms-in-Lying-clause-findings : goal.returns-in_ok-harms-in-Lying-clause-findings
+returns-in_ok-harms-in-Lying-clause-findings c =
     let user = profile_of c.args.user.now in
     let is_disjunction : formula_of c.in_ok-disjunction-in-Lying.field-0 ≡ disjunction_of user.secrets =
     c.in_ok-disjunction-in-Lying.ensures ∙ ap (λ secrets. disjunction_of (map formula_of secrets)) c.as_slice-secrets.ensures.value in
@@ -19,8 +19,8 @@ returns-in-Lying-clause-findings c =
     refl refl (ap (λ d. d ∷ []) is_disjunction) user.budget
     (formula_of c.args.query.now) c.in_ok-harms-in-Lying.harms c.in_ok-harms-in-Lying.ensures.harms))
 
-pub returns-in-Refusal-clause-findings : goal.returns-in-Refusal-clause-findings
-returns-in-Refusal-clause-findings c =
+pub returns-in_ok-harms-in-Refusal-clause-findings : goal.returns-in_ok-harms-in-Refusal-clause-findings
+returns-in_ok-harms-in-Refusal-clause-findings c =
     let user = profile_of c.args.user.now in
     subst (HasFindings _ user _ (formula_of c.args.query.now)) (sym c.found-in-Refusal.ensures)
     (found_refusal _ user _ (formula_of c.args.query.now) c.in-Refusal.is c.in_ok-implied-in-Refusal.implied
@@ -34,8 +34,8 @@ returns-in-Refusal-clause-findings c =
     (ap (map formula_of) c.as_slice-secrets.ensures.value) user.budget
     (formula_of c.args.query.now) c.in_ok-harms-in-Refusal.harms c.in_ok-harms-in-Refusal.ensures.harms))
 
-pub returns-clause-findings : goal.returns-clause-findings
-returns-clause-findings c =
+pub returns-in_ok-harms-in-Combined-clause-findings : goal.returns-in_ok-harms-in-Combined-clause-findings
+returns-in_ok-harms-in-Combined-clause-findings c =
     let user = profile_of c.args.user.now in
     subst (HasFindings _ user _ (formula_of c.args.query.now)) (sym c.found-in-Combined.ensures)
     (found_combined _ user _ (formula_of c.args.query.now) c.in-Combined.is c.in_ok-harms-in-Combined.harms
@@ -44,35 +44,35 @@ returns-clause-findings c =
     refl refl (ap (map formula_of) c.as_slice-secrets.ensures.value) user.budget
     (formula_of c.args.query.now) c.in_ok-harms-in-Combined.harms c.in_ok-harms-in-Combined.ensures.harms))
 
-pub returns-in-Lying-clause-spent : goal.returns-in-Lying-clause-spent
-returns-in-Lying-clause-spent c =
+pub returns-in_ok-harms-in-Lying-clause-spent : goal.returns-in_ok-harms-in-Lying-clause-spent
+returns-in_ok-harms-in-Lying-clause-spent c =
     spent-by-cost c.law_spent_is_cost.ensures (schema_of c.args.view.now) (profile_of c.args.user.now) (log_of c.args.view.now) (formula_of c.args.query.now) _
-    (returns-in-Lying-clause-findings c)
+    (returns-in_ok-harms-in-Lying-clause-findings c)
 
-pub returns-in-Refusal-clause-spent : goal.returns-in-Refusal-clause-spent
-returns-in-Refusal-clause-spent c =
+pub returns-in_ok-harms-in-Refusal-clause-spent : goal.returns-in_ok-harms-in-Refusal-clause-spent
+returns-in_ok-harms-in-Refusal-clause-spent c =
     spent-by-cost c.law_spent_is_cost.ensures (schema_of c.args.view.now) (profile_of c.args.user.now) (log_of c.args.view.now) (formula_of c.args.query.now) _
-    (returns-in-Refusal-clause-findings c)
+    (returns-in_ok-harms-in-Refusal-clause-findings c)
 
-pub returns-clause-spent : goal.returns-clause-spent
-returns-clause-spent c =
+pub returns-in_ok-harms-in-Combined-clause-spent : goal.returns-in_ok-harms-in-Combined-clause-spent
+returns-in_ok-harms-in-Combined-clause-spent c =
     spent-by-cost c.law_spent_is_cost.ensures (schema_of c.args.view.now) (profile_of c.args.user.now) (log_of c.args.view.now) (formula_of c.args.query.now) _
-    (returns-clause-findings c)
+    (returns-in_ok-harms-in-Combined-clause-findings c)
 
-pub returns-in-Lying-clause-undecided : goal.returns-in-Lying-clause-undecided
-returns-in-Lying-clause-undecided c =
+pub returns-in_ok-harms-in-Lying-clause-undecided : goal.returns-in_ok-harms-in-Lying-clause-undecided
+returns-in_ok-harms-in-Lying-clause-undecided c =
     decide-undecided c.law_undecided_is_cost.ensures (schema_of c.args.view.now)
     (profile_of c.args.user.now) (log_of c.args.view.now) (formula_of c.args.query.now)
-    c.found.result (returns-in-Lying-clause-spent c)
+    c.found.result (returns-in_ok-harms-in-Lying-clause-spent c)
 
-pub returns-in-Refusal-clause-undecided : goal.returns-in-Refusal-clause-undecided
-returns-in-Refusal-clause-undecided c =
+pub returns-in_ok-harms-in-Refusal-clause-undecided : goal.returns-in_ok-harms-in-Refusal-clause-undecided
+returns-in_ok-harms-in-Refusal-clause-undecided c =
     decide-undecided c.law_undecided_is_cost.ensures (schema_of c.args.view.now)
     (profile_of c.args.user.now) (log_of c.args.view.now) (formula_of c.args.query.now)
-    c.found-in-Refusal.result (returns-in-Refusal-clause-spent c)
+    c.found-in-Refusal.result (returns-in_ok-harms-in-Refusal-clause-spent c)
 
-pub returns-clause-undecided : goal.returns-clause-undecided
-returns-clause-undecided c =
+pub returns-in_ok-harms-in-Combined-clause-undecided : goal.returns-in_ok-harms-in-Combined-clause-undecided
+returns-in_ok-harms-in-Combined-clause-undecided c =
     decide-undecided c.law_undecided_is_cost.ensures (schema_of c.args.view.now)
     (profile_of c.args.user.now) (log_of c.args.view.now) (formula_of c.args.query.now)
-    c.found-in-Combined.result (returns-clause-spent c)
+    c.found-in-Combined.result (returns-in_ok-harms-in-Combined-clause-spent c)
