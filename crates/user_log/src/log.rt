@@ -232,7 +232,7 @@ impl<'w> UserLog<'w> {
         requires { IsPrepared self.old prepared }
         ensures same { IsOfSame self.old self.new }
         ensures added { kept_history self.new
-            ≡ kept_history self.old ++ prepared_entry prepared.entry ∷ [] }
+            ≡ kept_history self.old ++ prepared_entry prepared ∷ [] }
     {
         law_limits();
         law_logs();

@@ -20,7 +20,7 @@ impl Prepared {
 
     /// Gives the entry, which isn't added.
     pub fn into_entry(self) -> Entry
-        ensures { answered_query_of result ≡ prepared_entry self.entry }
+        ensures { answered_query_of result ≡ prepared_entry self }
     {
         self.new_entry
     }

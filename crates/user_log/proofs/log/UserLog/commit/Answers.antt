@@ -1,7 +1,7 @@
 use Rattle.std.proofs.Common.{◌≤◌, ◌+◌, ◌++◌, arith, sym, ap, subst, ◌∙◌}
 use Rattle.std.proofs.lemmas.Grind.{common_steps}
 use Rattle.cqe_base.specs.Formula.{formula_of, nodes, is_sentence_of}
-use Rattle.cqe_base.specs.History.{told_by, signed_nodes}
+use Rattle.cqe_base.specs.History.{log, told_by, signed_nodes}
 use Rattle.entailment.specs.Logs.{log_nodes}
 use Rattle.entailment.specs.Views.{schema_of, log_of}
 use Rattle.user_log.specs.Prepared.{prepared_entry}
@@ -29,7 +29,8 @@ tell-requires-clause-nodes c =
     λ yes. subst (λ s. log_nodes s (log_of before.view) + signed_nodes s (formula_of c.args.prepared.told) yes ≤ 60000) (sym before.kept.schema_is)
     (subst (λ told. log_nodes (kept_schema before) told + signed_nodes (kept_schema before) (formula_of c.args.prepared.told) yes
     ≤ 60000) (sym before.kept.log_is)
-    (subst (λ q. log_nodes (kept_schema before) _ + signed_nodes (kept_schema before) q yes ≤ 60000) (sym c.requires.told) (fits.log_nodes yes)))
+    (subst (λ q. log_nodes (kept_schema before) (log (kept_user before) (kept_history before)) + signed_nodes (kept_schema before) q yes
+    ≤ 60000) (sym c.requires.told) (fits.log_nodes yes)))
 
 pub invariant_of-self : goal.invariant_of-self
 invariant_of-self c =

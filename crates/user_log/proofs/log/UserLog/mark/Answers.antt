@@ -23,9 +23,6 @@ examine-requires-clause-all_nodes c =
 pub invariant_of-self : goal.invariant_of-self
 invariant_of-self c = record { kept = kept_with c.args.self.now c.examine.new.view c.examine.ensures.same }
 
-pub invariant_of-self-2 : goal.invariant_of-self-2
-invariant_of-self-2 c = record { kept = kept_with c.args.self.now c.examine.new.view c.examine.ensures.same }
-
 pub returns-in_err-findings-clause-same : goal.returns-in_err-findings-clause-same
 returns-in_err-findings-clause-same c = same_log c.args.self.now c.examine.new.view c.examine.ensures.same _
 
