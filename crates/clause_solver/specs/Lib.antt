@@ -8,3 +8,4 @@ pub mod IndexedStates
 pub mod Costs
 pub mod Lines
 pub mod RightEnds
+pub mod Beginnings

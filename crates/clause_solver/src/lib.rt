@@ -24,6 +24,7 @@ mod conditions;
 mod ends;
 mod entry;
 mod indexed;
+mod kept_search;
 mod min_heap;
 pub mod plain;
 mod rules;
@@ -32,4 +33,5 @@ mod watches;
 
 pub use conditions::is_searchable;
 pub use ends::{Found, Searched};
+pub use kept_search::KeptSearch;
 pub use run::{search, search_with_cost};
