@@ -3,10 +3,10 @@ use Rattle.std.proofs.lemmas.Result.{on_ok_weaker}
 use Rattle.cqe_base.specs.Formula.{formula_of}
 use Rattle.clause_form.specs.Forms.{with_formula}
 use Rattle.entailment.proofs.LogForms.{has_added}
-use Rattle.entailment.proofs.probes.add_sentence.Goals as goal
+use Rattle.entailment.proofs.forms.add_sentence.Goals as goal
 
-pub returns : goal.returns
-returns c =
+pub returns-clause-added : goal.returns-clause-added
+returns-clause-added c =
     on_ok_weaker c.add.result
     (λ is log before.
     is
