@@ -13,8 +13,11 @@
 //! A conflict is analysed on one clause with a mark for each literal
 //! (`clause_store::marked_clause`), so a resolution looks at each literal once.
 //!
+//! `KeptSearch` keeps a list of clauses with the steps that it leads to without a decision, and
+//! searches longer lists from there (cqe_base, specs/KeptTrail.antt).
+//!
 //! Read `entry` and `ends`, then `assignment`, `min_heap` and `watches`, then `indexed`,
-//! `analysis`, `rules` and `run`.
+//! `analysis`, `rules` and `run`, then `falsified`, `joining`, `propagation` and `kept_search`.
 //! `plain` stands alone.
 #![tactic(auto)]
 
