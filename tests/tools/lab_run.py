@@ -28,9 +28,11 @@ if command == "init":
             journal.write(bytes(73))
 if command == "audit":
     user = users[words["--user"]]
+    world = lambda text: None if "spent" in text else []
+    secrecies = [{{"false": world(text), "secrecy": text, "true": world(text)}} for text in user.get("secrecies", [])]
     print(json.dumps(dict(entries=[], name=user["name"], method=user["method"], standing="open",
-                          secrets=[dict(secret=secret, world=None if "spent" in secret else [])
-                                   for secret in user["secrets"]])))
+                          secrets=[dict(secret=text, world=world(text)) for text in user.get("secrets", [])],
+                          **(dict(secrecies=secrecies) if secrecies else {{}}))))
 if command == "batch":
     for line in sys.stdin:
         if "wait" in line:
