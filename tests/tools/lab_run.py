@@ -16,7 +16,7 @@ ADDRESS = re.compile(r"http://127\.0\.0\.1:(\d+)/([\w-]+)/\n")
 SECONDS = 120
 
 # Stands in for the program where what it says is of no matter. A question with 'wait' is never answered, and for a
-# secret with 'spent' the search for another database is given up.
+# secret with 'spent' the search for another database is given up. A secrecy is a fact, and the only one where it is true.
 STAND_IN = """#!{python} -IS
 import json, os, sys, time, tomllib
 command, words = sys.argv[1], dict(zip(sys.argv[2::2], sys.argv[3::2]))
@@ -29,7 +29,8 @@ if command == "init":
 if command == "audit":
     user = users[words["--user"]]
     world = lambda text: None if "spent" in text else []
-    secrecies = [{{"false": world(text), "secrecy": text, "true": world(text)}} for text in user.get("secrecies", [])]
+    secrecies = [{{"false": world(text), "secrecy": text, "true": None if world(text) is None else [text]}}
+                 for text in user.get("secrecies", [])]
     print(json.dumps(dict(entries=[], name=user["name"], method=user["method"], standing="open",
                           secrets=[dict(secret=text, world=world(text)) for text in user.get("secrets", [])],
                           **(dict(secrecies=secrecies) if secrecies else {{}}))))
