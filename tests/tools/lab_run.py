@@ -16,7 +16,8 @@ ADDRESS = re.compile(r"http://127\.0\.0\.1:(\d+)/([\w-]+)/\n")
 SECONDS = 120
 
 # Stands in for the program where what it says is of no matter. A question with 'wait' is never answered, and for a
-# secret with 'spent' the search for another database is given up. A secrecy is a fact, and the only one where it is true.
+# secret or a secrecy with 'spent' the search for another database is given up. A secrecy is a fact, and the only one of
+# the database in which it is true.
 STAND_IN = """#!{python} -IS
 import json, os, sys, time, tomllib
 command, words = sys.argv[1], dict(zip(sys.argv[2::2], sys.argv[3::2]))

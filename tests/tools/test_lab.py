@@ -24,8 +24,8 @@ from cqe_tools.places import Text
 
 PAGE = program.TOP / "tools/cqe_tools/lab.html"
 EXAMPLES = ["ward", "clinic", "registry", "hospital", "statistics", "register"]
-OF_2 = changed(("version = 1", "version = 2"), ('"hiv(ann)"]\n', '"hiv(ann)"]\nsecrecies = ["spent(ann)", "hiv(bob)"]\n'),
-               ("[relations]", '[relations]\nspent = ["person"]'))
+OF_2 = changed(("version = 1", "version = 2"), ("[relations]", '[relations]\nspent = ["person"]'),
+               ('"hiv(ann)"]\n', '"hiv(ann)"]\nsecrecies = ["spent(ann)", "hiv(bob)"]\n'))
 GARBAGE = ["", " ", "\0", "\x1b[31m", "<img src=x onerror=alert(1)>", "</script><script>alert(1)</script>", "'\"&;",
            "../../etc/passwd", "\ud800", "\u202eabc", "a" * 5000, "hiv(\u00e4nn)", "%s%n", "{}", "wait\0"[4:]]
 OTHER_KINDS = [None, True, 1.5, -1, 10 ** 40, [], {}, ["x"], "1"]

@@ -108,7 +108,7 @@ class OnThePage(InDirectory):
 
 class Secrecies(OnThePage):
     def test_both_worlds_are_named(self):
-        """The stand-in for the program says no to everything, so that the world in which a secrecy is true isn't one."""
+        """The stand-in for the program says no to everything, also where a secrecy should be true."""
         policy = POLICY.replace("= 1\n", "= 2\n") + 'secrecies = ["hiv(bob)"]\n'
         self.page.value(f"document.getElementById('policy-text').value = {json.dumps(policy)};"
                         f"document.getElementById('facts-text').value = {json.dumps(FACTS)};"
@@ -121,7 +121,8 @@ class Secrecies(OnThePage):
         self.ask("true")
         self.assertEqual(self.page.value("[...document.querySelectorAll('.world h4')].map((one) => one.textContent)"),
                          ["Another database, with hiv(bob)", "Another database, without hiv(bob), hiv(ann)"])
-        self.assertIn("hiv(bob): no, and it should be yes", self.page.value("document.querySelector('.world').textContent"))
+        self.assertIn("hiv(bob): no, and it should be yes",
+                      self.page.value("document.querySelector('.world').textContent"))
         self.assertEqual(self.page.errors, [])
 
 

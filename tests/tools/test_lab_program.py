@@ -135,7 +135,8 @@ class Examples(WithProgram):
     def test_register(self):
         pairs = asks("register")
         texts = list(dict.fromkeys(text for _, text in pairs))
-        self.assertExample("register", pairs, worked_out("register"), dict(zip(texts, ["yes", "yes", "no", "yes", "yes"])))
+        self.assertExample("register", pairs, worked_out("register"),
+                           dict(zip(texts, ["yes", "yes", "no", "yes", "yes"], strict=True)))
 
     def test_the_same_question_of_all_users(self):
         opened = self.lab.opened(example="statistics")

@@ -19,7 +19,8 @@ PLACE = re.compile(r"users\[(\d+)\]\.(\w+)(?:\[(\d+)\])?\Z")
 AT_LINE = re.compile(r"\(at line (\d+), column (\d+)\)")
 
 WANTED = {
-    "version": "the number 1, or 2 where a user has secrecies", "domains": "a table of domains, as [domains] with lines like person = [\"ann\"]",
+    "version": "the number 1, or 2 where a user has secrecies",
+    "domains": "a table of domains, as [domains] with lines like person = [\"ann\"]",
     "relations": "a table of relations, as [relations] with lines like hiv = [\"person\"]",
     "users": "an array of tables, each begun by [[users]]",
     "name": "a string with a letter, then letters, digits and _, in ASCII, of at most 32 bytes",

@@ -18,8 +18,8 @@ DOMAIN = re.compile(rb"domain[ \t][ \t]*([A-Za-z]\w*)[ \t]*=(.*)\Z", re.S | re.A
 RELATION = re.compile(rb"relation[ \t][ \t]*([A-Za-z]\w*)[ \t]*\((.*)\)[ \t]*\Z", re.S | re.A)
 OTHER_WORDS = {
     "query": "ask", "question": "ask", "select": "ask", "ask:": "ask", "facts": "fact", "domains": "domain",
-    "relations": "relation",
-    "secrets": "secret", "secrecies": "secrecy", "knows": "know", "knowledge": "know", "censor": "method", "table": "relation", "user": "know",
+    "relations": "relation", "secrets": "secret", "secrecies": "secrecy", "knows": "know", "knowledge": "know",
+    "censor": "method", "table": "relation", "user": "know",
 }
 
 
