@@ -153,8 +153,7 @@ fn probe_objection(
     requires log_nodes { log_nodes (schema_of view.old) (log_of view.old) ≤ 40000 }
     ensures found { IfOk result (λ found. found
         ≡ probe_objection (schema_of view.old) (log_of view.old) (formula_of goal.now) number) }
-    ensures schema { schema_of view.new ≡ schema_of view.old }
-    ensures log { log_of view.new ≡ log_of view.old }
+    ensures same { view.new ≡ view.old }
 {
     let probe = Probe {
         premise: None,

@@ -9,3 +9,5 @@ pub mod Costs
 pub mod Lines
 pub mod RightEnds
 pub mod Beginnings
+pub mod KeptStates
+pub mod KeptClauses

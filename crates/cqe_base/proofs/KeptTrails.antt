@@ -221,7 +221,7 @@ unfolding end_within
 no_end_zero n s = refl
 
 -- within fewer steps than the kept trail has entries there is no end
-no_end_before : (n b : ℕ) (cs : List (List Literal)) (t : List Assigned) → IsKeptTrail cs t → b < length t → end_within n b (start cs) ≡ None
+pub no_end_before : (n b : ℕ) (cs : List (List Literal)) (t : List Assigned) → IsKeptTrail cs t → b < length t → end_within n b (start cs) ≡ None
 no_end_before n b cs t h lt = step (end_within n b (start cs)) refl
   where
     step : (o : Option Ended) → end_within n b (start cs) ≡ o → end_within n b (start cs) ≡ None
@@ -234,7 +234,7 @@ no_end_before n b cs t h lt = step (end_within n b (start cs)) refl
         ∙ ap (with_cost (length t)) (no_end_zero n (state_with cs t)) in
         absurd (let y : ⊥ = cc in y)
 
-budget_goes_on : (cs : List (List Literal)) (n b : ℕ) (t : List Assigned) → IsKeptTrail cs t → end_within_budget cs n b
+pub budget_goes_on : (cs : List (List Literal)) (n b : ℕ) (t : List Assigned) → IsKeptTrail cs t → end_within_budget cs n b
     ≡ end_from_within_budget (state_with cs t) n (b - length t)
 budget_goes_on cs n b t h = ⊎_elim spent (λ le. enough (b - length t) (omega arith)) (cases_lt b (length t))
   where

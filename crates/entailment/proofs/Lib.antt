@@ -2,6 +2,9 @@ mod ClauseCount
 mod LogNodes
 mod LogForms
 mod LogItems
+mod ViewForms
+mod OpenViews
+mod KeptClauses
 mod CostBounds
 mod ModelWorlds
 mod Verdicts

@@ -53,6 +53,8 @@ impl LiteralSet {
     }
 
     /// One more literal.
+    // Many literals of a resolution are there already: a look is to cost no call.
+    #[inline(always)]
     pub fn add(&mut self, literal: Lit) -> Result<(), AllocError>
         ensures { IfOk result (λ _. (l : Literal)
             → has_literal self.new l ≡ (has_literal self.old l || same_literal l literal)) }
@@ -64,6 +66,7 @@ impl LiteralSet {
     }
 
     /// The same, without a look whether the set has the literal.
+    #[inline(never)]
     fn insert(&mut self, literal: Lit) -> Result<(), AllocError>
         ensures { IfOk result (λ _. (l : Literal)
             → has_literal self.new l ≡ (has_literal self.old l || same_literal l literal)) }

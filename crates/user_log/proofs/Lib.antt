@@ -2,3 +2,4 @@ pub mod Sizes
 pub mod Keeping
 pub mod Asking
 mod Costs
+mod SameLogs
