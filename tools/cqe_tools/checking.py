@@ -16,7 +16,7 @@ from pathlib import Path
 from typing import NamedTuple
 
 from . import schemas
-from .policies import SENTENCES, secrets_of, view_nodes
+from .policies import all_secrets, secret_nodes, view_nodes
 from .sentences import nodes_of
 
 NOTHING = "false"  # the secret of a user from whom nothing is to be hidden
@@ -46,16 +46,6 @@ def program(here):
     if named:
         raise Unusable(f"the environment variable CQE names {named}, and there is no program")
     raise Unusable("there is no program cqe: name it by the environment variable CQE, or build it by ./cqe")
-
-
-class Made(NamedTuple):
-    """A made-up user."""
-
-    name: str
-    method: str
-    know: list
-    secrets: list
-    secrecies: list = []
 
 
 class Asker:
@@ -113,17 +103,28 @@ class Asker:
         return [line.split(" ", 2)[2] for line in lines]
 
 
+class Made(NamedTuple):
+    """A made-up user."""
+
+    name: str
+    method: str
+    know: list
+    secrets: list
+    secrecies: list = []
+
+
 def written(declarations, users, budget=schemas.BUDGET):
     """A policy as TOML: the same domains and relations, and these users, each with the same budget."""
-    version = 2 if any(user.secrecies for user in users) else 1
-    lines = [f"version = {version}", "", "[domains]"]
+    keeps_secrecies = any(made.secrecies for made in users)
+    lines = [f"version = {2 if keeps_secrecies else 1}", "", "[domains]"]
     lines += [f"{name} = {json.dumps(constants)}" for name, constants in declarations[0]]
     lines += ["", "[relations]"]
     lines += [f"{name} = {json.dumps(columns)}" for name, columns in declarations[1]]
-    for user in users:
-        lines += ["", "[[users]]", f'name = "{user.name}"', f'method = "{user.method}"',
-                  f"know = {json.dumps(user.know)}", f"secrets = {json.dumps(user.secrets)}", f"budget = {budget}"]
-        lines += [f"secrecies = {json.dumps(user.secrecies)}"] if version == 2 else []
+    for made in users:
+        lines += ["", "[[users]]", f'name = "{made.name}"', f'method = "{made.method}"',
+                  f"know = {json.dumps(made.know)}", f"secrets = {json.dumps(made.secrets)}"]
+        lines += [f"secrecies = {json.dumps(made.secrecies)}"] if made.secrecies else []
+        lines += [f"budget = {budget}"]
     return "\n".join(lines) + "\n"
 
 
@@ -141,13 +142,6 @@ def truths(asker, declarations, texts):
         asks = [(f"t{number}", text) for number, text in enumerate(part)]
         result.update(zip(part, asker.replies(declarations, made, asks)))
     return result
-
-
-def spent_searches(told):
-    """For which worlds an audit found that the search needs too much."""
-    secrecies = [f"{preposition} {secrecy['secrecy']}" for secrecy in told.get("secrecies", [])
-                 for preposition, key in (("with", "true"), ("without", "false")) if secrecy[key] is None]
-    return secrecies + [f"without {secret['secret']}" for secret in told["secrets"] if secret["world"] is None]
 
 
 @dataclass
@@ -194,8 +188,8 @@ class Check:
         result.contradicted = [index for index, text in enumerate(know) if self.truths.get(text) == "no"]
         result.sizes = self.sizes(user, told)
         self.note_truths(result, know)
-        for what in spent_searches(told):
-            result.notes.append(f"the search for a world {what} needs more than {schemas.BUDGET:,}")
+        result.notes += [f"the search for a world with{'' if wanted else 'out'} {text} needs more than "
+                         f"{schemas.BUDGET:,}" for text, wanted, world in worlds_of(told) if world is None]
         if not result.is_open:
             result.reasons = self.reasons(user, result)
         return result
@@ -215,12 +209,11 @@ class Check:
                                     f"{text}")
 
     def sizes(self, user, told):
-        nodes = [nodes_of(self.schema, text.encode()) + (key == "secrecies")  # its negation has one more
-                 for key in SENTENCES for text in user.get(key, [])]
+        known = [nodes_of(self.schema, text.encode()) for text in user.get("know", [])]
+        secrets = secret_nodes(self.schema, user)
         return {
-            "sentence": max(nodes), "view": view_nodes(self.schema, user), "know": len(user.get("know", [])),
-            "secrets": len(secrets_of(user)),
-            "answers": len(told["entries"]),
+            "sentence": max(known + secrets), "view": view_nodes(self.schema, user), "know": len(known),
+            "secrets": len(secrets), "answers": len(told["entries"]),
         }
 
     def entailed(self, groups):
@@ -240,7 +233,7 @@ class Check:
         for begin in range(0, len(groups), schemas.USERS):
             part = groups[begin:begin + schemas.USERS]
             made = [Made(f"u{number}", "lying", [f"{free}() or ({text})" for text in know],
-                     [f"not {free}() and ({text})" for text in hidden])
+                         [f"not {free}() and ({text})" for text in hidden])
                     for number, (know, hidden) in enumerate(part)]
             try:
                 replies = self.asker.replies((self.declarations[0], relations), made,
@@ -252,25 +245,24 @@ class Check:
 
     def reasons(self, user, standing):
         """Why a user is closed, in the order of the tests of admission."""
-        know, (names, secrets) = user.get("know", []), zip(*secrets_of(user))
+        know, secrets, named = user.get("know", []), all_secrets(user), names_of_secrets(user)
+        if user["method"] == "lying" and user.get("secrecies"):
+            return ["a liar can keep no secrecy, since he would have to deny a sentence and its negation: "
+                    + ", ".join(f"secrecies[{index}] {text}" for index, text in enumerate(user["secrecies"]))]
         if user["method"] == "refusal" and standing.contradicted:
             return [f"the facts contradict what he knows, and refusal wants all of it to be true: know[{index}] is "
                     f"{know[index]}"
                     for index in standing.contradicted]
-        if user["method"] == "lying" and user.get("secrecies"):
-            return [f"a liar can have no secrecy, since he would have to deny a sentence and its negation: secrecies[0] "
-                    f"is {user['secrecies'][0]}"]
         absurd, *single = self.entailed([(know, [NOTHING])] + [(know, [secret]) for secret in secrets])
         if absurd == "yes":
             return ["what he knows contradicts itself, so it entails every secret"]
-        result = [f"what he knows entails {names[index]}: {secrets[index]}" for index,
-                  found in enumerate(single) if found == "yes"]
+        result = [f"what he knows entails {name}: {secret}"
+                  for name, secret, found in zip(named, secrets, single) if found == "yes"]
         if not result and user["method"] == "lying" and len(secrets) > 1:
             result = self.of_several(know, secrets)
         if not result:
-            result = [f"{names[index]} costs too much to test, the search needs more than {schemas.BUDGET:,}: "
-                      f"{secrets[index]}"
-                      for index, found in enumerate(single) if found == "spent"]
+            result = [f"{name} costs too much to test, the search needs more than {schemas.BUDGET:,}: {secret}"
+                      for name, secret, found in zip(named, secrets, single) if found == "spent"]
         return result or [f"the search of the admission needs more than {schemas.BUDGET:,}" if None not in single else
                           f"what he knows entails a secret (for lying: that one of them is true), or the test of it "
                           f"needs more than {schemas.BUDGET:,}"]
@@ -291,6 +283,21 @@ class Check:
         names = ", ".join(f"secrets[{index}] {secrets[index]}" for index in kept)
         return [f"what he knows entails that one of these is true, though not which, and a liar has to be able to deny "
                 f"all of them: {names}"]
+
+
+def names_of_secrets(user):
+    """How a reader finds each of all the secrets of a user in the policy."""
+    both = [name for index in range(len(user.get("secrecies", [])))
+            for name in (f"secrecies[{index}]", f"the negation of secrecies[{index}]")]
+    return both + [f"secrets[{index}]" for index in range(len(user.get("secrets", [])))]
+
+
+def worlds_of(told):
+    """What an audit says of other worlds: each sentence, whether it is true there, and the world, None where spent."""
+    result = []
+    for secrecy in told.get("secrecies", []):
+        result += [(secrecy["secrecy"], True, secrecy["true"]), (secrecy["secrecy"], False, secrecy["false"])]
+    return result + [(secret["secret"], False, secret["world"]) for secret in told["secrets"]]
 
 
 def in_temporary_directory(path, policy, facts, do):

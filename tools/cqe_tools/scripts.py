@@ -4,12 +4,13 @@ import re
 
 from . import facts, schemas, texts
 from .places import Finding, Spot, quoted
-from .policies import METHODS, secrets_of, view_nodes
+from .policies import METHODS, TOO_MANY, view_nodes
 from .schemas import Schema, similar
 from .sentences import Refused, nodes_of, refusal_of, token_at
 
 WORDS = ("domain", "relation", "fact", "method", "know", "secret", "secrecy", "budget", "ask")
 DECLARATIONS = tuple(word.encode() for word in WORDS[:-1])
+SENTENCE_WORDS = (b"know", b"secret", b"secrecy")
 BAD = re.compile(rb"[^\t\x20-\x7e]")
 BLANK = b" \t"
 ITEM = re.compile(rb"([A-Za-z][A-Za-z0-9_]*)[ \t]([0-9]+)[ \t]ask(?:[ \t](.*))?\Z", re.S)
@@ -17,8 +18,8 @@ DOMAIN = re.compile(rb"domain[ \t][ \t]*([A-Za-z]\w*)[ \t]*=(.*)\Z", re.S | re.A
 RELATION = re.compile(rb"relation[ \t][ \t]*([A-Za-z]\w*)[ \t]*\((.*)\)[ \t]*\Z", re.S | re.A)
 OTHER_WORDS = {
     "query": "ask", "question": "ask", "select": "ask", "ask:": "ask", "facts": "fact", "domains": "domain",
-    "relations": "relation",
-    "secrets": "secret", "secrecies": "secrecy", "knows": "know", "knowledge": "know", "censor": "method", "table": "relation", "user": "know",
+    "relations": "relation", "secrets": "secret", "secrecies": "secrecy", "knows": "know", "knowledge": "know",
+    "censor": "method", "table": "relation", "user": "know",
 }
 
 
@@ -65,13 +66,13 @@ class CaseScript:
         return Schema(self.domains, self.relations)
 
     def sentences(self, word):
-        """The texts of the lines of a word."""
+        """The texts of the lines that begin with a word that a sentence follows."""
         return {b"know": self.known, b"secret": self.secrets, b"secrecy": self.secrecies}[word]
 
     def user(self):
-        """The user of the script, as one of a policy."""
-        return {key: [text.decode() for text in found] for key, found in
-                (("know", self.known), ("secrets", self.secrets), ("secrecies", self.secrecies))}
+        """What the script says of its user, as a policy says it."""
+        return {key: [text.decode("ascii", "replace") for text in texts]
+                for key, texts in (("know", self.known), ("secrets", self.secrets), ("secrecies", self.secrecies))}
 
     def take(self, number, line):
         word, rest = word_and_rest(line)
@@ -85,7 +86,7 @@ class CaseScript:
             self.method, self.method_word = number, (rest or b"").decode("ascii", "replace")
         elif word == b"budget":
             self.budget = number
-        elif word in (b"know", b"secret", b"secrecy") and rest is not None:
+        elif word in SENTENCE_WORDS and rest is not None:
             self.sentences(word).append(rest)
         elif word == b"ask":
             self.asked = self.asked or number
@@ -209,6 +210,8 @@ def case_shape(data):
     if name == "budget":
         return (f"has {quoted(rest)} behind 'budget'", begin, len(data),
                 "write one to ten digits without signs and blanks, as budget 1000000")
+    if name == "secrecy":
+        return "is a secrecy, and this program is older than these", 0, len(word), "take a newer program"
     return f"isn't of the form of a {name}", begin, len(data), f"write it as {EXAMPLES[name]}" + (
         ": the names in parentheses, also where there are none" if name == "relation" else
         ": names are a letter, then letters, digits and _" if name == "domain" else "")
@@ -218,8 +221,7 @@ EXAMPLES = {
     "domain": "domain person = ann, bob", "relation": "relation hiv(person)", "fact": "fact hiv(ann)",
     "method": "method lying",
     "know": "know forall x: person . drug(x) -> hiv(x)", "secret": "secret hiv(ann)", "secrecy": "secrecy hiv(ann)",
-    "budget": "budget 1000000",
-    "ask": "ask hiv(ann)",
+    "budget": "budget 1000000", "ask": "ask hiv(ann)",
 }
 
 
@@ -306,21 +308,17 @@ def above_limit(data, sort, before):
     if word == b"budget":
         return (f"has the budget {name_of(rest)}, and a budget is from 1 to {schemas.BUDGET:,}", begin, end,
                 "write a number from 1 to 4000000")
-    most_nodes = schemas.SECRECY_NODES if word == b"secrecy" else schemas.SENTENCE_NODES
     try:
         nodes = nodes_of(before.schema(), rest)
         advice = ("say it with fewer or smaller quantifiers: one counts its sentence once for each constant of its "
                   "domain")
-        if nodes > most_nodes:
-            return (f"has a sentence of {nodes:,} nodes, and at most {most_nodes:,} are allowed", begin, end, advice)
+        most = schemas.SECRECY_NODES if word == b"secrecy" else schemas.SENTENCE_NODES
+        if nodes > most:
+            return f"has a sentence of {nodes:,} nodes, and at most {most:,} are allowed", begin, end, advice
         before.sentences(word).append(rest)
-        if len(before.known) > schemas.KNOWN:
-            return (f"is the {len(before.known)}th 'know', and at most {schemas.KNOWN} are allowed", 0, end,
-                    "join several into one by 'and'")
-        secrets = len(secrets_of(before.user()))
-        if secrets > schemas.SECRETS:
-            return (f"makes {secrets} secrets, where a secrecy makes two, and at most {schemas.SECRETS} are allowed", 0,
-                    end, "join several secrets into one by 'or'")
+        many = too_many_of(word, before)
+        if many is not None:
+            return many[0], 0, end, many[1]
         view = view_nodes(before.schema(), before.user())
         return (f"makes a view of {view:,} nodes, and at most {schemas.FIRST_VIEW_NODES:,} are allowed", begin, end,
                 advice)
@@ -328,16 +326,31 @@ def above_limit(data, sort, before):
         return "passes a limit", begin, end, None
 
 
+def too_many_of(word, case):
+    """Why a script has too many lines that begin with a word, and what to do; None where it hasn't."""
+    if word == b"know":
+        if len(case.known) <= schemas.KNOWN:
+            return None
+        return f"is the {len(case.known)}th 'know', and at most {schemas.KNOWN} are allowed", TOO_MANY["know"]
+    count = len(case.secrets) + 2 * len(case.secrecies)
+    if count <= schemas.SECRETS:
+        return None
+    if not case.secrecies:
+        return f"is the {count}th 'secret', and at most {schemas.SECRETS} are allowed", TOO_MANY["secrets"]
+    return (f"makes {count} secrets in all, since a secrecy makes two, itself and its negation, and at most "
+            f"{schemas.SECRETS} are allowed", TOO_MANY["both"])
+
+
 def out_of_order(data, sort, before):
     word, _ = word_and_rest(data)
     name = word.decode("ascii", "replace")
     if word == b"ask":
         wanting = [what for what, there in (("'method'", before.method),
-                                            ("'secret'", before.secrets or before.secrecies)) if not there]
+                                            ("'secret' or 'secrecy'", before.secrets + before.secrecies)) if not there]
         missing = " and no ".join(wanting) or "'method' or 'secret'"
         return f"asks before there is a method and a secret: there is no {missing} above", 0, 3, (
-            "write method lying, refusal or combined, and at least one secret, above the first ask (secret false hides "
-            "nothing)")
+            "write method lying, refusal or combined, and at least one secret or secrecy, above the first ask (secret "
+            "false hides nothing)")
     if before.asked:
         return (f"is a declaration ('{name}') behind the ask in line {before.asked}", 0, len(word),
                 "move it above the first ask")
