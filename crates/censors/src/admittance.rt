@@ -116,7 +116,8 @@ fn disjunction_objection(
     law_limits();
     let mut view = View::new(alloc, schema, user)?;
     let goal = disjunction(alloc, user.secrets.as_slice())?;
-    probe_objection(alloc, &mut view, &goal, None)
+    let found = probe_objection(alloc, &mut view, &goal, None)?;
+    Ok(found)
 }
 
 /// The first probe of what the user knows against a secret that isn't open.

@@ -8,3 +8,4 @@ mod KeptClauses
 mod CostBounds
 mod ModelWorlds
 mod Verdicts
+pub mod Crossing

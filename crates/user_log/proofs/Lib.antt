@@ -3,3 +3,4 @@ pub mod Keeping
 pub mod Asking
 mod Costs
 mod SameLogs
+pub mod Crossing
