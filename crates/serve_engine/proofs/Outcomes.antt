@@ -266,11 +266,13 @@ module _ {D G O : Type 0} {g h : _} (told : Type 0) (given_of left_of ends_of fa
       let none = fewer_lost front size few after in
       let rest = fewer_lost (front + lost a.ended) (size + 1) (omega (arith, few, one)) after in (
         omega (arith, all, rest.0),
-        λ is. let zero = ap lost is in let those = none.0 in omega (arith, all, zero, those),
-        every_still (λ worker. worker.ended ≡ Some LimitReached
-            → (front + lost a.ended) + sum_by (λ other. lost other.ended) after < (size + 1) + length after)
-            (λ worker. worker.ended ≡ Some LimitReached → front + sum_by (λ other. lost other.ended) (a ∷ after) < size + length (a ∷ after))
-            (λ worker less is. let fewer = less is in omega (arith, all, fewer)) after rest.1,
+        (
+          λ is. let zero = ap lost is in let those = none.0 in omega (arith, all, zero, those),
+          every_still (λ worker. worker.ended ≡ Some LimitReached
+              → (front + lost a.ended) + sum_by (λ other. lost other.ended) after < (size + 1) + length after)
+              (λ worker. worker.ended ≡ Some LimitReached → front + sum_by (λ other. lost other.ended) (a ∷ after) < size + length (a ∷ after))
+              (λ worker less is. let fewer = less is in omega (arith, all, fewer)) after rest.1,
+        ),
       )
 
   -- the runs reach the limit, together with the numbers that were lost, and these are fewer than the workers

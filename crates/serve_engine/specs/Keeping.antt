@@ -1,7 +1,7 @@
 -- What sessions keep of passes: what none keeps, what several keep, and what stands before the
 -- first.
-use Rattle.std.specs.Prelude.{List, [], ◌∷◌, ◌++◌, refl}
-use Rattle.std.proofs.Common.{sym, ap, ◌∙◌, append_assoc, arith}
+use Rattle.std.specs.Prelude.{List, [], ◌∷◌, ◌++◌, refl, sum_by}
+use Rattle.std.proofs.Common.{sym, ap, ◌∙◌, append_assoc}
 use Rattle.std.proofs.lemmas.List.{append-nil}
 use Rattle.std.specs.List.{AllZip}
 use Rattle.turnstile.specs.declared.pass.Pass.{Pass}
@@ -11,14 +11,19 @@ use Rattle.desk_counter.specs.declared.item.Fixed.{Fixed}
 use Rattle.desk_counter.specs.declared.ticketed_desk.TicketedDesk.{TicketedDesk}
 use Rattle.session_core.specs.declared.counters.CountersOf.{CountersOf}
 use Rattle.session_core.specs.declared.counters.Passes.{Passes}
-use Rattle.serve_engine.specs.Members.{IsPassLater, AreServedBy}
+use Rattle.session_core.specs.Members.{passes_in}
+use Rattle.serve_engine.specs.Members.{IsPassLater, AreServedBy, own_at}
 
 -- no connection was served, and the passes have no more of their own
 pub nothing_served : {D : Type 0} {g h : _}
     (counters : CountersOf (TicketedDesk D g) TurnItem (Fixed D) h) (passes : Passes D)
     → AreServedBy counters passes passes []
 nothing_served counters passes =
-    record { visit_marks = []; each = tt; own = λ weight place. omega arith }
+    record {
+      visit_marks = [];
+      each = tt;
+      own = λ place weight. ap (sum_by weight) (sym (append-nil (own_at place (passes_in passes))));
+    }
 
 module _ {D : Type 0} where
   -- passes are later than themselves
