@@ -28,9 +28,11 @@ if command == "init":
             journal.write(bytes(73))
 if command == "audit":
     user = users[words["--user"]]
+    both = [{{"secrecy": secrecy, "true": [], "false": []}} for secrecy in user.get("secrecies", [])]
     print(json.dumps(dict(entries=[], name=user["name"], method=user["method"], standing="open",
                           secrets=[dict(secret=secret, world=None if "spent" in secret else [])
-                                   for secret in user["secrets"]])))
+                                   for secret in user.get("secrets", [])],
+                          **({{"secrecies": both}} if both else {{}}))))
 if command == "batch":
     for line in sys.stdin:
         if "wait" in line:

@@ -55,6 +55,27 @@ secrets = ["hiv(ann)"]
 """
 
 
+# Users of a policy of version 2.
+SECRECIES = """
+[[users]]
+name = "pat"
+method = "combined"
+secrecies = ["hiv(ann)"]
+secrets = ["hiv(bob)"]
+
+[[users]]
+name = "liz"
+method = "lying"
+secrecies = ["hiv(ann)"]
+
+[[users]]
+name = "uma"
+method = "combined"
+know = ["not hiv(bob)"]
+secrecies = ["hiv(bob)"]
+"""
+
+
 class Checked(InDirectory):
     def check(self, policy, facts=FACTS, **more):
         words = [CHECK, self.file("policy", policy), self.file("facts", facts)]
@@ -109,6 +130,22 @@ class Checked(InDirectory):
                 for word in words:
                     self.assertIn(word, reasons[name][0])
                 self.assertNotIn(absent, reasons[name][0])
+
+    @program.needed
+    def test_secrecies(self):
+        policy = changed(("= 1\n", "= 2\n")) + SECRECIES
+        ran = self.check(policy)
+        self.assertEqual((ran.returncode, ran.stderr), (1, ""))
+        rows = self.rows(ran.stdout)
+        # Of one node a secrecy has 2 and 3 in the view, as two secrets, and the other secret has 2. Its negation has two.
+        self.assertEqual({name: rows[name] for name in ("pat", "liz", "uma")},
+                         {"pat": ["combined", "open", "no", "0", "3", "2", "7"],
+                          "liz": ["lying", "closed", "no", "0", "2", "2", "5"],
+                          "uma": ["combined", "closed", "no", "1", "2", "2", "7"]})
+        self.assertIn("a liar can have no secrecy", self.remarks(ran.stdout, "liz")[0])
+        self.assertIn("secrecies[0] is hiv(ann)", self.remarks(ran.stdout, "liz")[0])
+        (reason,) = [line for line in self.remarks(ran.stdout, "uma") if "closed" in line]
+        self.assertIn("entails the negation of secrecies[0]: not (hiv(bob))", reason)
 
     @program.needed
     def test_what_the_facts_contradict(self):

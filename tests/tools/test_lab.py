@@ -20,7 +20,7 @@ from cqe_tools.lab import Lab
 from cqe_tools.lab_examples import Files
 
 PAGE = program.TOP / "tools/cqe_tools/lab.html"
-EXAMPLES = ["ward", "clinic", "hospital", "statistics"]
+EXAMPLES = ["ward", "clinic", "hospital", "statistics", "register"]
 GARBAGE = ["", " ", "\0", "\x1b[31m", "<img src=x onerror=alert(1)>", "</script><script>alert(1)</script>", "'\"&;",
            "../../etc/passwd", "\ud800", "\u202eabc", "a" * 5000, "hiv(\u00e4nn)", "%s%n", "{}", "wait\0"[4:]]
 OTHER_KINDS = [None, True, 1.5, -1, 10 ** 40, [], {}, ["x"], "1"]
@@ -230,6 +230,12 @@ class Examples(OneLab):
                           ("head", "combined", ["hiv(ann)", "hiv(bob)"], 1_000_000)])
         self.assertIn("Ann has hiv", shown["users"][0]["story"])
         self.assertEqual(shown["questions"], ["drug(ann)", "hiv(ann) or hiv(bob)", "hiv(bob)", "hiv(ann)", "true"])
+
+    def test_what_a_page_shows_of_secrecies(self):
+        shown = self.lab.opened(example="register")
+        both = ["registered(ann)", "registered(bob)"]
+        self.assertEqual([(user["name"], user["secrets"], user["secrecies"]) for user in shown["users"]],
+                         [("clerk", [], both), ("hotline", [], both), ("porter", both, [])])
 
     def test_a_case_as_a_policy(self):
         shown = self.lab.opened(example="clinic")

@@ -25,6 +25,7 @@ SHOWN = {
     "hospital": (["registry", "press"], ["has(p17, hiv) or has(p23, hiv)", "has(p17, hiv)"]),
     "statistics": (["bank", "owner", "newspaper", "pupils"],
                    ["exists f: firm . in_branch(f, brewery) and in_region(f, south) and made_loss(f)"]),
+    "register": (["clerk", "hotline", "porter"], ["abroad(bob)"]),
 }
 # The replies and the truth of the last of them, worked out by the rules of the methods.
 LAST = {
@@ -34,6 +35,8 @@ LAST = {
     # Who refuses looks at both answers. The press was told yes to the first: a no would tell of p23.
     "hospital": (["refused", "refused"], "yes"),
     "statistics": (["yes", "refused", "yes", "no"], "yes"),
+    # A yes says that bob isn't registered, which the porter may learn.
+    "register": (["refused", "no", "yes"], "yes"),
 }
 # What the page shows of a round: the cards' users and replies, and of each other database its facts.
 ROUND = """(() => {
@@ -203,7 +206,7 @@ class WithProgram(OnThePage):
             self.lab.shown("ask", trial=trial, users=names, text=text)
         for card in shown["cards"]:
             why = self.lab.shown("why", trial=trial, user=card["user"], number=len(questions))
-            found = [{"secrets": [secret["text"] for secret in world["secrets"]],
+            found = [{"secrets": [secret["stated"] or secret["text"] for secret in world["secrets"]],
                       "facts": world["there_alone"]["items"] + world["in_both"]["items"],
                       "there": world["there_alone"]["items"], "here": world["here_alone"]["items"]}
                      for world in why["worlds"]]

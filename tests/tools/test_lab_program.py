@@ -76,8 +76,10 @@ class WithProgram(InDirectory):
             self.assertEqual({one["truth"] for one in world["secrets"]}, {"no"})
             self.assertLessEqual({one["truth"] for one in world["know"]}, {"yes"})
             shown.update({secret["text"]: sorted(there + both) for secret in world["secrets"]})
-        told = dict(zip(user["secrets"], audit["secrets"]))
-        self.assertEqual(shown, {secret: sorted(its["world"]) for secret, its in told.items()})
+        told = {secret: its["world"] for secret, its in zip(user["secrets"], audit["secrets"])}
+        for secrecy, its in zip(user["secrecies"], audit.get("secrecies", [])):
+            told |= {secrecy: its["false"], f"not ({secrecy})": its["true"]}
+        self.assertEqual(shown, {secret: sorted(world) for secret, world in told.items()})
         self.assertEqual((why["spent"], why["standing"]), ([], audit["standing"]))
         if user["method"] == "lying":
             self.assertEqual(len(why["worlds"]), 1)
@@ -123,6 +125,11 @@ class Examples(WithProgram):
         pairs = asks("statistics")
         texts = list(dict.fromkeys(text for _, text in pairs))
         self.assertExample("statistics", pairs, worked_out("statistics"), dict(zip(texts, ["yes", "yes", "no", "yes"])))
+
+    def test_register(self):
+        pairs = asks("register")
+        texts = list(dict.fromkeys(text for _, text in pairs))
+        self.assertExample("register", pairs, worked_out("register"), dict(zip(texts, ["yes", "yes", "no", "yes", "yes"])))
 
     def test_the_same_question_of_all_users(self):
         opened = self.lab.opened(example="statistics")

@@ -207,16 +207,17 @@ class Trial:
         """One other database: in which facts it differs, and what the program says over it."""
         directory = place / f"world{which}"
         directory.mkdir()
-        stated = directory / "facts"
-        stated.write_text("".join(f"{fact}\n" for fact in world), encoding="ascii")
-        asker = self.asker_for(str(stated), directory)
+        facts_there = directory / "facts"
+        facts_there.write_text("".join(f"{fact}\n" for fact in world), encoding="ascii")
+        asker = self.asker_for(str(facts_there), directory)
         compared = [one for one in told if one.reply not in OF_THE_MACHINE]
         script = b"".join(line_of(name, one.text) for one in compared)
         there = self.batch(asker, asker.journals_for(self.policy), script, len(compared))
         know = self.users[name].get("know", [])
         true_there = truths(asker, self.context.policy.declarations(), [*secrets, *know])
+        stated = {f"not ({text})": text for text in self.users[name].get("secrecies", [])}
         return {
-            "secrets": [{"text": text, "truth": true_there.get(text)} for text in secrets],
+            "secrets": [{"text": text, "truth": true_there.get(text), "stated": stated.get(text)} for text in secrets],
             "know": [{"text": text, "truth": true_there.get(text)} for text in know],
             **differences(self.facts, world),
             "questions": len(compared), "is_same": there == [one.reply for one in compared],
