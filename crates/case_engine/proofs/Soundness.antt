@@ -1,7 +1,7 @@
 -- Scripts stay sound as their lines are read.
 use Rattle.std.proofs.Common.{◌≡◌, ◌≤◌, ◌<◌, ◌+◌, ℕ, Bool, true, false, List, [], ◌∷◌, ◌++◌, length, length-append, refl, sym, ap, subst, ◌∙◌, append_assoc}
 use Rattle.std.proofs.Common.{arith}
-use Rattle.std.specs.Prelude.{◌||◌, ◌&&◌, Some, None, is_none, nat_le, sum_by}
+use Rattle.std.specs.Prelude.{◌||◌, ◌&&◌, Some, None, is_none, nat_le, nat_lt, sum_by}
 use Rattle.std.specs.List.{flat_map, list_all}
 use Rattle.std.proofs.lemmas.Grind.{common_steps}
 use Rattle.std.proofs.lemmas.Bool.{and_parts, and_from}
@@ -284,6 +284,17 @@ secrecy_more schema script q views =
     let was = views schema (script_user script) in
     let sums = nodes_secrecy schema script.secrecies script.secrets q in
     omega (arith, now, was, sums)
+
+-- what a sentence keeps that joins others
+pub kept_limits : (count many total : ℕ) → (nat_le count 20000 && (nat_lt many 16 && nat_le total 40000)) ≡ true
+    → (count ≤ 20000) × (many < 16) × (total ≤ 40000)
+kept_limits count many total e =
+    let outer = and_parts (nat_le count 20000) (nat_lt many 16 && nat_le total 40000) e in
+    let inner = and_parts (nat_lt many 16) (nat_le total 40000) outer.1 in
+    let first : nat_le count 20000 ≡ true = outer.0 in
+    let second : nat_lt many 16 ≡ true = inner.0 in
+    let third : nat_le total 40000 ≡ true = inner.1 in
+    (grind (arith, first), grind (arith, second), grind (arith, third))
 
 -- count is that of the negation
 pub sound_secrecy : (script : Script) (schema : DatabaseSchema) (view_nodes count : ℕ) (q : Formula) → IsSound script schema view_nodes
