@@ -58,7 +58,7 @@ not_not true e = refl
 not_not false e = sym e
 
 -- what passes a test and is in a clause is in what is kept of it
-has_filter : (p : Literal → Bool) (c : List Literal) (m : Literal) → has_literal (filter p c) m ≡ (has_literal c m && p m)
+pub has_filter : (p : Literal → Bool) (c : List Literal) (m : Literal) → has_literal (filter p c) m ≡ (has_literal c m && p m)
 has_filter p [] m = refl
 has_filter p (x ∷ c) m = by (same_literal m x) refl (p x) refl (has_filter p c m)
   where

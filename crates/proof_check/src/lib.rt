@@ -5,8 +5,9 @@
 //! it and the last line is empty; then no signs make every clause true. `check_model` says true
 //! exactly where there is a sign for each variable and each clause has a true literal.
 //!
-//! Read `refutation`, then `model`.
+//! Read `literal_set` and `refutation`, then `model`.
 #![tactic(auto)]
 
+mod literal_set;
 pub mod model;
 pub mod refutation;

@@ -1,26 +1,27 @@
 //! Refutations, and when they are right.
 
-ghost use Rattle.std.specs.Prelude.{◌≡◌, ◌++◌, map, IfOk, OnOk, IsTrue, slice_get, Some, None};
-ghost use Rattle.std.specs.Prelude.{if◌then◌else◌};
+ghost use Rattle.std.specs.Prelude.{◌≡◌, ◌++◌, ◌||◌, not, map, IfOk, IsTrue, slice_get, Some};
+ghost use Rattle.std.specs.Prelude.{List};
 ghost use Rattle.std.specs.Option.{option_copied};
-ghost use Rattle.std.specs.List.{list_all};
-ghost use Rattle.cqe_base.specs.Literal.{has_literal};
+ghost use Rattle.cqe_base.specs.Literal.{Literal, variable_of, has_literal};
 ghost use Rattle.cqe_base.specs.Refutation.{clashes, single_resolvent, chain_from, chain_result};
-ghost use Rattle.cqe_base.specs.Refutation.{same_literals, is_result, ends_empty, is_refutation};
+ghost use Rattle.cqe_base.specs.Refutation.{is_result, ends_empty, is_refutation};
+ghost use Rattle.cqe_base.specs.Refutation.{without_variable};
 ghost use Rattle.cqe_base.specs.MachineLaws.{HaveNoModel};
 ghost use Rattle.clause_store.specs.PlainLines.{lines_of, line_of};
 ghost use Rattle.proof_check.specs.Clashing.{only, is_other};
+ghost use Rattle.proof_check.specs.LiteralSets.{IsSetOf, IsSetOfResult};
 
+use crate::literal_set::LiteralSet;
 use clause_store::clauses::Clauses;
-use clause_store::literal::{Lit, has_literal};
-use clause_store::marked_clause::MarkedClause;
+use clause_store::literal::Lit;
 use clause_store::refutation::{Line, Refutation};
 use cqe_base::machine_laws::law_refutation_is_sound;
 use std::alloc::{AllocError, Global};
 
-/// Whether the refutation is right: then no signs make every clause true. A literal of a chain is
-/// looked up by its mark, so that a step takes time by the literals of its two clauses; the marks
-/// take two bytes for each variable up to the greatest.
+/// Whether the refutation is right: then no signs make every clause true. What a chain gives is
+/// kept as a set by marks, so that a step takes time by the literals of its second clause alone;
+/// the marks take two bytes for each variable up to the greatest.
 pub fn check_refutation(
     alloc: Global,
     clauses: &Clauses,
@@ -39,28 +40,19 @@ fn are_right(alloc: Global, clauses: &Clauses, refutation: &Refutation) -> Resul
     ensures { IfOk result (λ all_right. all_right
         ≡ is_refutation clauses.now (lines_of refutation.now)) }
 {
-    let mut derived = MarkedClause::new(alloc, 0)?;
-    let mut wanted = MarkedClause::new(alloc, 0)?;
+    let mut derived = LiteralSet::new(alloc);
     for k in 0..refutation.lines.len() {
         let line = &refutation.lines[k];
-        if !is_right(
-            &mut derived,
-            &mut wanted,
-            clauses,
-            &refutation.lines[..k],
-            line,
-        )? {
+        if !is_right(&mut derived, clauses, &refutation.lines[..k], line)? {
             return Ok(false);
         }
     }
     Ok(ends_empty(&refutation.lines))
 }
 
-/// Whether a line's clause has the literals of its chain's result. The marked clauses are room to
-/// work in.
+/// Whether a line's clause has the literals of its chain's result. The set is room to work in.
 fn is_right(
-    derived: &mut MarkedClause,
-    wanted: &mut MarkedClause,
+    derived: &mut LiteralSet,
     clauses: &Clauses,
     lines: &[Line],
     line: &Line,
@@ -80,37 +72,37 @@ fn is_right(
     if !resolve_chain(derived, clauses, lines, chain)? {
         return Ok(false);
     }
-    replace(wanted, &line.clause)?;
-    Ok(same_literals(wanted, derived))
+    Ok(derived.has_exactly(&line.clause))
 }
 
-/// Another clause in the place of the marked one.
-fn replace(marked: &mut MarkedClause, clause: &[Lit]) -> Result<(), AllocError>
-    ensures { OnOk result (marked.new.clause ≡ clause.now) }
+/// The literals of a clause in the place of those of the set.
+fn replace(set: &mut LiteralSet, clause: &[Lit]) -> Result<(), AllocError>
+    ensures { IfOk result (λ _. IsSetOf set.new clause.now) }
 {
-    marked.clear();
-    marked.make_room(clause)?;
-    marked.append(clause)?;
+    set.clear();
+    for literal in clause {
+        set.add(*literal)?;
+    }
     Ok(())
 }
 
-/// Resolves a clause with each next clause of a chain in turn, over the given clauses and those of
-/// earlier lines; false where a step has no resolvent.
+/// Resolves a clause, of which the set has the literals, with each next clause of a chain in turn,
+/// over the given clauses and those of earlier lines; false where a step has no resolvent.
 fn resolve_chain(
-    clause: &mut MarkedClause,
+    set: &mut LiteralSet,
     clauses: &Clauses,
     lines: &[Line],
     chain: &[u32],
 ) -> Result<bool, AllocError>
-    ensures { IfOk result (λ resolved. (if resolved then Some clause.new.clause else None) ≡
-        chain_from (clauses.now ++ map (λ l. l.clause.items) lines.now)
-        (Some clause.old.clause) chain.now) }
+    ensures { IfOk result (λ resolved. (c : List Literal) → IsSetOf set.old c
+        → IsSetOfResult resolved set.new
+        (chain_from (clauses.now ++ map (λ l. l.clause.items) lines.now) (Some c) chain.now)) }
 {
     for number in chain {
         let Some(next) = clause_at(clauses, lines, *number as usize) else {
             return Ok(false);
         };
-        if !resolve_single(clause, next)? {
+        if !resolve_single(set, next)? {
             return Ok(false);
         }
     }
@@ -131,45 +123,48 @@ fn clause_at<'a>(clauses: &'a Clauses, lines: &'a [Line], number: usize) -> Opti
     }
 }
 
-/// Whether a clause has each of the literals.
-fn has_all(clause: &MarkedClause, literals: &[Lit]) -> bool
-    ensures { result ≡ list_all (has_literal clause.now.clause) literals.now }
+/// Resolves a clause, of which the set has the literals, with another, where they clash in exactly
+/// one variable; false where they don't.
+fn resolve_single(set: &mut LiteralSet, second: &[Lit]) -> Result<bool, AllocError>
+    ensures { IfOk result (λ resolved. (c : List Literal) → IsSetOf set.old c
+        → IsSetOfResult resolved set.new (single_resolvent c second.now)) }
 {
-    literals.iter().all(|l| clause.has(*l))
-}
-
-/// Whether two clauses have the same literals.
-fn same_literals(first: &MarkedClause, second: &MarkedClause) -> bool
-    ensures { result ≡ same_literals first.now.clause second.now.clause }
-{
-    has_all(second, first.literals()) && has_all(first, second.literals())
-}
-
-/// Resolves a clause with another, where they clash in exactly one variable; false where they
-/// don't.
-fn resolve_single(first: &mut MarkedClause, second: &[Lit]) -> Result<bool, AllocError>
-    ensures { IfOk result (λ resolved. (if resolved then Some first.new.clause else None)
-        ≡ single_resolvent first.old.clause second.now) }
-{
-    let Some(l) = single_clash(first, second) else {
+    let Some(l) = single_clash(set, second) else {
         return Ok(false);
     };
-    if first.has(l.opposite()) || has_literal(second, l) {
+    if set.has(l.opposite()) {
         return Ok(false);
     }
-    first.make_room(second)?;
-    first.resolve(l, second)?;
+    set.remove(l);
+    Ok(join(set, l, second)?)
+}
+
+/// The literals of a clause but those of a literal's variable join the set; false where the clause
+/// has the literal itself.
+fn join(set: &mut LiteralSet, literal: Lit, clause: &[Lit]) -> Result<bool, AllocError>
+    ensures without { IfOk result (λ joined. joined ≡ not (has_literal clause.now literal)) }
+    ensures joined { IfOk result (λ joined. IsTrue joined → (l : Literal) → has_literal set.new l
+        ≡ (has_literal set.old l
+        || has_literal (without_variable (variable_of literal) clause.now) l)) }
+{
+    for other in clause {
+        if other.variable() != literal.variable() {
+            set.add(*other)?;
+        } else if other.is(literal) {
+            return Ok(false);
+        }
+    }
     Ok(true)
 }
 
-/// The literal of the first clause whose opposite is in the second, where there is exactly one.
-fn single_clash(first: &MarkedClause, second: &[Lit]) -> Option<Lit>
-    ensures { result ≡ only (clashes first.now.clause second.now) }
+/// The literal of the set whose opposite is in the clause, where there is exactly one.
+fn single_clash(set: &LiteralSet, clause: &[Lit]) -> Option<Lit>
+    ensures { (c : List Literal) → IsSetOf set.now c → result ≡ only (clashes c clause.now) }
 {
     let mut found: Option<Lit> = None;
-    for other in second {
+    for other in clause {
         let literal = other.opposite();
-        if first.has(literal) {
+        if set.has(literal) {
             if is_other(found, literal) {
                 return None;
             }

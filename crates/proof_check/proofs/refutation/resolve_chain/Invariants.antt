@@ -1,8 +1,9 @@
-use Rattle.std.proofs.Common.{◌≡◌, ◌++◌, map, drop, Some}
-use Rattle.cqe_base.specs.Refutation.{chain_from}
+use Rattle.std.proofs.Common.{◌++◌, List, map, drop}
+use Rattle.cqe_base.specs.Literal.{Literal}
+use Rattle.proof_check.specs.LiteralSets.{IsSetOf}
+use Rattle.proof_check.proofs.LiteralSets.{IsOnTheWay}
 use Rattle.proof_check.proofs.refutation.resolve_chain.Given as goal
 
 abbrev pub invariant-loop-number : goal.invariant-loop-number
-invariant-loop-number l =
-    let clauses = l.clauses ++ map (λ x. x.clause.items) l.lines in
-    chain_from clauses (Some l.clause.clause) (drop l.number-index l.chain) ≡ chain_from clauses (Some l.fn.clause.clause) l.chain
+invariant-loop-number l = (c : List Literal) → IsSetOf l.initial.set c
+    → IsOnTheWay (l.clauses ++ map (λ x. x.clause.items) l.lines) l.set (drop l.number-index l.chain) c l.chain
