@@ -224,8 +224,9 @@ class Command(InDirectory):
         self.assertNotIn("\x1b", ran.stdout)
 
     def stand_in(self, body):
-        """A program that stands in for cqe, so that the wrapper is tested without it."""
-        path = self.file("cqe", f"#!{sys.executable}\nimport sys, os, signal\n{body}\n")
+        """A program that stands in for cqe, so that the wrapper is tested without it. As cqe it writes all in one
+        call, whatever the environment says of Python (-E)."""
+        path = self.file("cqe", f"#!{sys.executable} -E\nimport sys, os, signal\n{body}\n")
         path.chmod(0o755)
         return path
 
