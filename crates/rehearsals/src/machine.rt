@@ -1,7 +1,7 @@
 //! Clauses as numbers: searched by both bodies of the machine, and refutations and models of them
 //! judged.
 use clause_solver::plain::search_plain;
-use clause_solver::{Found, is_searchable, search, search_with_cost};
+use clause_solver::{Found, KeptSearch, Searched, is_searchable, search, search_with_cost};
 use clause_store::clauses::Clauses;
 use clause_store::literal::Lit;
 use clause_store::refutation::{Line, Refutation, Signs};
@@ -96,7 +96,54 @@ fn found_text(alloc: Global, found: &Found) -> Result<String, AllocError> {
     }
 }
 
-/// What both bodies find within a budget, or that they differ.
+/// The second search from the first clauses, so many, which are kept; `None` where there are fewer.
+fn kept_search(
+    alloc: Global,
+    clauses: &Clauses,
+    first: usize,
+    variables: u32,
+    budget: u64,
+) -> Result<Option<Searched>, AllocError> {
+    if first > clauses.len() || !is_searchable(clauses, variables, budget) {
+        return Ok(None);
+    }
+    let mut start = clauses.copy(alloc)?;
+    start.truncate(first);
+    if !is_searchable(&start, variables, budget) {
+        return Ok(None);
+    }
+    let mut kept = KeptSearch::new(alloc);
+    kept.keep(alloc, &start, variables)?;
+    let _found = kept.search(alloc, clauses, variables, budget)?;
+    let searched = kept.search_with_cost(alloc, clauses, variables, budget)?;
+    Ok(Some(searched))
+}
+
+/// Whether a search finds this at this cost, however many of the clauses are kept.
+fn is_kept(
+    alloc: Global,
+    clauses: &Clauses,
+    variables: u32,
+    budget: u64,
+    text: &str,
+    cost: u64,
+) -> Result<bool, AllocError> {
+    for first in 0..=clauses.len() {
+        match kept_search(alloc, clauses, first, variables, budget)? {
+            Some(searched) => {
+                let found = found_text(alloc, &searched.found)?;
+                if found.as_str() != text || searched.cost != cost {
+                    return Ok(false);
+                }
+            }
+            None => return Ok(false),
+        }
+    }
+    Ok(true)
+}
+
+/// What both bodies find within a budget, or that they differ; the faster one also where it keeps
+/// clauses.
 fn both(
     alloc: Global,
     clauses: &Clauses,
@@ -108,10 +155,13 @@ fn both(
     }
     let fast = found_text(alloc, &search(alloc, clauses, variables, budget)?)?;
     let plain = found_text(alloc, &search_plain(alloc, clauses, variables, budget)?)?;
-    if fast.as_str() == plain.as_str() {
-        Ok(fast)
-    } else {
+    let cost = search_with_cost(alloc, clauses, variables, budget)?.cost;
+    if fast.as_str() != plain.as_str() {
         String::from_str(alloc, "the bodies differ")
+    } else if !is_kept(alloc, clauses, variables, budget, plain.as_str(), cost)? {
+        String::from_str(alloc, "a search that keeps clauses differs")
+    } else {
+        Ok(fast)
     }
 }
 
