@@ -16,7 +16,8 @@ ADDRESS = re.compile(r"http://127\.0\.0\.1:(\d+)/([\w-]+)/\n")
 SECONDS = 120
 
 # Stands in for the program where what it says is of no matter. A question with 'wait' is never answered, and for a
-# secret with 'spent' the search for another database is given up.
+# secret or a secrecy with 'spent' the search for another database is given up. A secrecy is a fact, and the only one of
+# the database in which it is true.
 STAND_IN = """#!{python} -IS
 import json, os, sys, time, tomllib
 command, words = sys.argv[1], dict(zip(sys.argv[2::2], sys.argv[3::2]))
@@ -28,9 +29,12 @@ if command == "init":
             journal.write(bytes(73))
 if command == "audit":
     user = users[words["--user"]]
+    world = lambda text: None if "spent" in text else []
+    secrecies = [{{"false": world(text), "secrecy": text, "true": None if world(text) is None else [text]}}
+                 for text in user.get("secrecies", [])]
     print(json.dumps(dict(entries=[], name=user["name"], method=user["method"], standing="open",
-                          secrets=[dict(secret=secret, world=None if "spent" in secret else [])
-                                   for secret in user["secrets"]])))
+                          secrets=[dict(secret=text, world=world(text)) for text in user.get("secrets", [])],
+                          **(dict(secrecies=secrecies) if secrecies else {{}}))))
 if command == "batch":
     for line in sys.stdin:
         if "wait" in line:

@@ -23,6 +23,16 @@ def wanted():
     return not os.environ.get(WITHOUT)
 
 
+def knows_secrecies():
+    """Whether the program is new enough for policies of version 2 and the line `secrecy`."""
+    return bool(path()) and run("case", given=b"secrecy true\n").returncode == 0
+
+
+def with_secrecies(test):
+    """A decorator as `needed`, for what an older program doesn't know."""
+    return unittest.skipUnless(wanted() and knows_secrecies(), "needs a program that knows secrecies")(test)
+
+
 def needed(test):
     """A decorator of a test or of a class of tests: skipped where the program isn't there or isn't wanted."""
     return unittest.skipUnless(wanted() and path(), "needs the program")(test)

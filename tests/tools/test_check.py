@@ -59,7 +59,41 @@ secrets = ["hiv(ann)"]
 """
 
 
-class Checked(InDirectory):
+# Of version 2. Beside what he knows a secrecy is closed to who knows that it is true or that it is false.
+OF_2 = changed(("version = 1", "version = 2")) + """
+[[users]]
+name = "lia"
+method = "lying"
+secrecies = ["hiv(ann)", "lies(ann, w1)"]
+
+[[users]]
+name = "ray"
+method = "combined"
+know = ["hiv(bob)"]
+secrecies = ["hiv(ann)"]
+
+[[users]]
+name = "una"
+method = "refusal"
+secrets = ["lies(ann, w1)"]
+secrecies = ["hiv(ann)", "hiv(ann) and hiv(bob)"]
+
+[[users]]
+name = "pat"
+method = "combined"
+know = ["not hiv(ann)"]
+secrets = ["hiv(bob)"]
+secrecies = ["hiv(ann)"]
+
+[[users]]
+name = "sam"
+method = "refusal"
+know = ["hiv(ann)"]
+secrecies = ["hiv(bob)", "hiv(ann)"]
+"""
+
+
+class Checking(InDirectory):
     def check(self, policy, facts=FACTS, **more):
         words = [CHECK, self.file("policy", policy), self.file("facts", facts)]
         return subprocess.run(words, capture_output=True, text=True, timeout=300, **more)
@@ -76,6 +110,14 @@ class Checked(InDirectory):
         blocks = [block for block in output.split("\n\n") if block.startswith(f"{name}:\n")]
         return blocks[0].splitlines()[1:] if blocks else []
 
+    def assertLiar(self, output):
+        """That it is said why a liar with secrecies is closed, and nothing else."""
+        (reason,) = [line for line in self.remarks(output, "lia") if "closed (error 24)" in line]
+        for word in ("a liar can keep no secrecy", "secrecies[0] hiv(ann)", "secrecies[1] lies(ann, w1)"):
+            self.assertIn(word, reason)
+
+
+class Checked(Checking):
     @program.needed
     def test_all_are_open(self):
         ran = self.check(POLICY)
@@ -113,6 +155,28 @@ class Checked(InDirectory):
                 for word in words:
                     self.assertIn(word, reasons[name][0])
                 self.assertNotIn(absent, reasons[name][0])
+
+    @program.with_secrecies
+    def test_secrecies(self):
+        ran = self.check(OF_2)
+        self.assertEqual((ran.returncode, ran.stderr), (1, ""))
+        rows = self.rows(ran.stdout)
+        self.assertEqual({name: row[1] for name, row in rows.items()},
+                         {"eve": "open", "lia": "closed", "ray": "open", "una": "open", "pat": "closed",
+                          "sam": "closed"})
+        # Of each secrecy two secrets. A sentence's negation has one node more than it, and so has each secret's in the
+        # view: of hiv(ann) 2 and 3.
+        self.assertEqual(rows["ray"][3:], ["1", "2", "2", "6"])
+        # The other secrecy has 3 nodes: 4 and 5. The secret's negation has 2.
+        self.assertEqual(rows["una"][3:], ["0", "5", "4", "16"])
+        self.assertRegex(ran.stdout, r"secrets of a user, two for each secrecy \(una\) +5 of +16")
+        for name, words in [("pat", ["entails the negation of secrecies[0]", "not (hiv(ann))"]),
+                            ("sam", ["entails secrecies[1]: hiv(ann)"])]:
+            reasons = [line for line in self.remarks(ran.stdout, name) if "closed (error 24)" in line]
+            self.assertEqual(len(reasons), 1, reasons)
+            for word in words:
+                self.assertIn(word, reasons[0])
+        self.assertLiar(ran.stdout)
 
     @program.needed
     def test_what_the_facts_contradict(self):
@@ -194,6 +258,41 @@ if sys.argv[1] == "batch":
         # The truth of what is known, the test whether it contradicts itself, and the test of the secret.
         print(name, 1, "yes" if not text.startswith("not free") else {{"u0": "yes", "u1": "{spent}"}}[name])
 """
+
+
+# Stands in for the program: it has no world for the search of a sentence with 'bob', and lia is closed.
+OF_SECRECIES = """#!{python}
+import json, sys, tomllib
+words = dict(zip(sys.argv[2::2], sys.argv[3::2]))
+if sys.argv[1] == "audit":
+    with open(words["--policy"], "rb") as file:
+        user = next(user for user in tomllib.load(file)["users"] if user["name"] == words["--user"])
+    is_open = user["name"] != "lia"
+    world = lambda text: None if "bob" in text else []
+    print(json.dumps({{
+        "entries": [], "name": user["name"], "method": user["method"], "standing": "open" if is_open else "closed",
+        "secrets": [{{"secret": text, "world": world(text)}} for text in user.get("secrets", []) if is_open],
+        "secrecies": [{{"secrecy": text, "true": world(text), "false": []}}
+                      for text in user.get("secrecies", []) if is_open]}}))
+if sys.argv[1] == "batch":
+    for line in sys.stdin:
+        print(line.split(" ")[0], 1, "yes")
+"""
+
+
+class Secrecies(Checking):
+    """Of the audit of a stand-in for the program: what is said of secrecies, whatever program there is."""
+
+    def test_a_liar_and_a_search_that_is_spent(self):
+        cqe = self.file("cqe", OF_SECRECIES.format(python=sys.executable))
+        cqe.chmod(0o755)
+        ran = self.check(OF_2, env={**os.environ, "CQE": str(cqe)})
+        self.assertEqual((ran.returncode, ran.stderr), (1, ""))
+        self.assertLiar(ran.stdout)
+        spent = [line.split("note: ")[1] for name in self.rows(ran.stdout) for line in self.remarks(ran.stdout, name)
+                 if "the search for a world" in line]
+        self.assertEqual(spent, [f"the search for a world {what} needs more than 4,000,000" for what in (
+            "with hiv(ann) and hiv(bob)", "without hiv(bob)", "with hiv(bob)")])
 
 
 class Spent(InDirectory):

@@ -67,6 +67,30 @@ SCRIPTS = {
     "a fact behind an ask": (HEAD + "ask true\nfact hiv(ann)\n", "8 7", (7, 1, "fact"), ["'fact'", "line 6"]),
 }
 
+# 19,999 nodes, with its `not` 20,000: test_explain_policy counts them.
+LARGE = "forall x: one . forall y: two . true or true"
+LARGE_HEAD = (f"domain one = {', '.join(f'a{number}' for number in range(18))}\n"
+              f"domain two = {', '.join(f'b{number}' for number in range(370))}\n" + HEAD)
+SECRECIES = {
+    "a secrecy of nothing": (HEAD + "secrecy\n", "1 6", (6, 1, "secrecy"), ["secrecy hiv(ann)"]),
+    "secrecies": (HEAD + "secrecies hiv(ann)\n", "1 6", (6, 1, "secrecies"), ["write 'secrecy'"]),
+    "a secrecy that is none": (HEAD + "secrecy hiv(ann) AND hiv(bob)\n", "6 6", (6, 18, "AND"),
+                               ["'secrecy'", "'and'"]),
+    # With the secret of the head seven secrecies make 15 secrets, and eight make 17.
+    "eight secrecies and a secret": (HEAD + "secrecy z()\n" * 8, "7 13", (13, 1, "secrecy z()"),
+                                     ["17 secrets", "two", "16"]),
+    "seven secrecies and three secrets": (HEAD + "secrecy z()\n" * 7 + "secret z()\n" * 2, "7 14",
+                                          (14, 1, "secret z()"), ["17 secrets", "two", "16"]),
+    "a secrecy without room for its negation": (LARGE_HEAD + f"secrecy not ({LARGE})\n", "7 8", None,
+                                                ["20,000", "19,999"]),
+    # The secret's `not` has 2 nodes, the secrecy's 20,000, that of its negation 20,001.
+    "a secrecy that makes a large view": (LARGE_HEAD + f"secrecy {LARGE}\n", "7 8", None, ["40,003", "40,000"]),
+    "an ask behind a secrecy alone": ("domain d = a\nsecrecy true\nask true\n", "8 3", (3, 1, "ask"),
+                                      ["there is no 'method' above"]),
+    "a secrecy behind an ask": (HEAD + "ask true\nsecrecy z()\n", "8 7", (7, 1, "secrecy"),
+                                ["'secrecy'", "line 6"]),
+}
+
 BATCHES = {
     "no session": ("eve ask hiv(ann)\n", "1 1", (1, 5, "ask"), ["session", "1 to 64"]),
     "session 65": ("# mine\neve 65 ask hiv(ann)\n", "1 2", (2, 5, "65"), ["1 to 64"]),
@@ -132,12 +156,17 @@ class Scripts(InDirectory):
                     self.assertEqual((finding.spot.line, finding.spot.column), place[:2])
 
     def test_each_line_of_case_is_explained(self):
-        self.check(SCRIPTS, "case")
+        self.check({**SCRIPTS, **SECRECIES}, "case")
         self.assertEqual({case[1].split()[0] for case in SCRIPTS.values()}, set("12345678"))
 
     def test_each_line_of_batch_is_explained(self):
         self.check(BATCHES, "batch")
         self.assertEqual({case[1].split()[0] for case in BATCHES.values()}, set("123"))
+
+    def test_a_program_that_is_older_than_secrecies(self):
+        finding = self.explained_once("cqe: script 1 6", script=HEAD + "secrecy z()\n")
+        self.assertSays(finding, "line 6", "older", "newer program")
+        self.assertPoints(finding, 6, 1, "secrecy")
 
     def test_without_the_script_each_kind_has_a_sentence(self):
         meanings = {self.explained_once(f"cqe: script {kind} 3").meaning for kind in range(1, 9)}
@@ -149,9 +178,17 @@ class Scripts(InDirectory):
         journals.mkdir()
         files = ("--policy", policy, "--facts", facts, "--journals", journals)
         self.assertEqual(program.run("init", *files).returncode, 0)
-        for cases, words in ((SCRIPTS, ("case",)), (BATCHES, ("batch", *files))):
-            for name, (script, said, _, _) in cases.items():
-                with self.subTest(name):
-                    ran = program.run(*words, given=as_bytes(script))
-                    self.assertEqual((ran.returncode, ran.stdout, ran.stderr),
-                                     (5, b"", f"cqe: script {said}\n".encode()))
+        self.assertSaid(SCRIPTS, "case")
+        self.assertSaid(BATCHES, "batch", *files)
+
+    @program.with_secrecies
+    def test_the_program_says_so_of_secrecies(self):
+        self.assertSaid(SECRECIES, "case")
+
+    def assertSaid(self, cases, *words):
+        """That the program refuses each script of these cases so."""
+        for name, (script, said, _, _) in cases.items():
+            with self.subTest(name):
+                ran = program.run(*words, given=as_bytes(script))
+                self.assertEqual((ran.returncode, ran.stdout, ran.stderr),
+                                 (5, b"", f"cqe: script {said}\n".encode()))

@@ -104,13 +104,63 @@ CASES = {
                      (14, 11, '["hiv(ann)"]'),
                      ["58,595", "40,000"]),
     "a name of two users": (POLICY + SECOND, "policy 8 users[1].name", (14, 8, '"eve"'), ["'eve'", "users[0]", ":9:8"]),
-    "version 2": (changed(("= 1\n", "= 2\n")), "policy 9", (1, 11, "2"), ["version", "2", "write version = 1"]),
+    "version 3": (changed(("= 1\n", "= 3\n")), "policy 9", (1, 11, "3"), ["1 or 2", "3", "write version = 1"]),
+    "secrecies in version 1": (POLICY + 'secrecies = ["hiv(bob)"]\n', "policy 4 users[0].secrecies",
+                               (13, 1, "secrecies"), ["version = 2", "'eve'"]),
+    "a secrecy in version 1": (POLICY + 'secrecy = ["hiv(bob)"]\n', "policy 4 users[0].secrecy", (13, 1, "secrecy"),
+                               ["'secrecies'", "version = 2"]),
+}
+
+
+def of_2(secrecies, secrets=None):
+    """A policy of version 2, whose user has these secrecies in line 12 and these secrets in the next one."""
+    lines = f"secrecies = {secrecies}\n" + (f"secrets = {secrets}\n" if secrets is not None else "")
+    return changed(("version = 1", "version = 2"), ('secrets = ["hiv(ann)"]\n', lines))
+
+
+def listed(count):
+    return "[" + ", ".join(['"true"'] * count) + "]"
+
+
+def constants(letter, count):
+    return f"{letter} = {str([f'{letter}{number}' for number in range(count)])}".replace("'", '"')
+
+
+# 18 times 370 instances of three nodes, and an inner node for each of 18 and the outermost: 19,999. Its `not` is one
+# more.
+LARGE = "forall x: one . forall y: two . true or true"
+LARGE_OF_2 = {text: of_2(f'["{text}"]').replace('ward = ["w1"]', 'ward = ["w1"]\n' + constants("one", 18) + "\n"
+                                               + constants("two", 370)) for text in (LARGE, f"not ({LARGE})")}
+
+# As CASES, of policies of version 2: in line 12 the first secrecy begins at column 14, the second one at 26.
+CASES_OF_2 = {
+    "another key": (changed(("version = 1", "version = 2"), ("secrets", "secrecy")), "policy 4 users[0].secrecy",
+                    (12, 1, "secrecy"), ["write 'secrecies' for it"]),
+    "secrecies as a string": (of_2('"hiv(ann)"'), "policy 3 users[0].secrecies", (12, 13, '"hiv(ann)"'), ["brackets"]),
+    "a secrecy that is a number": (of_2('["hiv(ann)", 7]'), "policy 3 users[0].secrecies", (12, 26, "7"), ["integer"]),
+    "a secrecy that is no sentence": (of_2('["hiv(ann)", "hiv(carl)"]'), "policy 6 users[0].secrecies[1] 3 4",
+                                      (12, 31, "carl"), ["secrecies[1]", "'carl'"]),
+    "nine secrecies": (of_2(listed(9)), "policy 7 users[0].secrecies", None, ["9 sentences", "at most 8", "joined"]),
+    "17 secrets": (of_2("[]", listed(17)), "policy 7 users[0].secrets", None, ["17 sentences", "at most 16", "'or'"]),
+    "15 secrets and a secrecy": (of_2('["hiv(ann)"]', listed(15)), "policy 7 users[0].secrecies",
+                                 (12, 13, '["hiv(ann)"]'), ["15 secrets and 1 secrecy", "17", "1 to 16", "negation"]),
+    "7 secrecies and 3 secrets": (of_2(listed(7), listed(3)), "policy 7 users[0].secrecies", None,
+                                  ["3 secrets and 7 secrecies", "17"]),
+    "empty lists": (of_2("[]", "[]"), "policy 7 users[0].secrecies", (12, 13, "[]"), ["neither", "1 to 16"]),
+    "no list": (changed(("version = 1", "version = 2"), ('secrets = ["hiv(ann)"]\n', "")),
+                "policy 7 users[0].secrecies", (8, 1, "[[users]]"), ["neither", "'eve'"]),
+    "a long secrecy": (of_2(f'["true{" " * 4093}"]'), "policy 7 users[0].secrecies[0]", None, ["4,097 bytes", "4,096"]),
+    "a secrecy without room for its negation": (LARGE_OF_2[f"not ({LARGE})"], "policy 7 users[0].secrecies[0]", None,
+                                                ["20,000 nodes", "19,999", "negation"]),
+    # The secrecy's `not` and that of its negation have 20,000 and 20,001 nodes, and what she knows has 3.
+    "a secrecy that makes a large view": (LARGE_OF_2[LARGE], "policy 7 users[0].secrets", (10, 1, "[[users]]"),
+                                          ["40,004", "40,000", "twice"]),
 }
 
 
 class Policies(InDirectory):
     def test_each_refusal_is_explained(self):
-        for name, (policy, said, place, words) in CASES.items():
+        for name, (policy, said, place, words) in [*CASES.items(), *CASES_OF_2.items()]:
             with self.subTest(name):
                 finding = self.explained_once("cqe: " + said, policy=policy)
                 self.assertSays(finding, *words)
@@ -122,8 +172,18 @@ class Policies(InDirectory):
     def test_each_kind_has_a_case(self):
         self.assertEqual({case[1].split()[1] for case in CASES.values()}, set("123456789"))
 
+    def test_a_program_that_is_older_than_version_2(self):
+        finding = self.explained_once("cqe: policy 9", policy=of_2('["hiv(ann)"]'))
+        self.assertSays(finding, "older", "newer program", "version = 1")
+        self.assertPoints(finding, 1, 11, "2")
+
+    def test_secrecies_of_a_file_that_is_not_there(self):
+        self.assertSays(self.explained_once("cqe: policy 4 users[0].secrecies"), "'secrecies'", "version = 2")
+        self.assertSays(self.explained_once("cqe: policy 7 users[0].secrecies"), "8", "1 to 16", "neither")
+        self.assertSays(self.explained_once("cqe: policy 7 users[0].secrecies[3]"), "secrecies[3]", "19,999")
+
     def test_without_the_file_each_kind_has_a_sentence(self):
-        for _, said, _, _ in CASES.values():
+        for _, said, _, _ in [*CASES.values(), *CASES_OF_2.values()]:
             with self.subTest(said):
                 finding = self.explained_once("cqe: " + said)
                 self.assertIsNone(finding.spot)
@@ -140,9 +200,17 @@ class Policies(InDirectory):
 
     @program.needed
     def test_the_program_says_so(self):
+        self.assertSaid(CASES)
+
+    @program.with_secrecies
+    def test_the_program_says_so_of_version_2(self):
+        self.assertSaid(CASES_OF_2)
+
+    def assertSaid(self, cases):
+        """That the program refuses each policy of these cases so."""
         facts = self.file("facts", "")
         (self.directory / "journals").mkdir()
-        for name, (policy, said, _, _) in CASES.items():
+        for name, (policy, said, _, _) in cases.items():
             with self.subTest(name):
                 ran = program.run("init", "--policy", self.file("policy", policy), "--facts", facts, "--journals",
                                   self.directory / "journals")

@@ -146,7 +146,7 @@ class Codes(InDirectory):
 
     def test_a_closed_user(self):
         finding = self.explained_once("eve 1 error 24", policy=POLICY, script="eve 1 ask true\n", sort="batch")
-        self.assertSays(finding, "'eve'", "entails one of his secrets", "refusal", "4,000,000")
+        self.assertSays(finding, "'eve'", "entails one of his secrets", "a secrecy", "refusal", "4,000,000")
         self.assertPoints(finding, 9, 8, '"eve"')
 
     def test_how_large_a_question_is(self):

@@ -80,7 +80,7 @@ class Installed(Temporary):
         self.make("install")
         words = [sys.executable, "-c", "from cqe_tools import lab_examples; print(*lab_examples.found())"]
         done = subprocess.run(words, cwd=self.root / "share/cqe/tools", env=CLEAN, capture_output=True, text=True)
-        self.assertEqual(done.stdout, "ward clinic registry hospital statistics\n")
+        self.assertEqual(done.stdout, "ward clinic registry hospital statistics register\n")
 
     def test_anybody_can_read_it(self) -> None:
         self.make("install")

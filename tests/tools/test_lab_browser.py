@@ -26,7 +26,9 @@ SHOWN = {
     "hospital": (["registry", "press"], ["has(p17, hiv) or has(p23, hiv)", "has(p17, hiv)"]),
     "statistics": (["bank", "owner", "newspaper", "pupils"],
                    ["exists f: firm . in_branch(f, brewery) and in_region(f, south) and made_loss(f)"]),
+    "register": (["clerk", "hotline", "porter"], ["abroad(bob)"]),
 }
+WITH_SECRECIES = ("register",)
 # The replies and the truth of the last of them, worked out by the rules of the methods.
 LAST = {
     # The head was told yes to the first: a no would tell of bob.
@@ -37,6 +39,9 @@ LAST = {
     # Who refuses looks at both answers. The press was told yes to the first: a no would tell of p23.
     "hospital": (["refused", "refused"], "yes"),
     "statistics": (["yes", "refused", "yes", "no"], "yes"),
+    # A yes says that bob isn't registered, which the porter may learn, and the clerk and the hotline may not. To the
+    # hotline a no says nothing.
+    "register": (["refused", "no", "yes"], "yes"),
 }
 # What the page shows of a round: the cards' users and replies, and of each other database its facts.
 ROUND = """(() => {
@@ -99,6 +104,26 @@ class OnThePage(InDirectory):
         self.page.press("Enter")
         self.ready()
         return self.page.value(ROUND)
+
+
+class Secrecies(OnThePage):
+    def test_both_worlds_are_named(self):
+        """The stand-in for the program says no to everything, also where a secrecy should be true."""
+        policy = POLICY.replace("= 1\n", "= 2\n") + 'secrecies = ["hiv(bob)"]\n'
+        self.page.value(f"document.getElementById('policy-text').value = {json.dumps(policy)};"
+                        f"document.getElementById('facts-text').value = {json.dumps(FACTS)};"
+                        "document.querySelector('#own button').click()")
+        self.page.wait("document.getElementById('users').textContent.includes('eve')")
+        self.ready()
+        shown = self.page.value("document.getElementById('users').textContent")
+        self.assertIn("Must conclude neither that this is true nor that it is false:hiv(bob)Must not concludehiv(ann)",
+                      shown)
+        self.ask("true")
+        self.assertEqual(self.page.value("[...document.querySelectorAll('.world h4')].map((one) => one.textContent)"),
+                         ["Another database, with hiv(bob)", "Another database, without hiv(bob), hiv(ann)"])
+        self.assertIn("hiv(bob): no, and it should be yes",
+                      self.page.value("document.querySelector('.world').textContent"))
+        self.assertEqual(self.page.errors, [])
 
 
 class ByTheKeyboard(OnThePage):
@@ -183,6 +208,8 @@ class WithProgram(OnThePage):
 
     def test_examples(self):
         for example, (names, questions) in SHOWN.items():
+            if example in WITH_SECRECIES and not program.knows_secrecies():
+                continue
             with self.subTest(example):
                 self.load(example)
                 self.choose(names)

@@ -73,11 +73,12 @@ class WithProgram(InDirectory):
             self.assertFalse(set(here) & set(there))
             self.assertEqual((world["is_same"], world["questions"]), (True, why["number"]))
             self.assertTrue(all(row["here"] == row["there"] for row in world["rows"]))
-            self.assertEqual({one["truth"] for one in world["secrets"]}, {"no"})
-            self.assertLessEqual({one["truth"] for one in world["know"]}, {"yes"})
-            shown.update({secret["text"]: sorted(there + both) for secret in world["secrets"]})
-        told = dict(zip(user["secrets"], audit["secrets"]))
-        self.assertEqual(shown, {secret: sorted(its["world"]) for secret, its in told.items()})
+            self.assertTrue(all(one["truth"] == one["wanted"] for one in world["secrets"] + world["know"]))
+            shown.update({(one["text"], one["wanted"]): sorted(there + both) for one in world["secrets"]})
+        told = {(secret, "no"): its["world"] for secret, its in zip(user["secrets"], audit["secrets"], strict=True)}
+        for secrecy, its in zip(user["secrecies"], audit.get("secrecies", []), strict=True):
+            told.update({(secrecy, "yes"): its["true"], (secrecy, "no"): its["false"]})
+        self.assertEqual(shown, {which: sorted(world) for which, world in told.items()})
         self.assertEqual((why["spent"], why["standing"]), ([], audit["standing"]))
         if user["method"] == "lying":
             self.assertEqual(len(why["worlds"]), 1)
@@ -129,6 +130,13 @@ class Examples(WithProgram):
         pairs = asks("statistics")
         texts = list(dict.fromkeys(text for _, text in pairs))
         self.assertExample("statistics", pairs, worked_out("statistics"), dict(zip(texts, ["yes", "yes", "no", "yes"])))
+
+    @program.with_secrecies
+    def test_register(self):
+        pairs = asks("register")
+        texts = list(dict.fromkeys(text for _, text in pairs))
+        self.assertExample("register", pairs, worked_out("register"),
+                           dict(zip(texts, ["yes", "yes", "no", "yes", "yes"], strict=True)))
 
     def test_the_same_question_of_all_users(self):
         opened = self.lab.opened(example="statistics")

@@ -24,6 +24,7 @@ import program
 ROOT = Path(__file__).resolve().parents[2]
 PORT = "7007"  # the port in the documents; a free one is taken in its place
 OPTIONAL = ("cqe-check", "cqe-ask", "cqe-explain")
+SECRECIES = "examples/register"  # a block that names it wants a program that knows secrecies
 LONGEST = 1800  # seconds for all commands of a document
 END = "== the end of a block =="
 
@@ -125,7 +126,9 @@ class Documents(unittest.TestCase):
             environment = make_directory(directory)
             everything = blocks_of(text)
             self.assertTrue(everything, f"{name} has no commands")
-            blocks = [block for block in everything if not block.lacks(environment["PATH"])]
+            knows = program.knows_secrecies()
+            blocks = [block for block in everything
+                      if not block.lacks(environment["PATH"]) and (knows or SECRECIES not in block.commands)]
             ran = run(blocks, directory, environment)
             self.assertEqual(len(ran), len(blocks), f"{name}: the shell ended early")
             for block, (printed, status) in zip(blocks, ran):

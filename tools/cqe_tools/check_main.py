@@ -106,8 +106,9 @@ def sizes(context, standings):
         ("relations", len(relations), schemas.RELATIONS),
         ("facts", facts.count(context.facts) if context.facts else 0, schemas.FACTS),
     ]
+    twice = ", two for each secrecy" if any(standing.user.get("secrecies") for standing in standings) else ""
     for what, key, limit in (("known sentences of a user", "know", schemas.KNOWN),
-                             ("secrets of a user", "secrets", schemas.SECRETS),
+                             (f"secrets of a user{twice}", "secrets", schemas.SECRETS),
                              ("nodes of a sentence", "sentence", schemas.SENTENCE_NODES),
                              ("nodes of a view without answers", "view", schemas.FIRST_VIEW_NODES)):
         most = max(standings, key=lambda standing: standing.sizes[key])

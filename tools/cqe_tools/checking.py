@@ -13,9 +13,10 @@ import subprocess
 import tempfile
 from dataclasses import dataclass, field
 from pathlib import Path
+from typing import NamedTuple
 
 from . import schemas
-from .policies import view_nodes
+from .policies import all_secrets, secret_nodes, view_nodes
 from .sentences import nodes_of
 
 NOTHING = "false"  # the secret of a user from whom nothing is to be hidden
@@ -102,15 +103,28 @@ class Asker:
         return [line.split(" ", 2)[2] for line in lines]
 
 
+class Made(NamedTuple):
+    """A made-up user."""
+
+    name: str
+    method: str
+    know: list
+    secrets: list
+    secrecies: list = []
+
+
 def written(declarations, users, budget=schemas.BUDGET):
     """A policy as TOML: the same domains and relations, and these users, each with the same budget."""
-    lines = ["version = 1", "", "[domains]"]
+    keeps_secrecies = any(made.secrecies for made in users)
+    lines = [f"version = {2 if keeps_secrecies else 1}", "", "[domains]"]
     lines += [f"{name} = {json.dumps(constants)}" for name, constants in declarations[0]]
     lines += ["", "[relations]"]
     lines += [f"{name} = {json.dumps(columns)}" for name, columns in declarations[1]]
-    for name, method, know, secrets in users:
-        lines += ["", "[[users]]", f'name = "{name}"', f'method = "{method}"', f"know = {json.dumps(know)}",
-                  f"secrets = {json.dumps(secrets)}", f"budget = {budget}"]
+    for made in users:
+        lines += ["", "[[users]]", f'name = "{made.name}"', f'method = "{made.method}"',
+                  f"know = {json.dumps(made.know)}", f"secrets = {json.dumps(made.secrets)}"]
+        lines += [f"secrecies = {json.dumps(made.secrecies)}"] if made.secrecies else []
+        lines += [f"budget = {budget}"]
     return "\n".join(lines) + "\n"
 
 
@@ -124,7 +138,7 @@ def truths(asker, declarations, texts):
     result = {}
     for begin in range(0, len(texts), schemas.USERS):
         part = texts[begin:begin + schemas.USERS]
-        made = [(f"t{number}", "lying", [], [NOTHING]) for number in range(len(part))]
+        made = [Made(f"t{number}", "lying", [], [NOTHING]) for number in range(len(part))]
         asks = [(f"t{number}", text) for number, text in enumerate(part)]
         result.update(zip(part, asker.replies(declarations, made, asks)))
     return result
@@ -174,10 +188,8 @@ class Check:
         result.contradicted = [index for index, text in enumerate(know) if self.truths.get(text) == "no"]
         result.sizes = self.sizes(user, told)
         self.note_truths(result, know)
-        for secret in told["secrets"]:
-            if secret["world"] is None:
-                result.notes.append(f"the search for a world without {secret['secret']} needs more than "
-                                    f"{schemas.BUDGET:,}")
+        result.notes += [f"the search for a world with{'' if wanted else 'out'} {text} needs more than "
+                         f"{schemas.BUDGET:,}" for text, wanted, world in worlds_of(told) if world is None]
         if not result.is_open:
             result.reasons = self.reasons(user, result)
         return result
@@ -197,11 +209,11 @@ class Check:
                                     f"{text}")
 
     def sizes(self, user, told):
-        texts = [*user.get("know", []), *user["secrets"]]
+        known = [nodes_of(self.schema, text.encode()) for text in user.get("know", [])]
+        secrets = secret_nodes(self.schema, user)
         return {
-            "sentence": max(nodes_of(self.schema, text.encode()) for text in texts),
-            "view": view_nodes(self.schema, user), "know": len(user.get("know", [])), "secrets": len(user["secrets"]),
-            "answers": len(told["entries"]),
+            "sentence": max(known + secrets), "view": view_nodes(self.schema, user), "know": len(known),
+            "secrets": len(secrets), "answers": len(told["entries"]),
         }
 
     def entailed(self, groups):
@@ -220,8 +232,8 @@ class Check:
         result = []
         for begin in range(0, len(groups), schemas.USERS):
             part = groups[begin:begin + schemas.USERS]
-            made = [(f"u{number}", "lying", [f"{free}() or ({text})" for text in know],
-                     [f"not {free}() and ({text})" for text in hidden])
+            made = [Made(f"u{number}", "lying", [f"{free}() or ({text})" for text in know],
+                         [f"not {free}() and ({text})" for text in hidden])
                     for number, (know, hidden) in enumerate(part)]
             try:
                 replies = self.asker.replies((self.declarations[0], relations), made,
@@ -233,7 +245,10 @@ class Check:
 
     def reasons(self, user, standing):
         """Why a user is closed, in the order of the tests of admission."""
-        know, secrets = user.get("know", []), user["secrets"]
+        know, secrets, named = user.get("know", []), all_secrets(user), names_of_secrets(user)
+        if user["method"] == "lying" and user.get("secrecies"):
+            return ["a liar can keep no secrecy, since he would have to deny a sentence and its negation: "
+                    + ", ".join(f"secrecies[{index}] {text}" for index, text in enumerate(user["secrecies"]))]
         if user["method"] == "refusal" and standing.contradicted:
             return [f"the facts contradict what he knows, and refusal wants all of it to be true: know[{index}] is "
                     f"{know[index]}"
@@ -241,14 +256,13 @@ class Check:
         absurd, *single = self.entailed([(know, [NOTHING])] + [(know, [secret]) for secret in secrets])
         if absurd == "yes":
             return ["what he knows contradicts itself, so it entails every secret"]
-        result = [f"what he knows entails secrets[{index}]: {secrets[index]}" for index,
-                  found in enumerate(single) if found == "yes"]
+        result = [f"what he knows entails {name}: {secret}"
+                  for name, secret, found in zip(named, secrets, single) if found == "yes"]
         if not result and user["method"] == "lying" and len(secrets) > 1:
             result = self.of_several(know, secrets)
         if not result:
-            result = [f"secrets[{index}] costs too much to test, the search needs more than {schemas.BUDGET:,}: "
-                      f"{secrets[index]}"
-                      for index, found in enumerate(single) if found == "spent"]
+            result = [f"{name} costs too much to test, the search needs more than {schemas.BUDGET:,}: {secret}"
+                      for name, secret, found in zip(named, secrets, single) if found == "spent"]
         return result or [f"the search of the admission needs more than {schemas.BUDGET:,}" if None not in single else
                           f"what he knows entails a secret (for lying: that one of them is true), or the test of it "
                           f"needs more than {schemas.BUDGET:,}"]
@@ -269,6 +283,21 @@ class Check:
         names = ", ".join(f"secrets[{index}] {secrets[index]}" for index in kept)
         return [f"what he knows entails that one of these is true, though not which, and a liar has to be able to deny "
                 f"all of them: {names}"]
+
+
+def names_of_secrets(user):
+    """How a reader finds each of all the secrets of a user in the policy."""
+    both = [name for index in range(len(user.get("secrecies", [])))
+            for name in (f"secrecies[{index}]", f"the negation of secrecies[{index}]")]
+    return both + [f"secrets[{index}]" for index in range(len(user.get("secrets", [])))]
+
+
+def worlds_of(told):
+    """What an audit says of other worlds: each sentence, whether it is true there, and the world, None where spent."""
+    result = []
+    for secrecy in told.get("secrecies", []):
+        result += [(secrecy["secrecy"], True, secrecy["true"]), (secrecy["secrecy"], False, secrecy["false"])]
+    return result + [(secret["secret"], False, secret["world"]) for secret in told["secrets"]]
 
 
 def in_temporary_directory(path, policy, facts, do):

@@ -5,7 +5,7 @@ from dataclasses import dataclass
 from pathlib import Path
 
 from . import schemas, scripts
-from .checking import written
+from .checking import Made, written
 from .places import Text
 from .policies import METHODS
 
@@ -22,6 +22,8 @@ EXAMPLES = {
     "hospital": ("The hospital of the tutorial", ("hospital.policy", "hospital.facts", "hospital.batch")),
     "statistics": ("A statistics office: who knows his own figure",
                    ("statistics.policy", "statistics.facts", "statistics.batch")),
+    "register": ("A register of blocked addresses: neither yes nor no may be told",
+                 ("register.policy", "register.facts", "register.batch")),
 }
 
 
@@ -63,8 +65,7 @@ def of_case(title, script):
     case = scripts.CaseScript(script)
     own = case.method_word
     budget = int(scripts.word_and_rest(script.line(case.budget))[1]) if case.budget else schemas.DEFAULT_BUDGET
-    know, secrets = ([text.decode("ascii") for text in texts] for texts in (case.known, case.secrets))
-    users = [(method, method, know, secrets)
+    users = [Made(method, method, **case.user())
              for method in sorted(METHODS, key=lambda method: method != own)]
     facts = [line for _, line in scripts.numbered(script) if line.startswith(b"fact ")]
     return Files(title, written((case.domains, case.relations), users, budget).encode("ascii"),

@@ -10,7 +10,7 @@ from pathlib import Path
 from tempfile import TemporaryDirectory
 
 from . import facts, replies, schemas
-from .checking import Check, Refusal, Unusable, truths
+from .checking import Check, Refusal, Unusable, truths, worlds_of
 from .explaining import Context, Explainer
 from .lab_examples import stories_of_users
 from .places import Finding, Text, visible
@@ -108,7 +108,8 @@ class Trial:
         with self.lock:
             standings = Check(self.asker, self.context.policy).standings(self.journals)
         return [{
-            "name": user["name"], "method": user["method"], "know": user.get("know", []), "secrets": user["secrets"],
+            "name": user["name"], "method": user["method"],
+            **{key: user.get(key, []) for key in ("know", "secrets", "secrecies")},
             "budget": budget_of(user), "is_open": standing.is_open, "reasons": standing.reasons,
             "notes": standing.notes, "story": story,
         } for standing, user, story in zip(standings, self.users.values(), stories)]
@@ -176,22 +177,31 @@ class Trial:
     # Why a reply tells nothing.
 
     def why(self, name, number):
-        """For each secret of a user the other databases that the program names behind his reply of this number."""
+        """The other databases that the program names behind a user's reply of this number: of each secret one in which
+        it is false, and of each secrecy one in which it is true and one in which it is false."""
         told = self.told[name][:number]
         if len(told) < number or number < 1:
             raise Unusable("there is no such reply")
         with TemporaryDirectory(dir=self.place) as place:
             audit = self.audit_behind(Path(place), name, told[-1])
-            secrets = list(zip(self.users[name]["secrets"], (secret["world"] for secret in audit["secrets"])))
-            worlds = dict.fromkeys(tuple(world) for _, world in secrets if world is not None)
+            sought = self.sought(name, audit)
+            worlds = dict.fromkeys(tuple(world) for _, world in sought if world is not None)
             return {
                 "user": name, "number": number, "standing": audit["standing"],
                 "is_liar": self.users[name]["method"] == "lying",
-                "spent": [secret for secret, world in secrets if world is None],
+                "spent": [sentence for sentence, world in sought if world is None],
                 "worlds": [self.other(Path(place), which, name, told, world,
-                                      [secret for secret, its in secrets if its is not None and tuple(its) == world])
+                                      [sentence for sentence, its in sought if its is not None and tuple(its) == world])
                            for which, world in enumerate(worlds)],
             }
+
+    def sought(self, name, audit):
+        """What is sought of other databases, each with the one of the audit: a sentence as the policy has it, and what
+        it has to be there, yes or no."""
+        user = self.users[name]
+        texts = [text for secrecy in user.get("secrecies", []) for text in (secrecy, secrecy)] + user.get("secrets", [])
+        return [({"text": text, "wanted": "yes" if is_true else "no"}, world)
+                for text, (_, is_true, world) in zip(texts, worlds_of(audit))]
 
     def audit_behind(self, place, name, last):
         """The audit of a user over his journal as it was: it only grows, and there a byte 0 ended it."""
@@ -201,7 +211,7 @@ class Trial:
             (journals / f"{name}.log").write_bytes(journal.read(last.journal - 1) + b"\0")
         return self.asker.audit(self.policy, str(journals), name)
 
-    def other(self, place, which, name, told, world, secrets):
+    def other(self, place, which, name, told, world, sought):
         """One other database: in which facts it differs, and what the program says over it."""
         directory = place / f"world{which}"
         directory.mkdir()
@@ -212,10 +222,10 @@ class Trial:
         script = b"".join(line_of(name, one.text) for one in compared)
         there = self.batch(asker, asker.journals_for(self.policy), script, len(compared))
         know = self.users[name].get("know", [])
-        true_there = truths(asker, self.context.policy.declarations(), [*secrets, *know])
+        true_there = truths(asker, self.context.policy.declarations(), [*(one["text"] for one in sought), *know])
         return {
-            "secrets": [{"text": text, "truth": true_there.get(text)} for text in secrets],
-            "know": [{"text": text, "truth": true_there.get(text)} for text in know],
+            "secrets": [{**one, "truth": true_there.get(one["text"])} for one in sought],
+            "know": [{"text": text, "wanted": "yes", "truth": true_there.get(text)} for text in know],
             **differences(self.facts, world),
             "questions": len(compared), "is_same": there == [one.reply for one in compared],
             "rows": [{"text": visible(bytes_of(one.text)), "here": one.reply, "there": reply}

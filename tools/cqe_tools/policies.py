@@ -9,19 +9,24 @@ from .sentences import Refused, nodes_of
 from .toml_places import plain, tree_of
 
 ROOT_KEYS = ("version", "domains", "relations", "users")
+VERSIONS = (1, 2)
 USER_KEYS = ("name", "method", "know", "secrets", "budget", "token")
+USER_KEYS_OF_2 = ("name", "method", "know", "secrets", "secrecies", "budget", "token")
+SENTENCE_KEYS = ("know", "secrets", "secrecies")
 METHODS = ("lying", "refusal", "combined")
 TOKEN = re.compile(r"[0-9A-Fa-f]{64}\Z")
 PLACE = re.compile(r"users\[(\d+)\]\.(\w+)(?:\[(\d+)\])?\Z")
 AT_LINE = re.compile(r"\(at line (\d+), column (\d+)\)")
 
 WANTED = {
-    "version": "the number 1", "domains": "a table of domains, as [domains] with lines like person = [\"ann\"]",
+    "version": "the number 1, or 2 where a user has secrecies",
+    "domains": "a table of domains, as [domains] with lines like person = [\"ann\"]",
     "relations": "a table of relations, as [relations] with lines like hiv = [\"person\"]",
     "users": "an array of tables, each begun by [[users]]",
     "name": "a string with a letter, then letters, digits and _, in ASCII, of at most 32 bytes",
     "method": "one of \"lying\", \"refusal\" and \"combined\", in small letters",
     "know": "an array of strings, each a sentence", "secrets": "an array of 1 to 16 strings, each a sentence",
+    "secrecies": "an array of at most 8 strings, each a sentence",
     "budget": "a whole number from 1 to 4000000, without quotes",
     "token": "a string of 64 hexadecimal digits: what  printf 'PASS PHRASE' | sha256sum  prints first",
 }
@@ -76,6 +81,14 @@ class PolicyFile:
         begin, finish = string.places[min(first, len(string.value))], string.places[min(last, len(string.value))]
         return self.spot(begin, max(finish, begin + 1))
 
+    def version(self):
+        """The version by which the file is read here: what it says where that is one, else the first."""
+        value = self.at("version")
+        return value.value if value is not None and value.value in VERSIONS else VERSIONS[0]
+
+    def user_keys(self):
+        return USER_KEYS if self.version() == 1 else USER_KEYS_OF_2
+
     def declarations(self):
         """The domains and the relations, in the order of their keys as bytes; what isn't of its kind is left out."""
         def listed(key):
@@ -117,10 +130,23 @@ def is_utf8(data):
     return True
 
 
+def all_secrets(user):
+    """The secrets of a user as the program has them: of each secrecy the sentence and its negation, then the others."""
+    both = [text for secrecy in user.get("secrecies", []) for text in (secrecy, f"not ({secrecy})")]
+    return both + user.get("secrets", [])
+
+
+def secret_nodes(schema, user):
+    """The nodes of each of all his secrets."""
+    of_secrecies = [nodes_of(schema, text.encode()) for text in user.get("secrecies", [])]
+    return ([more for nodes in of_secrecies for more in (nodes, nodes + 1)]
+            + [nodes_of(schema, text.encode()) for text in user.get("secrets", [])])
+
+
 def view_nodes(schema, user):
     """The nodes of a user's view without entries."""
     known = sum(nodes_of(schema, text.encode()) for text in user.get("know", []))
-    return known + sum(1 + nodes_of(schema, text.encode()) for text in user["secrets"])
+    return known + sum(1 + nodes for nodes in secret_nodes(schema, user))
 
 
 def explain(said, kind, rest, policy):
@@ -209,7 +235,7 @@ def missing_key(said, rest, policy):
         return Finding(said, meaning, None, advice)
     if user is not None:
         here = policy.at("users", user)
-        present = [name for name in here.value if name not in USER_KEYS] if here else []
+        present = [name for name in here.value if name not in policy.user_keys()] if here else []
         spot = policy.spot_of("users", user)
         return Finding(said, meaning, spot, advice + similar_key(key, present))
     strayed = stray_key(policy, key)
@@ -260,7 +286,7 @@ def culprit(path, value, key):
             for number, item in enumerate(inner.value):
                 if item.kind != "string":
                     return path + (name, number), item
-    if key in ("know", "secrets", "users") and value.kind == "array":
+    if key in (*SENTENCE_KEYS, "users") and value.kind == "array":
         for number, item in enumerate(value.value):
             if item.kind != ("table" if key == "users" else "string"):
                 return path + (number,), item
@@ -269,7 +295,7 @@ def culprit(path, value, key):
 
 def kind_fault(key, value):
     """Why a value isn't what its key wants."""
-    if value.kind != "string" or key in ("domains", "relations", "users", "know", "secrets", "version", "budget"):
+    if value.kind != "string" or key in ("domains", "relations", "users", *SENTENCE_KEYS, "version", "budget"):
         article = "an" if value.kind in ("integer", "array") else "a" if value.kind != "other" else ""
         what = "a number with a point, a date or a time" if value.kind == "other" else f"{article} {value.kind}"
         if key in ("domains", "relations"):
@@ -290,7 +316,7 @@ def kind_advice(key, value):
         return f"write \"{meant}\"" if meant else None
     if key == "users" and value.kind == "table":
         return "write [[users]], with two brackets, before each user"
-    if key in ("know", "secrets") and value.kind == "string":
+    if key in SENTENCE_KEYS and value.kind == "string":
         return f"put it in brackets: {key} = [\"..\"]"
     if key in ("budget", "version") and value.kind == "string":
         return "write the number without quotes"
@@ -302,15 +328,17 @@ def kind_advice(key, value):
 def unknown_key(said, rest, policy):
     match = re.match(r"users\[(\d+)\]\.(.*)", rest, re.S)
     user, key = (int(match[1]), match[2]) if match else (None, rest)
-    known = ROOT_KEYS if user is None else USER_KEYS
+    known = ROOT_KEYS if user is None else policy.user_keys() if policy else USER_KEYS
     where = "at the top of a policy" if user is None else "of a user"
     path = () if user is None else ("users", user)
     here = policy.at(*path) if policy and policy.root is not None else None
     # The key is printed as it stands, so one with a line feed isn't whole here.
     if here:
         key = next((name for name in sorted(here.value) if name not in known and name.startswith(key)), key)
-    meant = schemas.similar(key, known)
+    meant = schemas.similar(key, known if user is None else USER_KEYS_OF_2)
     advice = f"write '{meant}' for it" if meant else f"leave it out; the keys {where} are {', '.join(known)}"
+    if meant and meant not in known:
+        advice = f"write '{meant}' for it, and version = 2 at the top of the policy: in version 1 there are none"
     if user is not None and key in ROOT_KEYS:
         advice = f"'{key}' belongs to the whole policy: move it above the first line in brackets"
     whose = f", and stands in that of {policy.title(user)}" if policy and user is not None else ""
@@ -374,22 +402,50 @@ def above_limit(said, rest, policy):
                        "write a number from 1 to 4000000, or leave the key out (1000000)")
     count = len(value.value) if value is not None and value.kind == "array" else None
     spot = policy.spot_of("users", user, key) if policy else None
-    most = schemas.KNOWN if key == "know" else schemas.SECRETS
-    if count is not None and (count > most or (key == "secrets" and count == 0)):
-        least = "1 to " if key == "secrets" else "at most "
+    most = {"know": schemas.KNOWN, "secrets": schemas.SECRETS, "secrecies": schemas.SECRECIES}.get(key)
+    wants_one = key == "secrets" and policy is not None and policy.version() == 1
+    if count is not None and (count > most or (wants_one and count == 0)):
+        least = "1 to " if wants_one else "at most "
         return Finding(said, f"'{key}' of {title} has {texts.counted(count, 'sentence')}, and {least}{most} are "
-                       f"allowed.", spot,
-                       "join several into one by 'and' (know) or 'or' (secrets)" if count else "give him at least one; "
-                       "secrets = [\"false\"] hides nothing")
+                       f"allowed.", spot, TOO_MANY[key] if count else GIVE_ONE)
+    if key == "secrecies":
+        return wrong_sum(said, policy, user, title, spot)
     return great_view(said, policy, user, title, spot)
+
+
+GIVE_ONE = "give him at least one; secrets = [\"false\"] hides nothing"
+TOO_MANY = {
+    "know": "join several into one by 'and'", "secrets": "join several into one by 'or'",
+    "secrecies": "leave some out: secrecies can't be joined, since each has to stay open by itself",
+    "both": "leave some out, or join several secrets into one by 'or'; secrecies can't be joined",
+}
+
+
+def wrong_sum(said, policy, user, title, spot):
+    """The secrets and twice the secrecies are none or too many."""
+    rule = f"A secrecy makes two secrets, itself and its negation, and a user has 1 to {schemas.SECRETS} in all."
+    here = policy.users()[user] if policy and policy.root is not None else None
+    try:
+        secrets, secrecies = len(here.get("secrets", [])), len(here.get("secrecies", []))
+    except (TypeError, AttributeError):
+        return Finding(said, f"There are more than {schemas.SECRECIES} secrecies of {title}, or with his secrets they "
+                       f"are too many, or he has neither. {rule}", spot, "leave some out, or " + GIVE_ONE)
+    if secrets + secrecies == 0:
+        return Finding(said, f"There is neither a secret nor a secrecy of {title}. {rule}", spot, GIVE_ONE)
+    return Finding(said, f"There are {texts.counted(secrets, 'secret')} and "
+                   f"{texts.counted(secrecies, 'secrecy', 'secrecies')} of {title}, which makes "
+                   f"{secrets + 2 * secrecies} secrets. {rule}", spot, TOO_MANY["both"])
 
 
 def long_text(said, policy, user, key, index, title):
     value = policy.at("users", user, key, index) if policy else None
     advice = "say it with fewer or smaller quantifiers, or split it into several sentences"
     meaning = f"{key}[{index}] of {title} is too large"
+    most = schemas.SECRECY_NODES if key == "secrecies" else schemas.SENTENCE_NODES
+    why = ", so that its negation has room" if key == "secrecies" else ""
     if value is None or value.kind != "string":
-        return Finding(said, meaning + ": more than 4,096 bytes, or more than 20,000 nodes.", None, advice)
+        return Finding(said, f"{meaning}: more than {schemas.TEXT_BYTES:,} bytes, or more than {most:,} nodes.", None,
+                       advice)
     size = len(value.value.encode("utf-8", "surrogateescape"))
     spot = policy.spot(value.start, value.end)
     if size > schemas.TEXT_BYTES:
@@ -400,7 +456,7 @@ def long_text(said, policy, user, key, index, title):
     except Refused:
         return Finding(said, meaning + ".", spot, advice)
     return Finding(said, f"{meaning}: it has {nodes:,} nodes with its quantifiers written out over their domains, and "
-                   f"at most {schemas.SENTENCE_NODES:,} are allowed.", spot, advice)
+                   f"at most {most:,} are allowed{why}.", spot, advice)
 
 
 def great_view(said, policy, user, title, spot):
@@ -412,7 +468,7 @@ def great_view(said, policy, user, title, spot):
     return Finding(said, f"What {title} knows and his secrets together {nodes}, and at most "
                    f"{schemas.FIRST_VIEW_NODES:,} are allowed (or the number of his secrets isn't 1 to 16).", spot,
                    "give him fewer or smaller sentences: a quantifier counts its sentence once for each constant of "
-                   "its domain")
+                   "its domain, and a secrecy counts twice")
 
 
 def double_user(said, rest, policy):
@@ -430,6 +486,10 @@ def double_user(said, rest, policy):
 
 def other_version(said, rest, policy):
     value = policy.at("version") if policy else None
+    spot = policy.spot(value.start, value.end) if value else None
+    if value is not None and value.value in VERSIONS:
+        return Finding(said, f"The version of this policy is {value.value}, and this program is older than it.", spot,
+                       "take a newer program; an older one has no secrecies, and wants version = 1")
     found = f", and here it is {value.value}" if value is not None else ""
-    return Finding(said, f"The version of a policy is 1{found}.",
-                   policy.spot(value.start, value.end) if value else None, "write version = 1")
+    return Finding(said, f"The version of a policy is 1 or 2{found}.", spot,
+                   "write version = 1, or version = 2 where a user has secrecies")

@@ -10,8 +10,9 @@ CODE = re.compile(r"error ([0-9]+)(?: ([0-9]+) ([0-9]+))?\Z")
 REPLY = re.compile(r"(?:yes|no|refused|undecided|welcome|bye|error [0-9]+(?: [0-9]+ [0-9]+)?)\Z")
 BATCH = re.compile(r"([A-Za-z][A-Za-z0-9_]*) ([0-9]+) (.*)\Z")
 
-CLOSED = ("Reasons: what he knows entails one of his secrets, or for lying that one of them is true; for refusal, the "
-          "facts contradict what he knows; or the test of it costs more than 4,000,000.",)
+CLOSED = ("Reasons: what he knows entails one of his secrets, or for lying that one of them is true; he is of method "
+          "lying and has a secrecy; for refusal, the facts contradict what he knows; or the test of it costs more than "
+          "4,000,000.",)
 
 
 class Asked:
@@ -89,12 +90,12 @@ def no_user(said, kind, place, asked, context):
 
 def closed(said, kind, place, asked, context):
     advice = ("call cqe-check with the policy and the facts: it tells which reason it is; then change his know, his "
-              "secrets or his method")
+              "secrets, his secrecies or his method")
     number = context.policy.user_named(asked.user) if context.policy and asked.user else None
     spot = context.policy.spot_of("users", number, "name") if number is not None else None
     if context.sort == "case":
-        advice = ("change the lines know, secret or method; the secrets that know entails are those that he would be "
-                  "told by any answer")
+        advice = ("change the lines know, secret, secrecy or method; the secrets that know entails are those that he "
+                  "would be told by any answer")
     return Finding(said, f"{who(asked)[0].upper()}{who(asked)[1:]} isn't admitted, so he is closed and gets no answer.",
                    spot or asked.spot(), advice, CLOSED)
 

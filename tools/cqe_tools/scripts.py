@@ -4,12 +4,13 @@ import re
 
 from . import facts, schemas, texts
 from .places import Finding, Spot, quoted
-from .policies import METHODS, view_nodes
+from .policies import METHODS, TOO_MANY, view_nodes
 from .schemas import Schema, similar
 from .sentences import Refused, nodes_of, refusal_of, token_at
 
-WORDS = ("domain", "relation", "fact", "method", "know", "secret", "budget", "ask")
+WORDS = ("domain", "relation", "fact", "method", "know", "secret", "secrecy", "budget", "ask")
 DECLARATIONS = tuple(word.encode() for word in WORDS[:-1])
+SENTENCE_WORDS = (b"know", b"secret", b"secrecy")
 BAD = re.compile(rb"[^\t\x20-\x7e]")
 BLANK = b" \t"
 ITEM = re.compile(rb"([A-Za-z][A-Za-z0-9_]*)[ \t]([0-9]+)[ \t]ask(?:[ \t](.*))?\Z", re.S)
@@ -17,8 +18,8 @@ DOMAIN = re.compile(rb"domain[ \t][ \t]*([A-Za-z]\w*)[ \t]*=(.*)\Z", re.S | re.A
 RELATION = re.compile(rb"relation[ \t][ \t]*([A-Za-z]\w*)[ \t]*\((.*)\)[ \t]*\Z", re.S | re.A)
 OTHER_WORDS = {
     "query": "ask", "question": "ask", "select": "ask", "ask:": "ask", "facts": "fact", "domains": "domain",
-    "relations": "relation",
-    "secrets": "secret", "knows": "know", "knowledge": "know", "censor": "method", "table": "relation", "user": "know",
+    "relations": "relation", "secrets": "secret", "secrecies": "secrecy", "knows": "know", "knowledge": "know",
+    "censor": "method", "table": "relation", "user": "know",
 }
 
 
@@ -53,7 +54,7 @@ class CaseScript:
 
     def __init__(self, text, before=None):
         self.domains, self.relations, self.facts = [], [], set()
-        self.known, self.secrets = [], []
+        self.known, self.secrets, self.secrecies = [], [], []
         self.method = self.budget = self.asked = None  # the number of the line
         self.method_word = ""
         for number, line in numbered(text):
@@ -63,6 +64,15 @@ class CaseScript:
 
     def schema(self):
         return Schema(self.domains, self.relations)
+
+    def sentences(self, word):
+        """The texts of the lines that begin with a word that a sentence follows."""
+        return {b"know": self.known, b"secret": self.secrets, b"secrecy": self.secrecies}[word]
+
+    def user(self):
+        """What the script says of its user, as a policy says it."""
+        return {key: [text.decode("ascii", "replace") for text in texts]
+                for key, texts in (("know", self.known), ("secrets", self.secrets), ("secrecies", self.secrecies))}
 
     def take(self, number, line):
         word, rest = word_and_rest(line)
@@ -76,8 +86,8 @@ class CaseScript:
             self.method, self.method_word = number, (rest or b"").decode("ascii", "replace")
         elif word == b"budget":
             self.budget = number
-        elif word in (b"know", b"secret") and rest is not None:
-            (self.known if word == b"know" else self.secrets).append(rest)
+        elif word in SENTENCE_WORDS and rest is not None:
+            self.sentences(word).append(rest)
         elif word == b"ask":
             self.asked = self.asked or number
 
@@ -135,7 +145,7 @@ PLAIN = {
     4: "with it the declarations are no schema",
     5: "it is no fact, or the 100,001st", 6: "its text is no sentence", 7: "a limit is passed",
     8: "it stands in the wrong order: declarations come before the first ask, method and budget once, a method and a "
-    "secret before an ask",
+    "secret or a secrecy before an ask",
 }
 
 
@@ -200,6 +210,8 @@ def case_shape(data):
     if name == "budget":
         return (f"has {quoted(rest)} behind 'budget'", begin, len(data),
                 "write one to ten digits without signs and blanks, as budget 1000000")
+    if name == "secrecy":
+        return "is a secrecy, and this program is older than these", 0, len(word), "take a newer program"
     return f"isn't of the form of a {name}", begin, len(data), f"write it as {EXAMPLES[name]}" + (
         ": the names in parentheses, also where there are none" if name == "relation" else
         ": names are a letter, then letters, digits and _" if name == "domain" else "")
@@ -208,8 +220,8 @@ def case_shape(data):
 EXAMPLES = {
     "domain": "domain person = ann, bob", "relation": "relation hiv(person)", "fact": "fact hiv(ann)",
     "method": "method lying",
-    "know": "know forall x: person . drug(x) -> hiv(x)", "secret": "secret hiv(ann)", "budget": "budget 1000000",
-    "ask": "ask hiv(ann)",
+    "know": "know forall x: person . drug(x) -> hiv(x)", "secret": "secret hiv(ann)", "secrecy": "secrecy hiv(ann)",
+    "budget": "budget 1000000", "ask": "ask hiv(ann)",
 }
 
 
@@ -296,35 +308,49 @@ def above_limit(data, sort, before):
     if word == b"budget":
         return (f"has the budget {name_of(rest)}, and a budget is from 1 to {schemas.BUDGET:,}", begin, end,
                 "write a number from 1 to 4000000")
-    most, have = (schemas.KNOWN, before.known) if word == b"know" else (schemas.SECRETS, before.secrets)
     try:
         nodes = nodes_of(before.schema(), rest)
         advice = ("say it with fewer or smaller quantifiers: one counts its sentence once for each constant of its "
                   "domain")
-        if nodes > schemas.SENTENCE_NODES:
-            return (f"has a sentence of {nodes:,} nodes, and at most {schemas.SENTENCE_NODES:,} are allowed", begin,
-                    end, advice)
-        if len(have) >= most:
-            return (f"is the {len(have) + 1}th '{name_of(word)}', and at most {most} are allowed", 0, end,
-                    "join several into one by 'and' (know) or 'or' (secret)")
-        user = {"know": [text.decode() for text in before.known], "secrets": [text.decode() for text in before.secrets]}
-        user["know" if word == b"know" else "secrets"].append(rest.decode())
-        view = view_nodes(before.schema(), user)
+        most = schemas.SECRECY_NODES if word == b"secrecy" else schemas.SENTENCE_NODES
+        if nodes > most:
+            return f"has a sentence of {nodes:,} nodes, and at most {most:,} are allowed", begin, end, advice
+        before.sentences(word).append(rest)
+        many = too_many_of(word, before)
+        if many is not None:
+            return many[0], 0, end, many[1]
+        view = view_nodes(before.schema(), before.user())
         return (f"makes a view of {view:,} nodes, and at most {schemas.FIRST_VIEW_NODES:,} are allowed", begin, end,
                 advice)
     except Refused:
         return "passes a limit", begin, end, None
 
 
+def too_many_of(word, case):
+    """Why a script has too many lines that begin with a word, and what to do; None where it hasn't."""
+    if word == b"know":
+        if len(case.known) <= schemas.KNOWN:
+            return None
+        return f"is the {len(case.known)}th 'know', and at most {schemas.KNOWN} are allowed", TOO_MANY["know"]
+    count = len(case.secrets) + 2 * len(case.secrecies)
+    if count <= schemas.SECRETS:
+        return None
+    if not case.secrecies:
+        return f"is the {count}th 'secret', and at most {schemas.SECRETS} are allowed", TOO_MANY["secrets"]
+    return (f"makes {count} secrets in all, since a secrecy makes two, itself and its negation, and at most "
+            f"{schemas.SECRETS} are allowed", TOO_MANY["both"])
+
+
 def out_of_order(data, sort, before):
     word, _ = word_and_rest(data)
     name = word.decode("ascii", "replace")
     if word == b"ask":
-        wanting = [what for what, there in (("'method'", before.method), ("'secret'", before.secrets)) if not there]
+        wanting = [what for what, there in (("'method'", before.method),
+                                            ("'secret' or 'secrecy'", before.secrets + before.secrecies)) if not there]
         missing = " and no ".join(wanting) or "'method' or 'secret'"
         return f"asks before there is a method and a secret: there is no {missing} above", 0, 3, (
-            "write method lying, refusal or combined, and at least one secret, above the first ask (secret false hides "
-            "nothing)")
+            "write method lying, refusal or combined, and at least one secret or secrecy, above the first ask (secret "
+            "false hides nothing)")
     if before.asked:
         return (f"is a declaration ('{name}') behind the ask in line {before.asked}", 0, len(word),
                 "move it above the first ask")

@@ -85,8 +85,8 @@ def columns(refused, name):
     return f"the relation '{relation}' has {counted(has, 'column')}, and here it ends at {name} behind {found}"
 
 
-def counted(number, word):
-    return f"{number:,} {word}" if number == 1 else f"{number:,} {word}s"
+def counted(number, word, words=None):
+    return f"{number:,} {word}" if number == 1 else f"{number:,} {words or word + 's'}"
 
 
 def kind_name(kind):

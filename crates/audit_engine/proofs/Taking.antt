@@ -2,9 +2,8 @@
 use Rattle.std.proofs.Common.{◌≡◌, ℕ, Bool, true, false, List, Option, refl, sym, ap, subst}
 use Rattle.std.specs.Prelude.{bytes_eq}
 use Rattle.std.proofs.lemmas.Slice.Eq.{bytes_eq-Decides}
-use Rattle.outside.specs.Shelf.{SameOthers, bytes_on, image_on}
+use Rattle.outside.specs.Shelf.{SameOthers, bytes_on, image_on, SameBytes, NoNewImages}
 use Rattle.cqe_base.specs.Schema.{Text}
-use Rattle.desk_crew.specs.Shelved.{SameBytes, NoNewImages}
 
 -- what holds of one name and stays under all others holds of all
 module _ {D : Type 0} (reads : D → List ℕ) (image : D → List ℕ → Type 0) (journal : Text) (old new : Text → Option D)

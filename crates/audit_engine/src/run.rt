@@ -6,7 +6,7 @@ ghost use Rattle.cqe_base.specs.History.{profile_of};
 ghost use Rattle.cqe_base.specs.Limits.{KeepsLimits};
 ghost use Rattle.log_journal.specs.Names.{journal_name};
 ghost use Rattle.log_journal.specs.Opening.{header_bytes};
-ghost use Rattle.desk_crew.specs.Shelved.{NoneOut, NoneFell, SameBytes, NoNewImages};
+ghost use Rattle.outside.specs.Shelf.{NoneOut, NoneFell, SameBytes, NoNewImages};
 ghost use Rattle.audit_engine.specs.Ends.{IsEnd};
 ghost use Rattle.audit_engine.specs.declared.end.AuditEnd.{AuditEnd};
 

@@ -1,5 +1,5 @@
 -- What a desk holds, as what an audit says.
-use Rattle.std.proofs.Common.{◌≡◌, ℕ, true, map, sym, ap, subst, ◌∙◌, arith}
+use Rattle.std.proofs.Common.{◌≡◌, ℕ, ◌*◌, true, List, map, drop, sym, ap, subst, ◌∙◌, arith}
 use Rattle.std.specs.Prelude.{◌<◌, Option, None, Some, IfSome, length, codes}
 use Rattle.std.specs.List.{range_with_len}
 use Rattle.cqe_base.specs.declared.user.Method.{Method}
@@ -18,7 +18,7 @@ use Rattle.two_worlds.specs.Others.{HidesSecret}
 use Rattle.audit_print.specs.Others.{AreOthers}
 use Rattle.audit_print.specs.Found.{place_at, worlds_for}
 use Rattle.audit_print.specs.Listed.{ListsAll}
-use Rattle.audit_print.specs.Said.{entry_said, method_word, refused_said, secret_said}
+use Rattle.audit_print.specs.Said.{entry_said, method_word, refused_said, secret_said, secrets_said, secrecies_in, if_any}
 use Rattle.audit_print.specs.Audits.{Audits, Serves}
 
 pub somewhere : (schema schema' : DatabaseSchema) (world : FactSet) (user user' : UserProfile) (entries entries' : History) → schema ≡ schema' → user ≡ user'
@@ -51,11 +51,12 @@ of_served schema name user standing entries said is serves =
 
 -- a user who is served
 pub serves : (schema : DatabaseSchema) (name : Text) (user : UserProfile) (entries entries' : History) (worlds : ℕ → Option FactSet) (n : ℕ) (said : AuditSaid)
-    → entries' ≡ entries → n ≡ length user.secrets
-    → AreOthers schema user entries' worlds → ListsAll schema user worlds n said.secrets
+    (secrets : List (Text × Option (List Text))) → entries' ≡ entries → n ≡ length user.secrets
+    → AreOthers schema user entries' worlds → ListsAll schema user worlds n secrets → said.secrecies ≡ if_any user (secrecies_in user.pairs secrets)
+    → said.secrets ≡ drop (2 * user.pairs) secrets
     → said.name ≡ name → said.method ≡ method_word user.method → said.standing ≡ codes "open" → said.entries ≡ map (entry_said schema) entries'
     → Serves schema name user entries said
-serves schema name user entries entries' worlds n said same size others all named by stands told = record {
+serves schema name user entries entries' worlds n said secrets same size others all pairs rest named by stands told = record {
   worlds = worlds;
   listings = all.listings;
   listed = λ k low. all.listed k (subst (λ m. k < m) (sym size) low);
@@ -65,9 +66,13 @@ serves schema name user entries entries' worlds n said same size others all name
     method = by i;
     standing = stands i;
     entries = (told ∙ ap (map (entry_said schema)) same) i;
-    secrets = (all.whole ∙ ap (λ m. map (secret_said schema user all.listings) (range_with_len 0 m)) size) i;
+    secrecies = (pairs ∙ ap (λ s. if_any user (secrecies_in user.pairs s)) whole) i;
+    secrets = (rest ∙ ap (drop (2 * user.pairs)) whole) i;
   };
 }
+  where
+    whole : secrets ≡ secrets_said schema user all.listings
+    whole = all.whole ∙ ap (λ m. map (secret_said schema user all.listings) (range_with_len 0 m)) size
 
 pub enough : (method : Method) (n k : ℕ) → k < n → place_at method k < worlds_for method n
 enough Lying n k low = omega (arith, low)

@@ -3,3 +3,4 @@ pub mod Each
 pub mod Atoms
 pub mod Listing
 pub mod Auditing
+pub mod Pairing

@@ -9,8 +9,7 @@ use Rattle.cqe_base.specs.declared.world.Fact.{Fact}
 use Rattle.cqe_base.specs.Canonical.{canonical}
 use Rattle.cqe_base.specs.Schema.{DatabaseSchema, Text}
 use Rattle.cqe_base.specs.Facts.{FactSet}
-use Rattle.cqe_base.specs.History.{UserProfile}
-use Rattle.cqe_base.specs.OtherWorlds.{secret_at}
+use Rattle.cqe_base.specs.History.{UserProfile, secret_at}
 use Rattle.audit_print.specs.Said.{IsListing, secret_said, world_said}
 use Rattle.audit_print.specs.Listed.{ListsAll}
 use Rattle.audit_print.proofs.Each.{range_more}

@@ -1,7 +1,7 @@
 -- The worlds that were found serve all secrets.
 use Rattle.std.proofs.Common.{◌≡◌, ◌<◌, ◌≤◌, ◌+◌, ℕ, true, false, List, [], ◌∷◌, ◌++◌, ◌==◌, length, refl, sym, ap, subst, ◌∙◌, arith, eqb-true}
 use Rattle.std.proofs.lemmas.Bool.{eqb-false}
-use Rattle.std.specs.Prelude.{Option, Some, None, IsNone, ◌↔◌, slice_index_or}
+use Rattle.std.specs.Prelude.{Option, Some, None, IfSome, IsNone, ◌↔◌, ◌*◌, slice_index_or}
 use Rattle.std.proofs.lemmas.List.{get_or_append_left}
 use Rattle.std.proofs.Math.Seq.{get_or-append_seam}
 use Rattle.std.proofs.lemmas.List.Elements.{Contains-get_or}
@@ -11,9 +11,12 @@ use Rattle.cqe_base.specs.Schema.{DatabaseSchema}
 use Rattle.cqe_base.specs.Facts.{FactSet}
 use Rattle.cqe_base.specs.Formula.{falsum}
 use Rattle.cqe_base.specs.Outcome.{Spent, outcome}
-use Rattle.cqe_base.specs.History.{UserProfile, History, log}
+use Rattle.cqe_base.specs.History.{UserProfile, History, secret_at, log}
 use Rattle.cqe_base.specs.Censor.{admission_budget}
-use Rattle.cqe_base.specs.OtherWorlds.{guard_at, guard_by, secret_at}
+use Rattle.cqe_base.specs.OtherWorlds.{guard_at, guard_by}
+use Rattle.cqe_base.specs.Secrecies.{secrecy_at, HasPairs}
+use Rattle.cqe_base.specs.Truth.{true_in}
+use Rattle.cqe_base.proofs.Confidential.{negated_false}
 use Rattle.two_worlds.specs.Others.{HidesSecret}
 use Rattle.audit_print.specs.Others.{AreOthers, IsOther}
 use Rattle.audit_print.specs.Found.{found_at, worlds_for}
@@ -63,14 +66,36 @@ other_each schema user entries (Some other) secret lies low first = record {
       ↔ (outcome schema (log user entries) (goal, true) admission_budget ≡ Spent)) (same_guard user 0 secret lies) first.spent;
 }
 
+-- a secrecy is true where its negation is false
+secrecy_true : (schema : DatabaseSchema) (user : UserProfile) (entries : History) (k : ℕ) (other : Option FactSet) → HasPairs user → k < user.pairs
+    → IsOther schema user entries (2 * k + 1) other → IfSome other (λ world. true_in schema world (secrecy_at user k) ≡ true)
+secrecy_true schema user entries k None pairs low is = tt
+secrecy_true schema user entries k (Some world) pairs low is =
+    negated_false schema world (secrecy_at user k) (subst (λ q. true_in schema world q ≡ false) (pairs.negated k low) is.hides.secret_false)
+
 -- the worlds that were found serve all secrets
 pub serving : (schema : DatabaseSchema) (user : UserProfile) (entries : History) (found : List (Option FactSet)) (method : Method) → user.method ≡ method
-    → 1 ≤ length user.secrets
+    → 1 ≤ length user.secrets → HasPairs user
     → ((k : ℕ) → k < worlds_for method (length user.secrets) → IsOther schema user entries k (slice_index_or found k None))
     → AreOthers schema user entries (found_at method found)
-serving schema user entries found Lying lies some each = record {
-  each = λ secret low. other_each schema user entries (slice_index_or found 0 None) secret lies low (each 0 (omega arith));
-  one = λ _ j k. refl;
+serving schema user entries found method is some pairs each = record {
+  each = all;
+  one = one method is;
+  secrecy_true = λ k low.
+      let enough = pairs.enough in
+      secrecy_true schema user entries k (found_at method found (2 * k + 1)) pairs low (all (2 * k + 1) (omega (arith, enough, low)));
 }
-serving schema user entries found Refusal is some each = record { each = each; one = λ lies. (let bad : Refusal ≡ Lying = sym is ∙ lies in absurd (cc)) }
-serving schema user entries found Combined is some each = record { each = each; one = λ lies. (let bad : Combined ≡ Lying = sym is ∙ lies in absurd (cc)) }
+  where
+    served : (m : Method) → user.method ≡ m → ((k : ℕ) → k < worlds_for m (length user.secrets) → IsOther schema user entries k (slice_index_or found k None))
+        → (k : ℕ) → k < length user.secrets → IsOther schema user entries k (found_at m found k)
+    served Lying lies each k low = other_each schema user entries (slice_index_or found 0 None) k lies low (each 0 (omega arith))
+    served Refusal is each k low = each k low
+    served Combined is each k low = each k low
+
+    all : (k : ℕ) → k < length user.secrets → IsOther schema user entries k (found_at method found k)
+    all = served method is each
+
+    one : (m : Method) → user.method ≡ m → user.method ≡ Lying → (j k : ℕ) → found_at m found j ≡ found_at m found k
+    one Lying is lies j k = refl
+    one Refusal is lies j k = (let bad : Refusal ≡ Lying = sym is ∙ lies in absurd (cc))
+    one Combined is lies j k = (let bad : Combined ≡ Lying = sym is ∙ lies in absurd (cc))

@@ -1,6 +1,6 @@
 -- What an audit says of a user.
-use Rattle.std.specs.Prelude.{◌≡◌, ℕ, List, [], ◌∷◌, map, length, Option, Some, None, option_map}
-use Rattle.std.specs.Prelude.{unwrap_or, codes, ⊤}
+use Rattle.std.specs.Prelude.{◌≡◌, ℕ, zero, suc, ◌*◌, ◌==◌, List, [], ◌∷◌, map, drop, length}
+use Rattle.std.specs.Prelude.{Option, Some, None, option_map, unwrap_or, codes, ⊤, if◌then◌else◌}
 use Rattle.std.specs.List.Sorted.{IsStrictlySortedBy}
 use Rattle.std.specs.List.{range_with_len}
 use Rattle.std.specs.FinSet as set
@@ -14,9 +14,8 @@ use Rattle.cqe_base.specs.Schema.{DatabaseSchema, Text, columns_of}
 use Rattle.cqe_base.specs.Facts.{FactSet, fact_cmp}
 use Rattle.cqe_base.specs.Formula.{Formula, atom}
 use Rattle.cqe_base.specs.Canonical.{canonical}
-use Rattle.cqe_base.specs.History.{UserProfile, AnsweredQuery, History}
-use Rattle.cqe_base.specs.OtherWorlds.{secret_at}
-use Rattle.audit_text.specs.Said.{AuditSaid}
+use Rattle.cqe_base.specs.History.{UserProfile, AnsweredQuery, History, secret_at}
+use Rattle.audit_text.specs.Said.{SecrecySaid, AuditSaid}
 use Rattle.user_desk.specs.declared.standing.Standing.{Standing}
 use Rattle.user_desk.specs.declared.standing.Standing.TheVariants.{Open, Closed, Sealed}
 
@@ -64,6 +63,29 @@ abbrev pub secret_said : DatabaseSchema → UserProfile → (ℕ → Option (Lis
 secret_said schema user listings k =
     (canonical schema (secret_at user k), option_map (world_said schema) (listings k))
 
+-- all his secrets
+abbrev pub secrets_said : DatabaseSchema → UserProfile → (ℕ → Option (List Fact))
+    → List (Text × Option (List Text))
+secrets_said schema user listings =
+    map (secret_said schema user listings) (range_with_len 0 (length user.secrets))
+
+-- a secrecy, by what is said of it and of its negation as secrets: it is true in the other world of
+-- its negation, and false in its own
+abbrev pub secrecy_of : Text × Option (List Text) → Text × Option (List Text) → SecrecySaid
+secrecy_of stated negated =
+    record { secrecy = stated.0; where_true = negated.1; where_false = stated.1 }
+
+-- the secrecies with which secrets begin, so many
+abbrev pub secrecies_in : ℕ → List (Text × Option (List Text)) → List SecrecySaid
+secrecies_in zero secrets = []
+secrecies_in (suc pairs) (stated ∷ negated ∷ secrets) =
+    secrecy_of stated negated ∷ secrecies_in pairs secrets
+secrecies_in (suc pairs) _ = []
+
+-- what is said of secrecies, where the user has any
+abbrev pub if_any : UserProfile → List SecrecySaid → Option (List SecrecySaid)
+if_any user said = if user.pairs == 0 then None else Some said
+
 -- what is said of a user who is served
 abbrev pub served_said : DatabaseSchema → Text → UserProfile → History → (ℕ → Option (List Fact))
     → AuditSaid
@@ -72,7 +94,8 @@ served_said schema name user entries listings = record {
   method = method_word user.method;
   standing = codes "open";
   entries = map (entry_said schema) entries;
-  secrets = map (secret_said schema user listings) (range_with_len 0 (length user.secrets));
+  secrecies = if_any user (secrecies_in user.pairs (secrets_said schema user listings));
+  secrets = drop (2 * user.pairs) (secrets_said schema user listings);
 }
 
 -- of one who isn't, with the word of his standing
@@ -82,6 +105,7 @@ refused_said name user standing = record {
   method = method_word user.method;
   standing = standing;
   entries = [];
+  secrecies = if_any user [];
   secrets = [];
 }
 

@@ -1,27 +1,26 @@
 //! What an audit says, in memory.
-ghost use Rattle.std.specs.Prelude.{◌≡◌, ◌<◌, ◌++◌, [], ℕ, true, map, option_map, unwrap_or};
+ghost use Rattle.std.specs.Prelude.{◌≡◌, ◌<◌, ◌≤◌, ◌*◌, ◌++◌, [], ℕ, true, map, drop, option_map};
 ghost use Rattle.std.specs.Prelude.{string_bytes, List, length, vec_len, Option, Some, IfOk};
-ghost use Rattle.std.specs.Prelude.{IfSome, OnOk};
+ghost use Rattle.std.specs.Prelude.{IfSome, OnOk, unwrap_or};
 ghost use Rattle.std.specs.List.{list_all};
 ghost use Rattle.cqe_base.specs.Canonical.{canonical};
-ghost use Rattle.cqe_base.specs.OtherWorlds.{secret_at};
 ghost use Rattle.cqe_base.specs.declared.world.Fact.{Fact};
 ghost use Rattle.audit_print.specs.Listed.{ListsAll};
 ghost use Rattle.cqe_base.specs.Schema.{columns_of};
 ghost use Rattle.cqe_base.specs.Facts.{is_fact_of, IsWorldOf};
 ghost use Rattle.cqe_base.specs.Formula.{formula_of, is_sentence_of};
-ghost use Rattle.cqe_base.specs.History.{profile_of, answered_query_of};
+ghost use Rattle.cqe_base.specs.History.{profile_of, answered_query_of, secret_at};
 ghost use Rattle.cqe_base.specs.Limits.{KeepsLimits, KeepsSizes};
 ghost use Rattle.user_desk.specs.Desks.{desk_schema, desk_user, desk_standing, desk_history};
 ghost use Rattle.user_desk.specs.Standings.{is_open};
 ghost use Rattle.audit_print.specs.Said.{method_word, atom_of, constants_in, fact_text, world_said};
-ghost use Rattle.audit_print.specs.Said.{entry_said, refused_said, IsListing};
+ghost use Rattle.audit_print.specs.Said.{entry_said, secrecies_in, if_any, refused_said, IsListing};
 ghost use Rattle.audit_print.specs.Audits.{Audits, Serves};
 ghost use Rattle.audit_print.specs.Found.{place_at, found_at};
-ghost use Rattle.audit_text.specs.Rows.{entry_in, secret_in, said_in};
+ghost use Rattle.audit_text.specs.Rows.{entry_in, secrecy_in, secret_in, said_in};
 
 use crate::others::{other_worlds, place_of};
-use audit_text::{EntryRow, Report, SecretRow};
+use audit_text::{EntryRow, Report, SecrecyRow, SecretRow};
 use cqe_base::schema::Schema;
 use cqe_base::sentence::{Constant, Sentence, Term, Terms};
 use cqe_base::user::{Entry, Method, User};
@@ -67,12 +66,14 @@ fn served<'u, D: Disk>(
     desk.known();
     let worlds = other_worlds(alloc, schema, user, desk.entries())?;
     let entries = entry_rows(alloc, schema, desk.entries())?;
-    let secrets = secret_rows(alloc, schema, user, &worlds)?;
+    let mut secrets = secret_rows(alloc, schema, user, &worlds)?;
+    let secrecies = secrecy_rows(alloc, &mut secrets, user.pairs)?;
     Ok(Report {
         name: user.name.as_str(),
         method: method_word(user.method),
         standing: "open",
         entries,
+        secrecies: if_any(user, secrecies),
         secrets,
     })
 }
@@ -86,6 +87,7 @@ fn refused<'u>(alloc: Global, user: &'u User, standing: &'static str) -> Report<
         method: method_word(user.method),
         standing,
         entries: Vec::new(alloc),
+        secrecies: if_any(user, Vec::new(alloc)),
         secrets: Vec::new(alloc),
     }
 }
@@ -141,6 +143,39 @@ fn secret_rows(
         rows.push(secret_row(alloc, schema, user, worlds, number)?)?;
     }
     Ok(rows)
+}
+
+// Takes the rows of the secrecies, so many, off the beginning of those of all secrets.
+fn secrecy_rows(
+    alloc: Global,
+    secrets: &mut Vec<SecretRow>,
+    pairs: u32,
+) -> Result<Vec<SecrecyRow>, AllocError>
+    requires { 2 * pairs ≤ vec_len secrets.old }
+    ensures secrecies { IfOk result (λ rows. map secrecy_in rows.items
+        ≡ secrecies_in pairs (map secret_in secrets.old.items)) }
+    ensures rest { OnOk result (map secret_in secrets.new.items
+        ≡ drop (2 * pairs) (map secret_in secrets.old.items)) }
+{
+    let mut rows = Vec::new(alloc);
+    for _ in 0..pairs {
+        let stated = secrets.remove(0);
+        let negated = secrets.remove(0);
+        rows.push(SecrecyRow {
+            secrecy: stated.secret,
+            where_true: negated.world,
+            where_false: stated.world,
+        })?;
+    }
+    Ok(rows)
+}
+
+// The rows of the secrecies, where the user has any.
+fn if_any(user: &User, rows: Vec<SecrecyRow>) -> Option<Vec<SecrecyRow>>
+    ensures { option_map (λ rows. map secrecy_in rows.items) result
+        ≡ if_any (profile_of user.now) (map secrecy_in rows.items) }
+{
+    if user.pairs == 0 { None } else { Some(rows) }
 }
 
 fn secret_row(

@@ -4,21 +4,34 @@ use Rattle.serde_json.specs.Data.{Data, string}
 use Rattle.serde_json.specs.View.{items_of}
 use Rattle.serde_json.specs.Written.{has_float, items_have_float}
 use Rattle.cqe_base.specs.Schema.{Text}
-use Rattle.audit_text.specs.Said.{AuditSaid}
-use Rattle.audit_text.specs.Json.{audit_data, entry_data, secret_data}
+use Rattle.audit_text.specs.Said.{SecrecySaid, AuditSaid}
+use Rattle.audit_text.specs.Json.{audit_data, entry_data, world_data, secrecy_data, secret_data}
 
 list_has_none : {X : Type 0} (f : X → Data) → ((x : X) → has_float (f x) ≡ false) → (xs : List X) → items_have_float (items_of (map f xs)) ≡ false
 list_has_none f each [] = refl
 list_has_none f each (x ∷ xs) = rw (each x) (list_has_none f each xs)
 
+world_has_none : (world : Option (List Text)) → has_float (world_data world) ≡ false
+world_has_none None = refl
+world_has_none (Some facts) = list_has_none string (λ fact. refl) facts
+
 secret_has_none : (secret : Text × Option (List Text)) → has_float (secret_data secret) ≡ false
-secret_has_none (text, None) = refl
-secret_has_none (text, Some facts) =
-    let none : items_have_float (items_of (map string facts)) ≡ false = list_has_none string (λ fact. refl) facts in
-    rw none refl
+secret_has_none (text, world) = rw (world_has_none world) refl
+
+secrecy_has_none : (said : SecrecySaid) → has_float (secrecy_data said) ≡ false
+secrecy_has_none said = rw (world_has_none said.where_false, world_has_none said.where_true) refl
 
 pub audit_has_none : (said : AuditSaid) → has_float (audit_data said) ≡ false
-audit_has_none said =
-    let entries : items_have_float (items_of (map entry_data said.entries)) ≡ false = list_has_none entry_data (λ entry. refl) said.entries in
-    let secrets : items_have_float (items_of (map secret_data said.secrets)) ≡ false = list_has_none secret_data secret_has_none said.secrets in
-    rw (entries, secrets) refl
+audit_has_none said = by said.secrecies refl
+  where
+    entries : items_have_float (items_of (map entry_data said.entries)) ≡ false
+    entries = list_has_none entry_data (λ entry. refl) said.entries
+
+    secrets : items_have_float (items_of (map secret_data said.secrets)) ≡ false
+    secrets = list_has_none secret_data secret_has_none said.secrets
+
+    by : (secrecies : Option (List SecrecySaid)) → said.secrecies ≡ secrecies → has_float (audit_data said) ≡ false
+    by None is = rw is (rw (entries, secrets) refl)
+    by (Some rows) is =
+        let all : items_have_float (items_of (map secrecy_data rows)) ≡ false = list_has_none secrecy_data secrecy_has_none rows in
+        rw is (rw (entries, all, secrets) refl)

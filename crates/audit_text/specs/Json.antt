@@ -2,13 +2,13 @@
 use Rattle.std.specs.Prelude.{Bool, List, [], ◌∷◌, ◌++◌, map, Option, Some, None, codes}
 use Rattle.std.specs.Prelude.{if◌then◌else◌}
 use Rattle.std.specs.List.{flat_map}
-use Rattle.serde_json.specs.Data.{Data, null, string, array, object, member, no_members}
+use Rattle.serde_json.specs.Data.{Data, Members, null, string, array, object, member, no_members}
 use Rattle.serde_json.specs.View.{items_of}
 use Rattle.serde_json.specs.Written.{compact_text}
 use Rattle.cqe_base.specs.declared.user.Mark.{Mark}
 use Rattle.cqe_base.specs.Schema.{Text}
 use Rattle.cqe_base.specs.Transcript.{mark_text}
-use Rattle.audit_text.specs.Said.{AuditSaid}
+use Rattle.audit_text.specs.Said.{SecrecySaid, AuditSaid}
 use Rattle.audit_text.specs.Text.{text_lines}
 
 -- an array of these values
@@ -32,14 +32,28 @@ secret_data secret =
     object (member (codes "secret") (string secret.0)
     (member (codes "world") (world_data secret.1) no_members))
 
+-- a secrecy and its worlds
+abbrev pub secrecy_data : SecrecySaid → Data
+secrecy_data said =
+    object (member (codes "false") (world_data said.where_false)
+    (member (codes "secrecy") (string said.secrecy)
+    (member (codes "true") (world_data said.where_true) no_members)))
+
+-- the key of the secrecies, where there are any, before others
+abbrev pub secrecies_before : Option (List SecrecySaid) → Members → Members
+secrecies_before None rest = rest
+secrecies_before (Some secrecies) rest =
+    member (codes "secrecies") (list_of (map secrecy_data secrecies)) rest
+
 -- the whole, its keys in the order of their bytes
 abbrev pub audit_data : AuditSaid → Data
 audit_data said = object
     (member (codes "entries") (list_of (map entry_data said.entries))
     (member (codes "method") (string said.method)
     (member (codes "name") (string said.name)
+    (secrecies_before said.secrecies
     (member (codes "secrets") (list_of (map secret_data said.secrets))
-    (member (codes "standing") (string said.standing) no_members)))))
+    (member (codes "standing") (string said.standing) no_members))))))
 
 -- the lines of an audit: in JSON one, and else those of the text
 abbrev pub lines_of : Bool → AuditSaid → List Text

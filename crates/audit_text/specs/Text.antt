@@ -1,9 +1,11 @@
 -- The lines of an audit.
 use Rattle.std.specs.Prelude.{ℕ, ◌+◌, List, [], ◌∷◌, ◌++◌, map, Option, Some, None, codes, decimal}
+use Rattle.std.specs.Prelude.{unwrap_or}
+use Rattle.std.specs.List.{flat_map}
 use Rattle.cqe_base.specs.declared.user.Mark.{Mark}
 use Rattle.cqe_base.specs.Schema.{Text}
 use Rattle.cqe_base.specs.Transcript.{mark_text}
-use Rattle.audit_text.specs.Said.{AuditSaid}
+use Rattle.audit_text.specs.Said.{SecrecySaid, AuditSaid}
 
 -- the line of the user: name, method and standing
 abbrev pub user_line : AuditSaid → Text
@@ -37,6 +39,19 @@ abbrev pub secret_line : Text × Option (List Text) → Text
 secret_line secret =
     codes "secret " ++ secret.0 ++ codes " world " ++ world_text secret.1 ++ codes "\n"
 
+-- the line of a secrecy where it has the truth value of this word
+abbrev pub secrecy_line : Text → Text → Option (List Text) → Text
+secrecy_line secrecy word world =
+    codes "secrecy " ++ secrecy ++ codes " " ++ word ++ codes " " ++ world_text world ++ codes "\n"
+
+-- the two lines of a secrecy
+abbrev pub secrecy_lines : SecrecySaid → List Text
+secrecy_lines said =
+    secrecy_line said.secrecy (codes "true") said.where_true
+    ∷ secrecy_line said.secrecy (codes "false") said.where_false ∷ []
+
 -- all lines
 abbrev pub text_lines : AuditSaid → List Text
-text_lines said = user_line said ∷ (entry_lines 1 said.entries ++ map secret_line said.secrets)
+text_lines said =
+    user_line said ∷ entry_lines 1 said.entries
+    ++ flat_map secrecy_lines (unwrap_or said.secrecies []) ++ map secret_line said.secrets

@@ -1,14 +1,15 @@
 //! An audit as JSON.
-ghost use Rattle.std.specs.Prelude.{◌≡◌, ◌∷◌, [], ◌++◌, map, option_map, codes, string_bytes};
-ghost use Rattle.std.specs.Prelude.{false, IfOk};
+ghost use Rattle.std.specs.Prelude.{◌≡◌, ◌∷◌, [], ◌++◌, map, codes, string_bytes, false};
+ghost use Rattle.std.specs.Prelude.{IfOk};
 ghost use Rattle.serde_json.specs.Data.{string};
 ghost use Rattle.serde_json.specs.View.{view};
 ghost use Rattle.serde_json.specs.Written.{compact_text, has_float};
-ghost use Rattle.audit_text.specs.Json.{list_of, entry_data, secret_data, world_data, audit_data};
-ghost use Rattle.audit_text.specs.Rows.{entry_in, secret_in, said_in};
+ghost use Rattle.audit_text.specs.Json.{list_of, entry_data, secrecy_data, secret_data, world_data};
+ghost use Rattle.audit_text.specs.Json.{audit_data};
+ghost use Rattle.audit_text.specs.Rows.{entry_in, secrecy_in, secret_in, world_in, said_in};
 
 use crate::lines::mark_word;
-use crate::report::{EntryRow, Report, SecretRow};
+use crate::report::{EntryRow, Report, SecrecyRow, SecretRow};
 use serde_json::{Value, json};
 use std::alloc::{AllocError, Global};
 
@@ -47,13 +48,26 @@ fn audit_value(alloc: Global, report: &Report<'_>) -> Result<Value, AllocError>
 {
     let entries = entries_value(alloc, &report.entries)?;
     let secrets = secrets_value(alloc, &report.secrets)?;
-    json!(in alloc; {
-        "name": report.name,
-        "method": report.method,
-        "standing": report.standing,
-        "entries": entries,
-        "secrets": secrets
-    })
+    match &report.secrecies {
+        None => json!(in alloc; {
+            "name": report.name,
+            "method": report.method,
+            "standing": report.standing,
+            "entries": entries,
+            "secrets": secrets
+        }),
+        Some(rows) => {
+            let secrecies = secrecies_value(alloc, rows)?;
+            json!(in alloc; {
+                "name": report.name,
+                "method": report.method,
+                "standing": report.standing,
+                "entries": entries,
+                "secrecies": secrecies,
+                "secrets": secrets
+            })
+        }
+    }
 }
 
 fn entries_value(alloc: Global, rows: &[EntryRow]) -> Result<Value, AllocError>
@@ -70,6 +84,25 @@ fn entry_value(alloc: Global, row: &EntryRow) -> Result<Value, AllocError>
     ensures { IfOk result (λ value. view value ≡ entry_data (entry_in row.now)) }
 {
     json!(in alloc; {"mark": mark_word(row.mark), "query": row.query.as_str()})
+}
+
+fn secrecies_value(alloc: Global, rows: &[SecrecyRow]) -> Result<Value, AllocError>
+    ensures { IfOk result (λ value. view value
+        ≡ list_of (map secrecy_data (map secrecy_in rows.now))) }
+{
+    let mut values = Vec::new(alloc);
+    for row in rows {
+        values.push(secrecy_value(alloc, row)?)?;
+    }
+    Ok(Value::Array(values))
+}
+
+fn secrecy_value(alloc: Global, row: &SecrecyRow) -> Result<Value, AllocError>
+    ensures { IfOk result (λ value. view value ≡ secrecy_data (secrecy_in row.now)) }
+{
+    let where_true = world_value(alloc, &row.where_true)?;
+    let where_false = world_value(alloc, &row.where_false)?;
+    json!(in alloc; {"secrecy": row.secrecy.as_str(), "true": where_true, "false": where_false})
 }
 
 fn secrets_value(alloc: Global, rows: &[SecretRow]) -> Result<Value, AllocError>
@@ -91,8 +124,7 @@ fn secret_value(alloc: Global, row: &SecretRow) -> Result<Value, AllocError>
 }
 
 fn world_value(alloc: Global, world: &Option<Vec<String>>) -> Result<Value, AllocError>
-    ensures { IfOk result (λ value. view value
-        ≡ world_data (option_map (λ facts. map string_bytes facts.items) world.now)) }
+    ensures { IfOk result (λ value. view value ≡ world_data (world_in world.now)) }
 {
     match world {
         None => Ok(Value::Null),

@@ -1,11 +1,14 @@
 //! The lines of an audit.
-ghost use Rattle.std.specs.Prelude.{◌≡◌, ◌++◌, map, option_map, string_bytes, Some, IfOk, OnOk};
+ghost use Rattle.std.specs.Prelude.{◌≡◌, ◌++◌, [], map, string_bytes, Some, IfOk, OnOk};
+ghost use Rattle.std.specs.Prelude.{option_map, unwrap_or};
+ghost use Rattle.std.specs.List.{flat_map};
 ghost use Rattle.cqe_base.specs.Transcript.{mark_text};
 ghost use Rattle.audit_text.specs.Text.{user_line, entry_line, entry_lines, secret_line};
-ghost use Rattle.audit_text.specs.Text.{world_text, more_facts, text_lines};
-ghost use Rattle.audit_text.specs.Rows.{entry_in, secret_in, said_in};
+ghost use Rattle.audit_text.specs.Text.{secrecy_line, secrecy_lines, world_text, more_facts};
+ghost use Rattle.audit_text.specs.Text.{text_lines};
+ghost use Rattle.audit_text.specs.Rows.{entry_in, secrecy_in, secret_in, world_in, said_in};
 
-use crate::report::{EntryRow, Report, SecretRow};
+use crate::report::{EntryRow, Report, SecrecyRow, SecretRow};
 use cqe_base::user::Mark;
 use std::alloc::{AllocError, Global};
 
@@ -17,6 +20,7 @@ pub(crate) fn text_lines(alloc: Global, report: &Report<'_>) -> Result<Vec<Strin
     let mut lines = Vec::new(alloc);
     lines.push(user_line(alloc, report)?)?;
     push_entries(alloc, &mut lines, &report.entries)?;
+    push_secrecies(alloc, &mut lines, &report.secrecies)?;
     push_secrets(alloc, &mut lines, &report.secrets)?;
     Ok(lines)
 }
@@ -49,6 +53,34 @@ fn push_entries(
     Ok(())
 }
 
+// Appends the lines of the secrecies, if there are any.
+fn push_secrecies(
+    alloc: Global,
+    lines: &mut Vec<String>,
+    secrecies: &Option<Vec<SecrecyRow>>,
+) -> Result<(), AllocError>
+    ensures { OnOk result (map string_bytes lines.new.items
+        ≡ map string_bytes lines.old.items ++ flat_map secrecy_lines
+        (unwrap_or (option_map (λ rows. map secrecy_in rows.items) secrecies.now) [])) }
+{
+    match secrecies {
+        Some(rows) => push_rows(alloc, lines, rows),
+        None => Ok(()),
+    }
+}
+
+// Appends the lines of secrecies.
+fn push_rows(alloc: Global, lines: &mut Vec<String>, rows: &[SecrecyRow]) -> Result<(), AllocError>
+    ensures { OnOk result (map string_bytes lines.new.items
+        ≡ map string_bytes lines.old.items ++ flat_map secrecy_lines (map secrecy_in rows.now)) }
+{
+    for row in rows {
+        lines.push(secrecy_line(alloc, &row.secrecy, "true", &row.where_true)?)?;
+        lines.push(secrecy_line(alloc, &row.secrecy, "false", &row.where_false)?)?;
+    }
+    Ok(())
+}
+
 // Appends the lines of secrets.
 fn push_secrets(
     alloc: Global,
@@ -76,6 +108,26 @@ fn entry_line(alloc: Global, number: u64, entry: &EntryRow) -> Result<String, Al
     Ok(line)
 }
 
+fn secrecy_line(
+    alloc: Global,
+    secrecy: &str,
+    word: &str,
+    world: &Option<Vec<String>>,
+) -> Result<String, AllocError>
+    ensures { IfOk result (λ line. string_bytes line
+        ≡ secrecy_line secrecy.now word.now (world_in world.now)) }
+{
+    let world = world_text(alloc, world)?;
+    let mut line = String::from_str(alloc, "secrecy ")?;
+    line.push_str(secrecy)?;
+    line.push_str(" ")?;
+    line.push_str(word)?;
+    line.push_str(" ")?;
+    line.push_str(&world)?;
+    line.push_str("\n")?;
+    Ok(line)
+}
+
 fn secret_line(alloc: Global, row: &SecretRow) -> Result<String, AllocError>
     ensures { IfOk result (λ line. string_bytes line ≡ secret_line (secret_in row.now)) }
 {
@@ -90,7 +142,7 @@ fn secret_line(alloc: Global, row: &SecretRow) -> Result<String, AllocError>
 
 fn world_text(alloc: Global, world: &Option<Vec<String>>) -> Result<String, AllocError>
     ensures { IfOk result (λ text. string_bytes text
-        ≡ world_text (option_map (λ facts. map string_bytes facts.items) world.now)) }
+        ≡ world_text (world_in world.now)) }
 {
     let mut text = String::new(alloc);
     match world {

@@ -15,6 +15,15 @@ pub struct EntryRow {
     pub query: String,
 }
 
+/// A secrecy: its canonical text, and the texts of the facts of another world where it is true and
+/// of one where it is false, where one was found.
+#[derive(Drop)]
+pub struct SecrecyRow {
+    pub secrecy: String,
+    pub where_true: Option<Vec<String>>,
+    pub where_false: Option<Vec<String>>,
+}
+
 /// A secret: its canonical text, and the texts of the facts of its other world, if one was found.
 #[derive(Drop)]
 pub struct SecretRow {
@@ -23,18 +32,19 @@ pub struct SecretRow {
 }
 
 /// All that an audit says of a user: his name, the words of his method and of his standing, his
-/// entries and his secrets.
+/// entries, his secrecies, `None` where he has none, and his other secrets.
 #[derive(Drop)]
 pub struct Report<'u> {
     pub name: &'u str,
     pub method: &'u str,
     pub standing: &'u str,
     pub entries: Vec<EntryRow>,
+    pub secrecies: Option<Vec<SecrecyRow>>,
     pub secrets: Vec<SecretRow>,
 }
 
 /// The lines of an audit, each with its end: in JSON one, and else a line for the user, for each
-/// entry and for each secret. An error is want of memory.
+/// entry and for each other secret, and two for each secrecy. An error is want of memory.
 pub fn lines_of(alloc: Global, report: &Report<'_>, json: bool) -> Result<Vec<String>, AllocError>
     ensures { IfOk result (λ lines. map string_bytes lines.items
         ≡ lines_of json (said_in report.now)) }

@@ -10,11 +10,12 @@ use Rattle.cqe_base.specs.History.{profile_of}
 use Rattle.cqe_base.specs.Limits.{KeepsLimits}
 use Rattle.cqe_base.specs.Censor.{EmptyHistoryIsLegal, IsLegal}
 use Rattle.cqe_base.specs.Headline.{RunsStayLegal, ScriptsHide}
-use Rattle.cqe_base.specs.Transcript.{NamedUser, ScriptEvent, own_events, TranscriptIsPrivate}
+use Rattle.cqe_base.specs.Transcript.{NamedUser, ScriptEvent, own_events, state_after, TranscriptIsPrivate}
 use Rattle.cqe_base.specs.declared.user.User.{User}
 use Rattle.cqe_base.proofs.Lists.{text_is}
 use Rattle.cqe_base.proofs.Truths.{or_first, or_second}
 use Rattle.user_desk.specs.Causes.{Opens}
+use Rattle.user_desk.specs.Entries.{IsNoLonger}
 use Rattle.log_journal.specs.Names.{journal_name}
 use Rattle.batch_engine.specs.BatchLines.{BatchItem}
 use Rattle.desk_crew.specs.Openings.{OpensNone, IsOpening}
@@ -116,7 +117,7 @@ module _ (schema : DatabaseSchema) (world : FactSet) (users : List NamedUser) (h
   back user script seat seated is =
       let counted : count' (journal_name directory user.name) ≡ faults is.now = ap count' (sym seated.journal_is) ∙ is.counted in
       let left = is.left in
-      let closed : IsClosed T image faults seat.desk left.closed =
+      let closed : IsClosed T reads image faults seat.desk left.closed =
       record {
         holds = λ told. left.is_closed.holds s;
         legal = left.is_closed.legal;
@@ -125,6 +126,7 @@ module _ (schema : DatabaseSchema) (world : FactSet) (users : List NamedUser) (h
         later =
             left.is_closed.later;
         cause = left.is_closed.cause;
+        size = λ told. left.is_closed.size s;
         shut = left.is_closed.shut;
         still = left.is_closed.still;
       } in
@@ -163,6 +165,9 @@ module _ (schema : DatabaseSchema) (world : FactSet) (users : List NamedUser) (h
           refused = λ none. refused_at at none at.course.fits;
           counted = λ opens. counted_at at opens at.course.fits;
           stands = λ some c here. at.stays.stands some c (subst (λ o. image_on image o c) at.held here);
+          size = λ whole. subst
+              (λ o. IsNoLonger (bytes_of reads directory disk user.name) (state_after schema world user script).entries (bytes_on reads o)) (sym at.held)
+              (at.stays.size whole);
           kept =
               λ idle. (ap (bytes_on reads) at.held ∙ (at.stays.kept idle).0, λ c here. (at.stays.kept idle).1 c (subst (λ o. image_on image o c) at.held here));
         }

@@ -4,6 +4,7 @@ use Rattle.std.specs.Prelude.{Option, Some, None, is_some, ◌&&◌, ◌||◌, o
 use Rattle.std.specs.List.{list_any}
 use Rattle.std.proofs.Math.Bool.{and-true, or-false, or-true}
 use Rattle.std.proofs.lemmas.Bool.{and_left, or_left, or_right}
+use Rattle.std.proofs.lemmas.List.Sums.{sum_by-append}
 use Rattle.outside.specs.Faults.{Rose}
 use Rattle.outside.proofs.Rises.{rose_wide}
 use Rattle.cqe_base.specs.Schema.{DatabaseSchema, Text}
@@ -13,12 +14,15 @@ use Rattle.cqe_base.specs.Reading.{Refusal, reading}
 use Rattle.cqe_base.specs.History.{UserProfile, AnsweredQuery, History}
 use Rattle.cqe_base.specs.Censor.{admitted}
 use Rattle.cqe_base.specs.Run
-use Rattle.cqe_base.specs.Run.{Reply, Ending, want, kept, failed, Event, ask, restart, UserState, opening, after_event, after_events, reply_to_ask, entry_at}
+use Rattle.cqe_base.specs.Run.{Reply, Ending, want, kept, failed, Event, ask, stop, restart, UserState, opening, after_event, after_events, reply_to_ask}
+use Rattle.cqe_base.specs.Run.{entry_at}
 use Rattle.cqe_base.specs.Run.{standing_sealed}
 use Rattle.cqe_base.proofs.Runs.{after_events-push}
 use Rattle.cqe_base.proofs.Lists.{or_assoc}
+use Rattle.cqe_base.proofs.Truths.{or_first, or_second}
 use Rattle.log_journal.specs.declared.header.OpenError.TheVariants as journal_error
 use Rattle.user_desk.specs.Causes.{Opens, IsSealedBy, IsStanding, Refuses}
+use Rattle.user_desk.specs.Entries.{bytes_needed, IsNoLonger}
 use Rattle.user_desk.specs.Lives.{Holds, Restarts, IsState, shown}
 use Rattle.desk_counter.specs.Lives.{IsAskOf}
 use Rattle.user_desk.specs.Standings.{is_sealed, standing_of}
@@ -28,7 +32,7 @@ use Rattle.user_desk.specs.declared.standing.Standing.{Standing}
 use Rattle.user_desk.specs.declared.standing.Standing.TheVariants.{Open, Closed, Sealed}
 use Rattle.desk_crew.specs.Crew.{first_refusal}
 use Rattle.desk_crew.specs.Openings.{OpensNone}
-use Rattle.batch_engine.specs.Lives.{RoseBy, is_ask, is_opened, is_refused, failures_in, failures, IsCaused, AreCaused, IsRefusal}
+use Rattle.batch_engine.specs.Lives.{RoseBy, is_ask, is_opened, is_failed, is_refused, failures_in, failures, IsCaused, AreCaused, IsRefusal}
 
 -- ---- counts and lists
 
@@ -51,7 +55,49 @@ pub any-push : {X : Type 0} (test : X → Bool) (xs : List X) (x : X) → list_a
 any-push test [] x = or-false (test x)
 any-push test (y ∷ xs) x = ap (λ b. test y || b) (any-push test xs x) ∙ sym (or_assoc (test y) (list_any test xs) (test x))
 
+-- what is behind an event that failed not, among those before
+unfailed-push : (events : List Event) (event : Event) → list_any is_failed (events ++ event ∷ []) ≡ false → list_any is_failed events ≡ false
+unfailed-push events event whole = or_first (list_any is_failed events) (is_failed event) (sym (any-push is_failed events event) ∙ whole)
+
+-- more entries need more bytes
+no_longer_more : (before : List ℕ) (entries more : History) (reads : List ℕ) → IsNoLonger before entries reads → IsNoLonger before (entries ++ more) reads
+no_longer_more before entries more reads is = omega (arith, is, sum_by-append (λ (e : AnsweredQuery). 4 + e.length) entries more)
+
 module _ (schema : DatabaseSchema) (world : FactSet) (user : UserProfile) where
+  -- where no append failed, none has failed
+  never_broken : (state : UserState) (events : List Event) → state.broken ≡ false → list_any is_failed events ≡ false
+      → (after_events schema world user state events).broken ≡ false
+  never_broken state [] whole none = whole
+  never_broken state (event ∷ events) whole none =
+      never_broken (after_event schema world user state event) events (one event (or_first (is_failed event) (list_any is_failed events) none))
+      (or_second (is_failed event) (list_any is_failed events) none)
+    where
+      one : (e : Event) → is_failed e ≡ false → (after_event schema world user state e).broken ≡ false
+      one (ask text want) unfailed = whole
+      one (ask text kept) unfailed = whole
+      one (ask text failed) unfailed = absurd cc
+      one (stop text) unfailed = absurd cc
+      one (restart found true) unfailed = refl
+      one (restart found false) unfailed = whole
+
+  -- no event takes entries away
+  no_longer_on : (state : UserState) (event : Event) (before reads : List ℕ) → IsNoLonger before state.entries reads
+      → IsNoLonger before (after_event schema world user state event).entries reads
+  no_longer_on state event before reads is = by event
+    where
+      flown : (entry : Option AnsweredQuery) → IsNoLonger before (Run.after_failure schema world user state entry).entries reads
+      flown None = is
+      flown (Some entry) = is
+
+      by : (e : Event) → IsNoLonger before (after_event schema world user state e).entries reads
+      by (ask text want) = is
+      by (ask text kept) = no_longer_more before state.entries (option_to_list (entry_at schema world user state text)) reads is
+      by (ask text failed) = flown (entry_at schema world user state text)
+      by (stop text) = flown (entry_at schema world user state text)
+      by (restart true true) = no_longer_more before state.entries (option_to_list state.pending) reads is
+      by (restart false true) = is
+      by (restart found false) = is
+
   caused-push : (state : UserState) (events : List Event) (event : Event) → AreCaused schema world user state events
       → IsCaused schema world user (after_events schema world user state events) event
       → AreCaused schema world user state (events ++ event ∷ [])
@@ -136,6 +182,8 @@ module _ (schema : DatabaseSchema) (world : FactSet) (user : UserProfile) where
     pub record Stays (opened : History) (events : List Event) (image : List ℕ → Type 0) (reads : List ℕ) : Type 0 where
       pub stands : list_any is_opened events ≡ true → (c : List ℕ) → image c
           → Holds schema world user header (after_events schema world user (opening schema world user opened) events) c
+      pub size : list_any is_failed events ≡ false
+          → IsNoLonger bytes (after_events schema world user (opening schema world user opened) events).entries reads
       pub kept : (list_any is_opened events && list_any is_ask events) ≡ false → IsStill image reads
 
     -- the same at a disk that an opening left
@@ -143,6 +191,8 @@ module _ (schema : DatabaseSchema) (world : FactSet) (user : UserProfile) where
         → ((c : List ℕ) → image' c → image c) → Stays opened events image reads → Stays opened events image' reads'
     stays_on opened events image image' reads reads' same fewer stays = record {
       stands = λ held c at. stays.stands held c (fewer c at);
+      size = λ whole.
+          subst (λ r. IsNoLonger bytes (after_events schema world user (opening schema world user opened) events).entries r) (sym same) (stays.size whole);
       kept = λ idle. (same ∙ (stays.kept idle).0, λ c at. (stays.kept idle).1 c (fewer c at));
     }
 
@@ -264,6 +314,8 @@ module _ (schema : DatabaseSchema) (world : FactSet) (user : UserProfile) where
       pub held : is_sealed standing ≡ false → list_any is_opened events ≡ true
       pub stands : is_sealed standing ≡ true → list_any is_opened events ≡ true → (c : List ℕ) → image c
           → Holds schema world user header (after_events schema world user (opening schema world user opened) events) c
+      pub size : list_any is_failed events ≡ false
+          → IsNoLonger bytes (after_events schema world user (opening schema world user opened) events).entries reads
       pub kept : (list_any is_opened events && list_any is_ask events) ≡ false → IsStill image reads
 
     -- the desk was just opened
@@ -279,6 +331,7 @@ module _ (schema : DatabaseSchema) (world : FactSet) (user : UserProfile) where
       fits = by running.course.fits;
       held = running.held;
       stands = λ sealed. running.stays.stands;
+      size = running.stays.size;
       kept = running.stays.kept;
     }
       where
@@ -291,9 +344,10 @@ module _ (schema : DatabaseSchema) (world : FactSet) (user : UserProfile) where
         (now later : ℕ) (refusal : Option DeskError)
         → IsLiving opened events standing state image reads now refusal → now ≤ later → (state.broken ≡ true → Rose now later)
         → ((is_sealed standing ≡ true) ⊎ (list_any is_ask events ≡ false) → (reads' ≡ reads) × ((c : List ℕ) → image' c → image c))
-        → (is_sealed standing ≡ false → (c : List ℕ) → image' c → Holds schema world user header state c) → image' reads'
+        → (is_sealed standing ≡ false → (c : List ℕ) → image' c → Holds schema world user header state c)
+        → (state.broken ≡ false → IsNoLonger reads state.entries reads') → image' reads'
         → IsRunning opened events standing state image' reads' later refusal
-    closing opened events standing state image image' reads reads' now later refusal living on cause same holds here = record {
+    closing opened events standing state image image' reads reads' now later refusal living on cause same holds grown here = record {
       is_in = living.is_in;
       course = record {
         later = omega (arith, living.later, on);
@@ -303,7 +357,11 @@ module _ (schema : DatabaseSchema) (world : FactSet) (user : UserProfile) where
       };
       shut = living.shut;
       held = living.held;
-      stays = record { stands = stands_by (is_sealed standing) refl; kept = λ idle. kept_by idle (is_sealed standing) refl };
+      stays = record {
+        stands = stands_by (is_sealed standing) refl;
+        size = λ whole. size_by whole (is_sealed standing) refl;
+        kept = λ idle. kept_by idle (is_sealed standing) refl;
+      };
     }
       where
         stands_by : (b : Bool) → is_sealed standing ≡ b → list_any is_opened events ≡ true → (c : List ℕ) → image' c
@@ -311,6 +369,20 @@ module _ (schema : DatabaseSchema) (world : FactSet) (user : UserProfile) where
         stands_by true sealed some c at = living.stands sealed some c ((same (inl sealed)).1 c at)
         stands_by false served some c at =
             subst (λ s. Holds schema world user header s c) (sym (shown_is standing state _ served living.is_in)) (holds served c at)
+
+        size_by : list_any is_failed events ≡ false → (b : Bool) → is_sealed standing ≡ b
+            → IsNoLonger bytes (after_events schema world user (opening schema world user opened) events).entries reads'
+        size_by whole true sealed =
+            subst (λ r. IsNoLonger bytes (after_events schema world user (opening schema world user opened) events).entries r) (sym (same (inl sealed)).0)
+            (living.size whole)
+        size_by whole false served =
+            let is = shown_is standing state (after_events schema world user (opening schema world user opened) events) served living.is_in in
+            let unbroken : state.broken ≡ false = ap (λ (s : UserState). s.broken) (sym is)
+            ∙ never_broken (opening schema world user opened) events refl whole in
+            let now = grown unbroken in
+            let first = living.size whole in
+            let entries = ap (λ (s : UserState). bytes_needed s.entries) is in
+            omega (arith, now, first, entries)
 
         left_as : (is_sealed standing ≡ true) ⊎ (list_any is_ask events ≡ false) → IsStill image reads → IsStill image' reads'
         left_as why still = ((same why).0 ∙ still.0, λ c at. still.1 c ((same why).1 c at))
@@ -366,6 +438,8 @@ module _ (schema : DatabaseSchema) (world : FactSet) (user : UserProfile) where
                 subst (λ s. Holds schema world user header s c)
                 (sym (pushed one.ending ∙ sealed_still state text one.ending (sealed_is standing old state sealed living.is_in)))
                 (living.stands sealed (sym (unopened one.ending) ∙ some) c at);
+            size = λ whole. subst (λ (s : UserState). IsNoLonger bytes s.entries reads) (sym (pushed one.ending))
+                (no_longer_on state (ask text one.ending) bytes reads (living.size (unfailed-push events (ask text one.ending) whole)));
             kept = λ idle. living.kept (never_opened one.ending idle);
           };
         }
@@ -589,6 +663,8 @@ module _ (schema : DatabaseSchema) (world : FactSet) (user : UserProfile) where
         → Stays opened (events ++ restart found opens ∷ []) image reads
     stays_next opened events found opens standing desk_state image reads stays shut held is holds = record {
       stands = λ some c at. subst (λ s. Holds schema world user header s c) (sym pushed) (stands_by (is_sealed standing) refl some c at);
+      size = λ whole. subst (λ (s : UserState). IsNoLonger bytes s.entries reads) (sym pushed)
+          (no_longer_on state (restart found opens) bytes reads (stays.size (unfailed-push events (restart found opens) whole)));
       kept = λ idle. stays.kept
           (idle_before (list_any is_opened events) (list_any is_ask events) opens
           ((λ i. sym (any-push is_opened events (restart found opens)) i

@@ -1,5 +1,6 @@
 -- The users of a batch at their desks, item by item.
 use Rattle.std.proofs.Common.{◌≡◌, ◌⊎◌, inl, inr, ℕ, Bool, true, false, List, [], ◌∷◌, ◌++◌, map, refl, sym, ap, subst, ◌∙◌, append_assoc, append-nil, arith}
+use Rattle.std.proofs.Common.{length}
 use Rattle.std.specs.Prelude.{Option, Some, None, find, bytes_eq, if◌then◌else◌, string_bytes}
 use Rattle.std.specs.List.{list_any, flat_map, AllByRecursion}
 use Rattle.std.specs.Cmp.Lexicographic.{same_text}
@@ -213,7 +214,7 @@ module _ (schema : DatabaseSchema) (world : FactSet) (header directory : List �
 
   -- a desk was closed, and left this disk
   pub close_at : (user : NamedUser) (events : List Event) (seat : DeskSeat D g h) (disk : D) → IsSeated user events seat
-      → IsClosed T image faults seat.desk disk
+      → IsClosed T reads image faults seat.desk disk
       → IsRunning schema world user.profile header (bytes user.name) (before user.name) (images user.name) user.opened events (seat_standing seat)
       (seat_state seat) (image disk) (reads disk) (faults disk) seat.refusal
   close_at user events seat disk seated closed =
@@ -226,6 +227,7 @@ module _ (schema : DatabaseSchema) (world : FactSet) (header directory : List �
       (subst (λ p. Holds (seat_kept seat).schema (seat_kept seat).world p header (seat_state seat) c) (seated.served.user_is ∙ seated.profile_is)
       (subst (λ h. Holds (seat_kept seat).schema (seat_kept seat).world (seat_kept seat).user h (seat_state seat) c) seated.served.header_is
       (closed.holds t served c at)))))
+      (closed.size t)
       (read_is_image disk t)
     where
       by : (is_sealed (seat_standing seat) ≡ true) ⊎ (list_any is_ask events ≡ false) → disk ≡ seat_disk seat
@@ -385,6 +387,7 @@ module _ (schema : DatabaseSchema) (world : FactSet) (header directory : List �
           (first_course schema world header bytes before images (profile_of user) name opened (faults is.taken) (reads (seat_disk seat)) counted read opening)
           (record {
             stands = λ held. let e : false ≡ true = held in absurd cc;
+            size = λ whole. let size = ap length read in omega (arith, size);
             kept = λ idle. (
               read,
               λ c at. images_are name c

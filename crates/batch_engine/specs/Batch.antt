@@ -11,13 +11,15 @@ use Rattle.cqe_base.specs.Transcript.{NamedUser, ScriptEvent, script_ask, script
 use Rattle.cqe_base.specs.Transcript.{script_opening, Line, reply_line, own_events, own_replies}
 use Rattle.cqe_base.specs.Transcript.{state_after, transcript, line_text}
 use Rattle.user_desk.specs.Causes.{Opens}
+use Rattle.user_desk.specs.Entries.{IsNoLonger}
 use Rattle.user_desk.specs.Lives.{Holds}
 use Rattle.user_desk.specs.declared.standing.DeskError.{DeskError}
 use Rattle.desk_crew.specs.Shelved.{Journals, IsKept, AreKept}
 use Rattle.script_lines.specs.Read.{IsReadThrough}
 use Rattle.batch_engine.specs.BatchLines.{BatchItem, asked, restarted, batch_of}
 use Rattle.desk_crew.specs.Openings.{OpensNone, IsOpening}
-use Rattle.batch_engine.specs.Lives.{RoseBy, is_ask, is_opened, failures, AreCaused, IsRefusal}
+use Rattle.batch_engine.specs.Lives.{RoseBy, is_ask, is_opened, is_failed, failures, AreCaused}
+use Rattle.batch_engine.specs.Lives.{IsRefusal}
 use Rattle.batch_engine.specs.declared.run.BatchEnd.{BatchEnd}
 use Rattle.batch_engine.specs.declared.run.BatchEnd.TheVariants.{Done, Script as Refused, ReadFault}
 use Rattle.batch_engine.specs.declared.run.BatchEnd.TheVariants.{WriteFault, ShelfFault, Memory}
@@ -84,6 +86,10 @@ module _ (schema : DatabaseSchema) (world : FactSet) (header : List ℕ) (journa
     pub stands : list_any is_opened (own_events user.name events) ≡ true → (c : List ℕ)
         → journals.image user.name c
         → Holds schema world user.profile header (state_after schema world user events) c
+    -- where no append failed, his journal has no more bytes than it had, or than his history needs
+    pub size : list_any is_failed (own_events user.name events) ≡ false
+        → IsNoLonger (journals.bytes user.name) (state_after schema world user events).entries
+        (journals.reads user.name)
     -- and unless one held and he asked, his journal is as it was
     pub kept : (list_any is_opened (own_events user.name events)
         && list_any is_ask (own_events user.name events)) ≡ false → IsKept journals user.name

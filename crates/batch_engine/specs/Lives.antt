@@ -34,6 +34,14 @@ is_refused (restart found false) = true
 is_refused (ask text ending) = false
 is_refused (stop text) = false
 
+-- whether it is an append that failed, or that a crash cut
+abbrev pub is_failed : Event → Bool
+is_failed (ask text failed) = true
+is_failed (ask text kept) = false
+is_failed (ask text want) = false
+is_failed (stop text) = true
+is_failed (restart found opened) = false
+
 -- an append that failed and an opening that was refused count one each
 abbrev pub failures_in : Event → ℕ
 failures_in (ask text failed) = 1

@@ -10,3 +10,4 @@ pub mod Telling
 pub mod Ending
 pub mod TwoDigits
 pub mod Beginning
+pub mod Parting

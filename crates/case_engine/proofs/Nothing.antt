@@ -13,12 +13,14 @@ use Rattle.case_engine.specs.Scripts.{script_in}
 abbrev Declarations : Type 0
 Declarations = List (String Global × Vec (String Global) Global)
 
-pub nothing_said : (domains relations : Declarations) (facts : FactSet) (know secrets : List Sentence) (asks : List (String Global)) → domains ≡ []
-    → relations ≡ [] → facts ≡ set.empty → know ≡ [] → secrets ≡ [] → asks ≡ [] → script_in domains relations facts None know secrets None asks ≡ empty_script
-nothing_said domains relations facts know secrets asks a b c d e f =
-    ap (λ x. script_in x relations facts None know secrets None asks) a ∙ ap (λ x. script_in [] x facts None know secrets None asks) b
-    ∙ ap (λ x. script_in [] [] x None know secrets None asks) c ∙ ap (λ x. script_in [] [] set.empty None x secrets None asks) d
-    ∙ ap (λ x. script_in [] [] set.empty None [] x None asks) e ∙ ap (λ x. script_in [] [] set.empty None [] [] None x) f
+pub nothing_said : (domains relations : Declarations) (facts : FactSet) (know secrecies secrets : List Sentence) (asks : List (String Global)) → domains ≡ []
+    → relations ≡ [] → facts ≡ set.empty → know ≡ [] → secrecies ≡ [] → secrets ≡ [] → asks ≡ []
+    → script_in domains relations facts None know secrecies secrets None asks ≡ empty_script
+nothing_said domains relations facts know secrecies secrets asks a b c d e f g =
+    ap (λ x. script_in x relations facts None know secrecies secrets None asks) a ∙ ap (λ x. script_in [] x facts None know secrecies secrets None asks) b
+    ∙ ap (λ x. script_in [] [] x None know secrecies secrets None asks) c ∙ ap (λ x. script_in [] [] set.empty None x secrecies secrets None asks) d
+    ∙ ap (λ x. script_in [] [] set.empty None [] x secrets None asks) e ∙ ap (λ x. script_in [] [] set.empty None [] [] x None asks) f
+    ∙ ap (λ x. script_in [] [] set.empty None [] [] [] None x) g
 
 pub no_declarations : (domains relations : Declarations) → domains ≡ [] → relations ≡ []
     → (schema_of (map declaration_of domains) (map declaration_of relations) ≡ schema_of [] [])

@@ -1,16 +1,18 @@
 -- Scripts stay sound as their lines are read.
-use Rattle.std.proofs.Common.{◌≡◌, ◌≤◌, ◌<◌, ◌+◌, ℕ, Bool, true, false, List, [], ◌∷◌, ◌++◌, length, refl, sym, ap, subst, ◌∙◌, arith}
-use Rattle.std.specs.Prelude.{◌||◌, Some, None, is_none, nat_le, sum_by}
-use Rattle.std.specs.List.{list_all}
+use Rattle.std.proofs.Common.{◌≡◌, ◌≤◌, ◌<◌, ◌+◌, ℕ, Bool, true, false, List, [], ◌∷◌, ◌++◌, length, length-append, refl, sym, ap, subst, ◌∙◌, append_assoc}
+use Rattle.std.proofs.Common.{arith}
+use Rattle.std.specs.Prelude.{◌||◌, ◌&&◌, Some, None, is_none, nat_le, nat_lt, sum_by}
+use Rattle.std.specs.List.{flat_map, list_all}
 use Rattle.std.proofs.lemmas.Grind.{common_steps}
 use Rattle.std.proofs.lemmas.Bool.{and_parts, and_from}
 use Rattle.cqe_base.specs.declared.user.Method.{Method}
 use Rattle.cqe_base.specs.Schema.{DatabaseSchema, Declaration, schema_refusal, schema_of}
-use Rattle.cqe_base.specs.Formula.{Formula, nodes, is_sentence_of}
+use Rattle.cqe_base.specs.Formula.{Formula, negation, nodes, is_sentence_of}
 use Rattle.cqe_base.specs.History.{ViewsWithoutEntries, view_size}
 use Rattle.cqe_base.specs.Limits.{is_small}
+use Rattle.cqe_base.specs.Secrecies.{with_secrecies}
 use Rattle.cqe_base.proofs.Truths.{or_second}
-use Rattle.case_engine.specs.Script.{Script, script_schema, script_user, empty_script}
+use Rattle.case_engine.specs.Script.{Script, script_schema, script_user, all_secrets, empty_script}
 use Rattle.case_engine.specs.Sound.{IsSound, is_fit_budget}
 use Rattle.case_engine.proofs.Growth.{Grows, well_formed_grows, nodes_kept}
 use Rattle.case_engine.proofs.Declaring.{domain_grows, relation_grows}
@@ -90,18 +92,20 @@ module _ (small big : DatabaseSchema) (grows : Grows small big) where
         schema_is = is;
         accepted = accepted;
         known = ap (list_all (is_sentence_of big)) same_know ∙ sentences_grow script.know sound.known;
-        secret = ap (list_all (is_sentence_of big)) same_secrets ∙ sentences_grow script.secrets sound.secret;
+        secret = ap (list_all (is_sentence_of big)) same_secrets ∙ sentences_grow (all_secrets script) sound.secret;
         small_known = ap (list_all (is_small big)) same_know ∙ smalls_grow script.know sound.known sound.small_known;
-        small_secrets = ap (list_all (is_small big)) same_secrets ∙ smalls_grow script.secrets sound.secret sound.small_secrets;
+        small_secrets = ap (list_all (is_small big)) same_secrets ∙ smalls_grow (all_secrets script) sound.secret sound.small_secrets;
         few_known = subst (λ k. length k ≤ 256) (sym same_know) sound.few_known;
         few_secrets = subst (λ k. length k ≤ 16) (sym same_secrets) sound.few_secrets;
         nodes_are =
-            sound.nodes_are ∙ views small (script_user script) ∙ sym (ap (λ n. n + secret_nodes small script.secrets) (known_kept script.know sound.known))
-            ∙ sym (ap (λ n. known_nodes big script.know + n) (secrets_kept script.secrets sound.secret)) ∙ sym (views big (script_user script))
+            sound.nodes_are ∙ views small (script_user script)
+            ∙ sym (ap (λ n. n + secret_nodes small (all_secrets script)) (known_kept script.know sound.known))
+            ∙ sym (ap (λ n. known_nodes big script.know + n) (secrets_kept (all_secrets script) sound.secret)) ∙ sym (views big (script_user script))
             ∙ sym (ap (λ u. view_size big u []) same_user);
         view = sound.view;
         budget = ap is_fit_budget same_budget ∙ sound.budget;
-        ready = λ e. ap (λ m. is_none m || nat_le (length new.secrets) 0) same_method ∙ ap (λ k. is_none script.method || nat_le (length k) 0) same_secrets
+        ready = λ e. ap (λ m. is_none m || nat_le (length (all_secrets new)) 0) same_method
+            ∙ ap (λ k. is_none script.method || nat_le (length k) 0) same_secrets
             ∙ sound.ready (sym (ap (λ a. nat_le 1 (length a)) same_asks) ∙ e);
         short = subst (λ a. list_all (λ t. nat_le (length t) 4096) a ≡ true) (sym same_asks) sound.short;
       }
@@ -115,10 +119,10 @@ sound_grows script small big view_nodes domains relations sound grows is accepte
 -- ---- what is said of the user
 
 -- the nodes of a view depend on the sentences alone
-same_view : (schema : DatabaseSchema) (script new : Script) → new.know ≡ script.know → new.secrets ≡ script.secrets → ViewsWithoutEntries
+same_view : (schema : DatabaseSchema) (script new : Script) → new.know ≡ script.know → all_secrets new ≡ all_secrets script → ViewsWithoutEntries
     → view_size schema (script_user script) [] ≡ view_size schema (script_user new) []
 same_view schema script new same_know same_secrets views =
-    views schema (script_user script) ∙ sym (ap (λ k. known_nodes schema k + secret_nodes schema script.secrets) same_know)
+    views schema (script_user script) ∙ sym (ap (λ k. known_nodes schema k + secret_nodes schema (all_secrets script)) same_know)
     ∙ sym (ap (λ k. known_nodes schema new.know + secret_nodes schema k) same_secrets) ∙ sym (views schema (script_user new))
 
 pub sound_method : (script : Script) (schema : DatabaseSchema) (view_nodes : ℕ) (method : Method) → IsSound script schema view_nodes → ViewsWithoutEntries
@@ -135,7 +139,7 @@ sound_method script schema view_nodes method sound views = record {
   nodes_are = sound.nodes_are ∙ same_view schema script (record script { method = Some method }) refl refl views;
   view = sound.view;
   budget = sound.budget;
-  ready = λ e. or_second (is_none script.method) (nat_le (length script.secrets) 0) (sound.ready e);
+  ready = λ e. or_second (is_none script.method) (nat_le (length (all_secrets script)) 0) (sound.ready e);
   short = sound.short;
 }
 
@@ -164,6 +168,42 @@ all_push p (x ∷ sentences) s all here =
     let each = and_parts (p x) (list_all p sentences) all in
     and_from (p x) (list_all p (sentences ++ s ∷ [])) each.0 (all_push p sentences s each.1 here)
 
+-- a further secret is the last of all
+secret_last : (script : Script) (s : Formula) → all_secrets (record script { secrets = script.secrets ++ s ∷ [] }) ≡ all_secrets script ++ s ∷ []
+secret_last script s = sym (append_assoc (flat_map (λ q. q ∷ negation q ∷ []) script.secrecies) script.secrets (s ∷ []))
+
+pub secret_longer : (script : Script) (s : Formula)
+    → length (all_secrets (record script { secrets = script.secrets ++ s ∷ [] })) ≡ length (all_secrets script) + 1
+secret_longer script s = ap length (secret_last script s) ∙ length-append (all_secrets script) (s ∷ [])
+
+-- ---- a further secrecy
+
+-- what passes for it and for its negation passes for all secrets
+pass_secrecy : (test : Formula → Bool) (secrecies others : List Formula) (q : Formula) → list_all test (with_secrecies secrecies others) ≡ true
+    → test q ≡ true → test (negation q) ≡ true → list_all test (with_secrecies (secrecies ++ q ∷ []) others) ≡ true
+pass_secrecy test [] others q all stated negated = and_from (test q) _ stated (and_from (test (negation q)) _ negated all)
+pass_secrecy test (r ∷ secrecies) others q all stated negated =
+    let first = and_parts (test r) (test (negation r) && list_all test (with_secrecies secrecies others)) all in
+    let second = and_parts (test (negation r)) (list_all test (with_secrecies secrecies others)) first.1 in
+    and_from (test r) _ first.0 (and_from (test (negation r)) _ second.0 (pass_secrecy test secrecies others q second.1 stated negated))
+
+-- two secrets more
+count_secrecy : (secrecies others : List Formula) (q : Formula)
+    → length (with_secrecies (secrecies ++ q ∷ []) others) ≡ length (with_secrecies secrecies others) + 2
+count_secrecy [] others q = omega arith
+count_secrecy (r ∷ secrecies) others q = let rest = count_secrecy secrecies others q in omega (arith, rest)
+
+-- the nodes of the secrets, and those of the two
+nodes_secrecy : (schema : DatabaseSchema) (secrecies others : List Formula) (q : Formula)
+    → secret_nodes schema (with_secrecies (secrecies ++ q ∷ []) others)
+    ≡ secret_nodes schema (with_secrecies secrecies others) + (1 + nodes schema q + (1 + (1 + nodes schema q)))
+nodes_secrecy schema [] others q = grind (arith, common_steps)
+nodes_secrecy schema (r ∷ secrecies) others q = let rest = nodes_secrecy schema secrecies others q in grind (arith, common_steps, rest)
+
+pub secrecy_longer : (script : Script) (q : Formula)
+    → length (all_secrets (record script { secrecies = script.secrecies ++ q ∷ [] })) ≡ length (all_secrets script) + 2
+secrecy_longer script q = count_secrecy script.secrecies script.secrets q
+
 pub known_more : (schema : DatabaseSchema) (script : Script) (s : Formula) → ViewsWithoutEntries → view_size schema (script_user (record script {
   know =
       script.know ++ s ∷ [];
@@ -181,8 +221,10 @@ pub secret_more : (schema : DatabaseSchema) (script : Script) (s : Formula) → 
 secret_more schema script s views =
     let now = views schema (script_user (record script { secrets = script.secrets ++ s ∷ [] })) in
     let was = views schema (script_user script) in
-    let sums : secret_nodes schema (script.secrets ++ s ∷ []) ≡ secret_nodes schema script.secrets + (1 + nodes schema s) = grind (arith, common_steps) in
-    omega (arith, now, was, sums)
+    let ends = ap (secret_nodes schema) (secret_last script s) in
+    let sums : secret_nodes schema (all_secrets script ++ s ∷ []) ≡ secret_nodes schema (all_secrets script) + (1 + nodes schema s) =
+    grind (arith, common_steps) in
+    omega (arith, now, was, ends, sums)
 
 pub sound_known : (script : Script) (schema : DatabaseSchema) (view_nodes count : ℕ) (s : Formula) → IsSound script schema view_nodes
     → is_sentence_of schema s ≡ true → count ≡ nodes schema s → count ≤ 20000 → length script.know < 256 → view_nodes + count ≤ 40000 → ViewsWithoutEntries
@@ -203,28 +245,81 @@ sound_known script schema view_nodes count s sound sentence counted small few ro
   short = sound.short;
 }
 
+-- a method that is said, and some secret
+ready_with : (b : Bool) (few more : ℕ) → few ≤ more → (b || nat_le few 0) ≡ false → (b || nat_le more 0) ≡ false
+ready_with true few more le e = e
+ready_with false few more le e = grind (arith, le, e)
+
 pub sound_secret : (script : Script) (schema : DatabaseSchema) (view_nodes count : ℕ) (s : Formula) → IsSound script schema view_nodes
-    → is_sentence_of schema s ≡ true → count ≡ nodes schema s → count ≤ 20000 → length script.secrets < 16 → view_nodes + (1 + count) ≤ 40000
+    → is_sentence_of schema s ≡ true → count ≡ nodes schema s → count ≤ 20000 → length (all_secrets script) < 16 → view_nodes + (1 + count) ≤ 40000
     → ViewsWithoutEntries → IsSound (record script { secrets = script.secrets ++ s ∷ [] }) schema (view_nodes + (1 + count))
 sound_secret script schema view_nodes count s sound sentence counted small few room views = record {
   schema_is = sound.schema_is;
   accepted = sound.accepted;
   known = sound.known;
-  secret = all_push (is_sentence_of schema) script.secrets s sound.secret sentence;
+  secret = ap (list_all (is_sentence_of schema)) ends ∙ all_push (is_sentence_of schema) (all_secrets script) s sound.secret sentence;
   small_known = sound.small_known;
-  small_secrets = all_push (is_small schema) script.secrets s sound.small_secrets (grind (arith, counted, small));
+  small_secrets = ap (list_all (is_small schema)) ends ∙ all_push (is_small schema) (all_secrets script) s sound.small_secrets (grind (arith, counted, small));
   few_known = sound.few_known;
-  few_secrets = let long : length (script.secrets ++ s ∷ []) ≡ length script.secrets + 1 = grind (arith, common_steps) in omega (arith, long, few);
+  few_secrets = omega (arith, long, few);
   nodes_are = let more = secret_more schema script s views in let was = sound.nodes_are in omega (arith, more, was, counted);
   view = room;
   budget = sound.budget;
-  ready = λ e. ready_with (is_none script.method) (sound.ready e);
+  ready = λ e. ready_with (is_none script.method) (length (all_secrets script)) _ (omega (arith, long)) (sound.ready e);
   short = sound.short;
 }
   where
-    ready_with : (b : Bool) → (b || nat_le (length script.secrets) 0) ≡ false → (b || nat_le (length (script.secrets ++ s ∷ [])) 0) ≡ false
-    ready_with true e = e
-    ready_with false e = let long : length (script.secrets ++ s ∷ []) ≡ length script.secrets + 1 = grind (arith, common_steps) in grind (arith, long)
+    ends : all_secrets (record script { secrets = script.secrets ++ s ∷ [] }) ≡ all_secrets script ++ s ∷ []
+    ends = secret_last script s
+
+    long : length (all_secrets (record script { secrets = script.secrets ++ s ∷ [] })) ≡ length (all_secrets script) + 1
+    long = secret_longer script s
+
+pub secrecy_more : (schema : DatabaseSchema) (script : Script) (q : Formula) → ViewsWithoutEntries → view_size schema (script_user (record script {
+  secrecies =
+      script.secrecies ++ q ∷ [];
+})) [] ≡ view_size schema (script_user script) [] + (1 + nodes schema q + (1 + (1 + nodes schema q)))
+secrecy_more schema script q views =
+    let now = views schema (script_user (record script { secrecies = script.secrecies ++ q ∷ [] })) in
+    let was = views schema (script_user script) in
+    let sums = nodes_secrecy schema script.secrecies script.secrets q in
+    omega (arith, now, was, sums)
+
+-- what a sentence keeps that joins others
+pub kept_limits : (count many total : ℕ) → (nat_le count 20000 && (nat_lt many 16 && nat_le total 40000)) ≡ true
+    → (count ≤ 20000) × (many < 16) × (total ≤ 40000)
+kept_limits count many total e =
+    let outer = and_parts (nat_le count 20000) (nat_lt many 16 && nat_le total 40000) e in
+    let inner = and_parts (nat_lt many 16) (nat_le total 40000) outer.1 in
+    let first : nat_le count 20000 ≡ true = outer.0 in
+    let second : nat_lt many 16 ≡ true = inner.0 in
+    let third : nat_le total 40000 ≡ true = inner.1 in
+    (grind (arith, first), grind (arith, second), grind (arith, third))
+
+-- count is that of the negation
+pub sound_secrecy : (script : Script) (schema : DatabaseSchema) (view_nodes count : ℕ) (q : Formula) → IsSound script schema view_nodes
+    → is_sentence_of schema q ≡ true → count ≡ nodes schema q + 1 → count ≤ 20000 → length (all_secrets script) + 1 < 16
+    → view_nodes + (count + (count + 1)) ≤ 40000 → ViewsWithoutEntries
+    → IsSound (record script { secrecies = script.secrecies ++ q ∷ [] }) schema (view_nodes + (count + (count + 1)))
+sound_secrecy script schema view_nodes count q sound sentence counted small few room views = record {
+  schema_is = sound.schema_is;
+  accepted = sound.accepted;
+  known = sound.known;
+  secret = pass_secrecy (is_sentence_of schema) script.secrecies script.secrets q sound.secret sentence sentence;
+  small_known = sound.small_known;
+  small_secrets =
+      pass_secrecy (is_small schema) script.secrecies script.secrets q sound.small_secrets (grind (arith, counted, small)) (grind (arith, counted, small));
+  few_known = sound.few_known;
+  few_secrets = omega (arith, long, few);
+  nodes_are = let more = secrecy_more schema script q views in let was = sound.nodes_are in omega (arith, more, was, counted);
+  view = room;
+  budget = sound.budget;
+  ready = λ e. ready_with (is_none script.method) (length (all_secrets script)) _ (omega (arith, long)) (sound.ready e);
+  short = sound.short;
+}
+  where
+    long : length (all_secrets (record script { secrecies = script.secrecies ++ q ∷ [] })) ≡ length (all_secrets script) + 2
+    long = secrecy_longer script q
 
 -- ---- one more declaration
 

@@ -11,14 +11,15 @@ use Rattle.cqe_base.specs.declared.text.ScriptError.{ScriptError}
 use Rattle.cqe_base.specs.declared.world.Fact.{Fact as GroundFact}
 use Rattle.cqe_base.specs.Schema.{Text, Declaration, DatabaseSchema, schema_refusal, schema_of}
 use Rattle.cqe_base.specs.Facts.{FactSet}
-use Rattle.cqe_base.specs.Formula.{Formula, nodes}
+use Rattle.cqe_base.specs.Formula.{Formula, negation, nodes}
 use Rattle.cqe_base.specs.Reading.{Refusal, reading}
 use Rattle.cqe_base.specs.FactText.{stated_fact}
 use Rattle.script_lines.specs.Scripts.{script_from}
 use Rattle.cqe_base.specs.History.{UserProfile, view_size}
+use Rattle.cqe_base.specs.Secrecies.{with_secrecies}
 use Rattle.case_engine.specs.Statements.{Statement, silence, domain_is, relation_is, fact_is}
-use Rattle.case_engine.specs.Statements.{method_is, user_knows, secret_is, budget_is, user_asks}
-use Rattle.case_engine.specs.Statements.{statement_of}
+use Rattle.case_engine.specs.Statements.{method_is, user_knows, secrecy_is, secret_is, budget_is}
+use Rattle.case_engine.specs.Statements.{user_asks, statement_of}
 
 -- what the lines of a script have said
 pub record Script : Type 0 where
@@ -27,6 +28,7 @@ pub record Script : Type 0 where
   pub facts : FactSet
   pub method : Option Method
   pub know : List Formula
+  pub secrecies : List Formula
   pub secrets : List Formula
   pub budget : Option ℕ
   pub asks : List Text
@@ -39,6 +41,7 @@ empty_script = record {
   facts = set.empty;
   method = None;
   know = [];
+  secrecies = [];
   secrets = [];
   budget = None;
   asks = [];
@@ -48,13 +51,18 @@ empty_script = record {
 abbrev pub script_schema : Script → DatabaseSchema
 script_schema script = schema_of script.domains script.relations
 
+-- all secrets of a script: those that its secrecies make, and the others
+abbrev pub all_secrets : Script → List Formula
+all_secrets script = with_secrecies script.secrecies script.secrets
+
 -- the user of a script; one without a method or a secret asks nothing, since an ask stands behind
 -- both
 abbrev pub script_user : Script → UserProfile
 script_user script = record {
   method = unwrap_or script.method Lying;
   know = script.know;
-  secrets = script.secrets;
+  secrets = all_secrets script;
+  pairs = length script.secrecies;
   budget = unwrap_or script.budget 1000000;
 }
 
@@ -71,6 +79,10 @@ with_relation script declared = record script { relations = script.relations ++ 
 -- one more sentence that the user knows
 abbrev pub with_known : Script → Formula → Script
 with_known script sentence = record script { know = script.know ++ sentence ∷ [] }
+
+-- one more secrecy
+abbrev pub with_secrecy : Script → Formula → Script
+with_secrecy script sentence = record script { secrecies = script.secrecies ++ sentence ∷ [] }
 
 -- one more secret
 abbrev pub with_secret : Script → Formula → Script
@@ -97,7 +109,7 @@ state script (Some fact) =
 abbrev pub limit : Script → Formula → Step
 limit script sentence =
     if nat_le (nodes (script_schema script) sentence) 20000
-    && (nat_le (length script.know) 256 && nat_le (length script.secrets) 16)
+    && (nat_le (length script.know) 256 && nat_le (length (all_secrets script)) 16)
     && nat_le (view_size (script_schema script) (script_user script) []) 40000
     then Ok script else Err Limit
 
@@ -105,6 +117,11 @@ limit script sentence =
 abbrev pub say : (Formula → Script) → Result Formula Refusal → Step
 say with_sentence (Err refusal) = Err Sentence
 say with_sentence (Ok sentence) = limit (with_sentence sentence) sentence
+
+-- one more secrecy, of which the negation is a secret too
+abbrev pub say_secrecy : Script → Result Formula Refusal → Step
+say_secrecy script (Err refusal) = Err Sentence
+say_secrecy script (Ok sentence) = limit (with_secrecy script sentence) (negation sentence)
 
 -- the method is said once
 abbrev pub choose : Script → Method → Step
@@ -121,10 +138,10 @@ allow script budget =
     })
     else Err Limit
 
--- an ask stands behind a method and a secret
+-- an ask stands behind a method and a secret or a secrecy
 abbrev pub ask_next : Script → Text → Step
 ask_next script text =
-    if is_none script.method || nat_le (length script.secrets) 0 then Err Order
+    if is_none script.method || nat_le (length (all_secrets script)) 0 then Err Order
     else Ok (record script { asks = script.asks ++ text ∷ [] })
 
 -- a declaration stands before the first ask
@@ -143,6 +160,8 @@ with_statement script (fact_is text) =
 with_statement script (method_is method) = before_asks script (choose script method)
 with_statement script (user_knows text) =
     before_asks script (say (with_known script) (reading (script_schema script) text))
+with_statement script (secrecy_is text) =
+    before_asks script (say_secrecy script (reading (script_schema script) text))
 with_statement script (secret_is text) =
     before_asks script (say (with_secret script) (reading (script_schema script) text))
 with_statement script (budget_is budget) = before_asks script (allow script budget)

@@ -11,13 +11,14 @@ use Rattle.case_engine.specs.Script.{Script}
 -- the script that these parts in memory are
 abbrev pub script_in : List (String Global × Vec (String Global) Global)
     → List (String Global × Vec (String Global) Global) → FactSet → Option Method → List Sentence
-    → List Sentence → Option ℕ → List (String Global) → Script
-script_in domains relations facts method know secrets budget asks = record {
+    → List Sentence → List Sentence → Option ℕ → List (String Global) → Script
+script_in domains relations facts method know secrecies secrets budget asks = record {
   domains = map declaration_of domains;
   relations = map declaration_of relations;
   facts = facts;
   method = method;
   know = map formula_of know;
+  secrecies = map formula_of secrecies;
   secrets = map formula_of secrets;
   budget = budget;
   asks = map string_bytes asks;

@@ -6,4 +6,4 @@ use Rattle.case_engine.specs.declared.script
 -- the script that a script in memory is
 abbrev pub script_is : script.Script.Script → Script
 script_is s = script_in s.domains.items s.relations.items s.facts s.method s.know.items
-    s.secrets.items s.budget s.asks.items
+    s.secrecies.items s.secrets.items s.budget s.asks.items

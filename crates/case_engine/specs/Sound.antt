@@ -8,7 +8,7 @@ use Rattle.cqe_base.specs.Formula.{is_sentence_of}
 use Rattle.cqe_base.specs.FormulaCode.{formula_set}
 use Rattle.cqe_base.specs.History.{view_size}
 use Rattle.cqe_base.specs.Limits.{is_small}
-use Rattle.case_engine.specs.Script.{Script, script_schema, script_user}
+use Rattle.case_engine.specs.Script.{Script, script_schema, script_user, all_secrets}
 
 -- whether a budget that was said is from 1 to 4,000,000
 abbrev pub is_fit_budget : Option ℕ → Bool
@@ -25,16 +25,16 @@ pub record IsSound (script : Script) (schema : DatabaseSchema) (view_nodes : ℕ
   pub schema_is : schema ≡ script_schema script
   pub accepted : schema_refusal script.domains script.relations ≡ None
   pub known : list_all (is_sentence_of schema) script.know ≡ true
-  pub secret : list_all (is_sentence_of schema) script.secrets ≡ true
+  pub secret : list_all (is_sentence_of schema) (all_secrets script) ≡ true
   pub small_known : list_all (is_small schema) script.know ≡ true
-  pub small_secrets : list_all (is_small schema) script.secrets ≡ true
+  pub small_secrets : list_all (is_small schema) (all_secrets script) ≡ true
   pub few_known : length script.know ≤ 256
-  pub few_secrets : length script.secrets ≤ 16
+  pub few_secrets : length (all_secrets script) ≤ 16
   pub nodes_are : view_nodes ≡ view_size schema (script_user script) []
   pub view : view_nodes ≤ 40000
   pub budget : is_fit_budget script.budget ≡ true
   pub ready : nat_le 1 (length script.asks) ≡ true
-      → (is_none script.method || nat_le (length script.secrets) 0) ≡ false
+      → (is_none script.method || nat_le (length (all_secrets script)) 0) ≡ false
   pub short : list_all is_short script.asks ≡ true
 
 pub IsSound-prop : (script : Script) (schema : DatabaseSchema) (view_nodes : ℕ)

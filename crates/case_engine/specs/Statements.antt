@@ -21,6 +21,7 @@ pub data Statement : Type 0 where
   fact_is : (text : Text) → Statement
   method_is : (method : Method) → Statement
   user_knows : (text : Text) → Statement
+  secrecy_is : (text : Text) → Statement
   secret_is : (text : Text) → Statement
   budget_is : (budget : ℕ) → Statement
   user_asks : (text : Text) → Statement
@@ -95,6 +96,7 @@ worded word text =
     else if bytes_eq word (codes "fact") then Some (fact_is text)
     else if bytes_eq word (codes "method") then option_map method_is (method_named text)
     else if bytes_eq word (codes "know") then Some (user_knows text)
+    else if bytes_eq word (codes "secrecy") then Some (secrecy_is text)
     else if bytes_eq word (codes "secret") then Some (secret_is text)
     else if bytes_eq word (codes "budget") then option_map budget_is (number_in text)
     else if bytes_eq word (codes "ask") then Some (user_asks text)

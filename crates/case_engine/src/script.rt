@@ -14,11 +14,11 @@ ghost use Rattle.case_engine.specs.SchemaRefusal.{IsSchemaRefusal};
 use crate::declaration::Declared;
 use crate::parts::Parts;
 use crate::statement::{Statement, statement_of};
-use cqe_base::laws::law_views_without_entries;
+use cqe_base::laws::{law_pairs, law_secrets_made, law_views_without_entries};
 use cqe_base::schema::{Schema, SchemaError};
 use cqe_base::sentence::{Sentence, nodes};
 use cqe_base::text::ScriptKind;
-use cqe_base::user::{Method, User};
+use cqe_base::user::{Method, User, with_secrecies};
 use cqe_base::world::{World, WorldError};
 use script_lines::LineError;
 use sentence_text::{ReadError, read_sentence, stated_fact};
@@ -48,20 +48,21 @@ pub struct Script {
     facts: World,
     method: Option<Method>,
     know: Vec<Sentence>,
+    secrecies: Vec<Sentence>,
     secrets: Vec<Sentence>,
     budget: Option<u64>,
     asks: Vec<String>,
     view_nodes: u64,
     ghost sound: { IsSound
-        (script_in domains.items relations.items facts method know.items secrets.items budget
-        asks.items) schema view_nodes } by { IsSound-prop _ _ _ },
+        (script_in domains.items relations.items facts method know.items secrecies.items
+        secrets.items budget asks.items) schema view_nodes } by { IsSound-prop _ _ _ },
 }
 
 impl Script {
     ghost use Rattle.case_engine.specs.Script.{empty_script, with_spoken, with_statement};
     ghost use Rattle.case_engine.specs.Script.{before_asks, declare, with_domain, with_relation};
     ghost use Rattle.case_engine.specs.Script.{with_known, with_secret, choose, allow, ask_next};
-    ghost use Rattle.case_engine.specs.Script.{state, say, script_schema};
+    ghost use Rattle.case_engine.specs.Script.{state, say, say_secrecy, script_schema, all_secrets};
     ghost use Rattle.case_engine.specs.SchemaRefusal.{IsNoSentence};
     ghost use Rattle.case_engine.specs.Answering.{ArePartsOf};
     ghost use Rattle.case_engine.specs.Statements.{statement_of};
@@ -82,6 +83,7 @@ impl Script {
             facts: World::new(alloc),
             method: None,
             know: Vec::new(alloc),
+            secrecies: Vec::new(alloc),
             secrets: Vec::new(alloc),
             budget: None,
             asks: Vec::new(alloc),
@@ -93,6 +95,8 @@ impl Script {
     pub fn into_parts(self, alloc: Global) -> Result<Parts, AllocError>
         ensures { IfOk result (ArePartsOf (script_is self)) }
     {
+        law_pairs();
+        law_secrets_made();
         let name = String::from_str(alloc, "case")?;
         let Script {
             domains: _domains,
@@ -101,6 +105,7 @@ impl Script {
             facts,
             method,
             know,
+            secrecies,
             secrets,
             budget,
             asks,
@@ -110,7 +115,8 @@ impl Script {
             name,
             method: method.unwrap_or(Method::Lying),
             know,
-            secrets,
+            secrets: with_secrecies(alloc, secrecies.as_slice(), secrets)?,
+            pairs: secrecies.len() as u32,
             budget: budget.unwrap_or(BUDGET),
             token: None,
         };
@@ -152,6 +158,10 @@ impl Script {
             Statement::Know(text) => {
                 self.stands_before_asks()?;
                 self.add_known(alloc, text)
+            }
+            Statement::Secrecy(text) => {
+                self.stands_before_asks()?;
+                self.add_secrecy(alloc, text)
             }
             Statement::Secret(text) => {
                 self.stands_before_asks()?;
@@ -302,6 +312,41 @@ impl Script {
         Ok(())
     }
 
+    /// How many secrets the secrecies and the others make.
+    fn secret_count(&self) -> usize
+        ensures count { result ≡ length (all_secrets (script_is self.now)) }
+        ensures few { result ≤ 16 }
+    {
+        law_secrets_made();
+        2 * self.secrecies.len() + self.secrets.len()
+    }
+
+    /// One more secrecy, of which the negation is a secret too.
+    fn add_secrecy(&mut self, alloc: Global, text: &str) -> Result<(), LineError>
+        requires { length text.now ≤ 4096 }
+        ensures added { OnOk result
+            (say_secrecy (script_is self.old)
+            (reading (script_schema (script_is self.old)) text.now) ≡ Ok (script_is self.new)) }
+        ensures refused { IfErr result
+            (Refuses (say_secrecy (script_is self.old)
+            (reading (script_schema (script_is self.old)) text.now))) }
+    {
+        law_views_without_entries();
+        let sentence = self.read(alloc, text)?;
+        let count = nodes(&sentence, &self.schema).saturating_add(1);
+        let view_nodes = self
+            .view_nodes
+            .saturating_add(count)
+            .saturating_add(count)
+            .saturating_add(1);
+        if !keeps_limits(count, self.secret_count() + 1, SECRETS, view_nodes) {
+            return Err(LineError::Refused(ScriptKind::Limit));
+        }
+        self.secrecies.push(sentence)?;
+        self.view_nodes = view_nodes;
+        Ok(())
+    }
+
     /// One more secret.
     fn add_secret(&mut self, alloc: Global, text: &str) -> Result<(), LineError>
         requires { length text.now ≤ 4096 }
@@ -316,7 +361,7 @@ impl Script {
         let sentence = self.read(alloc, text)?;
         let count = nodes(&sentence, &self.schema);
         let view_nodes = self.view_nodes.saturating_add(count).saturating_add(1);
-        if !keeps_limits(count, self.secrets.len(), SECRETS, view_nodes) {
+        if !keeps_limits(count, self.secret_count(), SECRETS, view_nodes) {
             return Err(LineError::Refused(ScriptKind::Limit));
         }
         self.secrets.push(sentence)?;
@@ -324,14 +369,14 @@ impl Script {
         Ok(())
     }
 
-    /// One more ask, which stands behind a method and a secret.
+    /// One more ask, which stands behind a method and a secret or a secrecy.
     fn add_ask(&mut self, alloc: Global, text: &str) -> Result<(), LineError>
         requires { length text.now ≤ 4096 }
         ensures added { OnOk result
             (ask_next (script_is self.old) text.now ≡ Ok (script_is self.new)) }
         ensures refused { IfErr result (Refuses (ask_next (script_is self.old) text.now)) }
     {
-        if self.method.is_none() || self.secrets.is_empty() {
+        if self.method.is_none() || self.secret_count() == 0 {
             return Err(LineError::Refused(ScriptKind::Order));
         }
         let text = String::from_str(alloc, text)?;

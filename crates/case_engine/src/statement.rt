@@ -29,6 +29,7 @@ pub enum Statement<'a> {
     Fact(&'a str),
     Method(Method),
     Know(&'a str),
+    Secrecy(&'a str),
     Secret(&'a str),
     Budget(u64),
     Ask(&'a str),
@@ -50,6 +51,8 @@ fn worded<'a>(alloc: Global, word: &str, text: &'a str) -> Result<Option<Stateme
         Ok(method_statement(Method::named(text)))
     } else if word == "know" {
         Ok(Some(Statement::Know(text)))
+    } else if word == "secrecy" {
+        Ok(Some(Statement::Secrecy(text)))
     } else if word == "secret" {
         Ok(Some(Statement::Secret(text)))
     } else if word == "budget" {

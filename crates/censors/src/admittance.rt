@@ -12,7 +12,7 @@ ghost use Rattle.censors.specs.Admitting.{probe_objection, secrets_objection, tr
 ghost use Rattle.censors.specs.Admitting.{objection_of, admission_of};
 
 use crate::disjunction;
-use cqe_base::laws::law_limits;
+use cqe_base::laws::{law_limits, law_secrecy};
 use cqe_base::schema::Schema;
 use cqe_base::sentence::Sentence;
 use cqe_base::user::{Method, User};
@@ -52,7 +52,12 @@ pub fn admit(
         ≡ admission_of schema.now world.now (profile_of user.now)) }
     ensures open { IfOk result (λ found. (found ≡ Admission.Open)
         ↔ (admitted schema.now world.now (profile_of user.now) ≡ true)) }
+    // A lying user with a secrecy is never admitted.
+    ensures liars { IfOk result (λ found. user.now.method ≡ Method.Lying → 1 ≤ user.now.pairs
+        → found ≡ Admission.Open → ⊥) }
 {
+    law_secrecy();
+    schema.known();
     match objection(alloc, schema, world, user)? {
         Some(found) => Ok(found),
         None => Ok(Admission::Open),
@@ -111,7 +116,8 @@ fn disjunction_objection(
     law_limits();
     let mut view = View::new(alloc, schema, user)?;
     let goal = disjunction(alloc, user.secrets.as_slice())?;
-    probe_objection(alloc, &mut view, &goal, None)
+    let found = probe_objection(alloc, &mut view, &goal, None)?;
+    Ok(found)
 }
 
 /// The first probe of what the user knows against a secret that isn't open.
@@ -148,8 +154,7 @@ fn probe_objection(
     requires log_nodes { log_nodes (schema_of view.old) (log_of view.old) ≤ 40000 }
     ensures found { IfOk result (λ found. found
         ≡ probe_objection (schema_of view.old) (log_of view.old) (formula_of goal.now) number) }
-    ensures schema { schema_of view.new ≡ schema_of view.old }
-    ensures log { log_of view.new ≡ log_of view.old }
+    ensures same { view.new ≡ view.old }
 {
     let probe = Probe {
         premise: None,

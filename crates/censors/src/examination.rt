@@ -59,45 +59,46 @@ struct Implied {
     answer: Option<bool>,
 }
 
-/// Makes every probe of a query after the view's log, with the user's budget. It looks at no world.
+/// Makes every probe of a query after the view's log, with the user's budget. It looks at no world,
+/// and the log stays.
 pub fn examine(
     alloc: Global,
-    view: &View<'_>,
+    view: &mut View<'_>,
     user: &User,
     query: &Sentence,
 ) -> Result<Findings, AllocError>
-    requires limits { KeepsLimits (schema_of view.now) (profile_of user.now) }
-    requires sentence { is_sentence_of (schema_of view.now) (formula_of query.now) ≡ true }
-    requires query_nodes { nodes (schema_of view.now) (formula_of query.now) ≤ 20000 }
-    requires all_nodes { log_nodes (schema_of view.now) (log_of view.now)
-        + nodes (schema_of view.now) (formula_of query.now) ≤ 60000 }
+    requires limits { KeepsLimits (schema_of view.old) (profile_of user.now) }
+    requires sentence { is_sentence_of (schema_of view.old) (formula_of query.now) ≡ true }
+    requires query_nodes { nodes (schema_of view.old) (formula_of query.now) ≤ 20000 }
+    requires all_nodes { log_nodes (schema_of view.old) (log_of view.old)
+        + nodes (schema_of view.old) (formula_of query.now) ≤ 60000 }
     ensures findings { IfOk result
-        (HasFindings (schema_of view.now) (profile_of user.now) (log_of view.now)
+        (HasFindings (schema_of view.old) (profile_of user.now) (log_of view.old)
         (formula_of query.now)) }
     ensures spent { IfOk result
-        (AreSpentByCost (schema_of view.now) (profile_of user.now) (log_of view.now)
+        (AreSpentByCost (schema_of view.old) (profile_of user.now) (log_of view.old)
         (formula_of query.now)) }
-    ensures undecided { IfOk result (DecideUndecided (schema_of view.now) (profile_of user.now)
-        (log_of view.now) (formula_of query.now)) }
+    ensures undecided { IfOk result (DecideUndecided (schema_of view.old) (profile_of user.now)
+        (log_of view.old) (formula_of query.now)) }
+    ensures same { view.new ≡ view.old }
 {
     law_limits();
     law_spent_is_cost();
     law_undecided_is_cost();
-    let mut view = view.copy(alloc)?;
     let secrets = user.secrets.as_slice();
     match user.method {
         Method::Lying => {
             let guarded = [disjunction(alloc, secrets)?];
-            let harms = ask_both(alloc, &mut view, query, &guarded, user.budget)?;
+            let harms = ask_both(alloc, view, query, &guarded, user.budget)?;
             Ok(found(harms, None))
         }
         Method::Refusal => {
-            let implied = ask_log(alloc, &mut view, query, user.budget)?;
-            let harms = ask_both(alloc, &mut view, query, secrets, user.budget)?;
+            let implied = ask_log(alloc, view, query, user.budget)?;
+            let harms = ask_both(alloc, view, query, secrets, user.budget)?;
             Ok(found(harms, Some(implied)))
         }
         Method::Combined => {
-            let harms = ask_both(alloc, &mut view, query, secrets, user.budget)?;
+            let harms = ask_both(alloc, view, query, secrets, user.budget)?;
             Ok(found(harms, None))
         }
     }
@@ -137,8 +138,7 @@ fn ask_log(
     requires budget { budget ≤ 4000000 }
     ensures implied { IfOk result
         (IsImplied (schema_of view.old) budget (log_of view.old) (formula_of query.now)) }
-    ensures schema { schema_of view.new ≡ schema_of view.old }
-    ensures log { log_of view.new ≡ log_of view.old }
+    ensures same { view.new ≡ view.old }
 {
     let yes = ask(
         alloc,
@@ -197,8 +197,7 @@ fn ask_both(
     ensures harms { IfOk result
         (AreHarms (schema_of view.old) budget (log_of view.old) (formula_of query.now)
         (map formula_of goals.now)) }
-    ensures schema { schema_of view.new ≡ schema_of view.old }
-    ensures log { log_of view.new ≡ log_of view.old }
+    ensures same { view.new ≡ view.old }
 {
     let yes = ask_each(alloc, view, (query, true), goals, budget)?;
     let no = ask_each(alloc, view, (query, false), goals, budget)?;
@@ -230,8 +229,7 @@ fn ask_each(
     ensures answer { IfOk result
         (IsAnswerOfAll (schema_of view.old) budget (log_of view.old ++ signed_at premise.entry ∷ [])
         (map formula_of goals.now)) }
-    ensures schema { schema_of view.new ≡ schema_of view.old }
-    ensures log { log_of view.new ≡ log_of view.old }
+    ensures same { view.new ≡ view.old }
 {
     let mut all = Answer {
         spent: false,
@@ -277,8 +275,7 @@ fn ask(
     ensures answer { IfOk result
         (IsAnswer (schema_of view.old) budget (log_of view.old ++ premise_of probe.now)
         (goal_of probe.now)) }
-    ensures schema { schema_of view.new ≡ schema_of view.old }
-    ensures log { log_of view.new ≡ log_of view.old }
+    ensures same { view.new ≡ view.old }
 {
     law_entailment();
     match test(alloc, view, probe, budget)? {

@@ -6,7 +6,7 @@ use Rattle.cqe_base.specs.Machine.{State, Continues, Ends, End, Ended, step, end
 use Rattle.clause_solver.specs.Costs.{cost_within}
 
 -- the cost of the rest within what is left
-rest_within : (cost left : ℕ) (o : Option Ended) → cost ≤ left → cost_within left (with_cost cost o) ≡ cost + cost_within (left - cost) o
+pub rest_within : (cost left : ℕ) (o : Option Ended) → cost ≤ left → cost_within left (with_cost cost o) ≡ cost + cost_within (left - cost) o
 rest_within cost left None h = let e : left ≡ cost + (left - cost) = omega arith in e
 rest_within cost left (Some e) h = same_choice cost e.cost left h
   where

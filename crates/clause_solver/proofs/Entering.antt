@@ -8,6 +8,7 @@ use Rattle.std.proofs.lemmas.List.{length_push, length-map, length-set, get_or_a
 use Rattle.cqe_base.specs.Literal.{Literal, variable_of, same_literal, has_literal, ClauseBelow, ClausesBelow}
 use Rattle.cqe_base.specs.Machine.{Assigned, is_false, level}
 use Rattle.cqe_base.proofs.ClauseTruth.{same_literal-true}
+use Rattle.cqe_base.proofs.Trails.{level_of-le}
 use Rattle.cqe_base.proofs.MachineRules.{each_has}
 use Rattle.clause_solver.specs.declared.watches.Pair.{Pair}
 use Rattle.clause_solver.specs.declared.watches.Watch.{Watch}
@@ -40,7 +41,7 @@ module _ (t : List Assigned) (c d : List Literal) (same : (l : Literal) → has_
     empty = λ none. w.empty (omega arith);
   }
 
-single_but : (t : List Assigned) (c : List Literal) (l : Literal) → length c ≡ 1 → has_literal c l ≡ true → AllFalseBut t l c
+pub single_but : (t : List Assigned) (c : List Literal) (l : Literal) → length c ≡ 1 → has_literal c l ≡ true → AllFalseBut t l c
 single_but t [] l e h = tt
 single_but t (x ∷ []) l e h =
     (inl (sym (⊎_elim (λ s. same_literal-true l x s) (λ s. absurd (both_ways false refl s)) (or_cases (same_literal l x) false h))), tt)
@@ -142,14 +143,13 @@ module _ (n : ℕ) (t : List Assigned) (cs : List (List Literal)) (lists : List 
   falsified_before (Some i) h = let lt = h.0 in let e = size in (omega arith, ap (list_all (is_false t)) (old_clause i h.0) ∙ h.1)
 
   -- a clause with no literal
-  pub entered_empty : length c ≡ 0 → level t ≡ 0 → IsWatched t c p (eqb (length c) 1) (eqb (length c) 0)
-      → IsWatching n t cs' lists (pairs ++ p ∷ []) units (lowest falsified m) g []
-  entered_empty none base w =
+  pub entered_empty : length c ≡ 0 → level t ≡ 0 → IsWatching n t cs' lists (pairs ++ p ∷ []) units (lowest falsified m) g []
+  entered_empty none base =
       entered lists units (lowest falsified m)
       (λ i k h. h) refl (λ l. all_weaker (IsWatchOf cs) (IsWatchOf cs') watch_more _ (before.watches l))
       (λ pos. absurd (omega arith)) (λ pos. absurd (omega arith))
       (λ i h. h) (λ i h. lowest_more falsified m i h)
-      (watched_more t c p _ _ _ _ (λ e. absurd (let x = eqb-true (length c) 1 e in omega arith)) (λ _. lowest_caught falsified m) w)
+      none_watched
       (λ i h. inl h)
       (lowest_is (λ i. (i < length cs')
       × (list_all (is_false t) (get_or cs' i []) ≡ true)) falsified m (falsified_before falsified before.falsified_is) (
@@ -158,14 +158,25 @@ module _ (n : ℕ) (t : List Assigned) (cs : List (List Literal)) (lists : List 
         ap (list_all (is_false t)) (new_clause m refl) ∙ no_literal c none,
       ))
     where
+      none_watched : IsWatched t c p (has_number units m) (is_caught (lowest falsified m) m)
+      none_watched = record {
+        first_in = λ pos. absurd (omega arith);
+        second_in = λ pos. absurd (omega arith);
+        first_answered = λ f. is_falsified (let le = level_of-le t p.first in omega arith) (lowest_caught falsified m);
+        second_answered = λ f. is_falsified (let le = level_of-le t p.second in omega arith) (lowest_caught falsified m);
+        single = λ e. omega arith;
+        alone = λ pos e. absurd (omega arith);
+        empty = λ e. (base, lowest_caught falsified m);
+      }
+
       no_literal : (d : List Literal) → length d ≡ 0 → list_all (is_false t) d ≡ true
       no_literal [] e = refl
       no_literal (x ∷ d) e = absurd (omega arith)
 
   -- a clause with a literal is watched by two of them
   module _ (pos : 0 < length c) (first_room : code_of p.first < length lists) (second_room : code_of p.second < length lists)
-      (units' : List ℕ) (units_are : (i : ℕ) → has_number units' i ≡ (has_number units i || (eqb (length c) 1 && eqb m i)))
-      (w : IsWatched t c p (eqb (length c) 1) (eqb (length c) 0)) where
+      (units' : List ℕ) (u : Bool) (units_are : (i : ℕ) → has_number units' i ≡ (has_number units i || (u && eqb m i)))
+      (w : IsWatched t c p u (eqb (length c) 0)) (only : u ≡ true → AllFalseBut t p.first c) where
     abbrev v1 : Watch
     v1 = watch_of m p.second
 
@@ -210,8 +221,8 @@ module _ (n : ℕ) (t : List Assigned) (cs : List (List Literal)) (lists : List 
         omega arith)) w)
         (λ i h. ⊎_elim
         (λ e. inl e)
-        (λ e. let parts : (eqb (length c) 1 ≡ true) × (eqb m i ≡ true) = and_parts _ _ e in
-        inr (sym (eqb-true m i parts.1), p.first, single_but t c p.first (eqb-true (length c) 1 parts.0) (w.first_in pos)))
+        (λ e. let parts : (u ≡ true) × (eqb m i ≡ true) = and_parts _ _ e in
+        inr (sym (eqb-true m i parts.1), p.first, only parts.0))
         (or_cases _ _ (sym (units_are i) ∙ h)))
         (falsified_before falsified before.falsified_is)
 

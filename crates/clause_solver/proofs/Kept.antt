@@ -8,7 +8,7 @@ use Rattle.std.proofs.lemmas.Bool.{and_right}
 use Rattle.std.proofs.lemmas.List.{get_or-set_same, get_or-set_other, length-set, get_or_past, get_or-replicate, length-replicate, reverse-append}
 use Rattle.cqe_base.specs.Literal.{Literal, Positive, Negative, variable_of, same_literal}
 use Rattle.cqe_base.specs.Machine.{Assigned, assigned_literal, is_true, level, level_of, first_unassigned}
-use Rattle.cqe_base.specs.MachineStates.{is_assigned}
+use Rattle.cqe_base.specs.MachineStates.{is_assigned, IsDistinct}
 use Rattle.cqe_base.proofs.ClauseTruth.{same_literal-true, same_literal-same}
 use Rattle.cqe_base.proofs.Trails.{true_is_assigned}
 use Rattle.clause_solver.specs.Entries.{is_decided}
@@ -154,9 +154,9 @@ module _ (n : ℕ) (t : List Assigned) (truths : List Bool) (levels places : Lis
       → IsKept n (a ∷ t) (set truths c true) (set levels v more) (set places v size) more next
   kept_push a c v size more ec ev es em low free = record {
     once = (subst (λ x. x < n) ev low, subst (λ x. is_assigned t x ≡ false) ev free, kept.once);
-    truths_room = length-set truths c true ∙ kept.truths_room;
-    levels_room = length-set levels v more ∙ kept.levels_room;
-    places_room = length-set places v size ∙ kept.places_room;
+    truths_room = let e = length-set truths c true in let r = kept.truths_room in omega arith;
+    levels_room = let e = length-set levels v more in let r = kept.levels_room in omega arith;
+    places_room = let e = length-set places v size in let r = kept.places_room in omega arith;
     true_at = λ l. elim (cases_eq (code_of l) c) [
       | inl same ↦ subst (λ x. get_or (set truths c true) x false ≡ true) (sym same) (get_or-set_same truths c true false in_truths)
           ∙ sym (or_left _ _ (subst (λ m. same_literal l m ≡ true) (code_of-injective l (assigned_literal a) (same ∙ ec)) (same_literal-same l)))
@@ -199,9 +199,9 @@ pub kept_pop : (n : ℕ) (a : Assigned) (t : List Assigned) (truths : List Bool)
     → IsKept n t (set truths c false) (set levels v 0) (set places v 0) less low
 kept_pop n a t truths levels places decisions next c v less low kept ec ev el ew = record {
   once = kept.once.2;
-  truths_room = length-set truths c false ∙ kept.truths_room;
-  levels_room = length-set levels v 0 ∙ kept.levels_room;
-  places_room = length-set places v 0 ∙ kept.places_room;
+  truths_room = let e = length-set truths c false in let r = kept.truths_room in omega arith;
+  levels_room = let e = length-set levels v 0 in let r = kept.levels_room in omega arith;
+  places_room = let e = length-set places v 0 in let r = kept.places_room in omega arith;
   true_at = λ l. elim (cases_eq (code_of l) c) [
     | inl same ↦ subst (λ x. get_or (set truths c false) x false ≡ false) (sym same) (get_or-set_same truths c false false in_truths)
         ∙ sym (unassigned-true t l (subst (λ m. is_assigned t (variable_of m) ≡ false) (sym (code_of-injective l (assigned_literal a) (same ∙ ec))) free))
@@ -248,22 +248,68 @@ kept_pop n a t truths levels places decisions next c v less low kept ec ev el ew
     lower true e = omega arith
     lower false e = e
 
-replicate_at : {X : Type 0} (n i : ℕ) (x : X) → get_or (replicate n x) i x ≡ x
+pub replicate_at : {X : Type 0} (n i : ℕ) (x : X) → get_or (replicate n x) i x ≡ x
 replicate_at n i x =
     elim (cases_lt i n) [ inl low ↦ get_or-replicate n i x x low | inr high ↦ get_or_past (replicate n x) i x (let e = length-replicate n x in omega arith) ]
+
+room_of : {X : Type 0} (n : ℕ) (x : X) → n ≤ length (replicate n x)
+room_of n x = let e = length-replicate n x in omega arith
 
 -- nothing is assigned
 pub kept_none : (n : ℕ) → IsKept n [] (replicate (2 * n) false) (replicate n 0) (replicate n 0) 0 0
 kept_none n = record {
   once = tt;
-  truths_room = length-replicate (2 * n) false;
-  levels_room = length-replicate n 0;
-  places_room = length-replicate n 0;
+  truths_room = room_of (2 * n) false;
+  levels_room = room_of n 0;
+  places_room = room_of n 0;
   true_at = λ l. replicate_at (2 * n) (code_of l) false;
   level_at = λ v. replicate_at n v 0;
   place_at = λ v. replicate_at n v 0;
   level_is = refl;
   assigned_below = λ v low. absurd (omega arith);
+  next_room = omega arith;
+}
+
+-- a variable past the last one isn't assigned
+pub above : (n : ℕ) (t : List Assigned) (v : ℕ) → IsDistinct n t → n ≤ v → is_assigned t v ≡ false
+above n [] v d le = refl
+above n (a ∷ t) v d le =
+    ap (λ b. b || is_assigned t v) (ne_eqb v (variable_of (assigned_literal a)) (λ e. let lt = d.0 in omega arith)) ∙ above n t v d.2 le
+
+-- the same with more room
+pub kept_grown : (n : ℕ) (t : List Assigned) (truths truths' : List Bool) (levels levels' places places' : List ℕ) (decisions next : ℕ)
+    → IsKept n t truths levels places decisions next
+    → length truths ≤ length truths' → ((i : ℕ) → get_or truths' i false ≡ get_or truths i false)
+    → length levels ≤ length levels' → ((i : ℕ) → get_or levels' i 0 ≡ get_or levels i 0)
+    → length places ≤ length places' → ((i : ℕ) → get_or places' i 0 ≡ get_or places i 0)
+    → IsKept n t truths' levels' places' decisions next
+kept_grown n t truths truths' levels levels' places places' decisions next kept t_more t_same l_more l_same p_more p_same = record {
+  once = kept.once;
+  truths_room = let r = kept.truths_room in omega arith;
+  levels_room = let r = kept.levels_room in omega arith;
+  places_room = let r = kept.places_room in omega arith;
+  true_at = λ l. t_same (code_of l) ∙ kept.true_at l;
+  level_at = λ v. l_same v ∙ kept.level_at v;
+  place_at = λ v. p_same v ∙ kept.place_at v;
+  level_is = kept.level_is;
+  assigned_below = kept.assigned_below;
+  next_room = kept.next_room;
+}
+
+-- and over another number of variables
+pub kept_over : (n m : ℕ) (t : List Assigned) (truths : List Bool) (levels places : List ℕ) (decisions next low : ℕ)
+    → IsKept n t truths levels places decisions next → IsDistinct m t → 2 * m ≤ length truths → m ≤ length levels → m ≤ length places
+    → low ≡ min next m → IsKept m t truths levels places decisions low
+kept_over n m t truths levels places decisions next low kept once t_room l_room p_room e = record {
+  once = once;
+  truths_room = t_room;
+  levels_room = l_room;
+  places_room = p_room;
+  true_at = kept.true_at;
+  level_at = kept.level_at;
+  place_at = kept.place_at;
+  level_is = kept.level_is;
+  assigned_below = λ v lt. kept.assigned_below v (omega arith);
   next_room = omega arith;
 }
 

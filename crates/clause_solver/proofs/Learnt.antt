@@ -12,7 +12,7 @@ use Rattle.clause_solver.specs.Watching.{HasTrue, satisfied, is_unit, IsWatched}
 use Rattle.clause_solver.specs.IndexedStates.{IsHighestBeside, first_two}
 use Rattle.clause_solver.proofs.Visits.{not_empty}
 
-all_one : (c : List Literal) (l : Literal) → HasNoRepeat c → ((x : Literal) → has_literal c x ≡ true → x ≡ l) → length c ≤ 1
+pub all_one : (c : List Literal) (l : Literal) → HasNoRepeat c → ((x : Literal) → has_literal c x ≡ true → x ≡ l) → length c ≤ 1
 all_one [] l r h = omega arith
 all_one (x ∷ []) l r h = omega arith
 all_one (x ∷ y ∷ c) l r h =

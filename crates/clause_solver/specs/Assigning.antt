@@ -22,9 +22,9 @@ place_of (a ∷ trail) v =
 pub record IsKept (n : ℕ) (trail : List Assigned) (truths : List Bool) (levels places : List ℕ)
     (decisions next : ℕ) : Type 0 where
   pub once : IsDistinct n trail
-  pub truths_room : length truths ≡ 2 * n
-  pub levels_room : length levels ≡ n
-  pub places_room : length places ≡ n
+  pub truths_room : 2 * n ≤ length truths
+  pub levels_room : n ≤ length levels
+  pub places_room : n ≤ length places
   pub true_at : (l : Literal) → slice_index_or truths (code_of l) false ≡ is_true trail l
   pub level_at : (v : ℕ) → slice_index_or levels v 0 ≡ level_of trail (Positive v)
   pub place_at : (v : ℕ) → slice_index_or places v 0 ≡ place_of trail v

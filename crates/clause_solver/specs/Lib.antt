@@ -8,3 +8,6 @@ pub mod IndexedStates
 pub mod Costs
 pub mod Lines
 pub mod RightEnds
+pub mod Beginnings
+pub mod KeptStates
+pub mod KeptClauses

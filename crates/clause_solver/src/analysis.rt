@@ -9,7 +9,7 @@ ghost use Rattle.cqe_base.specs.Machine.{highest_level, kept_count, conflict_lin
 ghost use Rattle.cqe_base.specs.MachineStates.{IsReached};
 ghost use Rattle.cqe_base.proofs.Analysis.{walk_back};
 ghost use Rattle.clause_store.specs.PlainLines.{line_of};
-ghost use Rattle.clause_solver.specs.Lines.{line_with, state_at, IsConflict};
+ghost use Rattle.clause_solver.specs.Lines.{line_with, state_at, IsAnalysable};
 
 use crate::assignment::Assignment;
 use crate::entry::TrailEntry;
@@ -114,7 +114,7 @@ pub fn conflict_line(
     requires fits { number < 2 ^ 32 }
     requires below { ClausesBelow clause.old.variables clauses.now }
     requires empty { clause.old.clause ≡ [] }
-    requires conflict { IsConflict (state_at clauses.now assignment.now.trail) number }
+    requires conflict { IsAnalysable (state_at clauses.now assignment.now.trail) number }
     requires reached { IsReached clause.old.variables (state_at clauses.now assignment.now.trail) }
     ensures line { IfOk result (λ line. line_of line
         ≡ conflict_line (state_at clauses.now assignment.now.trail) number) }

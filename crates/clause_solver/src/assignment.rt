@@ -1,14 +1,16 @@
 //! The trail with what is asked of it at hand: the truth of each literal, and the level and the
 //! place of each variable.
 
-ghost use Rattle.std.specs.Prelude.{◌≡◌, ◌<◌, ◌≤◌, ◌^◌, ◌+◌, ◌-◌, ◌*◌, false, [], ◌∷◌, length};
+ghost use Rattle.std.specs.Prelude.{◌≡◌, ◌<◌, ◌≤◌, ◌^◌, ◌+◌, ◌-◌, ◌*◌, ℕ, false, [], ◌∷◌};
+ghost use Rattle.std.specs.Prelude.{length, slice_index_or};
 ghost use Rattle.std.specs.Prelude.{reverse, IfOk, IfSome, IfNone, if◌then◌else◌};
 ghost use Rattle.cqe_base.specs.Literal.{variable_of};
 ghost use Rattle.cqe_base.specs.Machine.{Assigned, assigned_literal, is_true, is_false, level};
 ghost use Rattle.cqe_base.specs.Machine.{level_of, is_current, first_unassigned};
-ghost use Rattle.cqe_base.specs.MachineStates.{is_assigned};
+ghost use Rattle.cqe_base.specs.KeptTrail.{place_against, latest_place};
+ghost use Rattle.cqe_base.specs.MachineStates.{is_assigned, IsDistinct};
 ghost use Rattle.clause_solver.specs.Entries.{is_decided};
-ghost use Rattle.clause_solver.specs.Assigning.{IsFirstZero};
+ghost use Rattle.clause_solver.specs.Assigning.{place_of, IsFirstZero};
 ghost use Rattle.clause_solver.specs.Watching.{is_open};
 
 use crate::entry::TrailEntry;
@@ -61,6 +63,43 @@ impl Assignment {
             decisions: 0,
             next: 0,
         })
+    }
+
+    /// How many variables there are.
+    pub fn variables(&self) -> u32
+        ensures { result ≡ self.now.variables }
+    {
+        self.variables
+    }
+
+    /// The same once more.
+    pub fn copy(&self, alloc: Global) -> Result<Assignment, AllocError>
+        ensures { IfOk result (λ copy. copy ≡ self.now) }
+    {
+        Ok(Assignment {
+            variables: self.variables,
+            trail: Vec::from_slice(alloc, self.trail.as_slice())?,
+            truths: Vec::from_slice(alloc, self.truths.as_slice())?,
+            levels: Vec::from_slice(alloc, self.levels.as_slice())?,
+            places: Vec::from_slice(alloc, self.places.as_slice())?,
+            decisions: self.decisions,
+            next: self.next,
+        })
+    }
+
+    /// So many variables, below which those on the trail have to be.
+    pub fn set_variables(&mut self, variables: u32) -> Result<(), AllocError>
+        requires fits { variables < 2 ^ 31 }
+        requires below { IsDistinct variables self.old.trail }
+        ensures { IfOk result (λ _. self.new ≡ record self.old { variables = variables }) }
+    {
+        let size = variables as usize;
+        grow(&mut self.truths, 2 * size, false)?;
+        grow(&mut self.levels, size, 0)?;
+        grow(&mut self.places, size, 0)?;
+        self.next = self.next.min(variables);
+        self.variables = variables;
+        Ok(())
     }
 
     /// The entries, with the latest one last.
@@ -123,6 +162,41 @@ impl Assignment {
         ensures { result ≡ is_current self.now.trail literal }
     {
         self.level_of(literal) == self.level()
+    }
+
+    /// The place of a variable, or 0.
+    fn place_of(&self, variable: u32) -> usize
+        ensures { result ≡ place_of self.now.trail variable }
+    {
+        let at = variable as usize;
+        if at < self.places.len() {
+            self.places[at]
+        } else {
+            0
+        }
+    }
+
+    /// How long the trail is up to and with the opposite of a literal, or 0.
+    fn place_against(&self, literal: Lit) -> usize
+        ensures { result ≡ place_against self.now.trail literal }
+    {
+        let _ = &self.variables;
+        if self.is_false(literal) {
+            self.place_of(literal.variable())
+        } else {
+            0
+        }
+    }
+
+    /// How long the trail is up to and with the latest opposite of a clause's literals, or 0.
+    pub fn latest_place(&self, clause: &[Lit]) -> usize
+        ensures { result ≡ latest_place self.now.trail clause.now }
+    {
+        let mut latest = 0;
+        for literal in clause {
+            latest = latest.max(self.place_against(*literal));
+        }
+        latest
     }
 
     /// An entry joins the trail.
@@ -194,9 +268,22 @@ fn level_without(level: usize, entry: TrailEntry) -> usize
     }
 }
 
+/// At least so many elements, with this one behind those that were there.
+fn grow<T: Copy>(elements: &mut Vec<T>, room: usize, element: T) -> Result<(), AllocError>
+    ensures same { (i : ℕ) → slice_index_or elements.new.items i element
+        ≡ slice_index_or elements.old.items i element }
+    ensures more { length elements.old.items ≤ length elements.new.items }
+    ensures room { IfOk result (λ _. room ≤ length elements.new.items) }
+{
+    if elements.len() < room {
+        elements.resize(room, element)?;
+    }
+    Ok(())
+}
+
 /// The first variable with place 0.
 fn first_zero(places: &[usize], start: u32, end: u32) -> Option<u32>
-    requires { length places.now ≡ end }
+    requires { end ≤ length places.now }
     ensures { IsFirstZero places.now start end result }
 {
     for variable in start..end {

@@ -5,13 +5,14 @@ ghost use Rattle.std.specs.Prelude.{◌++◌, length, map, Some, None, IfOk, IfS
 ghost use Rattle.std.specs.Prelude.{if◌then◌else◌};
 ghost use Rattle.std.specs.List.{position_from, list_all, find};
 ghost use Rattle.std.specs.Option.{option_map};
-ghost use Rattle.cqe_base.specs.Literal.{Literal, variable_of, ClauseBelow};
+ghost use Rattle.cqe_base.specs.Literal.{Literal, variable_of, ClauseBelow, ClausesBelow};
 ghost use Rattle.cqe_base.specs.Machine.{Assigned, assigned_literal, is_true, is_false, level};
 ghost use Rattle.cqe_base.specs.Machine.{first_unit, cut};
 ghost use Rattle.cqe_base.specs.MachineStates.{is_assigned};
-ghost use Rattle.clause_solver.specs.Watching.{IsWatched};
+ghost use Rattle.clause_solver.specs.Watching.{IsWatched, AllFalseBut};
 ghost use Rattle.clause_solver.specs.WatchesInside.{units_of};
 ghost use Rattle.clause_solver.specs.IndexedStates.{plain_of, IsLookedAt, IsIndexed};
+ghost use Rattle.clause_solver.specs.KeptStates.{IsKeptState, IsSettled};
 
 use crate::assignment::Assignment;
 use crate::entry::TrailEntry;
@@ -20,7 +21,7 @@ use clause_store::clauses::Clauses;
 use clause_store::literal::Lit;
 use clause_store::marked_clause::MarkedClause;
 use clause_store::refutation::Line;
-use std::alloc::AllocError;
+use std::alloc::{AllocError, Global};
 
 /// The given and the learnt clauses, the trail, and the lines so far, with what is kept of them.
 #[derive(Drop)]
@@ -34,15 +35,56 @@ pub struct Indexed {
 }
 
 impl Indexed {
-    /// One more clause, whose number is below 2^32, with the literals that it watches.
-    pub fn enter(&mut self, clause: &[Lit], first: Lit, second: Lit) -> Result<(), AllocError>
+    /// The same once more, where no rule applies at level 0.
+    pub fn copy(&self, alloc: Global) -> Result<Indexed, AllocError>
+        requires settled { IsSettled self.now }
+        ensures assignment { IfOk result (λ copy. copy.assignment ≡ self.now.assignment) }
+        ensures clauses { IfOk result (λ copy. copy.clauses ≡ self.now.clauses) }
+        ensures kept { IfOk result IsKeptState }
+    {
+        Ok(Indexed {
+            assignment: self.assignment.copy(alloc)?,
+            clauses: self.clauses.copy(alloc)?,
+            watches: self.watches.copy(alloc)?,
+            lines: Vec::new(alloc),
+            resolvent: MarkedClause::new(alloc, self.assignment.variables())?,
+        })
+    }
+
+    /// So many variables, below which those of the clauses have to be.
+    pub fn set_variables(&mut self, alloc: Global, variables: u32) -> Result<(), AllocError>
+        requires variables { variables < 2 ^ 31 }
+        requires below { ClausesBelow variables self.old.clauses }
+        requires kept { IsKeptState self.old }
+        ensures trail { IfOk result
+            (λ _. self.new.assignment.trail ≡ self.old.assignment.trail) }
+        ensures clauses { IfOk result (λ _. self.new.clauses ≡ self.old.clauses) }
+        ensures variables { IfOk result (λ _. self.new.assignment.variables ≡ variables) }
+        ensures kept { IfOk result (λ _. IsKeptState self.new) }
+    {
+        self.assignment.set_variables(variables)?;
+        self.watches.set_variables(alloc, variables)?;
+        self.resolvent = MarkedClause::new(alloc, variables)?;
+        Ok(())
+    }
+
+    /// One more clause, whose number is below 2^32, with the literals that it watches, and whether
+    /// it may be unit.
+    pub fn enter(
+        &mut self,
+        clause: &[Lit],
+        first: Lit,
+        second: Lit,
+        unit: bool,
+    ) -> Result<(), AllocError>
         requires below { ClauseBelow self.old.assignment.variables clause.now }
         requires room { length self.old.clauses < 2 ^ 32 }
         requires watched { IsWatched self.old.assignment.trail clause.now (record {
           first =
               first;
           second = second;
-        }) (length clause.now == 1) (length clause.now == 0) }
+        }) unit (length clause.now == 0) }
+        requires unit { unit ≡ true → AllFalseBut self.old.assignment.trail first clause.now }
         requires looked { IsLookedAt self.old }
         ensures plain { IfOk result (λ _. plain_of self.new ≡ record (plain_of self.old) {
           clauses =
@@ -52,7 +94,7 @@ impl Indexed {
         ensures looked { IfOk result (λ _. IsLookedAt self.new) }
     {
         self.clauses.push(clause)?;
-        self.watches.enter(clause, first, second)?;
+        self.watches.enter(clause, first, second, unit)?;
         Ok(())
     }
 

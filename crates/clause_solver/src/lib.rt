@@ -13,8 +13,11 @@
 //! A conflict is analysed on one clause with a mark for each literal
 //! (`clause_store::marked_clause`), so a resolution looks at each literal once.
 //!
+//! `KeptSearch` keeps a list of clauses with the steps that it leads to without a decision, and
+//! searches longer lists from there (cqe_base, specs/KeptTrail.antt).
+//!
 //! Read `entry` and `ends`, then `assignment`, `min_heap` and `watches`, then `indexed`,
-//! `analysis`, `rules` and `run`.
+//! `analysis`, `rules` and `run`, then `falsified`, `joining`, `propagation` and `kept_search`.
 //! `plain` stands alone.
 #![tactic(auto)]
 
@@ -23,13 +26,18 @@ mod assignment;
 mod conditions;
 mod ends;
 mod entry;
+mod falsified;
 mod indexed;
+mod joining;
+mod kept_search;
 mod min_heap;
 pub mod plain;
+mod propagation;
 mod rules;
 mod run;
 mod watches;
 
 pub use conditions::is_searchable;
 pub use ends::{Found, Searched};
+pub use kept_search::KeptSearch;
 pub use run::{search, search_with_cost};

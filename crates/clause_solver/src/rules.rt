@@ -1,7 +1,7 @@
 //! The rules of the machine on the state with what is kept of its clauses.
 
-ghost use Rattle.std.specs.Prelude.{◌≡◌, ◌⊎◌, ◌<◌, ◌≤◌, ◌^◌, ◌+◌, ℕ, [], ◌∷◌, ◌++◌, length, map};
-ghost use Rattle.std.specs.Prelude.{Some, None, IfOk, IfSome};
+ghost use Rattle.std.specs.Prelude.{◌≡◌, ◌⊎◌, ◌<◌, ◌≤◌, ◌^◌, ◌+◌, ◌==◌, ℕ, [], ◌∷◌, ◌++◌};
+ghost use Rattle.std.specs.Prelude.{length, map, Some, None, IfOk, IfSome};
 ghost use Rattle.std.specs.List.{position_from, list_all};
 ghost use Rattle.cqe_base.specs.Literal.{Literal, Negative, variable_of};
 ghost use Rattle.cqe_base.specs.Machine.{State as PlainState, state_after_conflict, step, level};
@@ -52,6 +52,13 @@ fn higher_beside(assignment: &Assignment, literal: Lit, highest: Lit, other: Lit
     }
 }
 
+/// Whether a clause has one literal.
+pub fn is_single(clause: &[Lit]) -> bool
+    ensures { result ≡ (length clause.now == 1) }
+{
+    clause.len() == 1
+}
+
 /// A line's clause is learnt.
 fn learn(state: &mut Indexed, line: Line) -> Result<(), AllocError>
     requires room { length state.old.clauses < 2 ^ 32 }
@@ -73,7 +80,8 @@ fn learn(state: &mut Indexed, line: Line) -> Result<(), AllocError>
     let second = highest_beside(&state.assignment, &line.clause, asserting);
     state.cut(back);
     state.assign(TrailEntry::because(number, asserting))?;
-    state.enter(&line.clause, asserting, second)?;
+    let unit = is_single(&line.clause);
+    state.enter(&line.clause, asserting, second, unit)?;
     state.lines.push(line)?;
     Ok(())
 }

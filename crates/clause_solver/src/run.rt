@@ -2,10 +2,11 @@
 
 ghost use Rattle.std.specs.Prelude.{◌≡◌, ◌<◌, ◌^◌, ◌+◌, [], length, IfOk, None};
 ghost use Rattle.cqe_base.specs.Literal.{ClausesBelow, HaveNoRepeat};
-ghost use Rattle.cqe_base.specs.Machine.{end_within_budget, start};
+ghost use Rattle.cqe_base.specs.Machine.{end_within_budget, end_within, start};
+ghost use Rattle.cqe_base.specs.KeptTrail.{end_from_within_budget};
 ghost use Rattle.clause_solver.specs.PlainStates.{found_of};
 ghost use Rattle.clause_solver.specs.RightEnds.{IsRightFound};
-ghost use Rattle.clause_solver.specs.Costs.{cost_within_budget};
+ghost use Rattle.clause_solver.specs.Costs.{cost_within, cost_within_budget};
 ghost use Rattle.clause_solver.specs.Watching.{HaveSameLiterals};
 ghost use Rattle.clause_solver.specs.WatchesInside.{AreWatches};
 ghost use Rattle.clause_solver.specs.IndexedStates.{plain_of, IsIndexed, first_two};
@@ -13,7 +14,7 @@ ghost use Rattle.clause_solver.specs.IndexedStates.{plain_of, IsIndexed, first_t
 use crate::assignment::Assignment;
 use crate::ends::{Advance, Found, Searched};
 use crate::indexed::Indexed;
-use crate::rules::step;
+use crate::rules::{is_single, step};
 use crate::watches::Watches;
 use clause_store::clauses::Clauses;
 use clause_store::literal::Lit;
@@ -35,13 +36,14 @@ fn watched(alloc: Global, clauses: &Clauses, variables: u32) -> Result<Watches, 
     for number in 0..clauses.len() {
         let clause = clauses.clause(number);
         let (first, second) = first_two(clause);
-        watches.enter(clause, first, second)?;
+        let unit = is_single(clause);
+        watches.enter(clause, first, second, unit)?;
     }
     Ok(watches)
 }
 
 /// The state with these clauses, before the first step.
-fn begin(alloc: Global, clauses: &Clauses, variables: u32) -> Result<Indexed, AllocError>
+pub fn begin(alloc: Global, clauses: &Clauses, variables: u32) -> Result<Indexed, AllocError>
     requires variables { variables < 2 ^ 31 }
     requires below { ClausesBelow variables clauses.now }
     requires no_repeat { HaveNoRepeat clauses.now }
@@ -72,7 +74,7 @@ fn first_two(clause: &[Lit]) -> (Lit, Lit)
 }
 
 /// A search whose budget is spent.
-fn spent(budget: u64) -> Searched
+pub fn spent(budget: u64) -> Searched
     ensures found { found_of result.found ≡ None }
     ensures cost { result.cost ≡ budget }
 {
@@ -82,24 +84,23 @@ fn spent(budget: u64) -> Searched
     }
 }
 
-/// What `search` answers, with the whole cost in the same units. Where the budget is spent the
-/// whole cost isn't known, and the budget stands in its place.
-pub fn search_with_cost(
+/// Runs the machine from a state, within a budget.
+pub fn run(
     alloc: Global,
-    clauses: &Clauses,
+    from: Indexed,
     variables: u32,
     budget: u64,
 ) -> Result<Searched, AllocError>
     requires variables { variables < 2 ^ 31 }
-    requires below { ClausesBelow variables clauses.now }
-    requires no_repeat { HaveNoRepeat clauses.now }
-    requires room { length clauses.now + budget < 2 ^ 32 }
+    requires same { from.assignment.variables ≡ variables }
+    requires room { length from.clauses + budget < 2 ^ 32 }
+    requires indexed { IsIndexed from }
     ensures found { IfOk result (λ searched. found_of searched.found
-        ≡ end_within_budget clauses.now variables budget) }
+        ≡ end_from_within_budget (plain_of from) variables budget) }
     ensures cost { IfOk result (λ searched. searched.cost
-        ≡ cost_within_budget clauses.now variables budget) }
+        ≡ cost_within budget (end_within variables budget (plain_of from))) }
 {
-    let mut state = begin(alloc, clauses, variables)?;
+    let mut state = from;
     let mut left = budget;
     for steps in 0..budget {
         match step(alloc, &mut state, variables)? {
@@ -130,6 +131,27 @@ pub fn search_with_cost(
         }
     }
     Ok(spent(budget))
+}
+
+/// What `search` answers, with the whole cost in the same units. Where the budget is spent the
+/// whole cost isn't known, and the budget stands in its place.
+pub fn search_with_cost(
+    alloc: Global,
+    clauses: &Clauses,
+    variables: u32,
+    budget: u64,
+) -> Result<Searched, AllocError>
+    requires variables { variables < 2 ^ 31 }
+    requires below { ClausesBelow variables clauses.now }
+    requires no_repeat { HaveNoRepeat clauses.now }
+    requires room { length clauses.now + budget < 2 ^ 32 }
+    ensures found { IfOk result (λ searched. found_of searched.found
+        ≡ end_within_budget clauses.now variables budget) }
+    ensures cost { IfOk result (λ searched. searched.cost
+        ≡ cost_within_budget clauses.now variables budget) }
+{
+    let state = begin(alloc, clauses, variables)?;
+    run(alloc, state, variables, budget)
 }
 
 /// Runs the machine of `cqe_base` (specs/Machine.antt), for callers that don't ask what it cost.

@@ -10,7 +10,7 @@ ghost use Rattle.clause_store.specs.Codes.{code_of};
 ghost use Rattle.clause_solver.specs.Watching.{IsWatching, IsWatched, HaveSameLiterals};
 ghost use Rattle.clause_solver.specs.Watching.{WatchesBeside, kept_with, no_pair, lowest};
 ghost use Rattle.clause_solver.specs.Watching.{is_caught, has_number, IsLeast, DropsLeast};
-ghost use Rattle.clause_solver.specs.Watching.{IsOpenOf, AreClosed};
+ghost use Rattle.clause_solver.specs.Watching.{IsOpenOf, AreClosed, AllFalseBut};
 ghost use Rattle.clause_solver.specs.WatchesInside.{AreWatches, lists_of, units_of};
 ghost use Rattle.std.specs.Prelude.{true, false, not, ◌&&◌, ◌||◌, ◌==◌, List, None, map, replicate};
 ghost use Rattle.std.specs.Prelude.{take, drop, slice_set, slice_index_or, ◌≡◌, ℕ, ◌<◌, ◌≤◌, ◌+◌};
@@ -57,7 +57,7 @@ pub struct Watches {
 }
 
 /// The first literal that isn't false and isn't this one.
-fn other_open(assignment: &Assignment, clause: &[Lit], literal: Lit) -> Option<Lit>
+pub fn other_open(assignment: &Assignment, clause: &[Lit], literal: Lit) -> Option<Lit>
     requires { ClauseBelow assignment.now.variables clause.now }
     ensures { result
         ≡ find (λ l. not (is_false assignment.now.trail l)
@@ -88,15 +88,53 @@ impl Watches {
         })
     }
 
-    /// One more clause, with the literals that it watches.
-    pub fn enter(&mut self, clause: &[Lit], first: Lit, second: Lit) -> Result<(), AllocError>
+    /// The same once more, where no clause may be unit or falsified.
+    pub fn copy(&self, alloc: Global) -> Result<Watches, AllocError>
+        requires units { units_of self.now ≡ [] }
+        requires falsified { self.now.falsified ≡ None }
+        ensures watches { IfOk result (λ copy. (n : ℕ) (t : List Assigned)
+            → AreWatches n t self.now → AreWatches n t copy) }
+        ensures sorted { IfOk result (λ copy. copy.sorted ≡ self.now.sorted) }
+    {
+        Ok(Watches {
+            lists: copy_lists(alloc, &self.lists)?,
+            pairs: Vec::from_slice(alloc, self.pairs.as_slice())?,
+            sorted: self.sorted.copy(alloc)?,
+            sorting: Vec::new(alloc),
+            units: MinHeap::new(alloc),
+            falsified: None,
+        })
+    }
+
+    /// So many variables, below which those of the clauses have to be.
+    pub fn set_variables(&mut self, alloc: Global, variables: u32) -> Result<(), AllocError>
+        requires { variables < 2 ^ 31 }
+        ensures watches { IfOk result (λ _. (n : ℕ) (t : List Assigned) → AreWatches n t self.old
+            → ClausesBelow variables self.old.sorted → AreWatches variables t self.new) }
+        ensures sorted { self.new.sorted ≡ self.old.sorted }
+        ensures units { self.new.units ≡ self.old.units }
+        ensures falsified { self.new.falsified ≡ self.old.falsified }
+    {
+        resize_lists(alloc, &mut self.lists, 2 * variables as usize)?;
+        Ok(())
+    }
+
+    /// One more clause, with the literals that it watches, and whether it may be unit.
+    pub fn enter(
+        &mut self,
+        clause: &[Lit],
+        first: Lit,
+        second: Lit,
+        unit: bool,
+    ) -> Result<(), AllocError>
         requires first { 0 < length clause.now → code_of first < length self.old.lists.items }
         requires second { 0 < length clause.now → code_of second < length self.old.lists.items }
         requires room { length self.old.pairs.items < 2 ^ 32 }
         ensures watches { IfOk result (λ _. (n : ℕ) (t : List Assigned) → AreWatches n t self.old
             → ClauseBelow n clause.now
-            → IsWatched t clause.now (record { first = first; second = second })
-            (length clause.now == 1) (length clause.now == 0) → AreWatches n t self.new) }
+            → IsWatched t clause.now (record { first = first; second = second }) unit
+            (length clause.now == 0)
+            → (unit ≡ true → AllFalseBut t first clause.now) → AreWatches n t self.new) }
         ensures sorted { IfOk result (λ _. (cs : List (List Literal))
             → HaveSameLiterals cs self.old.sorted
             → HaveSameLiterals (cs ++ clause.now ∷ []) self.new.sorted) }
@@ -109,7 +147,7 @@ impl Watches {
             lower(&mut self.falsified, number);
             return Ok(());
         }
-        self.add_unit(number, clause.len() == 1)?;
+        self.add_unit(number, unit)?;
         self.watch(first, number, second)?;
         self.watch(second, number, first)?;
         Ok(())
@@ -381,6 +419,31 @@ fn sort_clause(sorted: &mut Vec<Lit>, clause: &[Lit]) -> Result<(), AllocError>
     sorted.clear();
     sorted.extend_from_slice(clause)?;
     sorted.sort_by_key(|l| code(*l))?;
+    Ok(())
+}
+
+/// The same lists once more.
+fn copy_lists(alloc: Global, lists: &[Vec<Watch>]) -> Result<Vec<Vec<Watch>>, AllocError>
+    ensures { IfOk result (λ r. map (λ v. v.items) r.items ≡ map (λ v. v.items) lists.now) }
+{
+    let mut copies = Vec::with_capacity(alloc, lists.len())?;
+    for list in lists {
+        copies.push(Vec::from_slice(alloc, list.as_slice())?)?;
+    }
+    Ok(copies)
+}
+
+/// So many lists: those at the end go, or empty ones are put there.
+fn resize_lists(alloc: Global, lists: &mut Vec<Vec<Watch>>, size: usize) -> Result<(), AllocError>
+    ensures length { IfOk result (λ _. length lists.new.items ≡ size) }
+    ensures same { IfOk result (λ _. (k : ℕ) → k < size
+        → slice_index_or (map (λ v. v.items) lists.new.items) k []
+        ≡ slice_index_or (map (λ v. v.items) lists.old.items) k []) }
+{
+    for literal in lists.len()..size {
+        lists.push(Vec::new(alloc))?;
+    }
+    lists.truncate(size);
     Ok(())
 }
 

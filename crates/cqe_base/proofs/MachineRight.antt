@@ -191,11 +191,11 @@ refuting_learnt given n s i r g h =
       right = line_right given n s i r g h;
     }
 
-all_current : (t : List Assigned) (c : List Literal) → level t ≡ 0 → AllByRecursion (λ m. is_current t m ≡ true) c
+pub all_current : (t : List Assigned) (c : List Literal) → level t ≡ 0 → AllByRecursion (λ m. is_current t m ≡ true) c
 all_current t [] h = tt
 all_current t (l ∷ c) h = let le = level_of-le t l in (eq-eqb _ _ (let z : level_of t l ≡ level t = omega arith in z), all_current t c h)
 
-no_literal : (t : List Assigned) (c : List Literal) → current_count t c ≡ 0 → AllByRecursion (λ m. is_current t m ≡ true) c → is_empty_clause c ≡ true
+pub no_literal : (t : List Assigned) (c : List Literal) → current_count t c ≡ 0 → AllByRecursion (λ m. is_current t m ≡ true) c → is_empty_clause c ≡ true
 no_literal t [] h e = refl
 no_literal t (l ∷ c) h e = absurd (both_ways _ (count_zero (is_current t) (l ∷ c) h).0 e.0)
 

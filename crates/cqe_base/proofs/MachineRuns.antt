@@ -21,7 +21,7 @@ with_chain clauses None line h = h
 with_chain clauses (Some (Decided l)) line h = h
 with_chain clauses (Some (Because i l)) line h = let e = length-append line.chain (i ∷ []) in omega arith
 
-analysis_chain : (clauses : List (List Literal)) (trail : List Assigned) (keep times : ℕ) (line : RefutationLine) → 1 ≤ length line.chain
+pub analysis_chain : (clauses : List (List Literal)) (trail : List Assigned) (keep times : ℕ) (line : RefutationLine) → 1 ≤ length line.chain
     → 1 ≤ length (analysis clauses trail keep times line).chain
 analysis_chain clauses trail keep zero line h = h
 analysis_chain clauses trail keep (suc times) line h =

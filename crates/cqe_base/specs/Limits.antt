@@ -8,6 +8,7 @@ use Rattle.cqe_base.specs.Entailment.{are_sentences_of}
 use Rattle.cqe_base.specs.History.{UserProfile, AnsweredQuery, History, known, log, signed_nodes}
 use Rattle.cqe_base.specs.History.{view_size, is_user_of}
 use Rattle.cqe_base.specs.Censor.{guarded}
+use Rattle.cqe_base.specs.Secrecies.{HasPairs}
 use Rattle.cqe_base.specs.Run.{is_full, is_too_large}
 
 -- whether a sentence has at most 20,000 nodes
@@ -15,7 +16,7 @@ abbrev pub is_small : DatabaseSchema → Formula → Bool
 is_small schema sentence = nat_le (nodes schema sentence) 20000
 
 -- a user keeps the limits: what he knows and his secrets are sentences of the schema of at most
--- 20,000 nodes; they are at most 256 and 1 to 16;
+-- 20,000 nodes; they are at most 256 and 1 to 16; his secrets begin with his pairs;
 -- his view without entries has at most 40,000 nodes; and his budget is 1 to 4,000,000
 pub record KeepsLimits (schema : DatabaseSchema) (user : UserProfile) : Type 0 where
   pub sentences : is_user_of schema user ≡ true
@@ -24,6 +25,7 @@ pub record KeepsLimits (schema : DatabaseSchema) (user : UserProfile) : Type 0 w
   pub few_known : length user.know ≤ 256
   pub some_secret : 1 ≤ length user.secrets
   pub few_secrets : length user.secrets ≤ 16
+  pub pairs : HasPairs user
   pub view : view_size schema user [] ≤ 40000
   pub some_budget : 1 ≤ user.budget
   pub budget : user.budget ≤ 4000000

@@ -1,19 +1,15 @@
 -- Which worlds are alike for a user: those in which his log is true and a guarded sentence false.
-use Rattle.std.specs.Prelude.{◌≡◌, ℕ, true, false, List, Contains, slice_index_or}
+use Rattle.std.specs.Prelude.{◌≡◌, ℕ, true, false, List, Contains}
 use Rattle.cqe_base.specs.declared.user.Method.{Method}
 use Rattle.cqe_base.specs.declared.user.Method.TheVariants.{Lying, Refusal, Combined}
 use Rattle.cqe_base.specs.Schema.{DatabaseSchema}
 use Rattle.cqe_base.specs.Facts.{FactSet}
-use Rattle.cqe_base.specs.Formula.{Formula, falsum}
+use Rattle.cqe_base.specs.Formula.{Formula}
 use Rattle.cqe_base.specs.Truth.{true_in}
 use Rattle.cqe_base.specs.Entailment.{IsCountermodel}
-use Rattle.cqe_base.specs.History.{UserProfile, History, log, disjunction_of}
+use Rattle.cqe_base.specs.History.{UserProfile, History, secret_at, log, disjunction_of}
 use Rattle.cqe_base.specs.Censor.{guarded, entails_some, IsLegal, IsAdmissible, admitted}
 use Rattle.cqe_base.specs.Hiding.{RepliesAlike, IsAlike}
-
--- the secret with this number; `false` where there is none
-abbrev pub secret_at : UserProfile → ℕ → Formula
-secret_at user k = slice_index_or user.secrets k falsum
 
 -- what is guarded in the place of a secret: for lying the disjunction of the secrets, and else the
 -- secret

@@ -11,6 +11,13 @@ ghost use Rattle.cqe_base.specs.MachineLaws.{BudgetIsWholeCost, MachineEndsWithi
 ghost use Rattle.cqe_base.specs.MachineLaws.{MachineEndsAreRight, GroundFollowsEntails};
 ghost use Rattle.cqe_base.specs.MachineLaws.{GroundOpenIsOpen, RefutationEntails};
 ghost use Rattle.cqe_base.specs.MachineLaws.{ModelIsCountermodel, SpentIsCost, EnoughIsNeverSpent};
+ghost use Rattle.cqe_base.specs.KeptTrail.{KeptBeginsKept, KeptStaysWithMore, KeptStaysWithout};
+ghost use Rattle.cqe_base.specs.KeptTrail.{KeptIsReached, SearchGoesOnFromKept};
+ghost use Rattle.cqe_base.specs.KeptTrail.{ProbeGoesOnFromKept, ProbeIsRefutedAtKept};
+ghost use Rattle.cqe_base.specs.KeptTrail.{LowestIsKeptOrProbes, LowestUnitIsKeptOrProbes};
+ghost use Rattle.cqe_base.specs.KeptTrail.{FalsifiedFromItsPlace, LineOfBeginningIsLine};
+ghost use Rattle.cqe_base.specs.KeptTrail.{ProbeIsRefutedAtItsPlace};
+ghost use Rattle.cqe_base.specs.KeptTrail.{ProbeGoesOnWhereNoneIsFalsified};
 ghost use Rattle.cqe_base.specs.Trace.{WorkedTrace};
 
 /// The resolvent of two true clauses is true.
@@ -144,4 +151,73 @@ pub fn law_numberings_are_proper()
 /// The facts that a list of grounded sentences of a valid schema numbers are facts of the schema.
 pub fn law_numbered_facts_are_of_schema()
     ensures { NumberedFactsAreOfSchema }
+{}
+
+/// The beginnings of a kept trail are kept.
+pub fn law_kept_begins_kept()
+    ensures { KeptBeginsKept }
+{}
+
+/// A kept trail stays kept with more clauses behind, where none of them was falsified before its
+/// last entry.
+pub fn law_kept_stays_with_more()
+    ensures { KeptStaysWithMore }
+{}
+
+/// A kept trail stays kept without the last clauses, where none of them is a cause.
+pub fn law_kept_stays_without()
+    ensures { KeptStaysWithout }
+{}
+
+/// What holds of each state that the machine reaches holds of a kept trail, whatever clauses stand
+/// behind.
+pub fn law_kept_is_reached()
+    ensures { KeptIsReached }
+{}
+
+/// The machine comes by a kept trail, at a cost of one for each entry.
+pub fn law_search_goes_on_from_kept()
+    ensures { SearchGoesOnFromKept }
+{}
+
+/// A probe's search goes on from the kept trail, with the budget that its entries leave.
+pub fn law_probe_goes_on_from_kept()
+    ensures { ProbeGoesOnFromKept }
+{}
+
+/// Where a clause is falsified by a kept trail, the machine ends with its refutation.
+pub fn law_probe_is_refuted_at_kept()
+    ensures { ProbeIsRefutedAtKept }
+{}
+
+/// The lowest falsified clause is a kept one, or else one of the probe's.
+pub fn law_lowest_is_kept_or_probes()
+    ensures { LowestIsKeptOrProbes }
+{}
+
+/// A clause that a beginning of a kept trail falsifies has the same line under all of it.
+pub fn law_line_of_beginning_is_line()
+    ensures { LineOfBeginningIsLine }
+{}
+
+/// The lowest unit clause is a kept one, or else one of the probe's.
+pub fn law_lowest_unit_is_kept_or_probes()
+    ensures { LowestUnitIsKeptOrProbes }
+{}
+
+/// A beginning of a trail falsifies a clause exactly where all of it does and the beginning goes as
+/// far as the clause's place.
+pub fn law_falsified_from_its_place()
+    ensures { FalsifiedFromItsPlace }
+{}
+
+/// Where a kept trail falsifies a clause, the machine ends at the first such one, and its line is
+/// read off the whole trail.
+pub fn law_probe_is_refuted_at_its_place()
+    ensures { ProbeIsRefutedAtItsPlace }
+{}
+
+/// Where a kept trail falsifies no clause of a probe, the search goes on from it.
+pub fn law_probe_goes_on_where_none_is_falsified()
+    ensures { ProbeGoesOnWhereNoneIsFalsified }
 {}

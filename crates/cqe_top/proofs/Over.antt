@@ -3,7 +3,7 @@ use Rattle.std.proofs.Common.{◌≡◌, ℕ, zero, suc, ◌≤◌, ◌<◌, Lis
 use Rattle.std.specs.Prelude.{Some, None, slice_get}
 use Rattle.outside.proofs.Rises.{rose_since}
 use Rattle.outside.specs.Faults.{Rose}
-use Rattle.outside.specs.Shelf.{SameNames, SameOthers, bytes_on, image_on}
+use Rattle.outside.specs.Shelf.{SameNames, SameOthers, bytes_on, image_on, is_among, SameBeside, SameBytes, NoNewImages, NoneFell, SomeRose}
 use Rattle.outside.specs.Visits.{Visit}
 use Rattle.outside.specs.declared.disk.Disk.{Ghosts as DiskGhosts}
 use Rattle.outside.specs.declared.shelf.Shelf.{Ghosts as ShelfGhosts}
@@ -14,7 +14,7 @@ use Rattle.batch_engine.specs.Batch as batch
 use Rattle.batch_engine.specs.declared.run.BatchEnd.{BatchEnd}
 use Rattle.command_words.specs.Readings.{FileNames}
 use Rattle.desk_crew.specs.Crew.{named_user}
-use Rattle.desk_crew.specs.Shelved.{Journals, journals_on, is_among, SameBeside, SameBytes, NoNewImages, NoneFell, SomeRose}
+use Rattle.desk_crew.specs.Shelved.{Journals, journals_on}
 use Rattle.init_engine.specs.Disks as init
 use Rattle.init_engine.specs.Ends.{Change, IsEnd}
 use Rattle.init_engine.specs.declared.end.InitEnd.{InitEnd}

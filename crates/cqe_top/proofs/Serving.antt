@@ -1,5 +1,6 @@
 -- Without a fault, a server serves to its end over journals that can be opened, or memory was wanting.
-use Rattle.std.proofs.Common.{◌≡◌, inl, inr, ℕ, Bool, true, false, ◌||◌, List, [], ◌∷◌, map, Option, None, Some, Result, Ok, Err, refl, sym, ap, subst, ◌∙◌}
+use Rattle.std.proofs.Common.{◌≡◌, ◌⊎◌, ◌+◌, ◌<◌, ◌≤◌, inl, inr, ℕ, Bool, true, false, ◌||◌, List, [], ◌∷◌, map, Option, None, Some, Result, Ok, Err, refl, sym}
+use Rattle.std.proofs.Common.{ap, subst, ◌∙◌}
 use Rattle.std.proofs.Common.{string_bytes}
 use Rattle.std.specs.Prelude.{Vec, is_some}
 use Rattle.std.specs.List.{list_any, AllByRecursion}
@@ -37,9 +38,17 @@ use Rattle.cqe_top.specs.Files.{no_policy, bad_policy, no_facts, bad_facts, both
 use Rattle.cqe_top.specs.Files.{journals_of}
 use Rattle.cqe_top.specs.Ready.{CanBeOpened}
 use Rattle.cqe_top.specs.Reports.{has_refusal, HasCause, IsDoneUnlessMemory}
-use Rattle.cqe_top.specs.Scene.{Scene}
-use Rattle.cqe_top.specs.Serve.{Serves, RunsServe, ServeSucceeds}
+use Rattle.cqe_top.specs.Scene.{Scene, LinksScene}
+use Rattle.cqe_top.specs.Serve.{Serves, RunsServe, ServeSucceeds, IsServedOut}
 use Rattle.cqe_top.proofs.Good.{agree, answers_done}
+
+-- where none is at hand none is left; or the limit is reached
+pub served_out : (links : LinksScene) (workers sessions : ℕ) → (links.left ≡ links.at_hand → links.left' ≡ links.at_hand')
+    → (links.at_hand' ≡ 0)
+    ⊎ ((links.given + sessions + links.ended ≤ links.given' + links.ended') × (links.given + sessions < links.given' + workers))
+    → IsServedOut links workers sessions
+served_out links workers sessions all (inl none) = inl (record { at_hand = none; left = λ before. all before ∙ none })
+served_out links workers sessions all (inr (with_ended, with_workers)) = inr (record { with_ended = with_ended; with_workers = with_workers })
 
 -- ---- the header that files say is that of a journal
 

@@ -1,14 +1,14 @@
 -- The command `audit`: what the journal of one user holds, to the output.
 use Rattle.std.specs.Prelude.{◌≡◌, ℕ, Bool, List, find, bytes_eq, Option, Some, None}
 use Rattle.outside.specs.Faults.{Rose}
-use Rattle.outside.specs.Shelf.{SameOthers}
+use Rattle.outside.specs.Shelf.{SameOthers, SameBytes, NoNewImages}
 use Rattle.audit_engine.specs.Ends.{IsEnd}
 use Rattle.audit_engine.specs.declared.end.AuditEnd.{AuditEnd}
 use Rattle.cqe_base.specs.Facts.{FactSet}
 use Rattle.cqe_base.specs.History.{History}
 use Rattle.cqe_base.specs.Schema.{Text}
 use Rattle.command_words.specs.Readings.{FileNames}
-use Rattle.desk_crew.specs.Shelved.{Journals, SameBytes, NoNewImages}
+use Rattle.desk_crew.specs.Shelved.{Journals}
 use Rattle.log_journal.specs.Names.{journal_name}
 use Rattle.policy_files.specs.Policies.{PolicyUser, PolicyValue}
 use Rattle.user_desk.specs.Causes.{Opens}

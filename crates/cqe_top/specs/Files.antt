@@ -2,12 +2,12 @@
 use Rattle.std.specs.Prelude.{◌≡◌, ◌⊎◌, ℕ, List, [], ◌∷◌, ◌++◌, map, Option, Some, None}
 use Rattle.std.specs.Prelude.{Result, Ok, Err}
 use Rattle.sha2.specs.Sha256.{sha256}
-use Rattle.outside.specs.Shelf.{Looks}
+use Rattle.outside.specs.Shelf.{Looks, SameBeside}
 use Rattle.cqe_base.specs.Facts.{FactSet}
 use Rattle.cqe_base.specs.Schema.{Text}
 use Rattle.cqe_base.specs.Transcript.{NamedUser}
 use Rattle.command_words.specs.Readings.{FileNames}
-use Rattle.desk_crew.specs.Shelved.{Journals, journals_on, SameBeside}
+use Rattle.desk_crew.specs.Shelved.{Journals, journals_on}
 use Rattle.log_journal.specs.Names.{journal_name}
 use Rattle.log_journal.specs.Opening.{first_eight}
 use Rattle.policy_files.specs.declared.error.PolicyError.{PolicyError}

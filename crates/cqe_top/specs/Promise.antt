@@ -1,11 +1,10 @@
 -- What the program promises of a call.
 use Rattle.std.specs.Prelude.{◌≡◌, ℕ, List, Option, Some, None}
-use Rattle.outside.specs.Shelf.{SameNames}
+use Rattle.outside.specs.Shelf.{SameNames, NoneOut, NoneFell}
 use Rattle.outside.specs.Streams.{AppendsUnless}
 use Rattle.cqe_base.specs.Schema.{Text}
 use Rattle.command_words.specs.Readings.{Reading, reading_of, runs_case, runs_init, runs_batch}
 use Rattle.command_words.specs.Readings.{runs_audit, runs_selfrun, runs_serve}
-use Rattle.desk_crew.specs.Shelved.{NoneOut, NoneFell}
 use Rattle.cqe_top.specs.declared.end.CommandEnd.{CommandEnd}
 use Rattle.cqe_top.specs.declared.end.CommandEnd.TheVariants as end
 use Rattle.cqe_top.specs.Audit.{OfAudit}

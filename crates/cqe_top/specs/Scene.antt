@@ -63,12 +63,16 @@ pub record ShelfScene : Type 1 where
   pub object : Object
   pub object' : Object
 
--- The links: how many connections they gave, how many are at hand, those that are back, how many
--- doors aren't, how many of the others had ended, and where they listened.
+-- The links: how many connections they gave, how many are left, how many of these are at hand,
+-- which is at no door, those that are back, how many doors aren't, how many of the others had
+-- ended, and where they listened.
 pub record LinksScene : Type 1 where
   pub tells : Type 0
   pub given : ℕ
   pub given' : ℕ
+  pub left : ℕ
+  pub left' : ℕ
+  pub at_hand : ℕ
   pub at_hand' : ℕ
   pub back : List Visit
   pub back' : List Visit
@@ -145,6 +149,9 @@ links_of {L} Links old new = record {
   tells = Links.tells;
   given = Links.given old;
   given' = Links.given new;
+  left = Links.left old;
+  left' = Links.left new;
+  at_hand = Links.at_hand old;
   at_hand' = Links.at_hand new;
   back = Links.back old;
   back' = Links.back new;

@@ -1,6 +1,6 @@
 -- The command `serve`: connections at an address, side by side, over the journals of a policy's
 -- users.
-use Rattle.std.specs.Prelude.{◌≡◌, ◌⊎◌, ◌++◌, ◌∷◌, [], ◌+◌, ◌≤◌, ℕ, List, map, Vec}
+use Rattle.std.specs.Prelude.{◌≡◌, ◌⊎◌, ◌++◌, ◌∷◌, [], ◌+◌, ◌<◌, ◌≤◌, ℕ, List, map, Vec}
 use Rattle.std.specs.declared.alloc.Global.{Global}
 use Rattle.outside.specs.Visits.{place_of}
 use Rattle.cqe_base.specs.Facts.{FactSet}
@@ -24,11 +24,21 @@ use Rattle.cqe_top.specs.Scene.{SameDisks, SameShelf, SameInput, SameOutput, Sam
 abbrev pub ListensAt : LinksScene → Text → ℕ → Type 0
 ListensAt links address doors = links.listened' ≡ links.listened ++ place_of address doors ∷ []
 
--- no connection is at hand, or those that were given in this call and the doors that answered that
--- no further one comes are together at least so many
-abbrev pub IsServedOut : LinksScene → ℕ → Type 0
-IsServedOut links sessions =
-    (links.at_hand' ≡ 0) ⊎ (links.given + sessions + links.ended ≤ links.given' + links.ended')
+-- No connection is left: none is at hand, and so none at all where before the call all that were
+-- left were at hand, as they are where all doors are back.
+pub record IsNoneLeft (links : LinksScene) : Type 0 where
+  pub at_hand : links.at_hand' ≡ 0
+  pub left : links.left ≡ links.at_hand → links.left' ≡ 0
+
+-- The connections that were given in this call are at least so many, together with the doors that
+-- answered that no further one comes; and more, together with all workers.
+pub record IsLimitReached (links : LinksScene) (workers sessions : ℕ) : Type 0 where
+  pub with_ended : links.given + sessions + links.ended ≤ links.given' + links.ended'
+  pub with_workers : links.given + sessions < links.given' + workers
+
+-- one of both
+abbrev pub IsServedOut : LinksScene → ℕ → ℕ → Type 0
+IsServedOut links workers sessions = IsNoneLeft links ⊎ IsLimitReached links workers sessions
 
 module _ (shelf : ShelfScene) (links : LinksScene) (files : FileNames) (address : Text)
     (workers sessions : ℕ) where
@@ -54,7 +64,9 @@ module _ (shelf : ShelfScene) (links : LinksScene) (files : FileNames) (address 
     -- where it didn't listen it touched no disk
     pub unheard : links.tells → links.listened' ≡ links.listened → SameDisks shelf
     pub heard : links.tells → IsDone end → ListensAt links address workers
-    pub ends : links.tells → IsDone end → IsServedOut links sessions
+    pub ends : links.tells → IsDone end → IsServedOut links workers sessions
+    -- the connections that are left are all at hand again, where they were so before
+    pub left : links.tells → links.left ≡ links.at_hand → links.left' ≡ links.at_hand'
     pub few_ended : links.ended' ≤ links.ended + workers
     pub limited : links.tells → links.given' ≤ links.given + sessions
 

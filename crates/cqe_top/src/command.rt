@@ -2,20 +2,20 @@
 //! status.
 ghost use Rattle.std.specs.Prelude.{◌≡◌, Option, map, string_bytes};
 ghost use Rattle.command_words.specs.Readings.{Reading, reading_of};
-ghost use Rattle.desk_crew.specs.Shelved.{NoneOut};
+ghost use Rattle.outside.specs.Shelf.{NoneOut};
 ghost use Rattle.cqe_top.specs.Promise.{Promise, OfReading, Always};
 ghost use Rattle.cqe_top.specs.Reports.{HasCause};
 ghost use Rattle.cqe_top.specs.Scene.{scene_of, shelf_of, input_of, output_of, links_of};
 
 use crate::complaint::complain;
 use crate::end::CommandEnd;
-use crate::over_files::{Task, run_over_files};
+use crate::over_files::run_over_files;
+use crate::part::{Part, part_of};
 use crate::report::{report_of, status_of};
 use case_engine::run_case;
-use command_words::{Command, read_words};
+use command_words::read_words;
 use outside::{Gate, Links, Shelf, Sink, Source};
 use selfrun_engine::run_selfrun;
-use serve_engine::Listening;
 use std::alloc::{AllocError, Global};
 use std::sync::Wait;
 use std::thread::Threads;
@@ -94,71 +94,19 @@ where
         (input_of S.Source source.old source.new) (output_of K.Sink sink.old sink.new)
         (links_of L.Links links.old links.new)) }
 {
-    match read_words(alloc, words) {
-        Ok(Some(Command::Case)) => CommandEnd::Case(run_case(alloc, source, sink)),
-        Ok(Some(Command::Init(files))) => {
-            run_over_files(
-                rt,
-                alloc,
-                files,
-                Task::Init,
-                shelf,
-                source,
-                sink,
-                links,
-                gate,
-            )
-        }
-        Ok(Some(Command::Batch(files))) => {
-            run_over_files(
-                rt,
-                alloc,
-                files,
-                Task::Batch,
-                shelf,
-                source,
-                sink,
-                links,
-                gate,
-            )
-        }
-        Ok(Some(Command::Audit(words))) => {
-            let task = Task::Audit(words.user, words.json);
-            run_over_files(
-                rt,
-                alloc,
-                words.files,
-                task,
-                shelf,
-                source,
-                sink,
-                links,
-                gate,
-            )
-        }
-        Ok(Some(Command::Selfrun(words))) => {
+    let command = match read_words(alloc, words) {
+        Ok(Some(command)) => command,
+        Ok(None) => return CommandEnd::Usage,
+        Err(AllocError) => return CommandEnd::Memory,
+    };
+    match part_of(command) {
+        Part::Case => CommandEnd::Case(run_case(alloc, source, sink)),
+        Part::Selfrun(words) => {
             let end = run_selfrun(rt, alloc, words.seed, words.users, words.asks, sink);
             CommandEnd::Selfrun(end)
         }
-        Ok(Some(Command::Serve(words))) => {
-            let task = Task::Serve(Listening {
-                address: words.listen,
-                workers: words.workers,
-                sessions: words.sessions,
-            });
-            run_over_files(
-                rt,
-                alloc,
-                words.files,
-                task,
-                shelf,
-                source,
-                sink,
-                links,
-                gate,
-            )
+        Part::OverFiles(files, task) => {
+            run_over_files(rt, alloc, files, task, shelf, source, sink, links, gate)
         }
-        Ok(None) => CommandEnd::Usage,
-        Err(AllocError) => CommandEnd::Memory,
     }
 }

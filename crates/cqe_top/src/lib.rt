@@ -15,6 +15,7 @@ mod complaint;
 mod end;
 mod files;
 mod over_files;
+mod part;
 mod report;
 
 pub use command::top;

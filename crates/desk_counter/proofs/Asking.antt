@@ -15,8 +15,8 @@ use Rattle.turnstile.specs.Views.{turn_view, outside_view}
 use Rattle.turnstile.specs.Passes.{view_of, seen, mine, shares, tickets}
 use Rattle.user_log.specs.declared.reply.Reply.{Reply}
 use Rattle.user_log.specs.declared.reply.Reply.TheVariants.{Mark, Syntax, Full, Size, Closed, Sealed, Broken, Memory}
-use Rattle.desk_counter.specs.declared.item.Item.{Item}
-use Rattle.desk_counter.specs.declared.item.Item.TheVariants.{Kept, Broke}
+use Rattle.desk_counter.specs.declared.item.TurnItem.{TurnItem}
+use Rattle.desk_counter.specs.declared.item.TurnItem.TheVariants.{Kept, Broke}
 use Rattle.desk_counter.specs.declared.item.Fixed.{Fixed}
 use Rattle.desk_counter.specs.Items.{history_of, kept_pair, kept_pairs, flying, has_broke}
 use Rattle.desk_counter.specs.Desks.{state_shown}
@@ -26,28 +26,29 @@ use Rattle.desk_counter.specs.Asks.{Tells, TellsMark, AddsNone}
 -- ---- pairs with one more
 
 -- the entries of the journal among pairs and one more
-pub kept_more : (pairs : Entries Item) (p : ℕ × Item) → kept_pairs (pairs ++ p ∷ []) ≡ kept_pairs pairs ++ kept_pair p.0 p.1
+pub kept_more : (pairs : Entries TurnItem) (p : ℕ × TurnItem) → kept_pairs (pairs ++ p ∷ []) ≡ kept_pairs pairs ++ kept_pair p.0 p.1
 kept_more [] p = append-nil (kept_pair p.0 p.1)
 kept_more (q ∷ pairs) p = ap (λ ps. kept_pair q.0 q.1 ++ ps) (kept_more pairs p) ∙ sym (append_assoc (kept_pair q.0 q.1) (kept_pairs pairs) (kept_pair p.0 p.1))
 
 -- where an entry in flight comes last, nothing of the journal is added
-pub kept_broke : (pairs : Entries Item) (ticket : ℕ) (entry : AnsweredQuery) → kept_pairs (pairs ++ (ticket, Broke entry) ∷ []) ≡ kept_pairs pairs
+pub kept_broke : (pairs : Entries TurnItem) (ticket : ℕ) (entry : AnsweredQuery) → kept_pairs (pairs ++ (ticket, Broke entry) ∷ []) ≡ kept_pairs pairs
 kept_broke pairs ticket entry = kept_more pairs (ticket, Broke entry) ∙ append-nil (kept_pairs pairs)
 
 -- the entry in flight among pairs and one more
-pub flying_broke : (pairs : Entries Item) (ticket : ℕ) (entry : AnsweredQuery) → flying pairs ≡ None → flying (pairs ++ (ticket, Broke entry) ∷ []) ≡ Some entry
+pub flying_broke : (pairs : Entries TurnItem) (ticket : ℕ) (entry : AnsweredQuery) → flying pairs ≡ None → flying (pairs ++ (ticket, Broke entry) ∷ [])
+    ≡ Some entry
 flying_broke [] ticket entry none = refl
 flying_broke ((t, Kept x) ∷ pairs) ticket entry none = flying_broke pairs ticket entry none
 flying_broke ((t, Broke x) ∷ pairs) ticket entry none = absurd cc
 
 -- the last pair
-without_last : {D : Type 0} (fixed : Fixed D) (pairs : Entries Item) (p : ℕ × Item) → all_but_last fixed (pairs ++ p ∷ []) ≡ pairs
+without_last : {D : Type 0} (fixed : Fixed D) (pairs : Entries TurnItem) (p : ℕ × TurnItem) → all_but_last fixed (pairs ++ p ∷ []) ≡ pairs
 without_last fixed [] p = refl
 without_last fixed (q ∷ []) p = refl
 without_last fixed (q ∷ r ∷ pairs) p = ap (λ ps. q ∷ ps) (without_last fixed (r ∷ pairs) p)
 
 module _ {D : Type 0} (fixed : Fixed D) where
-  behind_code : (reply : Reply) (pairs : Entries Item) → NoMark reply → pairs_behind fixed reply pairs ≡ pairs
+  behind_code : (reply : Reply) (pairs : Entries TurnItem) → NoMark reply → pairs_behind fixed reply pairs ≡ pairs
   behind_code (Mark mark) pairs none = absurd none
   behind_code (Syntax refusal) pairs none = refl
   behind_code Full pairs none = refl
@@ -58,7 +59,7 @@ module _ {D : Type 0} (fixed : Fixed D) where
   behind_code Memory pairs none = refl
 
   -- the reply of an open desk with an entry in flight
-  broke_replies : (found : Entries Item) (text : Text) (ticket : ℕ) (entry : AnsweredQuery) → IsServed fixed found
+  broke_replies : (found : Entries TurnItem) (text : Text) (ticket : ℕ) (entry : AnsweredQuery) → IsServed fixed found
       → reply_at fixed.schema fixed.world fixed.user (state_shown fixed (found ++ (ticket, Broke entry) ∷ [])) text ≡ desk_broken
   broke_replies found text ticket entry served =
       let after = found ++ (ticket, Broke entry) ∷ [] in
@@ -67,7 +68,8 @@ module _ {D : Type 0} (fixed : Fixed D) where
       reply_by fixed.schema fixed.world fixed.user (history_of after) standing_open (is_some o) text (reading fixed.schema text))
       (flying_broke found ticket entry served.1)
 
-  pub served_replies : (found : Entries Item) (text : Text) (query : Formula) (mark : base.Mark) → IsServed fixed found → Answers fixed found text query mark
+  pub served_replies : (found : Entries TurnItem) (text : Text) (query : Formula) (mark : base.Mark) → IsServed fixed found
+      → Answers fixed found text query mark
       → reply_at fixed.schema fixed.world fixed.user (state_shown fixed found) text ≡ marked mark
   served_replies found text query mark served answer =
       ap (λ s. reply_by fixed.schema fixed.world fixed.user (history_of found) s (has_broke found) text (reading fixed.schema text)) served.0
@@ -75,7 +77,7 @@ module _ {D : Type 0} (fixed : Fixed D) where
       reply_by fixed.schema fixed.world fixed.user (history_of found) standing_open (is_some o) text (reading fixed.schema text)) served.1 ∙ answer.answer
 
   -- the reply is that of the rule
-  pub adds_reply : {ticket : ℕ} {text : Text} {found after : Entries Item} {reply : Reply} → Adds fixed ticket text found after reply
+  pub adds_reply : {ticket : ℕ} {text : Text} {found after : Entries TurnItem} {reply : Reply} → Adds fixed ticket text found after reply
       → IsReply fixed text after reply
   adds_reply {ticket = ticket} {text = text} {found = found} (answered {query = query} {mark = mark} served answer added) =
       inr (sym (ap (λ ps. reply_at fixed.schema fixed.world fixed.user (state_shown fixed ps) text) (ap (all_but_last fixed) added
@@ -89,7 +91,7 @@ module _ {D : Type 0} (fixed : Fixed D) where
   adds_reply (wanted same) = inl refl
 
   -- a mark is told with its entry
-  pub asked_tells : {old new : Pass Item (Fixed D)} {text : Text} (reply : Reply) → Asked fixed old new text reply → TellsMark fixed old new text reply
+  pub asked_tells : {old new : Pass TurnItem (Fixed D)} {text : Text} (reply : Reply) → Asked fixed old new text reply → TellsMark fixed old new text reply
   asked_tells {old = old} {new = new} {text = text} (Mark mark) asked = of_adds asked.adds
     where
       of_adds : Adds fixed asked.ticket text asked.found (seen new) (Mark mark) → Tells fixed old new text mark
@@ -115,7 +117,7 @@ module _ {D : Type 0} (fixed : Fixed D) where
   asked_tells Memory asked = tt
 
   -- else no entry is added
-  pub asked_none : {old new : Pass Item (Fixed D)} {text : Text} {reply : Reply} → Asked fixed old new text reply → NoMark reply → AddsNone fixed old new
+  pub asked_none : {old new : Pass TurnItem (Fixed D)} {text : Text} {reply : Reply} → Asked fixed old new text reply → NoMark reply → AddsNone fixed old new
   asked_none {old = old} {new = new} {text = text} {reply = reply} asked none = of_adds asked.adds none
     where
       stays : seen new ≡ asked.found → AddsNone fixed old new
@@ -133,7 +135,7 @@ module _ {D : Type 0} (fixed : Fixed D) where
       of_adds (wanted same) none = stays same
 
   -- the pairs that were added stand behind those that were found
-  adds_prefix : {ticket : ℕ} {text : Text} {found after : Entries Item} {reply : Reply} → Adds fixed ticket text found after reply → IsPrefix found after
+  adds_prefix : {ticket : ℕ} {text : Text} {found after : Entries TurnItem} {reply : Reply} → Adds fixed ticket text found after reply → IsPrefix found after
   adds_prefix {ticket =
       ticket} {text = text} (answered {query = query} {mark = mark} served answer added) = ((ticket, Kept (entry_for query mark text)) ∷ [], added)
   adds_prefix {ticket =
@@ -141,26 +143,26 @@ module _ {D : Type 0} (fixed : Fixed D) where
   adds_prefix {found = found} (coded none replied same) = ([], same ∙ sym (append-nil found))
   adds_prefix {found = found} (wanted same) = ([], same ∙ sym (append-nil found))
 
-  prefix_on : (first mid last : Entries Item) → IsPrefix first mid → IsPrefix mid last → IsPrefix first last
+  prefix_on : (first mid last : Entries TurnItem) → IsPrefix first mid → IsPrefix mid last → IsPrefix first last
   prefix_on first mid last one two = (one.0 ++ two.0, two.1 ∙ ap (λ ps. ps ++ two.0) one.1 ∙ append_assoc first one.0 two.0)
 
   -- what was seen before begins what was seen
-  pub asked_later : {old new : Pass Item (Fixed D)} {text : Text} {reply : Reply} → Asked fixed old new text reply → IsPrefix (seen old) (seen new)
+  pub asked_later : {old new : Pass TurnItem (Fixed D)} {text : Text} {reply : Reply} → Asked fixed old new text reply → IsPrefix (seen old) (seen new)
   asked_later {old = old} {new = new} asked = prefix_on (seen old) asked.found (seen new) asked.later (adds_prefix asked.adds)
 
   -- ---- a turn
 
   -- what a turn did with a pass
-  pub asked_in_turn : {old new : Pass Item (Fixed D)} {text : Text} {reply : Reply} {inside : View Item (Fixed D)} (ticket : ℕ)
-      (found after own_before : Entries Item)
+  pub asked_in_turn : {old new : Pass TurnItem (Fixed D)} {text : Text} {reply : Reply} {inside : View TurnItem (Fixed D)} (ticket : ℕ)
+      (found after own_before : Entries TurnItem)
       → inside ≡ turn_view (view_of old) ticket found → IsPrefix (seen old) found → (shares old ≡ 65 → found ≡ seen old)
       → ((x : ℕ) → ticket ≤ x → count_of x (tickets old) ≡ 0) → own_before ≡ mine old
       → view_of new ≡ outside_view inside after → AddsAlike inside.seen after own_before (mine new) → Adds fixed ticket text found after reply
       → Asked fixed old new text reply
   asked_in_turn {old =
       old} {new = new} {text = text} {reply = reply} {inside = inside} ticket found after own_before entered later whole fresh own left alike adds =
-      let saw : seen new ≡ after = ap (λ (v : View Item (Fixed D)). v.seen) left in
-      let began : inside.seen ≡ found = ap (λ (v : View Item (Fixed D)). v.seen) entered in
+      let saw : seen new ≡ after = ap (λ (v : View TurnItem (Fixed D)). v.seen) left in
+      let began : inside.seen ≡ found = ap (λ (v : View TurnItem (Fixed D)). v.seen) entered in
       record {
         ticket = ticket;
         found = found;
@@ -170,15 +172,15 @@ module _ {D : Type 0} (fixed : Fixed D) where
         adds = subst (λ ps. Adds fixed ticket text found ps reply) (sym saw) adds;
         own = subst (λ ps. AddsAlike found ps (mine old) (mine new)) (sym saw)
             (subst (λ ps. AddsAlike found after ps (mine new)) own (subst (λ ps. AddsAlike ps after own_before (mine new)) began alike));
-        drew = ap (λ (v : View Item (Fixed D)). v.drawn) left ∙ ap (λ (v : View Item (Fixed D)). v.drawn) entered;
+        drew = ap (λ (v : View TurnItem (Fixed D)). v.drawn) left ∙ ap (λ (v : View TurnItem (Fixed D)). v.drawn) entered;
       }
 
   -- what a turn adds is at most one pair with its ticket
-  pub adds_at_most_one : {ticket ticket' : ℕ} {text : Text} {found after : Entries Item} {reply : Reply} (inside : View Item (Fixed D))
-      (old : View Item (Fixed D)) → ticket ≡ ticket' → inside ≡ turn_view old ticket' found
+  pub adds_at_most_one : {ticket ticket' : ℕ} {text : Text} {found after : Entries TurnItem} {reply : Reply} (inside : View TurnItem (Fixed D))
+      (old : View TurnItem (Fixed D)) → ticket ≡ ticket' → inside ≡ turn_view old ticket' found
       → Adds fixed ticket text found after reply → AddsAtMostOne ticket' inside.seen after
   adds_at_most_one {ticket = ticket} {ticket' = ticket'} {text = text} {found = found} {after = after} {reply = reply} inside old same entered adds =
-      subst (λ ps. AddsAtMostOne ticket' ps after) (sym (ap (λ (v : View Item (Fixed D)). v.seen) entered))
+      subst (λ ps. AddsAtMostOne ticket' ps after) (sym (ap (λ (v : View TurnItem (Fixed D)). v.seen) entered))
       (subst (λ t. AddsAtMostOne t found after) same (of_adds adds))
     where
       of_adds : {code : Reply} → Adds fixed ticket text found after code → AddsAtMostOne ticket found after

@@ -8,18 +8,18 @@ use Rattle.cqe_base.specs.Limits.{KeepsSizes}
 use Rattle.cqe_base.specs.History.{AnsweredQuery, History}
 use Rattle.turnstile.specs.History.{Entries}
 use Rattle.user_desk.specs.declared.desk.Desk.{Desk}
-use Rattle.user_desk.specs.Entries.{StandsFor, StandsWithin}
+use Rattle.user_desk.specs.Entries.{StandsFor, StandsWithin, IsNoLonger}
 use Rattle.user_desk.specs.Standings.{standing_of, is_open, is_sealed}
 use Rattle.user_desk.specs.Lives.{Holds, shown}
 use Rattle.user_desk.specs.Desks.{desk_schema, desk_world, desk_user, desk_header, desk_standing, desk_history, desk_disk, opening_count, opening_disk}
 use Rattle.user_desk.specs.Desks.{entry_in_flight, is_broken_desk, state_of}
-use Rattle.desk_counter.specs.declared.item.Item.{Item}
+use Rattle.desk_counter.specs.declared.item.TurnItem.{TurnItem}
 use Rattle.desk_counter.specs.declared.item.Fixed.{Fixed}
 use Rattle.desk_counter.specs.Items.{history_of, flying, has_broke}
 use Rattle.desk_counter.specs.Desks.{fixed_of, state_shown}
 use Rattle.desk_counter.proofs.Settling.{none_flies}
 
-module _ {D : Type 0} {g : _} (desk : Desk D g) (fixed : Fixed D) (pairs : Entries Item) (same : fixed_of desk ≡ fixed)
+module _ {D : Type 0} {g : _} (desk : Desk D g) (fixed : Fixed D) (pairs : Entries TurnItem) (same : fixed_of desk ≡ fixed)
     (entries : desk_history desk ≡ history_of pairs) (flies : entry_in_flight desk ≡ flying pairs) where
   pub closed_legal : IsLegal (desk_schema desk) (desk_world desk) (desk_user desk) (desk_history desk)
       → IsLegal fixed.schema fixed.world fixed.user (history_of pairs)
@@ -78,6 +78,14 @@ module _ {D : Type 0} {g : _} (desk : Desk D g) (fixed : Fixed D) (pairs : Entri
     pub closed_cause : (is_broken_desk desk ≡ true → Rose (faults (opening_disk desk)) (faults (desk_disk desk))) → has_broke pairs ≡ true
         → Rose (faults fixed.disk) (faults (desk_disk desk))
     closed_cause known broke = subst (λ (f : Fixed D). Rose (faults f.disk) (faults (desk_disk desk))) same (known (closed_broke ∙ broke))
+
+  -- where no append failed, the disk has grown for the entries alone
+  pub closed_size : (told : Type 0) (reads : D → List ℕ)
+      → (told → is_broken_desk desk ≡ false → IsNoLonger (reads (opening_disk desk)) (desk_history desk) (reads (desk_disk desk)))
+      → told → has_broke pairs ≡ false → IsNoLonger (reads fixed.disk) (history_of pairs) (reads (desk_disk desk))
+  closed_size told reads known t whole =
+      subst (λ (f : Fixed D). IsNoLonger (reads f.disk) (history_of pairs) (reads (desk_disk desk))) same
+      (subst (λ (h : History). IsNoLonger (reads (opening_disk desk)) h (reads (desk_disk desk))) entries (known t (closed_broke ∙ whole)))
 
   -- only a user who is served has entries, or one in flight
   pub closed_idle : (is_open (desk_standing desk) ≡ false → desk_history desk ≡ []) → (is_open (desk_standing desk) ≡ false → is_broken_desk desk ≡ false)

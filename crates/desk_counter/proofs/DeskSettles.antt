@@ -18,8 +18,8 @@ use Rattle.user_desk.specs.Desks.{IsOfOneOpening}
 use Rattle.user_desk.specs.declared.desk.Desk.{Desk}
 use Rattle.user_desk.specs.declared.standing.Standing.{Standing}
 use Rattle.user_desk.specs.declared.standing.Standing.TheVariants as standings
-use Rattle.desk_counter.specs.declared.item.Item.{Item}
-use Rattle.desk_counter.specs.declared.item.Item.TheVariants.{Kept, Broke}
+use Rattle.desk_counter.specs.declared.item.TurnItem.{TurnItem}
+use Rattle.desk_counter.specs.declared.item.TurnItem.TheVariants.{Kept, Broke}
 use Rattle.desk_counter.specs.declared.ticketed_desk.TicketedDesk.{TicketedDesk}
 use Rattle.desk_counter.specs.Items.{history_of, flying, has_broke, pairs_of}
 use Rattle.desk_counter.specs.Tickets.{pairs_in}
@@ -55,14 +55,14 @@ pub opening_pairs : (count : ℕ) (entries : History) (in_flight : Option Answer
 opening_pairs count entries in_flight = of_zeros count entries
   where
     alone : (in_flight : Option AnsweredQuery) → IsOpening (map (λ entry. (0, Broke entry)) (option_to_list in_flight))
-    alone None = All-nil (λ (e : ℕ × Item). e.0 ≡ 0)
-    alone (Some entry) = All-cons (λ (e : ℕ × Item). e.0 ≡ 0) (0, Broke entry) [] refl (All-nil (λ (e : ℕ × Item). e.0 ≡ 0))
+    alone None = All-nil (λ (e : ℕ × TurnItem). e.0 ≡ 0)
+    alone (Some entry) = All-cons (λ (e : ℕ × TurnItem). e.0 ≡ 0) (0, Broke entry) [] refl (All-nil (λ (e : ℕ × TurnItem). e.0 ≡ 0))
 
     of_zeros : (count : ℕ) (entries : History) → IsOpening (pairs_of (replicate count 0) entries 0 in_flight)
     of_zeros zero entries = alone in_flight
     of_zeros (suc count) [] = alone in_flight
     of_zeros (suc count) (x ∷ entries) =
-        All-cons (λ (e : ℕ × Item). e.0 ≡ 0) (0, Kept x) (pairs_of (replicate count 0) entries 0 in_flight) refl (of_zeros count entries)
+        All-cons (λ (e : ℕ × TurnItem). e.0 ≡ 0) (0, Kept x) (pairs_of (replicate count 0) entries 0 in_flight) refl (of_zeros count entries)
 
 served_of : (standing : Standing) → (is_open standing ≡ false → ⊥) → standing_of standing ≡ standing_open
 served_of standings.Open never = refl

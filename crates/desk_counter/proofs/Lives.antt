@@ -18,8 +18,8 @@ use Rattle.user_desk.specs.Standings.{standing_of}
 use Rattle.user_desk.specs.Lives.{shown, IsState}
 use Rattle.user_desk.specs.declared.standing.Standing.{Standing}
 use Rattle.user_desk.specs.declared.standing.Standing.TheVariants as standings
-use Rattle.desk_counter.specs.declared.item.Item.{Item}
-use Rattle.desk_counter.specs.declared.item.Item.TheVariants.{Kept, Broke}
+use Rattle.desk_counter.specs.declared.item.TurnItem.{TurnItem}
+use Rattle.desk_counter.specs.declared.item.TurnItem.TheVariants.{Kept, Broke}
 use Rattle.desk_counter.specs.declared.item.Fixed.{Fixed}
 use Rattle.desk_counter.specs.Items.{history_of, kept_pairs, flying}
 use Rattle.desk_counter.specs.Desks.{state_shown}
@@ -28,12 +28,13 @@ use Rattle.desk_counter.specs.Asks.{entry_for, NoMark, Adds, answered, broke, co
 use Rattle.desk_counter.proofs.Asking.{kept_more, kept_broke, flying_broke, served_replies}
 
 -- one entry more
-history_more : (pairs : Entries Item) (ticket : ℕ) (entry : AnsweredQuery) → history_of (pairs ++ (ticket, Kept entry) ∷ []) ≡ history_of pairs ++ entry ∷ []
+history_more : (pairs : Entries TurnItem) (ticket : ℕ) (entry : AnsweredQuery) → history_of (pairs ++ (ticket, Kept entry) ∷ [])
+    ≡ history_of pairs ++ entry ∷ []
 history_more pairs ticket entry =
     ap (map (λ (p : ℕ × AnsweredQuery). p.1)) (kept_more pairs (ticket, Kept entry))
     ∙ map-append (λ (p : ℕ × AnsweredQuery). p.1) (kept_pairs pairs) ((ticket, entry) ∷ [])
 
-flying_kept : (pairs : Entries Item) (ticket : ℕ) (entry : AnsweredQuery) → flying (pairs ++ (ticket, Kept entry) ∷ []) ≡ flying pairs
+flying_kept : (pairs : Entries TurnItem) (ticket : ℕ) (entry : AnsweredQuery) → flying (pairs ++ (ticket, Kept entry) ∷ []) ≡ flying pairs
 flying_kept [] ticket entry = refl
 flying_kept ((t, Kept x) ∷ pairs) ticket entry = flying_kept pairs ticket entry
 flying_kept ((t, Broke x) ∷ pairs) ticket entry = refl
@@ -71,7 +72,7 @@ module _ {D : Type 0} (fixed : Fixed D) (text : Text) where
   same_reply (standings.Closed admission) entries in_flight state is = ap (λ s. reply_at fixed.schema fixed.world fixed.user s text) is
   same_reply (standings.Sealed why) entries in_flight state is = ap (λ s. run.reply fixed.schema fixed.world fixed.user state.entries s state.broken text) is
 
-  module _ (found after : Entries Item) (state : UserState) (is : IsState fixed.standing (state_shown fixed found) state) where
+  module _ (found after : Entries TurnItem) (state : UserState) (is : IsState fixed.standing (state_shown fixed found) state) where
     abbrev IsNow : UserState → Type 0
     IsNow = IsState fixed.standing (state_shown fixed after)
 

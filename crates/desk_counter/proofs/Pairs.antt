@@ -13,8 +13,8 @@ use Rattle.user_log.specs.declared.reply.Reply.{Reply}
 use Rattle.user_log.specs.declared.reply.Reply.TheVariants.{Mark, Broken}
 use Rattle.user_desk.specs.Standings.{standing_of}
 use Rattle.user_desk.specs.Lives.{shown}
-use Rattle.desk_counter.specs.declared.item.Item.{Item}
-use Rattle.desk_counter.specs.declared.item.Item.TheVariants.{Kept, Broke}
+use Rattle.desk_counter.specs.declared.item.TurnItem.{TurnItem}
+use Rattle.desk_counter.specs.declared.item.TurnItem.TheVariants.{Kept, Broke}
 use Rattle.desk_counter.specs.declared.item.Fixed.{Fixed}
 use Rattle.desk_counter.specs.Items.{history_of, kept_pair, kept_pairs, flying, pairs_of, BrokeIsLast}
 use Rattle.desk_counter.specs.Desks.{state_shown}
@@ -22,7 +22,7 @@ use Rattle.desk_counter.specs.Asks.{entry_for, NoMark, Adds, answered, broke, co
 use Rattle.desk_counter.proofs.Settling.{Changes}
 use Rattle.desk_counter.proofs.Settling as settling
 
-kept_all : (xs ys : Entries Item) → kept_pairs (xs ++ ys) ≡ kept_pairs xs ++ kept_pairs ys
+kept_all : (xs ys : Entries TurnItem) → kept_pairs (xs ++ ys) ≡ kept_pairs xs ++ kept_pairs ys
 kept_all [] ys = refl
 kept_all (x ∷ xs) ys = ap (λ ps. kept_pair x.0 x.1 ++ ps) (kept_all xs ys) ∙ sym (append_assoc (kept_pair x.0 x.1) (kept_pairs xs) (kept_pairs ys))
 
@@ -31,7 +31,7 @@ second_all [] ys = refl
 second_all (x ∷ xs) ys = ap (λ h. x.1 ∷ h) (second_all xs ys)
 
 -- the history of pairs and further ones
-pub history_all : (xs ys : Entries Item) → history_of (xs ++ ys) ≡ history_of xs ++ history_of ys
+pub history_all : (xs ys : Entries TurnItem) → history_of (xs ++ ys) ≡ history_of xs ++ history_of ys
 history_all xs ys = ap (λ ps. map (λ (p : ℕ × AnsweredQuery). p.1) ps) (kept_all xs ys) ∙ second_all (kept_pairs xs) (kept_pairs ys)
 
 -- the entries of the journal among the pairs
@@ -71,7 +71,7 @@ pub pairs_last : (tickets : List ℕ) (entries : History) (ticket : ℕ) (in_fli
     → BrokeIsLast (pairs_of tickets entries ticket in_flight)
 pairs_last tickets entries ticket in_flight before after other entry e = of_zip tickets entries before e
   where
-    alone : (in_flight : Option AnsweredQuery) (before : Entries Item)
+    alone : (in_flight : Option AnsweredQuery) (before : Entries TurnItem)
         → map (λ x. (ticket, Broke x)) (option_to_list in_flight) ≡ before ++ (other, Broke entry) ∷ after → after ≡ []
     alone None [] e = absurd cc
     alone None (p ∷ before) e = absurd cc
@@ -79,19 +79,20 @@ pairs_last tickets entries ticket in_flight before after other entry e = of_zip 
     alone (Some x) (p ∷ []) e = absurd cc
     alone (Some x) (p ∷ q ∷ before) e = absurd cc
 
-    of_zip : (tickets : List ℕ) (entries : History) (before : Entries Item) → pairs_of tickets entries ticket in_flight ≡ before ++ (other, Broke entry) ∷ after
+    of_zip : (tickets : List ℕ) (entries : History) (before : Entries TurnItem) → pairs_of tickets entries ticket in_flight
+        ≡ before ++ (other, Broke entry) ∷ after
         → after ≡ []
     of_zip [] entries before e = alone in_flight before e
     of_zip (t ∷ tickets) [] before e = alone in_flight before e
     of_zip (t ∷ tickets) (x ∷ entries) [] e = absurd (kept_broke (let same : (t, Kept x) ≡ (other, Broke entry) = cc in same))
       where
-        kept_broke : (let p : ℕ × Item = (t, Kept x) in p) ≡ (other, Broke entry) → ⊥
-        kept_broke e = let items : Kept x ≡ Broke entry = ap (λ (p : ℕ × Item). p.1) e in cc
+        kept_broke : (let p : ℕ × TurnItem = (t, Kept x) in p) ≡ (other, Broke entry) → ⊥
+        kept_broke e = let items : Kept x ≡ Broke entry = ap (λ (p : ℕ × TurnItem). p.1) e in cc
     of_zip (t ∷ tickets) (x ∷ entries) (p ∷ before) e = of_zip tickets entries before cc
 
 -- a desk with no entry in flight
 module _ {D : Type 0} (fixed : Fixed D) (text : Text) (tickets : List ℕ) (old : History) (mark_of_broke : ℕ) (counted : length tickets ≡ length old) where
-  abbrev found : Entries Item
+  abbrev found : Entries TurnItem
   found = pairs_of tickets old mark_of_broke None
 
   abbrev Changed : History → Option AnsweredQuery → Reply → Type 0

@@ -14,8 +14,8 @@ use Rattle.user_log.specs.Replies.{reply_of}
 use Rattle.user_log.specs.declared.reply.Reply.{Reply}
 use Rattle.user_log.specs.declared.reply.Reply.TheVariants.{Mark, Broken, Memory}
 use Rattle.user_desk.specs.Standings.{standing_of}
-use Rattle.desk_counter.specs.declared.item.Item.{Item}
-use Rattle.desk_counter.specs.declared.item.Item.TheVariants.{Kept, Broke}
+use Rattle.desk_counter.specs.declared.item.TurnItem.{TurnItem}
+use Rattle.desk_counter.specs.declared.item.TurnItem.TheVariants.{Kept, Broke}
 use Rattle.desk_counter.specs.declared.item.Fixed.{Fixed}
 use Rattle.desk_counter.specs.Items.{history_of, kept_pairs, flying}
 use Rattle.desk_counter.specs.Desks.{state_shown}
@@ -31,17 +31,17 @@ NoMark _ = Unit {0}
 
 module _ {D : Type 0} (fixed : Fixed D) where
   -- the desk that has these pairs serves its user, and no append failed
-  abbrev pub IsServed : Entries Item → Type 0
+  abbrev pub IsServed : Entries TurnItem → Type 0
   IsServed pairs = (standing_of fixed.standing ≡ standing_open) × (flying pairs ≡ None)
 
   -- this query and this mark answer the text behind these pairs
-  abbrev pub Answers : Entries Item → Text → Formula → base.Mark → Type 0
+  abbrev pub Answers : Entries TurnItem → Text → Formula → base.Mark → Type 0
   Answers pairs text query mark =
       IsAnswer fixed.schema fixed.world fixed.user (history_of pairs) text query mark
 
   -- What an ask adds to the pairs that it found: a mark adds its entry, once; an append that fails
   -- adds that entry as one in flight; a code and want of memory add nothing.
-  pub data Adds (ticket : ℕ) (text : Text) (found after : Entries Item) : Reply → Type 0 where
+  pub data Adds (ticket : ℕ) (text : Text) (found after : Entries TurnItem) : Reply → Type 0 where
     answered : {query : Formula} {mark : base.Mark} → IsServed found → Answers found text query mark
         → after ≡ found ++ (ticket, Kept (entry_for query mark text)) ∷ []
         → Adds ticket text found after (Mark mark)
@@ -56,9 +56,9 @@ module _ {D : Type 0} (fixed : Fixed D) where
   -- What an ask does with a pass: it found pairs that begin with all that the pass had seen, and
   -- are all of that where the pass has all shares; what it added, with a ticket that is new to the
   -- pass, was then seen, and is the pass's own.
-  pub record Asked (old new : Pass Item (Fixed D)) (text : Text) (reply : Reply) : Type 0 where
+  pub record Asked (old new : Pass TurnItem (Fixed D)) (text : Text) (reply : Reply) : Type 0 where
     pub ticket : ℕ
-    pub found : Entries Item
+    pub found : Entries TurnItem
     pub later : IsPrefix (seen old) found
     pub whole : shares old ≡ 65 → found ≡ seen old
     pub fresh : (x : ℕ) → ticket ≤ x → count_of x (tickets old) ≡ 0
@@ -67,18 +67,18 @@ module _ {D : Type 0} (fixed : Fixed D) where
     pub drew : tickets new ≡ tickets old ++ ticket ∷ []
 
   -- the pairs without the last one
-  abbrev pub all_but_last : Entries Item → Entries Item
+  abbrev pub all_but_last : Entries TurnItem → Entries TurnItem
   all_but_last [] = []
   all_but_last (p ∷ []) = []
   all_but_last (p ∷ q ∷ pairs) = p ∷ all_but_last (q ∷ pairs)
 
   -- the pairs that a reply is by: where it is a mark, those without the last one
-  abbrev pub pairs_behind : Reply → Entries Item → Entries Item
+  abbrev pub pairs_behind : Reply → Entries TurnItem → Entries TurnItem
   pairs_behind (Mark mark) pairs = all_but_last pairs
   pairs_behind _ pairs = pairs
 
   -- the reply is that of the rule for these pairs, or want of memory
-  abbrev pub IsReply : Text → Entries Item → Reply → Type 0
+  abbrev pub IsReply : Text → Entries TurnItem → Reply → Type 0
   IsReply text pairs reply = (reply ≡ Memory)
       ⊎ (reply_of reply
       ≡ reply_at fixed.schema fixed.world fixed.user
@@ -86,10 +86,11 @@ module _ {D : Type 0} (fixed : Fixed D) where
 
   -- A mark was told: its entry, with its text's query and length, is the last pair that was seen
   -- and the one that the pass has more of its own.
-  pub record Tells (old new : Pass Item (Fixed D)) (text : Text) (mark : base.Mark) : Type 0 where
+  pub record Tells (old new : Pass TurnItem (Fixed D)) (text : Text) (mark : base.Mark) :
+      Type 0 where
     pub ticket : ℕ
     pub entry : AnsweredQuery
-    pub earlier : Entries Item
+    pub earlier : Entries TurnItem
     pub reads : reading fixed.schema text ≡ Ok entry.query
     pub marked : entry.mark ≡ mark
     pub size : entry.length ≡ length text
@@ -99,12 +100,12 @@ module _ {D : Type 0} (fixed : Fixed D) where
     pub whole : shares old ≡ 65 → earlier ≡ seen old
 
   -- a reply that is a mark tells it
-  abbrev pub TellsMark : Pass Item (Fixed D) → Pass Item (Fixed D) → Text → Reply → Type 0
+  abbrev pub TellsMark : Pass TurnItem (Fixed D) → Pass TurnItem (Fixed D) → Text → Reply → Type 0
   TellsMark old new text (Mark mark) = Tells old new text mark
   TellsMark old new text _ = Unit {0}
 
   -- No entry of the journal was added: the pass has no more of its own, and where it has all shares
   -- it has seen no more.
-  pub record AddsNone (old new : Pass Item (Fixed D)) : Type 0 where
+  pub record AddsNone (old new : Pass TurnItem (Fixed D)) : Type 0 where
     pub own : kept_pairs (mine new) ≡ kept_pairs (mine old)
     pub whole : shares old ≡ 65 → kept_pairs (seen new) ≡ kept_pairs (seen old)

@@ -62,16 +62,16 @@ answered_code =
     (λ a. ap (answered a.query a.length) (mark_found-stored a.mark))
 
 -- a user of his parts
-abbrev profile : List Formula → List Formula → ℕ → Method → UserProfile
-profile know secrets budget method =
-    record { method = method; know = know; secrets = secrets; budget = budget }
+abbrev profile : List Formula → List Formula → ℕ → ℕ → Method → UserProfile
+profile know secrets pairs budget method =
+    record { method = method; know = know; secrets = secrets; pairs = pairs; budget = budget }
 
--- a user is stored as his method, what he knows, his secrets and his budget
+-- a user is stored as his method, what he knows, his secrets with their pairs, and his budget
 abbrev pub profile_code : Coded UserProfile
 profile_code =
-    code_by (ℕ × (List Formula × (List Formula × ℕ)))
+    code_by (ℕ × (List Formula × (List Formula × (ℕ × ℕ))))
     (coded× coded_ℕ (coded× (coded_list formula_code)
-    (coded× (coded_list formula_code) coded_ℕ)))
-    (λ u. (method_stored u.method, (u.know, (u.secrets, u.budget))))
-    (λ p. profile p.1.0 p.1.1.0 p.1.1.1 (method_found p.0))
-    (λ u. ap (profile u.know u.secrets u.budget) (method_found-stored u.method))
+    (coded× (coded_list formula_code) (coded× coded_ℕ coded_ℕ))))
+    (λ u. (method_stored u.method, (u.know, (u.secrets, (u.pairs, u.budget)))))
+    (λ p. profile p.1.0 p.1.1.0 p.1.1.1.0 p.1.1.1.1 (method_found p.0))
+    (λ u. ap (profile u.know u.secrets u.pairs u.budget) (method_found-stored u.method))

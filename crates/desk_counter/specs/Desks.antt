@@ -6,7 +6,7 @@ use Rattle.user_desk.specs.Standings.{standing_of}
 use Rattle.user_desk.specs.Lives.{shown}
 use Rattle.user_desk.specs.Desks.{desk_schema, desk_world, desk_user, desk_header, desk_standing}
 use Rattle.user_desk.specs.Desks.{opening_history, opening_disk}
-use Rattle.desk_counter.specs.declared.item.Item.{Item}
+use Rattle.desk_counter.specs.declared.item.TurnItem.{TurnItem}
 use Rattle.desk_counter.specs.declared.item.Fixed.{Fixed}
 use Rattle.desk_counter.specs.Items.{history_of, flying}
 
@@ -23,5 +23,5 @@ fixed_of desk = record {
 }
 
 -- the user's state that the pairs show
-abbrev pub state_shown : {D : Type 0} → Fixed D → Entries Item → UserState
+abbrev pub state_shown : {D : Type 0} → Fixed D → Entries TurnItem → UserState
 state_shown fixed pairs = shown (history_of pairs) (standing_of fixed.standing) (flying pairs)

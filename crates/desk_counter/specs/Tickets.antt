@@ -2,7 +2,7 @@
 use Rattle.turnstile.specs.History.{Entries}
 use Rattle.user_desk.specs.declared.desk.Desk.{Desk}
 use Rattle.user_desk.specs.Desks.{desk_history, entry_in_flight}
-use Rattle.desk_counter.specs.declared.item.Item.{Item}
+use Rattle.desk_counter.specs.declared.item.TurnItem.{TurnItem}
 use Rattle.desk_counter.specs.declared.item.Fixed.{Fixed}
 use Rattle.desk_counter.specs.declared.ticketed_desk.TicketedDesk.{TicketedDesk}
 use Rattle.desk_counter.specs.Items.{pairs_of}
@@ -13,7 +13,7 @@ abbrev pub desk_of : {D : Type 0} {g : _} → TicketedDesk D g → Desk D g
 desk_of value = value.desk
 
 -- its pairs
-abbrev pub pairs_in : {D : Type 0} {g : _} → TicketedDesk D g → Entries Item
+abbrev pub pairs_in : {D : Type 0} {g : _} → TicketedDesk D g → Entries TurnItem
 pairs_in value =
     pairs_of value.tickets.items (desk_history value.desk) value.broke (entry_in_flight value.desk)
 

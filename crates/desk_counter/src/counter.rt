@@ -5,7 +5,7 @@ ghost use Rattle.std.specs.Coded.{Coded-set};
 ghost use Rattle.turnstile.specs.Passes.{first_value};
 ghost use Rattle.desk_counter.specs.Codes.{profile_code};
 
-use crate::item::{Fixed, Item};
+use crate::item::{Fixed, TurnItem};
 use crate::ticketed_desk::{Owned, TicketedDesk};
 use cqe_base::user::User;
 use outside::{Disk, Gate, Point};
@@ -29,7 +29,7 @@ pub struct CounterOf<'w, V: Owned> {
 pub type Counter<'w, D> = CounterOf<'w, TicketedDesk<'w, D>>;
 
 /// A pass at a counter.
-pub type DeskPass<D> = Pass<Item, Fixed<D>>;
+pub type DeskPass<D> = Pass<TurnItem, Fixed<D>>;
 
 impl<'w, D: Disk> CounterOf<'w, TicketedDesk<'w, D>> {
     ghost use Rattle.std.specs.Prelude.{◌⊎◌, ℕ, ◌^◌, ◌+◌, ◌*◌, ◌≤◌, ◌<◌, ◌↔◌, IsTrue, true, false};
@@ -45,7 +45,7 @@ impl<'w, D: Disk> CounterOf<'w, TicketedDesk<'w, D>> {
     ghost use Rattle.turnstile.specs.Views.{remaining_view, split_off_view, view_of_both};
     ghost use Rattle.turnstile.specs.Views.{DrewEachOnce};
     ghost use Rattle.turnstile.specs.Passes.{view_of, seen, tickets, mine, shares, turns};
-    ghost use Rattle.user_desk.specs.Entries.{StandsFor, StandsWithin};
+    ghost use Rattle.user_desk.specs.Entries.{StandsFor, StandsWithin, IsNoLonger};
     ghost use Rattle.user_desk.specs.Lives.{Holds};
     ghost use Rattle.user_desk.specs.Standings.{is_open, is_sealed};
     ghost use Rattle.user_desk.specs.Desks.{desk_history, desk_disk, entry_in_flight};
@@ -188,7 +188,8 @@ impl<'w, D: Disk> CounterOf<'w, TicketedDesk<'w, D>> {
 
         // What was seen is a legal history within the limits, and each crash leaves just that;
         // where an append failed, that or one entry more, and the disk's count of faults rose since
-        // the desk's opening. Only a user who is served has any.
+        // the desk's opening; where none did, the disk has grown for the entries alone. Only a user
+        // who is served has any.
         ensures legal { IsLegal (kept_by self.entry).schema (kept_by self.entry).world
             (kept_by self.entry).user
             (history_of (seen pass)) }
@@ -207,6 +208,9 @@ impl<'w, D: Disk> CounterOf<'w, TicketedDesk<'w, D>> {
             (kept_by self.entry).header (state_shown (kept_by self.entry) (seen pass)) c }
         ensures cause { has_broke (seen pass) ≡ true
             → Rose (D.faults (kept_by self.entry).disk) (D.faults (desk_disk result)) }
+        ensures size { D.tells → has_broke (seen pass) ≡ false
+            → IsNoLonger (D.reads (kept_by self.entry).disk) (history_of (seen pass))
+            (D.reads (desk_disk result)) }
         ensures count { D.faults (kept_by self.entry).disk ≤ D.faults (desk_disk result) }
 
         // Since the opening each image stood for a beginning of it that has all entries at the

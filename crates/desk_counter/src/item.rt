@@ -40,7 +40,7 @@ impl Model for Profile {
 }
 
 /// What a turn adds: an entry that is in the journal, or the entry of an append that failed.
-pub enum Item {
+pub enum TurnItem {
     Kept(Answered),
     Broke(Answered),
 }

@@ -21,6 +21,6 @@ mod sole;
 mod ticketed_desk;
 
 pub use counter::{Counter, CounterOf, DeskPass};
-pub use item::{Answered, Fixed, Item, Profile};
+pub use item::{Answered, Fixed, Profile, TurnItem};
 pub use sole::{SoleCounter, SoleOf};
 pub use ticketed_desk::{Owned, TicketedDesk};

@@ -36,6 +36,7 @@ impl<'w, D: Disk> SoleOf<'w, TicketedDesk<'w, D>> {
     ghost use Rattle.outside.specs.Faults.{Rose};
     ghost use Rattle.cqe_base.specs.Run.{UserState};
     ghost use Rattle.user_log.specs.Replies.{reply_of};
+    ghost use Rattle.user_desk.specs.Entries.{IsNoLonger};
     ghost use Rattle.user_desk.specs.Lives.{Holds};
     ghost use Rattle.cqe_base.specs.Censor.{IsLegal};
     ghost use Rattle.user_desk.specs.Standings.{is_open, is_sealed};
@@ -141,6 +142,9 @@ impl<'w, D: Disk> SoleOf<'w, TicketedDesk<'w, D>> {
         ensures count { D.faults (kept_in self.entry).disk ≤ D.faults (desk_disk result) }
         ensures cause { has_broke (pairs_of_sole self.entry) ≡ true
             → Rose (D.faults (kept_in self.entry).disk) (D.faults (desk_disk result)) }
+        ensures size { D.tells → has_broke (pairs_of_sole self.entry) ≡ false
+            → IsNoLonger (D.reads (kept_in self.entry).disk)
+            (history_of (pairs_of_sole self.entry)) (D.reads (desk_disk result)) }
         ensures refused { is_sealed (kept_in self.entry).standing ≡ true
             → desk_disk result ≡ (kept_in self.entry).disk }
         ensures still { IsAsOpened (kept_in self.entry) (pairs_of_sole self.entry)

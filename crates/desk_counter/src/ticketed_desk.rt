@@ -5,7 +5,7 @@ ghost use Rattle.user_desk.specs.Desks.{desk_user, desk_history, entry_in_flight
 ghost use Rattle.desk_counter.specs.Items.{pairs_of};
 ghost use Rattle.desk_counter.specs.Desks.{fixed_of};
 
-use crate::item::{Fixed, Item};
+use crate::item::{Fixed, TurnItem};
 use cqe_base::user::User;
 use outside::Disk;
 use std::alloc::{AllocError, Global};
@@ -31,7 +31,7 @@ pub struct TicketedDesk<'w, D: Disk> {
 }
 
 impl<'w, D: Disk> Recorded for TicketedDesk<'w, D> {
-    type Item = Item;
+    type Item = TurnItem;
 
     type Fixed = Fixed<D>;
 

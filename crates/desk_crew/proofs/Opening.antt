@@ -6,7 +6,7 @@ use Rattle.std.specs.List.{AllByRecursion}
 use Rattle.std.specs.Cmp.Lexicographic.{same_text}
 use Rattle.std.proofs.lemmas.List.{take_more, take-append-drop, map-append}
 use Rattle.outside.proofs.Taken.{taken_reads, taken_images}
-use Rattle.outside.specs.Shelf.{IsTaken, SameNames, SameOthers, bytes_on, image_on}
+use Rattle.outside.specs.Shelf.{IsTaken, SameNames, SameOthers, bytes_on, image_on, is_among, SameBeside, AllOut, AllIn, NoneOut, NoneFell, AreOut}
 use Rattle.cqe_base.specs.Schema.{Text, DatabaseSchema, has_duplicate}
 use Rattle.cqe_base.specs.Facts.{FactSet}
 use Rattle.cqe_base.specs.History.{profile_of}
@@ -15,7 +15,7 @@ use Rattle.cqe_base.specs.declared.user.User.{User}
 use Rattle.cqe_base.proofs.Truths.{or_first, or_second}
 use Rattle.log_journal.specs.Names.{journal_name, JournalsDiffer}
 use Rattle.desk_crew.specs.Crew.{named_user, seat_user, seat_journal, seat_disk, IsServed}
-use Rattle.desk_crew.specs.Shelved.{is_among, journals, SameBeside, AllOut, AllIn, NoneOut, NoneFell, AreOut, IsBack, AreBack, AreLater, IsSeatOf, AreSeatsOf}
+use Rattle.desk_crew.specs.Shelved.{journals, IsBack, AreBack, AreLater, IsSeatOf, AreSeatsOf}
 use Rattle.desk_crew.specs.Seats.{DeskSeat}
 use Rattle.cqe_base.proofs.Lists.{text_is}
 use Rattle.desk_crew.proofs.Shelving.{Parts, parts, among-append, among_none_first, among_none_second, journals-append}

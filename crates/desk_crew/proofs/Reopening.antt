@@ -2,12 +2,12 @@
 use Rattle.std.proofs.Common.{◌≡◌, ℕ, ◌≤◌, Bool, true, false, List, [], ◌∷◌, ◌++◌, refl, sym, ap, subst, ◌∙◌, append_assoc, append-nil, arith}
 use Rattle.std.specs.Prelude.{Option, Some, ◌||◌, bytes_eq}
 use Rattle.std.specs.Cmp.Lexicographic.{same_text}
-use Rattle.outside.specs.Shelf.{SameOthers}
+use Rattle.outside.specs.Shelf.{SameOthers, is_among, SameBeside, AllOut, AllIn}
 use Rattle.cqe_base.specs.Schema.{Text, DatabaseSchema, has_duplicate}
 use Rattle.cqe_base.specs.Facts.{FactSet}
 use Rattle.cqe_base.proofs.Truths.{or_first, or_second}
 use Rattle.desk_crew.specs.Crew.{seat_journal, seat_disk, IsLeft, IsLeftBy, IsClosed, IsReopened, AreReopened}
-use Rattle.desk_crew.specs.Shelved.{is_among, journals, SameBeside, AllOut, AllIn, AreBack, AreLater}
+use Rattle.desk_crew.specs.Shelved.{journals, AreBack, AreLater}
 use Rattle.desk_crew.specs.Seats.{DeskSeat}
 use Rattle.cqe_base.proofs.Lists.{text_is}
 use Rattle.desk_crew.proofs.Shelving.{Parts, parts, among-append, journals-append, back-append, back_on, later-first, later-second, later_on, left_on}
@@ -65,8 +65,8 @@ module _ (schema : DatabaseSchema) (world : FactSet) (header : List ℕ) {D : Ty
       (subst (λ j. count j ≤ faults (seat_disk n)) (sym are.0.journal_is) (omega (arith, first, closed, on)), later_reopened count olds news are.1 later.1)
 
   -- what a closed desk shows where the shelf tells its disks
-  closed_told : (shelf_told → told) → (seat : DeskSeat D g h) (disk : D) → IsClosed told image faults seat.desk disk
-      → IsClosed shelf_told image faults seat.desk disk
+  closed_told : (shelf_told → told) → (seat : DeskSeat D g h) (disk : D) → IsClosed told reads image faults seat.desk disk
+      → IsClosed shelf_told reads image faults seat.desk disk
   closed_told tells seat disk closed =
       record {
         holds = λ t. closed.holds (tells t);
@@ -76,6 +76,7 @@ module _ (schema : DatabaseSchema) (world : FactSet) (header : List ℕ) {D : Ty
         later = closed.later;
         cause =
             closed.cause;
+        size = λ t. closed.size (tells t);
         shut = closed.shut;
         still = closed.still;
       }

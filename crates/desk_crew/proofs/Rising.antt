@@ -6,7 +6,8 @@ use Rattle.outside.proofs.Rises.{rose_wide}
 use Rattle.outside.specs.Faults.{Rose}
 use Rattle.cqe_base.specs.Schema.{Text}
 use Rattle.desk_crew.specs.Crew.{seat_journal, seat_disk, seat_broke}
-use Rattle.desk_crew.specs.Shelved.{IsBack, AreBack, AreLater, SomeRose}
+use Rattle.outside.specs.Shelf.{SomeRose}
+use Rattle.desk_crew.specs.Shelved.{IsBack, AreBack, AreLater}
 use Rattle.desk_crew.specs.Seats.{DeskSeat}
 
 -- one of these is such

@@ -6,13 +6,13 @@ use Rattle.std.specs.Cmp.Lexicographic.{same_text}
 use Rattle.std.proofs.Math.Bool.{or-false}
 use Rattle.std.proofs.lemmas.Bool.{eqb-true, or_from, or_left, or_right}
 use Rattle.std.proofs.lemmas.List.{map-append}
-use Rattle.outside.specs.Shelf.{SameOthers}
+use Rattle.outside.specs.Shelf.{SameOthers, is_among, SameBeside, AllOut, AllIn}
 use Rattle.cqe_base.specs.Schema.{Text, has_duplicate}
 use Rattle.cqe_base.proofs.Truths.{or_first, or_second}
 use Rattle.cqe_base.proofs.Lists.{or_assoc, text_is}
 use Rattle.std.proofs.lemmas.List.Folds.{list_any-append}
 use Rattle.desk_crew.specs.Crew.{seat_journal, seat_disk, seat_broke, IsLeft, IsClosed}
-use Rattle.desk_crew.specs.Shelved.{is_among, journals, SameBeside, AllOut, AllIn, AreBack, AreLater}
+use Rattle.desk_crew.specs.Shelved.{journals, AreBack, AreLater}
 use Rattle.desk_crew.specs.Seats.{DeskSeat}
 
 -- ---- names
@@ -231,7 +231,7 @@ module _ {D : Type 0} {g h : _} where
             subst (λ n. n ≤ faults (seat_disk seat)) (sym (so_far.counts (seat_journal seat) next.apart)) next.counted
 
         -- one more is back
-        pub given_more : (seats before : List (DeskSeat D g h)) (seat : DeskSeat D g h) (now : D) (closed : IsClosed told image faults seat.desk now)
+        pub given_more : (seats before : List (DeskSeat D g h)) (seat : DeskSeat D g h) (now : D) (closed : IsClosed told reads image faults seat.desk now)
             (disk disk' : Text → Option D) (is_out is_out' : Text → Bool) (count count' : Text → ℕ) (one : Text) → one ≡ seat_journal seat
             → before ≡ seats ++ seat ∷ [] → Given before disk is_out count
             → (told → disk' one ≡ Some now) → SameOthers one disk disk' → is_out' one ≡ false → SameOthers one is_out is_out' → count' one ≡ faults now

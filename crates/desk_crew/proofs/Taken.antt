@@ -4,8 +4,7 @@ use Rattle.std.proofs.lemmas.List.{take_more, map-append}
 use Rattle.std.specs.Prelude.{Option, bytes_eq}
 use Rattle.std.specs.Cmp.Lexicographic.{same_text}
 use Rattle.cqe_base.specs.Schema.{Text}
-use Rattle.outside.specs.Shelf.{SameOthers, image_on}
-use Rattle.desk_crew.specs.Shelved.{NoNewImages}
+use Rattle.outside.specs.Shelf.{SameOthers, image_on, NoNewImages}
 
 -- where one disk alone may have changed, and has no new image, none has
 pub no_new_images : {D : Type 0} (image : D → List ℕ → Type 0) (journal : Text) (old new : Text → Option D) → SameOthers journal old new

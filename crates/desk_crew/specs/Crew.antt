@@ -11,6 +11,7 @@ use Rattle.cqe_base.specs.declared.user.User.{User}
 use Rattle.user_desk.specs.Causes.{IsStanding}
 use Rattle.cqe_base.specs.Censor.{IsLegal}
 use Rattle.user_desk.specs.Standings.{is_open, is_sealed}
+use Rattle.user_desk.specs.Entries.{IsNoLonger}
 use Rattle.user_desk.specs.Lives.{Holds, Restarts}
 use Rattle.user_desk.specs.declared.standing.DeskError.{DeskError}
 use Rattle.user_desk.specs.declared.standing.Standing.{Standing}
@@ -24,7 +25,7 @@ use Rattle.desk_counter.specs.Sole.{counter_in, pass_in, kept_in, pairs_of_sole,
 use Rattle.desk_counter.specs.Sole.{IsSoleIn, IsAsOpened}
 use Rattle.desk_counter.specs.declared.sole.SoleOf.{SoleOf}
 use Rattle.desk_counter.specs.declared.ticketed_desk.TicketedDesk.{TicketedDesk}
-use Rattle.desk_counter.specs.declared.item.Item.{Item}
+use Rattle.desk_counter.specs.declared.item.TurnItem.{TurnItem}
 use Rattle.desk_crew.specs.Seats.{DeskSeat}
 use Rattle.desk_crew.specs.declared.seat.Returned.{Returned}
 
@@ -112,9 +113,11 @@ pub record IsLeft {D : Type 0} (reads : D → List ℕ) (image : D → List ℕ 
 -- A desk leaves this disk as it is closed: unless its journal was refused, each image holds the
 -- state that the desk showed, whose history is legal, and is what was put under the counter and
 -- then what the pass has of its own; only of a user who is served has it any; the count rose where
--- an append failed; and where nothing was appended the disk is as it was at the opening.
-pub record IsClosed {D : Type 0} {g h : _} (told : Type 0) (image : D → List ℕ → Type 0)
-    (faults : D → ℕ) (desk : SoleOf (TicketedDesk D g) Item (Fixed D) h) (disk : D) : Type 0 where
+-- an append failed; where none did, the disk has grown for the entries alone; and where nothing was
+-- appended it is as it was at the opening.
+pub record IsClosed {D : Type 0} {g h : _} (told : Type 0) (reads : D → List ℕ)
+    (image : D → List ℕ → Type 0) (faults : D → ℕ)
+    (desk : SoleOf (TicketedDesk D g) TurnItem (Fixed D) h) (disk : D) : Type 0 where
   pub holds : told → is_sealed (kept_in desk).standing ≡ false → (c : List ℕ) → image disk c
       → Holds (kept_in desk).schema (kept_in desk).world (kept_in desk).user (kept_in desk).header
       (sole_state desk) c
@@ -126,15 +129,17 @@ pub record IsClosed {D : Type 0} {g h : _} (told : Type 0) (image : D → List �
       × (flying (pairs_of_sole desk) ≡ None)
   pub later : faults (kept_in desk).disk ≤ faults disk
   pub cause : (sole_state desk).broken ≡ true → Rose (faults (kept_in desk).disk) (faults disk)
+  pub size : told → (sole_state desk).broken ≡ false
+      → IsNoLonger (reads (kept_in desk).disk) (history_of (pairs_of_sole desk)) (reads disk)
   pub shut : is_sealed (kept_in desk).standing ≡ true → disk ≡ (kept_in desk).disk
   pub still : IsAsOpened (kept_in desk) (pairs_of_sole desk) → disk ≡ (kept_in desk).disk
 
 -- a desk was closed, and an opening left its disk as this one
 pub record IsLeftBy {D : Type 0} {g h : _} (told : Type 0) (reads : D → List ℕ)
     (image : D → List ℕ → Type 0) (faults : D → ℕ)
-    (desk : SoleOf (TicketedDesk D g) Item (Fixed D) h) (now : D) : Type 0 where
+    (desk : SoleOf (TicketedDesk D g) TurnItem (Fixed D) h) (now : D) : Type 0 where
   pub closed : D
-  pub is_closed : IsClosed told image faults desk closed
+  pub is_closed : IsClosed told reads image faults desk closed
   pub left : IsLeft reads image faults closed now
 
 module _ (schema : DatabaseSchema) (world : FactSet) where
@@ -201,7 +206,7 @@ module _ (schema : DatabaseSchema) (world : FactSet) (header : List ℕ) where
       pub user_is : seat_user new ≡ seat_user old
       pub journal_is : seat_journal new ≡ seat_journal old
       pub closed : D
-      pub is_closed : IsClosed told image faults old.desk closed
+      pub is_closed : IsClosed told reads image faults old.desk closed
       pub opened : IsOpenedFrom closed old.refusal new
       pub left : IsLeft reads image faults closed (seat_disk new)
 

@@ -1,9 +1,7 @@
 -- The disks of users on their shelf.
-use Rattle.std.specs.Prelude.{◌≡◌, ℕ, ◌≤◌, Bool, true, false, List, [], ◌∷◌, bytes_eq, Option, Some}
-use Rattle.std.specs.Prelude.{None, map, string_bytes}
-use Rattle.std.specs.List.{list_any}
-use Rattle.outside.specs.Faults.{Rose}
-use Rattle.outside.specs.Shelf.{IsTaken, bytes_on, image_on}
+use Rattle.std.specs.Prelude.{◌≡◌, ℕ, ◌≤◌, false, List, [], ◌∷◌, Option, Some, None, map}
+use Rattle.std.specs.Prelude.{string_bytes}
+use Rattle.outside.specs.Shelf.{IsTaken, bytes_on, image_on, is_among}
 use Rattle.cqe_base.specs.Schema.{Text, DatabaseSchema}
 use Rattle.cqe_base.specs.Facts.{FactSet}
 use Rattle.cqe_base.specs.declared.user.User.{User}
@@ -34,10 +32,6 @@ journals_on reads image directory disk disk' count count' = record {
   image = λ name. image_on image (disk' (journal_name directory name));
 }
 
--- whether a name is among these
-abbrev pub is_among : List Text → Text → Bool
-is_among names name = list_any (bytes_eq name) names
-
 -- the journal of this name reads as it did, and no crash leaves anything new of it
 abbrev pub IsKept : Journals → Text → Type 0
 IsKept journals name = (journals.reads name ≡ journals.bytes name)
@@ -54,44 +48,6 @@ AreKeptBut names journals = (name : Text) → is_among names name ≡ false → 
 -- the names of the seats' journals
 abbrev pub journals : {D : Type 0} {g h : _} → List (DeskSeat D g h) → List Text
 journals seats = map seat_journal seats
-
--- each name but these has the same as before
-abbrev pub SameBeside : {A : Type 0} → List Text → (Text → A) → (Text → A) → Type 0
-SameBeside names old new = (name : Text) → is_among names name ≡ false → new name ≡ old name
-
--- no name has a disk out
-abbrev pub NoneOut : (Text → Bool) → Type 0
-NoneOut is_out = (name : Text) → is_out name ≡ false
-
--- the disks with these names are all out
-abbrev pub AllOut : List Text → (Text → Bool) → Type 0
-AllOut names is_out = (name : Text) → is_among names name ≡ true → is_out name ≡ true
-
--- they are all on the shelf
-abbrev pub AllIn : List Text → (Text → Bool) → Type 0
-AllIn names is_out = (name : Text) → is_among names name ≡ true → is_out name ≡ false
-
--- the disks of all names read the same as before
-abbrev pub SameBytes : {D : Type 0} → (D → List ℕ) → (Text → Option D) → (Text → Option D) → Type 0
-SameBytes reads old new = (name : Text) → bytes_on reads (new name) ≡ bytes_on reads (old name)
-
--- no disk has an image that it hadn't before
-abbrev pub NoNewImages : {D : Type 0} → (D → List ℕ → Type 0) → (Text → Option D)
-    → (Text → Option D) → Type 0
-NoNewImages image old new =
-    (name : Text) (c : List ℕ) → image_on image (new name) c → image_on image (old name) c
-
--- no count fell
-abbrev pub NoneFell : (Text → ℕ) → (Text → ℕ) → Type 0
-NoneFell old new = (name : Text) → old name ≤ new name
-
--- the count of some name rose
-abbrev pub SomeRose : (Text → ℕ) → (Text → ℕ) → Type 0
-SomeRose old new = (name : Text) × Rose (old name) (new name)
-
--- the disks with these names are out, and no others
-abbrev pub AreOut : List Text → (Text → Bool) → Type 0
-AreOut names is_out = (name : Text) → is_out name ≡ is_among names name
 
 -- the count of faults under the name of each seat's journal is at most that of its disk as its desk
 -- was opened

@@ -17,9 +17,10 @@ ghost use Rattle.log_journal.specs.Names.{journal_name};
 ghost use Rattle.user_log.specs.Replies.{reply_of};
 ghost use Rattle.desk_crew.specs.Crew.{named_user, seat_user, seat_kept, seat_broke, is_named};
 ghost use Rattle.desk_crew.specs.Crew.{IsServed, Tells, AreReopened};
-ghost use Rattle.desk_crew.specs.Shelved.{journals, SameBeside, AllOut, AllIn, NoneOut, NoneFell};
-ghost use Rattle.desk_crew.specs.Shelved.{AreOut, AreLater, AreBack, IsSeatOf, AreSeatsOf};
-ghost use Rattle.desk_crew.specs.Shelved.{SameBytes, NoNewImages};
+ghost use Rattle.outside.specs.Shelf.{SameBeside, AllOut, AllIn, NoneOut, NoneFell, AreOut};
+ghost use Rattle.outside.specs.Shelf.{SameBytes, NoNewImages};
+ghost use Rattle.desk_crew.specs.Shelved.{journals};
+ghost use Rattle.desk_crew.specs.Shelved.{AreLater, AreBack, IsSeatOf, AreSeatsOf};
 ghost use Rattle.desk_crew.specs.declared.crew.NotOpened.{NotOpened};
 
 use crate::registry::Registry;

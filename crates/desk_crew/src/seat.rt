@@ -119,7 +119,7 @@ pub(crate) fn settle_at<R: Wait, G: Gate, D: Disk>(
 
 /// Closes a desk: its disk, and whether an append to it failed.
 pub(crate) fn close_desk<D: Disk>(desk: SoleCounter<'_, D>) -> (D, bool)
-    ensures closed { IsClosed D.tells D.image D.faults desk.entry result.0 }
+    ensures closed { IsClosed D.tells D.reads D.image D.faults desk.entry result.0 }
     ensures broke { result.1 ≡ has_broke (pairs_of_sole desk.entry) }
 {
     let desk = desk.close();

@@ -101,6 +101,7 @@ pub fn make_user(
         method,
         know: Vec::from_array(alloc, [known])?,
         secrets: Vec::from_array(alloc, [secret])?,
+        pairs: 0,
         budget: 1_000_000,
         token: None,
     })

@@ -25,6 +25,7 @@ fn user(alloc: Global, name: &str) -> Result<User, AllocError>
         method: Method::Lying,
         know: Vec::new(alloc),
         secrets: Vec::new(alloc),
+        pairs: 0,
         budget: 1,
         token: None,
     })

@@ -2,6 +2,10 @@ mod ClauseCount
 mod LogNodes
 mod LogForms
 mod LogItems
+mod ViewForms
+mod OpenViews
+mod KeptClauses
 mod CostBounds
 mod ModelWorlds
 mod Verdicts
+pub mod Crossing

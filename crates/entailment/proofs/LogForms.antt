@@ -12,7 +12,7 @@ use Rattle.cqe_base.specs.Formula.{nodes, is_sentence_of}
 use Rattle.cqe_base.specs.MachineLaws.{ClauseFormUsesItsVariables, ClauseFormHasNoRepeat, VariablesAreFew, NumberedFactsAreFew, NumberedFactsAreOfSchema}
 use Rattle.clause_form.specs.Forms.{Form, form_of, with_formula, AddedFormsGrow}
 use Rattle.entailment.specs.Logs.{log_nodes, sentence_nodes}
-use Rattle.entailment.specs.Forms.{form_of_log, with_negated, HasAdded, IsSearchable}
+use Rattle.entailment.specs.Forms.{form_of_log, with_negated, HasAdded, CanBeProbed, IsSearchable}
 use Rattle.entailment.proofs.ClauseCount.{clauses_are_few}
 use Rattle.entailment.proofs.LogNodes.{grounded-nodes, sentence_nodes-le, probe-nodes}
 
@@ -55,6 +55,13 @@ room-for-goal few keeps schema log premise goal form is small =
     sum_by-append (λ signed. nodes schema signed.0) log premise in
     let c = sentence_nodes-le schema log in
     omega arith
+
+-- so there is where the probe keeps its limits
+pub premise-fits : VariablesAreFew → GroundingKeepsNodes → (schema : DatabaseSchema) (log premise : List Signed) (goal : Signed) (form : Form)
+    → CanBeProbed schema premise goal form log → form.numbering.variables + sentence_nodes schema premise < 2 ^ 31
+premise-fits few keeps schema log premise goal form can =
+    let all = can.all_nodes in
+    room-for-premise few keeps schema log premise form can.form_is (omega arith)
 
 -- what a probe adds is the form of its premises and the negated goal
 pub probe-form : (schema : DatabaseSchema) (premises : List Signed) (goal : Signed)
@@ -104,3 +111,14 @@ probe-searchable few keeps below no_repeat few_facts of_schema schema log premis
     subst (IsSearchable schema) (sym is)
     (log-searchable few keeps below no_repeat few_facts of_schema schema (with_negated (log ++ premise) goal) valid
     (probe-sentences schema log premise goal of_log of_premise of_goal) (omega arith))
+
+-- and so can the form of the log alone
+pub own-searchable : VariablesAreFew → GroundingKeepsNodes → ClauseFormUsesItsVariables → ClauseFormHasNoRepeat → NumberedFactsAreFew
+    → NumberedFactsAreOfSchema
+    → (schema : DatabaseSchema) (log premise : List Signed) (goal : Signed) (form : Form) → is_valid_schema schema ≡ true
+    → CanBeProbed schema premise goal form log → IsSearchable schema form
+own-searchable few keeps below no_repeat few_facts of_schema schema log premise goal form valid can =
+    let within = sentence_nodes-le schema log in
+    let all = can.all_nodes in
+    subst (IsSearchable schema) (sym can.form_is)
+    (log-searchable few keeps below no_repeat few_facts of_schema schema log valid can.sentences (omega arith))

@@ -1,9 +1,9 @@
 -- The sentences of a small log, one at a time.
-use Rattle.std.proofs.Common.{◌≡◌, ℕ, ◌<◌, ◌≤◌, Bool, true, nat_le, List, length, take, get_or, sym, ap, ◌∙◌, subst, arith}
+use Rattle.std.proofs.Common.{◌≡◌, ℕ, ◌+◌, ◌<◌, ◌≤◌, Bool, true, nat_le, List, [], ◌∷◌, ◌++◌, length, take, get_or, sym, ap, ◌∙◌, subst, arith}
 use Rattle.std.specs.List.{list_all}
 use Rattle.std.proofs.Math.ListN.{get_or-map}
 use Rattle.std.proofs.lemmas.Bool.{leb-true}
-use Rattle.std.proofs.lemmas.List.{length-map, take-map}
+use Rattle.std.proofs.lemmas.List.{length-map, take_more}
 use Rattle.std.proofs.lemmas.List.Elements.{All-get_or}
 use Rattle.std.proofs.lemmas.List.Sums.{AllPass-from_list_all, sum_by-take-le}
 use Rattle.cqe_base.specs.Schema.{DatabaseSchema}
@@ -32,14 +32,16 @@ pub item-small : (schema : DatabaseSchema) (log : List Told) (i : ℕ) (t : Told
     → nodes schema (formula_of t.sentence) ≤ 20000
 item-small schema log i t below is small = leb-true _ 20000 (passes (λ signed. nat_le (nodes schema signed.0) 20000) log i t below is small.each)
 
+-- the log up to a part, and it
+pub item-more : (log : List Told) (i : ℕ) (t : Told) → i < length log → t ≡ get_or log i t → take (i + 1) (told_log log) ≡ take i (told_log log) ++ told t ∷ []
+item-more log i t below is =
+    take_more (told_log log) i (told t) (subst (λ n. i < n) (sym (length-map log told)) below)
+    ∙ ap (λ s. take i (told_log log) ++ s ∷ []) (get_or-map told log i t ∙ ap told (sym is))
+
 -- the nodes of the log up to a part are within those of the whole log
-pub nodes-before : (schema : DatabaseSchema) (log : List Told) (i : ℕ) → IsSmallLog schema (told_log log)
-    → sentence_nodes schema (told_log (take i log)) ≤ 60000
+pub nodes-before : (schema : DatabaseSchema) (log : List Signed) (i : ℕ) → IsSmallLog schema log → sentence_nodes schema (take i log) ≤ 60000
 nodes-before schema log i small =
-    let same : sentence_nodes schema (told_log (take i log)) ≡ sentence_nodes schema (take i (told_log log)) =
-    ap (sentence_nodes schema) (sym (take-map told i log)) in
-    let part : sentence_nodes schema (take i (told_log log)) ≤ sentence_nodes schema (told_log log) =
-    sum_by-take-le (λ signed. nodes schema signed.0) (told_log log) i in
-    let whole = sentence_nodes-le schema (told_log log) in
+    let part : sentence_nodes schema (take i log) ≤ sentence_nodes schema log = sum_by-take-le (λ signed. nodes schema signed.0) log i in
+    let whole = sentence_nodes-le schema log in
     let all = small.all in
     omega arith

@@ -1,12 +1,15 @@
 -- The clause form of logs.
-use Rattle.std.specs.Prelude.{◌≡◌, ◌≤◌, true, not, List, [], ◌∷◌, ◌++◌, length, map}
+use Rattle.std.specs.Prelude.{◌≡◌, ◌≤◌, ◌+◌, ◌⊎◌, true, not, nat_le, List, [], ◌∷◌, ◌++◌, length}
+use Rattle.std.specs.Prelude.{map}
 use Rattle.std.specs.List.{list_all}
 use Rattle.cqe_base.specs.Schema.{DatabaseSchema}
 use Rattle.cqe_base.specs.Facts.{is_fact_of}
-use Rattle.cqe_base.specs.Entailment.{Signed}
-use Rattle.cqe_base.specs.Literal.{ClausesBelow, HaveNoRepeat}
+use Rattle.cqe_base.specs.Formula.{nodes, is_sentence_of}
+use Rattle.cqe_base.specs.Entailment.{Signed, are_sentences_of}
+use Rattle.cqe_base.specs.Literal.{Literal, ClausesBelow, HaveNoRepeat}
 use Rattle.cqe_base.specs.Outcome.{grounded_signed}
 use Rattle.clause_form.specs.Forms.{Form, form_of}
+use Rattle.entailment.specs.Logs.{log_nodes, sentence_nodes}
 
 -- the form of a log's grounded sentences, with their signs
 abbrev pub form_of_log : DatabaseSchema → List Signed → Form
@@ -21,6 +24,40 @@ with_negated premises goal = premises ++ (goal.0, not goal.1) ∷ []
 abbrev pub HasAdded : DatabaseSchema → List Signed → (before after : Form) → Type 0
 HasAdded schema more before after =
     (log : List Signed) → before ≡ form_of_log schema log → after ≡ form_of_log schema (log ++ more)
+
+-- a form to which some sentences were added, or none
+abbrev pub GoesOn : DatabaseSchema → (before after : Form) → Type 0
+GoesOn schema before after =
+    (log : List Signed) → before ≡ form_of_log schema log
+    → (more : List Signed) × (after ≡ form_of_log schema (log ++ more))
+
+-- a form to which a premise, if there is one, and a negated goal were added
+abbrev pub HasProbe : DatabaseSchema → (premise : List Signed) (goal : Signed)
+    (before after : Form) → Type 0
+HasProbe schema premise goal before after =
+    (log : List Signed) → before ≡ form_of_log schema log
+    → after ≡ form_of_log schema (with_negated (log ++ premise) goal)
+
+-- a form is that of a log, and the log, the premise and the goal keep the limits of a probe
+pub record CanBeProbed (schema : DatabaseSchema) (premise : List Signed) (goal : Signed)
+    (form : Form) (log : List Signed) : Type 0 where
+  pub form_is : form ≡ form_of_log schema log
+  pub sentences : are_sentences_of schema log ≡ true
+  pub premise_sentence : are_sentences_of schema premise ≡ true
+  pub goal_sentence : is_sentence_of schema goal.0 ≡ true
+  pub premise_nodes : list_all (λ signed. nat_le (nodes schema signed.0) 20000) premise ≡ true
+  pub goal_nodes : nodes schema goal.0 ≤ 40000
+  pub all_nodes : log_nodes schema log + sentence_nodes schema premise + nodes schema goal.0
+      ≤ 100000
+
+-- so it is for some log
+abbrev pub IsForProbe : DatabaseSchema → List Signed → Signed → Form → Type 0
+IsForProbe schema premise goal form =
+    (log : List Signed) × CanBeProbed schema premise goal form log
+
+-- what is kept stays, or nothing is kept any more
+abbrev pub StaysOrEmpty : (old new : List (List Literal)) → Type 0
+StaysOrEmpty old new = (new ≡ old) ⊎ (new ≡ [])
 
 -- a form that can be searched, and whose models have worlds: its clauses use its variables, and no
 -- literal twice;

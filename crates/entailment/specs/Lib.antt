@@ -1,7 +1,9 @@
 pub mod Logs
 pub mod Views
+pub mod ViewCode
 pub mod Probes
 pub mod Forms
+pub mod Inside
 pub mod Budgets
 pub mod Models
 pub mod Verdicts

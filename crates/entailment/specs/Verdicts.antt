@@ -1,5 +1,5 @@
 -- The verdict of a probe, by the end of the search machine.
-use Rattle.std.specs.Prelude.{ℕ, List, Option, Some, None, if◌then◌else◌}
+use Rattle.std.specs.Prelude.{◌≡◌, ℕ, List, ◌++◌, Option, Some, None, if◌then◌else◌}
 use Rattle.cqe_base.specs.Schema.{DatabaseSchema}
 use Rattle.cqe_base.specs.Entailment.{Signed}
 use Rattle.cqe_base.specs.Literal.{sign_at}
@@ -8,6 +8,7 @@ use Rattle.cqe_base.specs.Refutation.{is_refutation, is_model}
 use Rattle.cqe_base.specs.Machine.{End, Model, Refuted, end_within_budget}
 use Rattle.cqe_base.specs.Outcome.{grounded_probe}
 use Rattle.clause_form.specs.Forms.{Form}
+use Rattle.entailment.specs.Forms.{form_of_log, with_negated}
 use Rattle.entailment.specs.declared.probes.Verdict.{Verdict}
 use Rattle.entailment.specs.declared.probes.Verdict.TheVariants.{Follows, Open, Spent}
 
@@ -40,3 +41,15 @@ checked_verdict form (Some (Model signs)) =
     if is_model form.clauses signs
     then Open (world_of form.numbering.facts (sign_at signs))
     else Spent
+
+-- the checked verdict of what the machine finds within a budget on a form
+abbrev pub searched_verdict : Form → ℕ → Verdict
+searched_verdict form budget =
+    checked_verdict form (end_within_budget form.clauses form.numbering.variables budget)
+
+-- a verdict is the checked one of the probe of the log whose form it is
+abbrev pub IsCheckedOf : DatabaseSchema → (premise : List Signed) (goal : Signed) (budget : ℕ)
+    → Form → Verdict → Type 0
+IsCheckedOf schema premise goal budget form verdict =
+    (log : List Signed) → form ≡ form_of_log schema log
+    → verdict ≡ searched_verdict (form_of_log schema (with_negated (log ++ premise) goal)) budget

@@ -1,14 +1,22 @@
--- What a view is to its callers: a schema and a log over it.
-use Rattle.std.specs.Prelude.{List}
+-- What a view is to its callers: a log over a schema, with room for more.
+use Rattle.std.specs.Prelude.{ℕ, List}
 use Rattle.cqe_base.specs.Schema.{DatabaseSchema}
 use Rattle.cqe_base.specs.Entailment.{Signed}
-use Rattle.entailment.specs.declared.view.View.{View}
-use Rattle.entailment.specs.Logs.{told_log}
+
+-- a log over a schema, and how many sentences can be added to it without taking memory
+pub record LogView : Type 0 where
+  pub schema : DatabaseSchema
+  pub log : List Signed
+  pub room : ℕ
 
 -- the schema of a view
-abbrev pub schema_of : View → DatabaseSchema
-schema_of view = view.schema.now
+abbrev pub schema_of : LogView → DatabaseSchema
+schema_of view = view.schema
 
 -- the log of a view
-abbrev pub log_of : View → List Signed
-log_of view = told_log view.log.items
+abbrev pub log_of : LogView → List Signed
+log_of view = view.log
+
+-- how many sentences can be added to a view without taking memory
+abbrev pub room_of : LogView → ℕ
+room_of view = view.room

@@ -1,14 +1,18 @@
 //! Views: a log over a schema, which grows by one sentence at a time.
-ghost use Rattle.std.specs.Prelude.{◌≡◌, ◌≤◌, ◌+◌, true, [], ◌∷◌, ◌++◌, length, map, IfOk, OnErr};
-ghost use Rattle.std.specs.Prelude.{OnOk};
+ghost use Rattle.std.specs.Prelude.{◌≡◌, ◌≤◌, ◌<◌, ◌+◌, true, [], ◌∷◌, ◌++◌, length, map, IfOk};
+ghost use Rattle.std.specs.Prelude.{OnOk, OnErr};
 ghost use Rattle.cqe_base.specs.Formula.{formula_of, nodes, is_sentence_of};
 ghost use Rattle.cqe_base.specs.History.{profile_of, known, signed_nodes};
 ghost use Rattle.entailment.specs.Logs.{log_nodes, IsSmallLog, told_log};
+ghost use Rattle.entailment.specs.Views.{schema_of, log_of, room_of};
 
+use clause_form::former::Former;
+use clause_solver::KeptSearch;
 use cqe_base::schema::Schema;
 use cqe_base::sentence::Sentence;
 use cqe_base::user::User;
 use std::alloc::{AllocError, Global};
+use std::marker::Model;
 
 /// A sentence of a log, or where `yes` is false its negation.
 #[derive(Drop)]
@@ -17,17 +21,34 @@ pub(crate) struct Told {
     pub(crate) yes: bool,
 }
 
-/// A log over a schema.
+/// A log over a schema. The clauses of its sentences are formed by the first probe behind them;
+/// they are kept then, and so is the work of the search on them.
 #[derive(Drop)]
 pub struct View<'s> {
     pub(crate) schema: &'s Schema,
     pub(crate) log: Vec<Told>,
-    ghost small: { IsSmallLog schema.now (told_log log.items) },
+    pub(crate) former: Former,
+    /// How many sentences of the log the former has.
+    pub(crate) formed: usize,
+    pub(crate) kept: KeptSearch,
+}
+
+impl<'s> Model for View<'s> {
+    ghost use Rattle.entailment.specs.Views.{LogView};
+    ghost use Rattle.entailment.specs.ViewCode.{view_code};
+
+    ghost Value = { LogView };
+
+    ghost coded = { view_code };
+
+    ghost use Rattle.entailment.specs.Inside.{view_inside, IsSound};
+
+    ghost view = { view_inside };
+
+    ghost invariant = { IsSound };
 }
 
 impl<'s> View<'s> {
-    ghost use Rattle.entailment.specs.Views.{schema_of, log_of};
-
     /// The view whose log is what the user knows beforehand.
     #[tactic(auto, unfolding(cqe_base::specs::History::known))]
     pub fn new(alloc: Global, schema: &'s Schema, user: &User) -> Result<View<'s>, AllocError>
@@ -36,7 +57,41 @@ impl<'s> View<'s> {
         ensures log { IfOk result (λ view. log_of view ≡ known (profile_of user.now)) }
     {
         let log = told_of(alloc, user.know.as_slice())?;
-        Ok(View { schema, log })
+        let former = Former::new(alloc)?;
+        let kept = KeptSearch::new(alloc);
+        Ok(View {
+            schema,
+            log,
+            former,
+            formed: 0,
+            kept,
+        })
+    }
+
+    /// Takes the memory for one more sentence. The log stays.
+    pub fn reserve(&mut self) -> Result<(), AllocError>
+        ensures schema { schema_of self.new ≡ schema_of self.old }
+        ensures log { log_of self.new ≡ log_of self.old }
+        ensures room { OnOk result (0 < room_of self.new) }
+    {
+        self.log.reserve(1)
+    }
+
+    /// Appends the query, or where `yes` is false its negation, to a log with room for it. It takes
+    /// no memory.
+    pub fn push_reserved(&mut self, query: Sentence, yes: bool)
+        requires sentence { is_sentence_of (schema_of self.old) (formula_of query) ≡ true }
+        requires query { nodes (schema_of self.old) (formula_of query) ≤ 20000 }
+        requires nodes { log_nodes (schema_of self.old) (log_of self.old)
+            + signed_nodes (schema_of self.old) (formula_of query) yes ≤ 60000 }
+        requires room { 0 < room_of self.old }
+        ensures schema { schema_of self.new ≡ schema_of self.old }
+        ensures added { log_of self.new ≡ log_of self.old ++ (formula_of query, yes) ∷ [] }
+    {
+        self.log.push_reserved(Told {
+            sentence: query,
+            yes,
+        });
     }
 
     /// Appends the query, or where `yes` is false its negation, to the log. A refusal changes
@@ -52,20 +107,9 @@ impl<'s> View<'s> {
         ensures refused { OnErr result (log_of self.new ≡ log_of self.old) }
     {
         let sentence = query.copy(alloc)?;
-        self.log.push(Told { sentence, yes })?;
+        self.reserve()?;
+        self.push_reserved(sentence, yes);
         Ok(())
-    }
-
-    /// The same view in memory of its own.
-    pub fn copy(&self, alloc: Global) -> Result<View<'s>, AllocError>
-        ensures schema { IfOk result (λ copy. schema_of copy ≡ schema_of self.now) }
-        ensures log { IfOk result (λ copy. log_of copy ≡ log_of self.now) }
-    {
-        let log = copied(alloc, self.log.as_slice())?;
-        Ok(View {
-            schema: self.schema,
-            log,
-        })
     }
 
     /// How many sentences the log has.
@@ -89,18 +133,4 @@ fn told_of(alloc: Global, sentences: &[Sentence]) -> Result<Vec<Told>, AllocErro
         })?;
     }
     Ok(told)
-}
-
-/// The same parts of a log in memory of their own.
-fn copied(alloc: Global, log: &[Told]) -> Result<Vec<Told>, AllocError>
-    ensures { IfOk result (λ copy. told_log copy.items ≡ told_log log.now) }
-{
-    let mut copy = Vec::new(alloc);
-    for told in log {
-        copy.push(Told {
-            sentence: told.sentence.copy(alloc)?,
-            yes: told.yes,
-        })?;
-    }
-    Ok(copy)
 }

@@ -1,5 +1,6 @@
 //! Making the journals of users.
-ghost use Rattle.std.specs.Prelude.{◌≡◌, ◌≤◌, List, ℕ, false};
+ghost use Rattle.std.specs.Prelude.{◌≡◌, ◌≤◌, false};
+ghost use Rattle.outside.specs.Shelf.{SameNames, NoneOut, NoneFell};
 ghost use Rattle.cqe_base.specs.Schema.{has_duplicate};
 ghost use Rattle.log_journal.specs.Opening.{header_bytes};
 ghost use Rattle.init_engine.specs.Disks.{user_names};
@@ -26,7 +27,7 @@ pub fn run_init<F: Shelf>(
     shelf: &mut F,
 ) -> InitEnd
     requires names { has_duplicate (user_names users.now) ≡ false }
-    requires out { (name : List ℕ) → F.is_out shelf.old name ≡ false }
+    requires out { NoneOut (F.is_out shelf.old) }
     ensures ends { IsEnd F.tells F.D.reads F.D.image (header_bytes header.now) directory.now
         (user_names users.now)
         (record {
@@ -39,9 +40,9 @@ pub fn run_init<F: Shelf>(
               F.faults shelf.old;
           shelf_now = F.faults shelf.new;
         }) result }
-    ensures out { (name : List ℕ) → F.is_out shelf.new name ≡ false }
-    ensures counts { (name : List ℕ) → F.disk_faults shelf.old name ≤ F.disk_faults shelf.new name }
-    ensures files { (name : List ℕ) → F.file shelf.new name ≡ F.file shelf.old name }
+    ensures out { NoneOut (F.is_out shelf.new) }
+    ensures counts { NoneFell (F.disk_faults shelf.old) (F.disk_faults shelf.new) }
+    ensures files { SameNames (F.file shelf.old) (F.file shelf.new) }
     ensures looked { F.looked shelf.new ≡ F.looked shelf.old }
     ensures later { F.faults shelf.old ≤ F.faults shelf.new }
 {

@@ -3,10 +3,9 @@ ghost use Rattle.std.specs.Prelude.{◌≡◌, ◌≢◌, ◌≤◌, ◌++◌, �
 ghost use Rattle.std.specs.Prelude.{OnOk, IfErr};
 ghost use Rattle.outside.specs.Disk.{Only};
 ghost use Rattle.outside.specs.Faults.{HasCause};
-ghost use Rattle.outside.specs.Shelf.{SameNames, SameOthers};
+ghost use Rattle.outside.specs.Shelf.{SameNames, SameOthers, NoneFell, bytes_on};
 ghost use Rattle.log_journal.specs.Opening.{header_bytes};
 ghost use Rattle.log_journal.specs.Names.{journal_name};
-ghost use Rattle.outside.specs.Shelf.{bytes_on};
 ghost use Rattle.init_engine.specs.Disks.{IsMade, IsReady};
 ghost use Rattle.init_engine.specs.Stops.{HasReason, StaysAt, stop_of};
 
@@ -41,9 +40,8 @@ pub(crate) fn serve<F: Shelf>(
     ensures disks { SameOthers (journal_name directory.now name.now) (F.disk shelf.old)
         (F.disk shelf.new) }
     ensures out { SameNames (F.is_out shelf.old) (F.is_out shelf.new) }
-    ensures counts { (other : List ℕ)
-        → F.disk_faults shelf.old other ≤ F.disk_faults shelf.new other }
-    ensures files { (other : List ℕ) → F.file shelf.new other ≡ F.file shelf.old other }
+    ensures counts { NoneFell (F.disk_faults shelf.old) (F.disk_faults shelf.new) }
+    ensures files { SameNames (F.file shelf.old) (F.file shelf.new) }
     ensures looked { F.looked shelf.new ≡ F.looked shelf.old }
     ensures later { F.faults shelf.old ≤ F.faults shelf.new }
 {
@@ -72,9 +70,8 @@ fn serve_disk<F: Shelf>(
         (F.disk shelf.new journal.now)) }
     ensures disks { SameOthers journal.now (F.disk shelf.old) (F.disk shelf.new) }
     ensures out { SameNames (F.is_out shelf.old) (F.is_out shelf.new) }
-    ensures counts { (other : List ℕ)
-        → F.disk_faults shelf.old other ≤ F.disk_faults shelf.new other }
-    ensures files { (other : List ℕ) → F.file shelf.new other ≡ F.file shelf.old other }
+    ensures counts { NoneFell (F.disk_faults shelf.old) (F.disk_faults shelf.new) }
+    ensures files { SameNames (F.file shelf.old) (F.file shelf.new) }
     ensures looked { F.looked shelf.new ≡ F.looked shelf.old }
     ensures later { F.faults shelf.old ≤ F.faults shelf.new }
 {

@@ -1,9 +1,9 @@
 -- What an append leaves, in terms of records.
 use Rattle.std.proofs.Common.{◌≡◌, ◌≢◌, ◌⊎◌, inl, inr, Result, Ok, Err, OnOk, ℕ, ◌+◌, ◌/◌, ◌%◌, ◌<◌, ◌≤◌, ◌^◌, List, [], ◌∷◌, ◌++◌, length, take, drop, get_or}
-use Rattle.std.proofs.Common.{sym, ◌∙◌, ap, subst, arith, append_assoc, length-append, length-take, take-append-drop}
+use Rattle.std.proofs.Common.{◌-◌, max, sym, ◌∙◌, ap, subst, arith, append_assoc, length-append, length-take, length-drop, take-append-drop}
 use Rattle.std.proofs.lemmas.List.{take_more, take-take}
 use Rattle.std.proofs.lemmas.Bool.{cases_eq}
-use Rattle.log_journal.specs.Records.{Recorded, record_bytes, IsJournal, Adds, KeepsOrAdds}
+use Rattle.log_journal.specs.Records.{Recorded, record_bytes, written, IsJournal, needed_bytes, Adds, KeepsOrAdds}
 use Rattle.log_journal.specs.Walk.{records}
 use Rattle.log_journal.specs.Bytes.{IsFront, EndsAt, piece_of, with_piece, IsBetween}
 use Rattle.log_journal.proofs.Fronts.{front_one, front_append, walked, journal_of, ends_of}
@@ -66,10 +66,24 @@ module _ (bytes : List ℕ) (gate : ℕ) (ends : EndsAt bytes gate) where
         journal_of (take 72 bytes) (front ++ 1 ∷ record_bytes kind text) (records bytes ++ (kind, text) ∷ []) 0 rest c header_size new_front (omega arith)
         (open_split rest c is)
 
+    -- the bytes are no more than before, or than this journal needs
+    no_longer : (c : List ℕ) → c ≡ with_piece bytes gate 1 piece → length c ≤ max (length bytes) (needed_bytes (records bytes ++ (kind, text) ∷ []))
+    no_longer c is =
+        let rest = drop (gate + 1 + length piece) bytes in
+        let size : length c ≡ gate + 1 + length piece + length rest = ap length is
+        ∙ omega (arith, length-append (take gate bytes ++ 1 ∷ piece) rest, length-append (take gate bytes) (1 ∷ piece), length-take gate bytes, ends.within) in
+        let piece_size : length piece ≡ length text + 4 = omega (arith, length-append (record_bytes kind text) (0 ∷ [])) in
+        let behind : length rest ≡ length bytes - (gate + 1 + length piece) = length-drop (gate + 1 + length piece) bytes in
+        let needed : length (written (records bytes ++ (kind, text) ∷ [])) ≡ length front + length text + 4 =
+        sym (ap length new_front.is) ∙ omega (arith, length-append front (1 ∷ record_bytes kind text)) in
+        omega (arith, size, piece_size, behind, needed, front_size)
+
     -- behind the open gate the journal has the record
     pub added : (c : List ℕ) → c ≡ with_piece bytes gate 1 piece → Adds bytes (kind, text) c
     added c is header before journal =
-        carried header before bytes journal (λ h b. IsJournal h (b ++ (kind, text) ∷ []) c) (open_gate (drop (gate + 1 + length piece) bytes) c is)
+        carried header before bytes journal
+        (λ h b. IsJournal h (b ++ (kind, text) ∷ []) c × (length c ≤ max (length bytes) (needed_bytes (b ++ (kind, text) ∷ []))))
+        (open_gate (drop (gate + 1 + length piece) bytes) c is, no_longer c is)
 
     pub ends_behind : (c : List ℕ) → c ≡ with_piece bytes gate 1 piece → length c < 2 ^ 64 → EndsAt c (gate + 4 + length text)
     ends_behind c is fits =

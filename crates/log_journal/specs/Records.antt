@@ -1,6 +1,6 @@
 -- The records of a journal, and the bytes that it is.
-use Rattle.std.specs.Prelude.{◌≡◌, ◌≢◌, ◌⊎◌, ℕ, ◌/◌, ◌%◌, Bool, true, ◌&&◌, List, [], ◌∷◌, ◌++◌}
-use Rattle.std.specs.Prelude.{length, nat_le}
+use Rattle.std.specs.Prelude.{◌≡◌, ◌≢◌, ◌⊎◌, ℕ, ◌+◌, ◌/◌, ◌%◌, ◌≤◌, max, Bool, true, ◌&&◌}
+use Rattle.std.specs.Prelude.{List, [], ◌∷◌, ◌++◌, length, nat_le}
 use Rattle.std.specs.List.{list_all}
 
 -- a record: its kind and its text
@@ -30,10 +30,16 @@ pub record IsJournal (header : List ℕ) (all : List Recorded) (bytes : List ℕ
   pub closed : gate ≢ 1
   pub is : bytes ≡ header ++ written all ++ gate ∷ rest
 
--- Whatever journal the old bytes are, the new ones are it with this record more.
+-- how many bytes a journal of these records needs: header, records, and closed gate
+abbrev pub needed_bytes : List Recorded → ℕ
+needed_bytes all = 73 + length (written all)
+
+-- Whatever journal the old bytes are, the new ones are it with this record more; and they are no
+-- more than the old ones, or than such a journal needs.
 abbrev pub Adds : List ℕ → Recorded → List ℕ → Type 0
 Adds old added new = (header : List ℕ) (before : List Recorded) → IsJournal header before old
     → IsJournal header (before ++ added ∷ []) new
+    × (length new ≤ max (length old) (needed_bytes (before ++ added ∷ [])))
 
 -- Whatever journal the old bytes are, the new ones are it as it was, or with this record more.
 abbrev pub KeepsOrAdds : List ℕ → Recorded → List ℕ → Type 0

@@ -8,7 +8,6 @@ use Rattle.cqe_base.specs.declared.user.User.{User}
 use Rattle.cqe_base.specs.History.{profile_of}
 use Rattle.cqe_base.specs.Limits.{KeepsLimits}
 use Rattle.cqe_base.specs.Schema.{Declaration, DatabaseSchema, AcceptedIsValid, schema_refusal, schema_of, is_valid_schema}
-use Rattle.cqe_base.specs.Reading.{ReadingsAreSentences}
 use Rattle.policy_files.specs.Policies.{PolicyUser, PolicyValue}
 use Rattle.policy_files.specs.Memory.{policy_user_of}
 use Rattle.policy_files.specs.Tree.{tables_in}
@@ -17,7 +16,7 @@ use Rattle.policy_files.specs.Users.{users_behind}
 use Rattle.policy_files.specs.Policy.{version_of, declared_at, unless_refused, schema_in, tree_in, policy_of, policy_in}
 use Rattle.policy_files.specs.Laws.{IsKeptPolicy, PoliciesAreKept}
 use Rattle.policy_files.proofs.OkSteps.{first_ok, same_ok, within_ok}
-use Rattle.policy_files.proofs.UsersKept.{users_ok, no_users_kept}
+use Rattle.policy_files.proofs.UsersKept.{Laws, users_ok, no_users_kept}
 
 accepted_ok : (refusal : Option SchemaError) (made schema : DatabaseSchema) → unless_refused refusal made ≡ Ok schema → (refusal ≡ None) × (made ≡ schema)
 accepted_ok None made schema e = (refl, same_ok made schema e)
@@ -29,11 +28,11 @@ schema_ok law domains relations schema e =
     let h = accepted_ok (schema_refusal domains relations) (schema_of domains relations) schema e in
     subst (λ s. is_valid_schema s ≡ true) h.1 (law domains relations h.0)
 
-pub policies_kept : AcceptedIsValid → ReadingsAreSentences → PoliciesAreKept
+pub policies_kept : AcceptedIsValid → Laws → PoliciesAreKept
 unfolding policy_of
-policies_kept accepted law root policy e =
+policies_kept accepted laws root policy e =
     first_ok (version_of (get (codes "version") root)) _ policy e (λ version version_is e.
-    first_ok (only_keys None root) _ policy e (λ none none_is e.
+    first_ok (only_keys version None root) _ policy e (λ none none_is e.
     first_ok (required as_table (key_place None (codes "domains")) (get (codes "domains") root)) _ policy e (λ domain_table domain_table_is e.
     first_ok (required as_table (key_place None (codes "relations")) (get (codes "relations") root)) _ policy e (λ relation_table relation_table_is e.
     first_ok (required tables_in (key_place None (codes "users")) (get (codes "users") root)) _ policy e (λ tables tables_is e.
@@ -41,9 +40,9 @@ policies_kept accepted law root policy e =
     first_ok (declared_at (codes "relations") relation_table) _ policy e (λ relations relations_is e.
     first_ok (schema_in domains relations) _ policy e (λ schema schema_is e.
     first_ok (within 1 256 (key_place None (codes "users")) (length tables)) _ policy e (λ count count_is e.
-    first_ok (users_behind schema [] tables) _ policy e (λ users users_is e.
+    first_ok (users_behind version schema [] tables) _ policy e (λ users users_is e.
     let made : PolicyValue = record { schema = schema; users = users } in
-    let kept = users_ok law schema [] tables users (no_users_kept schema) users_is in
+    let kept = users_ok laws version schema [] tables users (no_users_kept schema) users_is in
     let fits = within_ok 1 256 (key_place None (codes "users")) (length tables) count count_is in
     let size : length users ≡ 0 + length tables = kept.1 in
     let low : 1 ≤ length tables = fits.0 in

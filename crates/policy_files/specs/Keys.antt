@@ -5,6 +5,8 @@ use Rattle.cqe_base.specs.declared.text.TextError.{TextError}
 use Rattle.cqe_base.specs.Schema.{Text}
 use Rattle.toml.specs.Data.{Data}
 use Rattle.policy_files.specs.Tree.{members, unknown_key}
+use Rattle.policy_files.specs.declared.keys.PolicyVersion.{PolicyVersion}
+use Rattle.policy_files.specs.declared.keys.PolicyVersion.TheVariants.{One, Two}
 use Rattle.policy_files.specs.declared.error.Place.{Place}
 use Rattle.policy_files.specs.declared.error.PolicyError.{PolicyError}
 use Rattle.policy_files.specs.declared.error.PolicyError.TheVariants.{MissingKey, WrongKind}
@@ -34,15 +36,20 @@ text_place user key index why =
 abbrev pub root_keys : List Text
 root_keys = codes "version" ∷ codes "domains" ∷ codes "relations" ∷ codes "users" ∷ []
 
--- the keys of a user
-abbrev pub user_keys : List Text
-user_keys = codes "name" ∷ codes "method" ∷ codes "know" ∷ codes "secrets" ∷ codes "budget"
+-- the keys of a user in version 1
+abbrev pub first_user_keys : List Text
+first_user_keys = codes "name" ∷ codes "method" ∷ codes "know" ∷ codes "secrets" ∷ codes "budget"
     ∷ codes "token" ∷ []
 
+-- the keys of a user; `secrecies` is one from version 2 on
+abbrev pub user_keys : PolicyVersion → List Text
+user_keys One = first_user_keys
+user_keys Two = codes "secrecies" ∷ first_user_keys
+
 -- the keys in the user of this number, or of the document itself
-abbrev pub keys_at : Option ℕ → List Text
-keys_at None = root_keys
-keys_at (Some user) = user_keys
+abbrev pub keys_at : PolicyVersion → Option ℕ → List Text
+keys_at version None = root_keys
+keys_at version (Some user) = user_keys version
 
 -- the least key that has no meaning there is refused
 abbrev pub without_unknown : Option ℕ → Option Text → Step (Unit {0})
@@ -50,8 +57,9 @@ without_unknown user None = Ok tt
 without_unknown user (Some key) = Err (UnknownKey (key_place user key))
 
 -- a table has no other key than those that have a meaning there
-abbrev pub only_keys : Option ℕ → Data → Step (Unit {0})
-only_keys user value = without_unknown user (unknown_key (keys_at user) (members value))
+abbrev pub only_keys : PolicyVersion → Option ℕ → Data → Step (Unit {0})
+only_keys version user value =
+    without_unknown user (unknown_key (keys_at version user) (members value))
 
 -- a value of the kind that is wanted
 abbrev pub of_kind : {A : Type 0} → Place → Option A → Step A

@@ -7,6 +7,8 @@ use Rattle.toml.specs.Data.{Data, Members, table, get, as_integer, as_table}
 use Rattle.toml.specs.Parse.{parse_document}
 use Rattle.cqe_base.specs.declared.schema.SchemaError.{SchemaError}
 use Rattle.cqe_base.specs.Schema.{Text, Declaration, DatabaseSchema, schema_refusal, schema_of}
+use Rattle.policy_files.specs.declared.keys.PolicyVersion.{PolicyVersion}
+use Rattle.policy_files.specs.declared.keys.PolicyVersion.TheVariants.{One, Two}
 use Rattle.policy_files.specs.declared.error.PolicyError.TheVariants.{NotToml, WrongKind, Schema}
 use Rattle.policy_files.specs.declared.error.PolicyError.TheVariants.{Version}
 use Rattle.policy_files.specs.Tree.{tables_in, are_string_arrays, declarations, natural}
@@ -14,16 +16,17 @@ use Rattle.policy_files.specs.Policies.{PolicyValue}
 use Rattle.policy_files.specs.Keys.{Step, ◌>>=◌, key_place, only_keys, required, within}
 use Rattle.policy_files.specs.Users.{users_behind}
 
--- the version is 1
-abbrev pub is_version : Option ℕ → Step (Unit {0})
-is_version None = Err Version
-is_version (Some version) = if version == 1 then Ok tt else Err Version
+-- the version is 1 or 2
+abbrev pub version_numbered : Option ℕ → Step PolicyVersion
+version_numbered None = Err Version
+version_numbered (Some number) =
+    if number == 1 then Ok One else if number == 2 then Ok Two else Err Version
 
 -- the version at the key
-abbrev pub version_of : Option Data → Step (Unit {0})
+abbrev pub version_of : Option Data → Step PolicyVersion
 version_of value =
     required as_integer (key_place None (codes "version")) value >>= λ number.
-    is_version (natural number)
+    version_numbered (natural number)
 
 -- the declarations at a key of the document, each value of which is an array of strings
 abbrev pub declared_at : Text → Members → Step (List Declaration)
@@ -45,7 +48,7 @@ schema_in domains relations =
 unfoldable pub policy_of : Data → Step PolicyValue
 policy_of root = do
   version ← version_of (get (codes "version") root)
-  none ← only_keys None root
+  none ← only_keys version None root
   domain_table ← required as_table (key_place None (codes "domains")) (get (codes "domains") root)
   relation_table ← required as_table (key_place None (codes "relations"))
       (get (codes "relations") root)
@@ -54,7 +57,7 @@ policy_of root = do
   relations ← declared_at (codes "relations") relation_table
   schema ← schema_in domains relations
   count ← within 1 256 (key_place None (codes "users")) (length tables)
-  users ← users_behind schema [] tables
+  users ← users_behind version schema [] tables
   Ok (record { schema = schema; users = users })
 
 -- the tree of a document, if there is one

@@ -6,12 +6,15 @@ use Rattle.hex.specs.Hex.{decode_sized}
 use Rattle.toml.specs.Data.{Data, get, as_str, as_integer}
 use Rattle.cqe_base.specs.declared.user.Method.{Method}
 use Rattle.cqe_base.specs.Schema.{Text, DatabaseSchema, contains_text, is_schema_name}
-use Rattle.cqe_base.specs.Formula.{Formula}
+use Rattle.cqe_base.specs.Formula.{Formula, nodes}
 use Rattle.cqe_base.specs.Reading
 use Rattle.cqe_base.specs.Reading.{reading}
 use Rattle.cqe_base.specs.History.{view_size}
 use Rattle.cqe_base.specs.Censor.{method_named}
-use Rattle.cqe_base.specs.Limits.{is_small}
+use Rattle.cqe_base.specs.Secrecies.{with_secrecies}
+use Rattle.policy_files.specs.declared.keys.PolicyVersion.{PolicyVersion}
+use Rattle.policy_files.specs.declared.keys.PolicyVersion.TheVariants.{One, Two}
+use Rattle.policy_files.specs.declared.text.Bounds.{Bounds}
 use Rattle.policy_files.specs.declared.error.Place.{Place}
 use Rattle.policy_files.specs.declared.error.PolicyError.TheVariants.{MissingKey, WrongKind}
 use Rattle.policy_files.specs.declared.error.PolicyError.TheVariants.{Sentence, Limit}
@@ -50,45 +53,74 @@ method_of user value =
 
 -- ---- sentences
 
--- a sentence of at most 20,000 nodes
-abbrev pub small_sentence : DatabaseSchema → ℕ → Text → ℕ → Result Formula Reading.Refusal
+-- a sentence of at most so many nodes
+abbrev pub small_sentence : DatabaseSchema → ℕ → Text → ℕ → ℕ → Result Formula Reading.Refusal
     → Step Formula
-small_sentence schema user key index (Err why) =
+small_sentence schema user key most index (Err why) =
     Err (Sentence (text_place user key index (Some why)))
-small_sentence schema user key index (Ok sentence) =
-    if is_small schema sentence then Ok sentence else Err (Limit (text_place user key index None))
+small_sentence schema user key most index (Ok sentence) =
+    if nat_le (nodes schema sentence) most then Ok sentence
+    else Err (Limit (text_place user key index None))
 
 -- the sentence that a text of at most 4,096 bytes is
-unfoldable pub sentence_of : DatabaseSchema → ℕ → Text → ℕ → Text → Step Formula
-sentence_of schema user key index text =
+unfoldable pub sentence_of : DatabaseSchema → ℕ → Text → ℕ → ℕ → Text → Step Formula
+sentence_of schema user key most index text =
     if nat_lt 4096 (length text) then Err (Limit (text_place user key index None))
-    else small_sentence schema user key index (reading schema text)
+    else small_sentence schema user key most index (reading schema text)
 
 -- the sentences of the texts that are left, behind those that were read
-abbrev pub sentences_behind : DatabaseSchema → ℕ → Text → List Formula → List Data
+abbrev pub sentences_behind : DatabaseSchema → ℕ → Text → ℕ → List Formula → List Data
     → Step (List Formula)
-sentences_behind schema user key read [] = Ok read
-sentences_behind schema user key read (text ∷ rest) =
-    sentence_of schema user key (length read) (text_in text)
-    >>= λ sentence. sentences_behind schema user key (read ++ sentence ∷ []) rest
+sentences_behind schema user key most read [] = Ok read
+sentences_behind schema user key most read (text ∷ rest) =
+    sentence_of schema user key most (length read) (text_in text)
+    >>= λ sentence. sentences_behind schema user key most (read ++ sentence ∷ []) rest
 
--- from the least to the greatest number of sentences, from an array of strings
-unfoldable pub sentences_of : DatabaseSchema → ℕ → Text → ℕ → ℕ → Data → Step (List Formula)
-sentences_of schema user key least greatest value =
+-- the sentences of an array of strings, within these bounds
+unfoldable pub sentences_of : DatabaseSchema → ℕ → Text → Bounds → Data → Step (List Formula)
+sentences_of schema user key bounds value =
     if is_string_array value then
-    (within least greatest (user_place user key) (length (elements value)) >>= λ count.
-    sentences_behind schema user key [] (elements value))
+    (within bounds.least bounds.greatest (user_place user key) (length (elements value))
+    >>= λ count. sentences_behind schema user key bounds.nodes [] (elements value))
     else Err (WrongKind (user_place user key))
 
--- at most 256 sentences that he knows; the key may be absent
+-- at most 256 sentences that he knows, of at most 20,000 nodes each; the key may be absent
 abbrev pub known_of : DatabaseSchema → ℕ → Option Data → Step (List Formula)
 known_of schema user None = Ok []
-known_of schema user (Some value) = sentences_of schema user (codes "know") 0 256 value
+known_of schema user (Some value) =
+    sentences_of schema user (codes "know")
+    (record { least = 0; greatest = 256; nodes = 20000 }) value
 
--- 1 to 16 secrets
-abbrev pub secrets_of : DatabaseSchema → ℕ → Option Data → Step (List Formula)
-secrets_of schema user None = Err (MissingKey (user_place user (codes "secrets")))
-secrets_of schema user (Some value) = sentences_of schema user (codes "secrets") 1 16 value
+-- from version 2 on there may be no secrets but those that secrecies make
+abbrev pub least_secrets : PolicyVersion → ℕ
+least_secrets One = 1
+least_secrets Two = 0
+
+-- the secrets where the key is absent, as it may be from version 2 on
+abbrev pub no_secrets : PolicyVersion → ℕ → Step (List Formula)
+no_secrets One user = Err (MissingKey (user_place user (codes "secrets")))
+no_secrets Two user = Ok []
+
+-- at most 16 secrets, of at most 20,000 nodes each
+abbrev pub secrets_of : PolicyVersion → DatabaseSchema → ℕ → Option Data → Step (List Formula)
+secrets_of version schema user None = no_secrets version user
+secrets_of version schema user (Some value) =
+    sentences_of schema user (codes "secrets")
+    (record { least = least_secrets version; greatest = 16; nodes = 20000 }) value
+
+-- at most 8 secrecies, of at most 19,999 nodes each, since their negations are secrets too; the key
+-- may be absent
+abbrev pub secrecies_of : DatabaseSchema → ℕ → Option Data → Step (List Formula)
+secrecies_of schema user None = Ok []
+secrecies_of schema user (Some value) =
+    sentences_of schema user (codes "secrecies")
+    (record { least = 0; greatest = 8; nodes = 19999 }) value
+
+-- the secrets that these secrecies and others make: 1 to 16
+abbrev pub all_secrets : ℕ → List Formula → List Formula → Step (List Formula)
+all_secrets user secrecies others =
+    within 1 16 (user_place user (codes "secrecies")) (length (with_secrecies secrecies others))
+    >>= λ count. Ok (with_secrecies secrecies others)
 
 -- ---- the budget
 
@@ -128,18 +160,26 @@ with_small_view schema user named =
 
 -- the user of this number, behind users of these names: unknown keys, then key by key, then the
 -- size of his view
-unfoldable pub user_of : DatabaseSchema → List Text → ℕ → Data → Step PolicyUser
-user_of schema earlier user keys = do
-  none ← only_keys (Some user) keys
+unfoldable pub user_of : PolicyVersion → DatabaseSchema → List Text → ℕ → Data → Step PolicyUser
+user_of version schema earlier user keys = do
+  none ← only_keys version (Some user) keys
   name ← name_of earlier user (get (codes "name") keys)
   method ← method_of user (get (codes "method") keys)
   know ← known_of schema user (get (codes "know") keys)
-  secrets ← secrets_of schema user (get (codes "secrets") keys)
+  others ← secrets_of version schema user (get (codes "secrets") keys)
+  secrecies ← secrecies_of schema user (get (codes "secrecies") keys)
+  secrets ← all_secrets user secrecies others
   budget ← budget_of user (get (codes "budget") keys)
   token ← token_of user (get (codes "token") keys)
   with_small_view schema user (record {
     name = name;
-    profile = record { method = method; know = know; secrets = secrets; budget = budget };
+    profile = record {
+      method = method;
+      know = know;
+      secrets = secrets;
+      pairs = length secrecies;
+      budget = budget;
+    };
     token = token;
   })
 
@@ -148,8 +188,9 @@ abbrev pub names_of : List PolicyUser → List Text
 names_of users = map (λ u. u.name) users
 
 -- the users of the tables that are left, behind those that were read
-abbrev pub users_behind : DatabaseSchema → List PolicyUser → List Data → Step (List PolicyUser)
-users_behind schema read [] = Ok read
-users_behind schema read (keys ∷ rest) =
-    user_of schema (names_of read) (length read) keys
-    >>= λ user. users_behind schema (read ++ user ∷ []) rest
+abbrev pub users_behind : PolicyVersion → DatabaseSchema → List PolicyUser → List Data
+    → Step (List PolicyUser)
+users_behind version schema read [] = Ok read
+users_behind version schema read (keys ∷ rest) =
+    user_of version schema (names_of read) (length read) keys
+    >>= λ user. users_behind version schema (read ++ user ∷ []) rest

@@ -71,7 +71,7 @@ pub enum PolicyError {
     Limit(Place),
     /// 8: an earlier user has the name.
     DuplicateUser(Place),
-    /// 9: the version isn't 1.
+    /// 9: the version is neither 1 nor 2.
     Version,
     /// 10: memory is wanting.
     Memory,

@@ -5,8 +5,9 @@ ghost use Rattle.toml.specs.Data.{get, as_str, as_integer, as_table};
 ghost use Rattle.toml.specs.View.{view, table_view};
 ghost use Rattle.cqe_base.specs.Schema.{contains_text};
 ghost use Rattle.policy_files.specs.Tree.{members, unknown_key, tables_in};
-ghost use Rattle.policy_files.specs.Keys.{root_keys, user_keys, keys_at, key_place, text_place};
-ghost use Rattle.policy_files.specs.Keys.{only_keys, there, required, within};
+ghost use Rattle.policy_files.specs.Keys.{root_keys, first_user_keys, user_keys, keys_at};
+ghost use Rattle.policy_files.specs.Keys.{key_place, text_place, only_keys, there, required};
+ghost use Rattle.policy_files.specs.Keys.{within};
 ghost use Rattle.policy_files.specs.Gives.{Gives};
 
 use crate::error::{KeyText, Place, PolicyError, Stop};
@@ -14,6 +15,13 @@ use crate::tree::{elements, is_table_array, value_at};
 use cqe_base::text::TextError;
 use std::alloc::{AllocError, Global};
 use toml::{Table, Value};
+
+/// The version of a policy. From the second on a user may have secrecies.
+#[derive(Clone, Copy, Debug, PartialEq, Eq)]
+pub enum PolicyVersion {
+    One,
+    Two,
+}
 
 /// The place of a key, in the user of this number or in the document itself.
 pub fn key_place(alloc: Global, user: Option<u32>, key: &str) -> Result<Place, AllocError>
@@ -54,9 +62,9 @@ fn is_root_key(key: &str) -> bool
     key == "version" || key == "domains" || key == "relations" || key == "users"
 }
 
-/// Whether a user has such a key.
-fn is_user_key(key: &str) -> bool
-    ensures { result ≡ contains_text user_keys key.now }
+/// Whether a user has such a key in every version.
+fn is_first_user_key(key: &str) -> bool
+    ensures { result ≡ contains_text first_user_keys key.now }
 {
     key == "name"
         || key == "method"
@@ -66,23 +74,37 @@ fn is_user_key(key: &str) -> bool
         || key == "token"
 }
 
+/// Whether a user has such a key.
+fn is_user_key(version: PolicyVersion, key: &str) -> bool
+    ensures { result ≡ contains_text (user_keys version) key.now }
+{
+    match version {
+        PolicyVersion::One => is_first_user_key(key),
+        PolicyVersion::Two => key == "secrecies" || is_first_user_key(key),
+    }
+}
+
 /// Whether a user, or a document, has such a key.
-fn is_key_at(user: Option<u32>, key: &str) -> bool
-    ensures { result ≡ contains_text (keys_at user) key.now }
+fn is_key_at(version: PolicyVersion, user: Option<u32>, key: &str) -> bool
+    ensures { result ≡ contains_text (keys_at version user) key.now }
 {
     match user {
-        Some(_) => is_user_key(key),
+        Some(_) => is_user_key(version, key),
         None => is_root_key(key),
     }
 }
 
 /// The least key of a table that has no meaning there.
-fn unknown_key_in<'a>(user: Option<u32>, table: &'a Table) -> Option<&'a str>
+fn unknown_key_in<'a>(
+    version: PolicyVersion,
+    user: Option<u32>,
+    table: &'a Table,
+) -> Option<&'a str>
     ensures { option_map (λ key. key.now) result
-        ≡ unknown_key (keys_at user) (table_view table.now) }
+        ≡ unknown_key (keys_at version user) (table_view table.now) }
 {
     for (key, _value) in table {
-        if !is_key_at(user, key.as_str()) {
+        if !is_key_at(version, user, key.as_str()) {
             return Some(key.as_str());
         }
     }
@@ -90,18 +112,23 @@ fn unknown_key_in<'a>(user: Option<u32>, table: &'a Table) -> Option<&'a str>
 }
 
 /// The same of a value, which has no keys where it is no table.
-fn unknown_key<'a>(user: Option<u32>, value: &'a Value) -> Option<&'a str>
+fn unknown_key<'a>(version: PolicyVersion, user: Option<u32>, value: &'a Value) -> Option<&'a str>
     ensures { option_map (λ key. key.now) result
-        ≡ unknown_key (keys_at user) (members (view value.now)) }
+        ≡ unknown_key (keys_at version user) (members (view value.now)) }
 {
-    unknown_key_in(user, value.as_table()?)
+    unknown_key_in(version, user, value.as_table()?)
 }
 
 /// A table has no other keys than those that have a meaning there.
-pub fn only_keys(alloc: Global, user: Option<u32>, value: &Value) -> Result<(), Stop>
-    ensures { Gives (λ done. done) result (only_keys user (view value.now)) }
+pub fn only_keys(
+    alloc: Global,
+    version: PolicyVersion,
+    user: Option<u32>,
+    value: &Value,
+) -> Result<(), Stop>
+    ensures { Gives (λ done. done) result (only_keys version user (view value.now)) }
 {
-    match unknown_key(user, value) {
+    match unknown_key(version, user, value) {
         Some(key) => {
             let place = key_place(alloc, user, key)?;
             Err(Stop::Refused(PolicyError::UnknownKey(place)))

@@ -2,7 +2,7 @@
 
 ghost use Rattle.policy_files.specs.Laws.{PoliciesAreKept, FactsAreWorlds};
 
-use cqe_base::laws::{law_accepted_valid, law_reading};
+use cqe_base::laws::{law_accepted_valid, law_pairs, law_reading, law_secrets_made};
 use cqe_base::machine_laws::law_grounded_facts_are_of_schema;
 
 /// A policy that a tree means has a valid schema, users who keep the limits, and names that differ.
@@ -10,7 +10,9 @@ pub fn law_policies_are_kept()
     ensures { PoliciesAreKept }
 {
     law_accepted_valid();
+    law_pairs();
     law_reading();
+    law_secrets_made();
 }
 
 /// The world that a facts file is has facts of the schema alone, at most 100,000.

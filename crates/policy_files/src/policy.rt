@@ -13,7 +13,7 @@ ghost use Rattle.policy_files.specs.Laws.{IsKeptPolicy};
 ghost use Rattle.policy_files.specs.Gives.{Gives};
 
 use crate::error::{PolicyError, Stop};
-use crate::keys::{integer_at, key_place, only_keys, table_at, tables_at, within};
+use crate::keys::{PolicyVersion, integer_at, key_place, only_keys, table_at, tables_at, within};
 use crate::laws::law_policies_are_kept;
 use crate::tree::{Declared, are_string_arrays, declarations, natural};
 use crate::user::read_users;
@@ -32,13 +32,15 @@ pub struct Policy {
     pub users: Vec<User>,
 }
 
-/// The version is 1.
-fn read_version(alloc: Global, root: &Value) -> Result<(), Stop>
-    ensures { Gives (λ done. done) result (version_of (get (codes "version") (view root.now))) }
+/// The version is 1 or 2.
+fn read_version(alloc: Global, root: &Value) -> Result<PolicyVersion, Stop>
+    ensures { Gives (λ version. version) result
+        (version_of (get (codes "version") (view root.now))) }
 {
     let number = integer_at(alloc, None, root, "version")?;
     match natural(number) {
-        Some(1) => Ok(()),
+        Some(1) => Ok(PolicyVersion::One),
+        Some(2) => Ok(PolicyVersion::Two),
         _ => Err(Stop::Refused(PolicyError::Version)),
     }
 }
@@ -76,8 +78,8 @@ fn schema_in(
 fn policy_of(alloc: Global, root: &Value) -> Result<Policy, Stop>
     ensures { Gives policy_value_of result (policy_of (view root.now)) }
 {
-    read_version(alloc, root)?;
-    only_keys(alloc, None, root)?;
+    let version = read_version(alloc, root)?;
+    only_keys(alloc, version, None, root)?;
     let domain_table = table_at(alloc, None, root, "domains")?;
     let relation_table = table_at(alloc, None, root, "relations")?;
     let tables = tables_at(alloc, None, root, "users")?;
@@ -85,7 +87,7 @@ fn policy_of(alloc: Global, root: &Value) -> Result<Policy, Stop>
     let relations = declared_at(alloc, "relations", relation_table)?;
     let schema = schema_in(alloc, domains, relations)?;
     within(alloc, None, "users", 1, USERS, tables.len() as u64)?;
-    let users = read_users(alloc, &schema, tables)?;
+    let users = read_users(alloc, version, &schema, tables)?;
     Ok(Policy { schema, users })
 }
 

@@ -11,7 +11,7 @@ use Rattle.outside.specs.Visits.{Visit}
 use Rattle.turnstile.specs.declared.pass.Pass.{Pass}
 use Rattle.turnstile.specs.History.{IsPrefix}
 use Rattle.turnstile.specs.Passes.{seen, mine, shares, turns}
-use Rattle.desk_counter.specs.declared.item.Item.{Item}
+use Rattle.desk_counter.specs.declared.item.TurnItem.{TurnItem}
 use Rattle.desk_counter.specs.declared.item.Fixed.{Fixed}
 use Rattle.desk_counter.specs.declared.counter.CounterOf.{CounterOf}
 use Rattle.desk_counter.specs.declared.ticketed_desk.TicketedDesk.{TicketedDesk}
@@ -22,7 +22,8 @@ use Rattle.desk_crew.specs.Seats.{DeskSeat}
 use Rattle.session_core.specs.Members.{ArePasses}
 use Rattle.serve_engine.specs.declared.sharing.Keeper.{Keeper}
 use Rattle.serve_engine.specs.Doors.{AreServedDoors}
-use Rattle.serve_engine.specs.Members.{members_of, AreIn, HaveSeenOpenings, own_weight}
+use Rattle.serve_engine.specs.Members.{members_of, AreIn, HaveSeenOpenings}
+use Rattle.serve_engine.proofs.Owning.{own_weight}
 use Rattle.serve_engine.specs.Served.{Member, SessionMarks, Served}
 use Rattle.serve_engine.specs.Sharing.{keeper_of, seat_counter, seat_pass, seat_member, AreSeatsOn, AreAllIn, IsServedAt}
 use Rattle.serve_engine.proofs.Standing.{zip_still}
@@ -89,15 +90,16 @@ module _ {O : Type 0} (told : Type 0) (given_of left_of faults_of : O → ℕ) (
 -- ---- seats
 
 -- a pass more that has all shares
-pub shares_more : {D : Type 0} (passes : List (Pass Item (Fixed D))) (pass : Pass Item (Fixed D)) → AllByRecursion (λ pass. shares pass ≡ 65) passes
+pub shares_more : {D : Type 0} (passes : List (Pass TurnItem (Fixed D))) (pass : Pass TurnItem (Fixed D)) → AllByRecursion (λ pass. shares pass ≡ 65) passes
     → shares pass ≡ 65 → AllByRecursion (λ pass. shares pass ≡ 65) (passes ++ pass ∷ [])
 shares_more [] pass all this = (this, tt)
 shares_more (p ∷ passes) pass all this = (all.0, shares_more passes pass all.1 this)
 
 module _ {D : Type 0} {g h : _} where
   -- a pass and its counter more
-  pub passes_more : (passes : List (Pass Item (Fixed D))) (counters : List (CounterOf (TicketedDesk D g) Item (Fixed D) h)) (pass : Pass Item (Fixed D))
-      (counter : CounterOf (TicketedDesk D g) Item (Fixed D) h)
+  pub passes_more : (passes : List (Pass TurnItem (Fixed D))) (counters : List (CounterOf (TicketedDesk D g) TurnItem (Fixed D) h))
+      (pass : Pass TurnItem (Fixed D))
+      (counter : CounterOf (TicketedDesk D g) TurnItem (Fixed D) h)
       → ArePasses passes counters → IsPassOf pass counter → ArePasses (passes ++ pass ∷ []) (counters ++ counter ∷ [])
   passes_more [] [] pass counter all this = (this, tt)
   passes_more (p ∷ passes) (c ∷ counters) pass counter all this = (all.0, passes_more passes counters pass counter all.1 this)
@@ -169,7 +171,7 @@ module _ {D : Type 0} {g h : _} where
   all_in schema world (seat ∷ seats) is = ((is.0, is.1), all_in schema world seats is.2)
 
   -- what was served by the desks' passes was served at the seats
-  pub served_at : (users : List User) (seats : List (DeskSeat D g h)) (fixeds : List (Fixed D)) (passes : List (Pass Item (Fixed D)))
+  pub served_at : (users : List User) (seats : List (DeskSeat D g h)) (fixeds : List (Fixed D)) (passes : List (Pass TurnItem (Fixed D)))
       → fixeds ≡ map kept_by (map seat_counter seats) → passes ≡ map seat_pass seats → (visit : Visit) (marks : SessionMarks)
       → ((schema : DatabaseSchema) (world : FactSet) → AreIn schema world fixeds → Served schema world users (members_of fixeds passes) visit marks)
       → IsServedAt users seats visit marks

@@ -28,11 +28,10 @@ sum_none f (x ∷ xs) none =
     omega (arith, rest, this, both)
 
 -- at the end no connection is at hand, or the greatest number was reached
-pub at_end : {O : Type 0} (left_of : O → ℕ) (others : List O) {at_hand : ℕ} (at_hand' : ℕ) → at_hand ≡ 0 → at_hand' ≡ at_hand + sum_by left_of others
-    → (a b : ℕ) → {c d : ℕ} → (c ≤ d → a ≤ b)
-    → All (λ door. left_of door ≡ 0) others ⊎ (c ≤ d) → (at_hand' ≡ 0) ⊎ (a ≤ b)
-at_end left_of others at_hand' none is a b more (inl empty) = let nothing = sum_none left_of others empty in inl (omega (arith, none, is, nothing))
-at_end left_of others at_hand' none is a b more (inr most) = inr (more most)
+pub at_end : {O P Q : Type 0} (left_of : O → ℕ) (others : List O) {at_hand : ℕ} (at_hand' : ℕ) → at_hand ≡ 0 → at_hand' ≡ at_hand + sum_by left_of others
+    → All (λ door. left_of door ≡ 0) others ⊎ P → (P → Q) → (at_hand' ≡ 0) ⊎ Q
+at_end left_of others at_hand' none is (inl empty) more = let nothing = sum_none left_of others empty in inl (omega (arith, none, is, nothing))
+at_end left_of others at_hand' none is (inr most) more = inr (more most)
 
 at_most_one : (b : Bool) → (if b then 0 else 1) ≤ 1
 at_most_one true = omega arith

@@ -1,6 +1,6 @@
 -- Each user's one history, from the opening of his journal to the disk that is back.
 use Rattle.std.proofs.Common.{◌≡◌, ◌⊎◌, inl, inr, ℕ, suc, ◌+◌, ◌*◌, ◌^◌, ◌≤◌, Bool, true, false, List, [], ◌∷◌, ◌++◌, length, map, refl, sym, ap, subst, ◌∙◌}
-use Rattle.std.proofs.Common.{arith}
+use Rattle.std.proofs.Common.{◌<◌, arith}
 use Rattle.std.specs.Prelude.{Option, Some, None, Vec, is_some, ◌||◌, string_bytes, All}
 use Rattle.std.specs.declared.alloc.Global.{Global}
 use Rattle.std.specs.List.{AllByRecursion, list_any, sum_by}
@@ -37,14 +37,14 @@ use Rattle.desk_crew.specs.Crew.{seat_state}
 use Rattle.desk_crew.specs.Seats.{DeskSeat}
 use Rattle.desk_crew.specs.Shelved.{Journals, journals, journals_on, AreLater, IsSeatOf, AreSeatsOf, IsBack, AreBack}
 use Rattle.session_core.specs.Members.{AreDesksOf, HasSeenLegal, HaveSeenLegal}
-use Rattle.serve_engine.specs.Served.{Member, SessionMarks}
-use Rattle.serve_engine.specs.Members.{OwnMore, own_weight}
+use Rattle.serve_engine.specs.Served.{Member, SessionMarks, entries_told}
+use Rattle.serve_engine.specs.Members.{OwnMore, own_at}
 use Rattle.serve_engine.specs.Doors.{AreServedDoors, SomeFailed, HasOutcome}
 use Rattle.serve_engine.specs.Serving.{HasServed, HaveServed, AreAllTold, ServesDoors, EndsAt, IsDone, IsBroken, end_of}
 use Rattle.serve_engine.specs.declared.serving.Outcome.{Outcome}
 use Rattle.serve_engine.specs.declared.serving.Outcome.TheVariants as outcome
 use Rattle.serve_engine.specs.declared.run.ServeEnd.TheVariants.{LinksFault}
-use Rattle.serve_engine.proofs.Owning.{told_weight}
+use Rattle.serve_engine.proofs.Owning.{own_weight, told_weight, weigh_more}
 use Rattle.serve_engine.specs.Sharing.{seat_counter, seat_pass, seat_member, IsSeatOn, AreSeatsOn, AreAllIn}
 
 module _ (schema : DatabaseSchema) (world : FactSet) (user : UserProfile) (header bytes : List ℕ) (T : Type 0) (t : T) where
@@ -86,7 +86,7 @@ module _ (schema : DatabaseSchema) (world : FactSet) (header directory : List �
   Back seat = IsBack S reads image faults disk' count' seat
 
   -- a desk whose journal was refused, or at which nothing was appended, leaves the disk of its opening
-  left_alone : (seat : DeskSeat D g h) (after : D) → IsClosed S image faults seat.desk after → (is_sealed (seat_standing seat) ≡ true)
+  left_alone : (seat : DeskSeat D g h) (after : D) → IsClosed S reads image faults seat.desk after → (is_sealed (seat_standing seat) ≡ true)
       ⊎ ((seat_history seat ≡ (seat_kept seat).opening) × (seat_broke seat ≡ false)) → after ≡ (seat_kept seat).disk
   left_alone seat after closed (inl sealed) = closed.shut sealed
   left_alone seat after closed (inr (same, unbroken)) =
@@ -163,6 +163,11 @@ module _ (schema : DatabaseSchema) (world : FactSet) (header directory : List �
               subst (λ o. Holds schema world (seat_kept new).user header (seat_state new) (bytes_on reads o)) (sym held)
               (holds served (reads back.now) (left.images (reads back.now) (read_is_image back.now t)));
           stands = λ served c here. holds served c (left.images c (subst (λ o. image_on image o c) held here));
+          size = λ whole.
+              let grown = closed.size s whole in
+              let read_now = ap length (ap (bytes_on reads) held ∙ left.reads_same) in
+              let read_first = ap length (ap (λ (f : Fixed D). reads f.disk) kept ∙ opened.left.reads_same ∙ read_was) in
+              omega (arith, grown, read_now, read_first);
           idle = λ shut. let none = closed.idle shut in (none.0, ap (λ (o : Option AnsweredQuery). is_some o) none.1);
           kept = λ why. (
             ap (bytes_on reads) held ∙ left.reads_same ∙ ap reads (left_alone new back.left.closed closed why) ∙ ap (λ (f : Fixed D). reads f.disk) kept
@@ -204,7 +209,7 @@ module _ (schema : DatabaseSchema) (world : FactSet) (header directory : List �
         → OwnMore (map seat_pass olds) (map seat_pass news) told → OwnFrom 0 news
     own_from olds news none more weight k =
         let before = none weight k in
-        let after = more weight k in
+        let after = more k weight ∙ weigh_more weight (own_at k (map seat_pass olds)) (entries_told k) told in
         let same = ap (λ n. told_weight weight n told) (let e : 0 + k ≡ k = omega arith in e) in
         omega (arith, before, after, same)
 
@@ -222,7 +227,8 @@ module _ (schema : DatabaseSchema) (world : FactSet) (header directory : List �
               (let whole = ap (sum_by weight) added ∙ sum_by-append weight (first_history (seat_counter new)) (history_of (mine (seat_pass new))) in
               let first = ap (sum_by weight) opening in
               let here = own weight 0 ∙ ap (λ k. told_weight weight k told) (let e : place + 0 ≡ place = omega arith in e) in
-              omega (arith, whole, first, here)),
+              let all = weigh_more weight (seat_kept new).opening (entries_told place) told in
+              omega (arith, whole, first, here, all)),
           all_told (suc place) users olds news opened.1 on.1 back.1 (λ weight k. own weight (suc k)
               ∙ ap (λ n. told_weight weight n told) (let e : place + suc k ≡ suc place + k = omega arith in e)),
         )
@@ -296,18 +302,42 @@ module _ {O : Type 0} (told : Type 0) (given_of left_of faults_of : O → ℕ) (
   doors_gave t total marks [] (e ∷ others) is = absurd is
   doors_gave t total marks (d ∷ doors) [] is = absurd is
 
+  -- each connection that was left is left, or was given
+  pub doors_left : told → (total : ℕ) (marks : told → List SessionMarks) (doors others : List O)
+      → AreServedDoors told given_of left_of faults_of back_of stands total marks doors others
+      → sum_by left_of doors + sum_by given_of doors ≡ sum_by left_of others + sum_by given_of others
+  doors_left t total marks [] [] is = refl
+  doors_left t total marks (d ∷ doors) (e ∷ others) is =
+      let rest = doors_left t is.1 is.4 doors others is.7 in
+      let given = is.6.given t in
+      let left = is.6.left t in
+      let lefts = sum_by-append left_of (d ∷ []) doors in
+      let lefts' = sum_by-append left_of (e ∷ []) others in
+      let gave = sum_by-append given_of (d ∷ []) doors in
+      let gave' = sum_by-append given_of (e ∷ []) others in
+      omega (arith, rest, given, left, lefts, lefts', gave, gave')
+  doors_left t total marks [] (e ∷ others) is = absurd is
+  doors_left t total marks (d ∷ doors) [] is = absurd is
+
   -- where serving came to its end, no door has a connection left, or the limit was reached
   pub ended_at : told
       → (ends_of : O → ℕ) (limit total : ℕ) (marks : told → List SessionMarks) (doors others : List O) (went : Outcome)
       (refusals : Vec (Option DeskError) Global) (is_broken : Bool) → AreServedDoors told given_of left_of faults_of back_of stands total marks doors others
       → HasOutcome told left_of ends_of faults_of limit went total others → IsDone (end_of went refusals is_broken)
-      → All (λ door. left_of door ≡ 0) others ⊎ (sum_by given_of doors + limit ≤ sum_by given_of others + sum_by (λ door. one_if_any (ends_of door)) others)
+      → All (λ door. left_of door ≡ 0) others
+      ⊎ ((sum_by given_of doors + limit ≤ sum_by given_of others + sum_by (λ door. one_if_any (ends_of door)) others)
+      × (sum_by given_of doors + limit < sum_by given_of others + length others))
   ended_at t ends_of limit total marks doors others outcome.Served refusals is_broken served has done = by (has t)
     where
-      by : All (λ door. left_of door ≡ 0) others ⊎ (limit ≤ total + sum_by (λ door. one_if_any (ends_of door)) others)
-          → All (λ door. left_of door ≡ 0) others ⊎ (sum_by given_of doors + limit ≤ sum_by given_of others + sum_by (λ door. one_if_any (ends_of door)) others)
+      by : All (λ door. left_of door ≡ 0) others
+          ⊎ ((limit ≤ total + sum_by (λ door. one_if_any (ends_of door)) others) × (limit < total + length others))
+          → All (λ door. left_of door ≡ 0) others
+          ⊎ ((sum_by given_of doors + limit ≤ sum_by given_of others + sum_by (λ door. one_if_any (ends_of door)) others)
+          × (sum_by given_of doors + limit < sum_by given_of others + length others))
       by (inl none) = inl none
-      by (inr most) = let gave = doors_gave t total marks doors others served in inr (omega (arith, most, gave))
+      by (inr (most, more)) =
+          let gave = doors_gave t total marks doors others served in
+          inr (omega (arith, most, gave), omega (arith, more, gave))
   ended_at t ends_of limit total marks doors others outcome.LinksFailed refusals is_broken served has done = absurd done
   ended_at t ends_of limit total marks doors others outcome.Memory refusals is_broken served has done = absurd done
 

@@ -3,7 +3,7 @@ use Rattle.std.proofs.Common.{◌≡◌, ℕ, zero, suc, ◌≤◌, ◌<◌, Lis
 use Rattle.std.specs.Prelude.{Option, Some, None, All, slice_index_or}
 use Rattle.turnstile.specs.declared.pass.Pass.{Pass}
 use Rattle.turnstile.specs.Passes.{seen}
-use Rattle.desk_counter.specs.declared.item.Item.{Item}
+use Rattle.desk_counter.specs.declared.item.TurnItem.{TurnItem}
 use Rattle.desk_counter.specs.declared.item.Fixed.{Fixed}
 use Rattle.desk_counter.specs.declared.ticketed_desk.TicketedDesk.{TicketedDesk}
 use Rattle.desk_counter.specs.declared.counter.CounterOf.{CounterOf}
@@ -22,7 +22,8 @@ some_or x (Some y) = y
 
 module _ {D : Type 0} {g h : _} where
   -- the passes are at the counters where each is
-  pub are_passes : (passes : List (Pass Item (Fixed D))) (counters : List (CounterOf (TicketedDesk D g) Item (Fixed D) h)) → length passes ≡ length counters
+  pub are_passes : (passes : List (Pass TurnItem (Fixed D))) (counters : List (CounterOf (TicketedDesk D g) TurnItem (Fixed D) h)) → length passes
+      ≡ length counters
       → AtEach fixed_in passes counters → ArePasses passes counters
   are_passes [] [] many each = tt
   are_passes [] (c ∷ counters) many each = absurd (omega (arith, many))
@@ -34,8 +35,8 @@ module _ {D : Type 0} {g h : _} where
       )
 
   -- and each is where they are
-  pub at_each : (passes : List (Pass Item (Fixed D))) (counters : List (CounterOf (TicketedDesk D g) Item (Fixed D) h)) → ArePasses passes counters
-      → (k : ℕ) (pass : Pass Item (Fixed D)) (counter : CounterOf (TicketedDesk D g) Item (Fixed D) h) → k < length passes
+  pub at_each : (passes : List (Pass TurnItem (Fixed D))) (counters : List (CounterOf (TicketedDesk D g) TurnItem (Fixed D) h)) → ArePasses passes counters
+      → (k : ℕ) (pass : Pass TurnItem (Fixed D)) (counter : CounterOf (TicketedDesk D g) TurnItem (Fixed D) h) → k < length passes
       → IsPassBy fixed_in (slice_index_or passes k pass) (slice_index_or counters k counter)
   at_each [] [] are k pass counter low = absurd (omega (arith, low))
   at_each (p ∷ passes) (c ∷ counters) are zero pass counter low = (are.0.place, are.0.ready, are.0.kept)
@@ -44,9 +45,9 @@ module _ {D : Type 0} {g h : _} where
   at_each (p ∷ passes) [] are k pass counter low = absurd are
 
   -- each pass has seen the opening of its desk where they have
-  pub each_opened : (passes : List (Pass Item (Fixed D))) (counters : List (CounterOf (TicketedDesk D g) Item (Fixed D) h)) → ArePasses passes counters
+  pub each_opened : (passes : List (Pass TurnItem (Fixed D))) (counters : List (CounterOf (TicketedDesk D g) TurnItem (Fixed D) h)) → ArePasses passes counters
       → HaveSeenOpenings (map kept_by counters) passes
-      → (k : ℕ) (pass : Pass Item (Fixed D)) → k < length passes → HasSeenOpening (slice_index_or passes k pass)
+      → (k : ℕ) (pass : Pass TurnItem (Fixed D)) → k < length passes → HasSeenOpening (slice_index_or passes k pass)
   each_opened [] [] are openings k pass low = absurd (omega (arith, low))
   each_opened (p ∷ passes) (c ∷ counters) are openings zero pass low =
       λ desk is. subst (λ (f : Fixed D). length f.opening ≤ length (history_of (seen p))) (ap (some_or (kept_by c)) (sym are.0.kept ∙ is)) openings.0
@@ -55,7 +56,7 @@ module _ {D : Type 0} {g h : _} where
   each_opened (p ∷ passes) [] are openings k pass low = absurd are
 
   -- and they have where each has
-  pub have_opened : (passes : List (Pass Item (Fixed D))) (counters : List (CounterOf (TicketedDesk D g) Item (Fixed D) h)) → ArePasses passes counters
+  pub have_opened : (passes : List (Pass TurnItem (Fixed D))) (counters : List (CounterOf (TicketedDesk D g) TurnItem (Fixed D) h)) → ArePasses passes counters
       → All HasSeenOpening passes → HaveSeenOpenings (map kept_by counters) passes
   have_opened [] [] are all = tt
   have_opened (p ∷ passes) (c ∷ counters) are all =
@@ -64,9 +65,9 @@ module _ {D : Type 0} {g h : _} where
   have_opened (p ∷ passes) [] are all = absurd are
 
   -- each pass has seen what is legal where they have
-  pub each_legal : (passes : List (Pass Item (Fixed D))) (counters : List (CounterOf (TicketedDesk D g) Item (Fixed D) h)) → ArePasses passes counters
+  pub each_legal : (passes : List (Pass TurnItem (Fixed D))) (counters : List (CounterOf (TicketedDesk D g) TurnItem (Fixed D) h)) → ArePasses passes counters
       → HaveSeenLegal (map kept_by counters) passes
-      → (k : ℕ) (pass : Pass Item (Fixed D)) → k < length passes → SeesLegally (slice_index_or passes k pass)
+      → (k : ℕ) (pass : Pass TurnItem (Fixed D)) → k < length passes → SeesLegally (slice_index_or passes k pass)
   each_legal [] [] are legal k pass low = absurd (omega (arith, low))
   each_legal (p ∷ passes) (c ∷ counters) are legal zero pass low =
       λ desk is. subst (λ (f : Fixed D). HasSeenLegal f p) (ap (some_or (kept_by c)) (sym are.0.kept ∙ is)) legal.0
@@ -75,7 +76,7 @@ module _ {D : Type 0} {g h : _} where
   each_legal (p ∷ passes) [] are legal k pass low = absurd are
 
   -- and they have where each has
-  pub have_legal : (passes : List (Pass Item (Fixed D))) (counters : List (CounterOf (TicketedDesk D g) Item (Fixed D) h)) → ArePasses passes counters
+  pub have_legal : (passes : List (Pass TurnItem (Fixed D))) (counters : List (CounterOf (TicketedDesk D g) TurnItem (Fixed D) h)) → ArePasses passes counters
       → All SeesLegally passes → HaveSeenLegal (map kept_by counters) passes
   have_legal [] [] are all = tt
   have_legal (p ∷ passes) (c ∷ counters) are all =

@@ -11,7 +11,7 @@ use Rattle.turnstile.specs.declared.pass.Pass.{Pass}
 use Rattle.turnstile.specs.History.{IsPrefix}
 use Rattle.turnstile.specs.Passes.{seen, turns}
 use Rattle.user_desk.specs.Standings.{standing_of}
-use Rattle.desk_counter.specs.declared.item.Item.{Item}
+use Rattle.desk_counter.specs.declared.item.TurnItem.{TurnItem}
 use Rattle.desk_counter.specs.declared.item.Fixed.{Fixed}
 use Rattle.desk_counter.specs.Items.{history_of, has_broke}
 use Rattle.session_core.specs.Replied.{Replied}
@@ -39,7 +39,7 @@ room_falls old new asks few used = omega (arith, few, used)
 
 module _ {D : Type 0} where
   -- where there is room for a session, each pass has the turns for it
-  pub turns_enough : (passes : List (Pass Item (Fixed D))) → 1 ≤ room_in passes → AllByRecursion (λ pass. 2 ^ 26 ≤ turns pass) passes
+  pub turns_enough : (passes : List (Pass TurnItem (Fixed D))) → 1 ≤ room_in passes → AllByRecursion (λ pass. 2 ^ 26 ≤ turns pass) passes
   turns_enough [] room = tt
   turns_enough (p ∷ passes) room =
       let left = min-le_left (turns p / 2 ^ 26) (room_in passes) in
@@ -47,7 +47,7 @@ module _ {D : Type 0} where
       let this : 1 ≤ turns p / 2 ^ 26 = omega (arith, room, left) in
       (omega (arith, this), turns_enough passes (omega (arith, room, right)))
 
-  at_room : {place : ℕ} {fixeds : List (Fixed D)} {old new : List (Pass Item (Fixed D))} {asks : List (Text × Reply)} → length asks ≤ 100000
+  at_room : {place : ℕ} {fixeds : List (Fixed D)} {old new : List (Pass TurnItem (Fixed D))} {asks : List (Text × Reply)} → length asks ≤ 100000
       → AsksAt place fixeds old new asks → room_in old ≤ room_in new + 1
   at_room few (desks.here {old = p} {new = q} {rest = rest} {asks = asks} is) =
       least_falls (turns p / 2 ^ 26) (turns q / 2 ^ 26) (room_in rest) (room_in rest) (room_falls (turns p) (turns q) (length asks) few is.used) (omega arith)
@@ -55,12 +55,12 @@ module _ {D : Type 0} where
       least_falls (turns p / 2 ^ 26) (turns p / 2 ^ 26) (room_in old) (room_in new) (omega arith) (at_room few deep)
 
   -- where each pass has the turns of one that was split off, there is room for 2^31 sessions
-  pub room_enough : (passes : List (Pass Item (Fixed D))) → AllByRecursion (λ pass. 2 ^ 57 ≤ turns pass) passes → 2 ^ 31 ≤ room_in passes
+  pub room_enough : (passes : List (Pass TurnItem (Fixed D))) → AllByRecursion (λ pass. 2 ^ 57 ≤ turns pass) passes → 2 ^ 31 ≤ room_in passes
   room_enough [] all = omega arith
   room_enough (p ∷ passes) all = let this : 2 ^ 31 ≤ turns p / 2 ^ 26 = omega (arith, all.0) in le-min this (room_enough passes all.1)
 
   -- behind a session there is room for one less at most
-  pub of_room : (who : Option ℕ) (fixeds : List (Fixed D)) (old new : List (Pass Item (Fixed D))) (asks : List (Text × Reply)) → length asks ≤ 100000
+  pub of_room : (who : Option ℕ) (fixeds : List (Fixed D)) (old new : List (Pass TurnItem (Fixed D))) (asks : List (Text × Reply)) → length asks ≤ 100000
       → AsksOf who fixeds old new asks → room_in old ≤ room_in new + 1
   of_room None fixeds old new asks few is = let same = ap room_in is.0 in omega (arith, same)
   of_room (Some place) fixeds old new asks few is = at_room few is
@@ -68,28 +68,28 @@ module _ {D : Type 0} where
   -- ---- what was seen
 
   -- a pass has seen all that another has
-  abbrev pub SeesMore : Pass Item (Fixed D) → Pass Item (Fixed D) → Type 0
+  abbrev pub SeesMore : Pass TurnItem (Fixed D) → Pass TurnItem (Fixed D) → Type 0
   SeesMore pass other = IsPrefix (seen pass) (seen other)
 
-  at_passes : {place : ℕ} {fixeds : List (Fixed D)} {old new : List (Pass Item (Fixed D))} {asks : List (Text × Reply)} → AsksAt place fixeds old new asks
+  at_passes : {place : ℕ} {fixeds : List (Fixed D)} {old new : List (Pass TurnItem (Fixed D))} {asks : List (Text × Reply)} → AsksAt place fixeds old new asks
       → AllZip IsPassLater old new
   at_passes (desks.here {rest = rest} is) = (record { same_shares = is.same_shares; later = is.later }, same_passes rest)
   at_passes (desks.further {same = p} deep) = (record { same_shares = refl; later = ([], sym (append-nil (seen p))) }, at_passes deep)
 
   -- each pass has seen all that it had
-  pub of_passes : (who : Option ℕ) (fixeds : List (Fixed D)) (old new : List (Pass Item (Fixed D))) (asks : List (Text × Reply))
+  pub of_passes : (who : Option ℕ) (fixeds : List (Fixed D)) (old new : List (Pass TurnItem (Fixed D))) (asks : List (Text × Reply))
       → AsksOf who fixeds old new asks → AllZip IsPassLater old new
   of_passes None fixeds old new asks is = subst (λ ps. AllZip IsPassLater old ps) (sym is.0) (same_passes old)
   of_passes (Some place) fixeds old new asks is = at_passes is
 
-  pub sees_more : (old new : List (Pass Item (Fixed D))) → AllZip IsPassLater old new → AllZip SeesMore old new
+  pub sees_more : (old new : List (Pass TurnItem (Fixed D))) → AllZip IsPassLater old new → AllZip SeesMore old new
   sees_more [] [] later = tt
   sees_more (p ∷ old) (q ∷ new) later = (later.0.later, sees_more old new later.1)
   sees_more [] (q ∷ new) later = absurd later
   sees_more (p ∷ old) [] later = absurd later
 
   -- passes that have seen more have seen the openings of their desks
-  pub openings_later : (fixeds : List (Fixed D)) (old new : List (Pass Item (Fixed D))) → AllZip SeesMore old new → HaveSeenOpenings fixeds old
+  pub openings_later : (fixeds : List (Fixed D)) (old new : List (Pass TurnItem (Fixed D))) → AllZip SeesMore old new → HaveSeenOpenings fixeds old
       → HaveSeenOpenings fixeds new
   openings_later [] [] [] later openings = tt
   openings_later (f ∷ fixeds) (p ∷ old) (q ∷ new) later openings =
@@ -102,7 +102,7 @@ module _ {D : Type 0} where
   openings_later (f ∷ fixeds) (p ∷ old) [] later openings = absurd later
 
   -- and by them each user is the same later
-  pub members_later : (fixeds : List (Fixed D)) (old new : List (Pass Item (Fixed D))) → AllZip SeesMore old new
+  pub members_later : (fixeds : List (Fixed D)) (old new : List (Pass TurnItem (Fixed D))) → AllZip SeesMore old new
       → AllZip IsLater (members_of fixeds old) (members_of fixeds new)
   members_later [] old new later = tt
   members_later (f ∷ fixeds) [] [] later = tt
@@ -123,7 +123,7 @@ module _ {D : Type 0} where
   -- ---- replies
 
   module _ (schema : DatabaseSchema) (world : FactSet) where
-    at_replied : {place : ℕ} {fixeds : List (Fixed D)} {old new : List (Pass Item (Fixed D))} {asks : List (Text × Reply)} → AreIn schema world fixeds
+    at_replied : {place : ℕ} {fixeds : List (Fixed D)} {old new : List (Pass TurnItem (Fixed D))} {asks : List (Text × Reply)} → AreIn schema world fixeds
         → HaveSeenOpenings fixeds old → (is : AsksAt place fixeds old new asks)
         → RepliedAt schema world place (members_of fixeds new) asks (entries_at is)
     at_replied within openings (desks.here {fixed = f} {old = p} {new = q} {asks = asks} is) =
@@ -137,7 +137,8 @@ module _ {D : Type 0} where
     at_replied within openings (desks.further deep) = further (at_replied within.1 openings.1 deep)
 
     -- what was asked was replied to by the history of who asked
-    pub of_replied : (who : Option ℕ) (fixeds : List (Fixed D)) (old new : List (Pass Item (Fixed D))) (asks : List (Text × Reply)) → AreIn schema world fixeds
+    pub of_replied : (who : Option ℕ) (fixeds : List (Fixed D)) (old new : List (Pass TurnItem (Fixed D))) (asks : List (Text × Reply))
+        → AreIn schema world fixeds
         → HaveSeenOpenings fixeds old → (is : AsksOf who fixeds old new asks)
         → RepliedTo schema world who (members_of fixeds new) asks (entries_of who fixeds old new asks is)
     of_replied None fixeds old new asks within openings is = (is.1, refl)

@@ -1,6 +1,7 @@
 -- What workers did at their doors, and how they served together.
 use Rattle.std.proofs.Common.{◌≡◌, ◌≤◌, ◌≢◌, ◌⊎◌, inl, inr, ℕ, ◌+◌, ◌==◌, ◌||◌, Bool, true, false, List, [], ◌∷◌, ◌++◌, length, map, All, sum_by, refl, sym}
-use Rattle.std.proofs.Common.{◌∙◌, subst, arith, eqb-true}
+use Rattle.std.proofs.Common.{◌<◌, ap, ◌∙◌, subst, arith, eqb-true}
+use Rattle.std.proofs.lemmas.List.{length-map}
 use Rattle.std.specs.Prelude.{Option, Some, None, IsSome, if◌then◌else◌}
 use Rattle.std.specs.List.{AllByRecursion, AllZip, list_any}
 use Rattle.std.proofs.lemmas.List.Sums.{sum_by-cons, sum_by-append}
@@ -11,7 +12,7 @@ use Rattle.cqe_base.specs.Schema.{DatabaseSchema}
 use Rattle.cqe_base.specs.Facts.{FactSet}
 use Rattle.cqe_base.specs.History.{AnsweredQuery}
 use Rattle.turnstile.specs.declared.pass.Pass.{Pass}
-use Rattle.desk_counter.specs.declared.item.Item.{Item}
+use Rattle.desk_counter.specs.declared.item.TurnItem.{TurnItem}
 use Rattle.desk_counter.specs.declared.item.Fixed.{Fixed}
 use Rattle.desk_counter.specs.declared.ticketed_desk.TicketedDesk.{TicketedDesk}
 use Rattle.session_core.specs.declared.counters.CountersOf.{CountersOf}
@@ -27,26 +28,26 @@ use Rattle.serve_engine.specs.declared.serving.Outcome.{Outcome}
 use Rattle.serve_engine.specs.declared.serving.Outcome.TheVariants.{Served, LinksFailed}
 use Rattle.serve_engine.specs.Jobs.{job_counters, job_passes, job_runs}
 use Rattle.serve_engine.specs.Served.{SessionMarks, entries_told}
-use Rattle.serve_engine.specs.Members.{AreIn, IsServedBy, AreServedBy, IsPassLater, ArePassesLater, OwnMore, members_of, own_weight, room_in}
+use Rattle.serve_engine.specs.Members.{AreIn, IsServedBy, AreServedBy, IsPassLater, ArePassesLater, OwnMore, members_of, own_at, room_in}
 use Rattle.serve_engine.specs.Doors.{IsServedDoor, AreServedDoors, SomeFailed, HasOutcome, has_failed, outcome_of}
 use Rattle.serve_engine.specs.Passing.{AreOn, IsFresh, IsBack}
 use Rattle.serve_engine.proofs.Growing.{served_later}
 use Rattle.serve_engine.proofs.Later.{members_later}
-use Rattle.serve_engine.proofs.Owning.{told_weight}
+use Rattle.serve_engine.proofs.Owning.{own_weight, told_weight, weigh_more}
 use Rattle.serve_engine.proofs.Standing.{zip_still}
 use Rattle.serve_engine.proofs.Meeting.{AllHave}
 
 module _ {D : Type 0} where
   -- passes have as many shares later
-  as_many : (n : ℕ) (old new : List (Pass Item (Fixed D))) → AllZip IsPassLater old new → AllHave n old → AllHave n new
+  as_many : (n : ℕ) (old new : List (Pass TurnItem (Fixed D))) → AllZip IsPassLater old new → AllHave n old → AllHave n new
   as_many n [] [] later have = tt
   as_many n (p ∷ old) (q ∷ new) later have = (later.0.same_shares ∙ have.0, as_many n old new later.1 have.1)
   as_many n [] (q ∷ new) later have = absurd later
   as_many n (p ∷ old) [] later have = absurd later
 
-  module _ {g h : _} (counters : CountersOf (TicketedDesk D g) Item (Fixed D) h) where
+  module _ {g h : _} (counters : CountersOf (TicketedDesk D g) TurnItem (Fixed D) h) where
     -- what was served by some passes is served by those that have seen more
-    stay : (at : CountersOf (TicketedDesk D g) Item (Fixed D) h) (passes final : Passes D) (visits : List Visit) (marks : List SessionMarks) → at ≡ counters
+    stay : (at : CountersOf (TicketedDesk D g) TurnItem (Fixed D) h) (passes final : Passes D) (visits : List Visit) (marks : List SessionMarks) → at ≡ counters
         → AreOn passes final
         → AllZip (IsServedBy at passes) visits marks → AllZip (IsServedBy counters final) visits marks
     stay at passes final visits marks same on stand =
@@ -87,6 +88,24 @@ once n some = by_test (n == 0) (λ e. some (eqb-true n 0 e))
     by_test true other = absurd (other refl)
     by_test false other = omega arith
 
+-- a worker loses one number at most
+lost_most : (end : Option WorkerEnd) → lost end ≤ 1
+lost_most None = omega arith
+lost_most (Some LinksEnded) = omega arith
+lost_most (Some LimitReached) = omega arith
+lost_most (Some LinksHaveFailed) = omega arith
+
+module _ {X : Type 0} where
+  -- what holds of each one makes another hold
+  every_still : (P Q : X → Type 0) → ((x : X) → P x → Q x) → (xs : List X) → AllByRecursion P xs → AllByRecursion Q xs
+  every_still P Q still [] all = tt
+  every_still P Q still (x ∷ xs) all = (still x all.0, every_still P Q still xs all.1)
+
+  -- and so do two
+  every_both : (P Q R : X → Type 0) → ((x : X) → P x → Q x → R x) → (xs : List X) → AllByRecursion P xs → AllByRecursion Q xs → AllByRecursion R xs
+  every_both P Q R both [] first second = tt
+  every_both P Q R both (x ∷ xs) first second = (both x first.0 second.0, every_both P Q R both xs first.1 second.1)
+
 -- where not one of two is true, neither is
 neither : (a b : Bool) → a || b ≡ false → (a ≡ false) × (b ≡ false)
 neither true b is = absurd cc
@@ -110,14 +129,16 @@ module _ {D G O : Type 0} {g h : _} (told : Type 0) (given_of left_of ends_of fa
   all_told t (b ∷ before) [] was = []
 
   -- are what the passes of workers have of their own that hadn't begun
-  all_own : (counters : CountersOf (TicketedDesk D g) Item (Fixed D) h) (first : Passes D) (t : told) (weight : AnsweredQuery → ℕ) (place : ℕ)
+  all_own : (counters : CountersOf (TicketedDesk D g) TurnItem (Fixed D) h) (first : Passes D) (t : told) (weight : AnsweredQuery → ℕ) (place : ℕ)
       (before after : List (Worker (SessionJobOf (TicketedDesk D g) D G h) O)) → AllByRecursion (IsFresh counters first) before
       → (was : AllZip Was before after)
       → sum_by (λ worker. own_weight weight place (passes_in (job_passes worker.job))) after ≡ told_weight weight place (all_told t before after was)
   all_own counters first t weight place [] [] fresh was = refl
   all_own counters first t weight place (b ∷ before) (a ∷ after) fresh was =
-      let none = fresh.0.parts.none_own weight place in
-      let here = (was.0.back t).stand.own weight place in
+      let stand = (was.0.back t).stand in
+      let none : own_weight weight place (passes_in (job_passes b.job)) ≡ 0 = ap (sum_by weight) (fresh.0.parts.none_own place) in
+      let here = stand.own place weight
+      ∙ weigh_more weight (own_at place (passes_in (job_passes b.job))) (entries_told place) stand.visit_marks in
       let rest = all_own counters first t weight place before after fresh.1 was.1 in
       let one =
       sum_by-cons (λ (worker : Worker (SessionJobOf (TicketedDesk D g) D G h) O). own_weight weight place (passes_in (job_passes worker.job))) a after in
@@ -126,7 +147,7 @@ module _ {D G O : Type 0} {g h : _} (told : Type 0) (given_of left_of ends_of fa
   all_own counters first t weight place [] (a ∷ after) fresh was = absurd was
   all_own counters first t weight place (b ∷ before) [] fresh was = absurd was
 
-  module _ (counters : CountersOf (TicketedDesk D g) Item (Fixed D) h) where
+  module _ (counters : CountersOf (TicketedDesk D g) TurnItem (Fixed D) h) where
     -- ---- the jobs
 
     -- the workers' passes can be joined again
@@ -234,6 +255,31 @@ module _ {D G O : Type 0} {g h : _} (told : Type 0) (given_of left_of ends_of fa
   lost_at_ends [] (a ∷ after) unended was none = absurd was
   lost_at_ends (b ∷ before) [] unended was none = absurd was
 
+  -- a worker who came to the limit lost no number, so fewer were lost than there are workers
+  fewer_lost : (front size : ℕ) → front ≤ size → (after : List (Worker (SessionJobOf (TicketedDesk D g) D G h) O))
+      → (front + sum_by (λ worker. lost worker.ended) after ≤ size + length after)
+      × AllByRecursion (λ worker. worker.ended ≡ Some LimitReached → front + sum_by (λ other. lost other.ended) after < size + length after) after
+  fewer_lost front size few [] = (omega (arith, few), tt)
+  fewer_lost front size few (a ∷ after) =
+      let one = lost_most a.ended in
+      let all = sum_by-cons (λ (worker : Worker (SessionJobOf (TicketedDesk D g) D G h) O). lost worker.ended) a after in
+      let none = fewer_lost front size few after in
+      let rest = fewer_lost (front + lost a.ended) (size + 1) (omega (arith, few, one)) after in (
+        omega (arith, all, rest.0),
+        (
+          λ is. let zero = ap lost is in let those = none.0 in omega (arith, all, zero, those),
+          every_still (λ worker. worker.ended ≡ Some LimitReached
+              → (front + lost a.ended) + sum_by (λ other. lost other.ended) after < (size + 1) + length after)
+              (λ worker. worker.ended ≡ Some LimitReached → front + sum_by (λ other. lost other.ended) (a ∷ after) < size + length (a ∷ after))
+              (λ worker less is. let fewer = less is in omega (arith, all, fewer)) after rest.1,
+        ),
+      )
+
+  -- the runs reach the limit, together with the numbers that were lost, and these are fewer than the workers
+  abbrev AtLimit : ℕ → List (Worker (SessionJobOf (TicketedDesk D g) D G h) O) → Type 0
+  AtLimit limit after = (limit ≤ sum_by (λ other. job_runs other.job) after + sum_by (λ other. lost other.ended) after)
+      × (0 + sum_by (λ other. lost other.ended) after < 0 + length after)
+
   -- how the workers served together
   pub has_outcome : (limit : ℕ) (before after : List (Worker (SessionJobOf (TicketedDesk D g) D G h) O))
       → AllByRecursion (λ worker. faults_of worker.door ≡ 0) before → AllByRecursion (λ worker. ends_of worker.door ≡ 0) before
@@ -242,19 +288,26 @@ module _ {D G O : Type 0} {g h : _} (told : Type 0) (given_of left_of ends_of fa
       → HasOutcome told left_of ends_of faults_of limit (outcome_of after) (sum_by (λ worker. job_runs worker.job) after) (map (λ worker. worker.door) after)
   has_outcome limit before after whole unended reached was =
       of_any (list_any (λ worker. has_failed worker.ended) after) refl
-      (have_ended (limit ≤ sum_by (λ other. job_runs other.job) after + sum_by (λ other. lost other.ended) after) before after whole reached was)
+      (have_ended (AtLimit limit after) before after whole
+      (every_both (λ worker. worker.ended ≡ Some LimitReached → limit ≤ sum_by (λ other. job_runs other.job) after + sum_by (λ other. lost other.ended) after)
+      (λ worker. worker.ended ≡ Some LimitReached → 0 + sum_by (λ other. lost other.ended) after < 0 + length after)
+      (λ worker. worker.ended ≡ Some LimitReached → AtLimit limit after) (λ worker most fewer is. (most is, fewer is)) after reached
+      (fewer_lost 0 0 (omega arith) after).1)
+      was)
     where
       of_any : (any : Bool) → list_any (λ worker. has_failed worker.ended) after ≡ any
-          → Ended told left_of faults_of (limit
-          ≤ sum_by (λ other. job_runs other.job) after + sum_by (λ other. lost other.ended) after) any (map (λ worker. worker.door) after)
+          → Ended told left_of faults_of (AtLimit limit after) any (map (λ worker. worker.door) after)
           → HasOutcome told left_of ends_of faults_of limit (if any then LinksFailed else Served) (sum_by (λ worker. job_runs worker.job) after)
           (map (λ worker. worker.door) after)
       of_any true is failed = failed
       of_any false is (inl all) = λ t. inl (All-from_recursion (λ door. left_of door ≡ 0) (map (λ worker. worker.door) after) (all t))
-      of_any false is (inr most) = λ t. let ends = lost_at_ends before after unended was is in inr (omega (arith, most, ends))
+      of_any false is (inr (most, fewer)) = λ t.
+          let ends = lost_at_ends before after unended was is in
+          let many = length-map after (λ (worker : Worker (SessionJobOf (TicketedDesk D g) D G h) O). worker.door) in
+          inr (omega (arith, most, ends), omega (arith, most, fewer, many))
 
   -- all that is said of doors whose workers served them
-  pub served_together : (counters : CountersOf (TicketedDesk D g) Item (Fixed D) h) (first final : Passes D) (limit : ℕ) (outcome : Outcome)
+  pub served_together : (counters : CountersOf (TicketedDesk D g) TurnItem (Fixed D) h) (first final : Passes D) (limit : ℕ) (outcome : Outcome)
       (doors others : List O) (before after : List (Worker (SessionJobOf (TicketedDesk D g) D G h) O))
       → map (λ worker. worker.door) before ≡ doors → others ≡ map (λ worker. worker.door) after → outcome ≡ outcome_of after
       → All (λ door. faults_of door ≡ 0) doors → All (λ door. ends_of door ≡ 0) doors
@@ -284,10 +337,11 @@ module _ {D G O : Type 0} {g h : _} (told : Type 0) (given_of left_of ends_of fa
         subst (λ o. HasOutcome told left_of ends_of faults_of limit o total others) (sym outcome_is)
             (subst (λ ds. HasOutcome told left_of ends_of faults_of limit (outcome_of after) total ds) (sym others_are) ended),
         below,
-        λ t weight place.
+        λ t place weight.
             let all = own weight place in
             let here = all_own counters first t weight place before after (recursion_from_All (IsFresh counters first) before fresh) was in
-            omega (arith, all, here),
+            let told = weigh_more weight (own_at place (passes_in first)) (entries_told place) (all_told t before after was) in
+            omega (arith, all, here, told),
       )
     where
       at_workers : (f : O → ℕ) (crew : List (Worker (SessionJobOf (TicketedDesk D g) D G h) O))

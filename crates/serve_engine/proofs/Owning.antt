@@ -1,8 +1,9 @@
 -- What passes have of their own: after a session, where they are split, and where they meet.
-use Rattle.std.proofs.Common.{◌≡◌, ℕ, zero, suc, ◌+◌, Bool, List, [], ◌∷◌, sum_by, inl, inr, refl, ap, ◌∙◌, arith}
+use Rattle.std.proofs.Common.{◌≡◌, ℕ, zero, suc, ◌+◌, Bool, List, [], ◌∷◌, ◌++◌, sum_by, inl, inr, refl, ap, ◌∙◌, arith}
 use Rattle.std.specs.Prelude.{◌==◌, Option, Some, None, if◌then◌else◌}
 use Rattle.std.proofs.Math.Dec.{eqb-zero-suc, eqb-suc-zero, eqb-suc-suc}
-use Rattle.std.proofs.lemmas.List.Sums.{sum_by-append}
+use Rattle.std.specs.List.{flat_map}
+use Rattle.std.proofs.lemmas.List.Sums.{sum_by-append, sum_by-cons}
 use Rattle.cqe_base.specs.Schema.{Text}
 use Rattle.cqe_base.specs.History.{AnsweredQuery, History}
 use Rattle.cqe_base.specs.Run.{Reply}
@@ -10,7 +11,7 @@ use Rattle.turnstile.specs.declared.view.View.{View}
 use Rattle.turnstile.specs.declared.pass.Pass.{Pass}
 use Rattle.turnstile.specs.History.{Entries, Interleaves, entries_with}
 use Rattle.turnstile.specs.Passes.{mine}
-use Rattle.desk_counter.specs.declared.item.Item.{Item}
+use Rattle.desk_counter.specs.declared.item.TurnItem.{TurnItem}
 use Rattle.desk_counter.specs.declared.item.Fixed.{Fixed}
 use Rattle.desk_counter.specs.declared.ticketed_desk.TicketedDesk.{TicketedDesk}
 use Rattle.desk_counter.specs.declared.counter.CounterOf.{CounterOf}
@@ -19,7 +20,23 @@ use Rattle.desk_counter.proofs.Pairs.{history_all}
 use Rattle.session_core.specs.Desks.{AsksAt, AsksOf, here, further}
 use Rattle.session_core.specs.Members.{AreSplit, AreMet}
 use Rattle.serve_engine.specs.Served.{SessionMarks, entries_told}
-use Rattle.serve_engine.specs.Members.{own_weight}
+use Rattle.serve_engine.specs.Members.{own_at}
+
+-- what the entries of several lists weigh together
+weigh_flat : {X : Type 0} (weight : AnsweredQuery → ℕ) (entries : X → History) (xs : List X)
+    → sum_by weight (flat_map entries xs) ≡ sum_by (λ x. sum_by weight (entries x)) xs
+weigh_flat weight entries [] = refl
+weigh_flat weight entries (x ∷ xs) =
+    let one = sum_by-append weight (entries x) (flat_map entries xs) in
+    let rest = weigh_flat weight entries xs in
+    let all = sum_by-cons (λ x. sum_by weight (entries x)) x xs in
+    omega (arith, one, rest, all)
+
+-- and behind a history
+pub weigh_more : {X : Type 0} (weight : AnsweredQuery → ℕ) (history : History) (entries : X → History) (xs : List X)
+    → sum_by weight (history ++ flat_map entries xs) ≡ sum_by weight history + sum_by (λ x. sum_by weight (entries x)) xs
+weigh_more weight history entries xs =
+    sum_by-append weight history (flat_map entries xs) ∙ ap (λ n. sum_by weight history + n) (weigh_flat weight entries xs)
 
 -- what the entries of the marks weigh that connections told the user at a place
 abbrev pub told_weight : (AnsweredQuery → ℕ) → ℕ → List SessionMarks → ℕ
@@ -30,23 +47,28 @@ abbrev told_at : (AnsweredQuery → ℕ) → ℕ → ℕ → History → ℕ
 told_at weight place other entries = sum_by weight (if other == place then entries else [])
 
 module _ {D : Type 0} where
+  -- what the entries weigh that the pass at a place has of its own
+  abbrev pub own_weight : (AnsweredQuery → ℕ) → ℕ → List (Pass TurnItem (Fixed D)) → ℕ
+  own_weight weight place passes = sum_by weight (own_at place passes)
+
   -- the entries of the marks of asks
-  abbrev pub entries_at : {place : ℕ} {fixeds : List (Fixed D)} {old new : List (Pass Item (Fixed D))} {asks : List (Text × Reply)}
+  abbrev pub entries_at : {place : ℕ} {fixeds : List (Fixed D)} {old new : List (Pass TurnItem (Fixed D))} {asks : List (Text × Reply)}
       → AsksAt place fixeds old new asks → History
   entries_at (here is) = is.entries
   entries_at (further deep) = entries_at deep
 
-  abbrev pub entries_of : (who : Option ℕ) (fixeds : List (Fixed D)) (old new : List (Pass Item (Fixed D))) (asks : List (Text × Reply))
+  abbrev pub entries_of : (who : Option ℕ) (fixeds : List (Fixed D)) (old new : List (Pass TurnItem (Fixed D))) (asks : List (Text × Reply))
       → AsksOf who fixeds old new asks → History
   entries_of None fixeds old new asks is = []
   entries_of (Some place) fixeds old new asks is = entries_at is
 
   -- what a session comes to
-  abbrev pub marks_of : (who : Option ℕ) (fixeds : List (Fixed D)) (old new : List (Pass Item (Fixed D))) (asks : List (Text × Reply))
+  abbrev pub marks_of : (who : Option ℕ) (fixeds : List (Fixed D)) (old new : List (Pass TurnItem (Fixed D))) (asks : List (Text × Reply))
       → AsksOf who fixeds old new asks → SessionMarks
   marks_of who fixeds old new asks is = record { who = who; entries = entries_of who fixeds old new asks is }
 
-  at_own : (weight : AnsweredQuery → ℕ) (place : ℕ) {other : ℕ} {fixeds : List (Fixed D)} {old new : List (Pass Item (Fixed D))} {asks : List (Text × Reply)}
+  at_own : (weight : AnsweredQuery → ℕ) (place : ℕ) {other : ℕ} {fixeds : List (Fixed D)} {old new : List (Pass TurnItem (Fixed D))}
+      {asks : List (Text × Reply)}
       (is : AsksAt other fixeds old new asks)
       → own_weight weight place new ≡ own_weight weight place old + told_at weight place other (entries_at is)
   at_own weight zero (here {old = p} is) = ap (sum_by weight) is.own ∙ sum_by-append weight (history_of (mine p)) is.entries
@@ -59,18 +81,19 @@ module _ {D : Type 0} where
       omega (arith, same, rest)
 
   -- each pass has more of its own what the session told
-  pub of_own : (weight : AnsweredQuery → ℕ) (place : ℕ) (who : Option ℕ) (fixeds : List (Fixed D)) (old new : List (Pass Item (Fixed D)))
+  pub of_own : (weight : AnsweredQuery → ℕ) (place : ℕ) (who : Option ℕ) (fixeds : List (Fixed D)) (old new : List (Pass TurnItem (Fixed D)))
       (asks : List (Text × Reply)) (is : AsksOf who fixeds old new asks)
       → own_weight weight place new ≡ own_weight weight place old + sum_by weight (entries_told place (marks_of who fixeds old new asks is))
-  of_own weight place None fixeds old new asks is = let same = ap (own_weight weight place) is.0 in omega (arith, same)
+  of_own weight place None fixeds old new asks is = let same =
+      ap (λ (ps : List (Pass TurnItem (Fixed D))). own_weight weight place ps) is.0 in omega (arith, same)
   of_own weight place (Some other) fixeds old new asks is = at_own weight place is
 
-one_more : (weight : AnsweredQuery → ℕ) (z : ℕ × Item) (zs : Entries Item)
+one_more : (weight : AnsweredQuery → ℕ) (z : ℕ × TurnItem) (zs : Entries TurnItem)
     → sum_by weight (history_of (z ∷ zs)) ≡ sum_by weight (history_of (z ∷ [])) + sum_by weight (history_of zs)
 one_more weight z zs = ap (sum_by weight) (history_all (z ∷ []) zs) ∙ sum_by-append weight (history_of (z ∷ [])) (history_of zs)
 
 -- two histories that are put together weigh what both do
-weigh_both : (weight : AnsweredQuery → ℕ) (xs ys zs : Entries Item) → Interleaves xs ys zs
+weigh_both : (weight : AnsweredQuery → ℕ) (xs ys zs : Entries TurnItem) → Interleaves xs ys zs
     → sum_by weight (history_of zs) ≡ sum_by weight (history_of xs) + sum_by weight (history_of ys)
 weigh_both weight xs ys [] both =
     let first = ap (λ ps. sum_by weight (history_of ps)) both.0 in
@@ -91,8 +114,8 @@ weigh_both weight xs ys (z ∷ zs) (inr that) =
 
 module _ {D : Type 0} {g h : _} where
   -- passes that met have of their own what both had
-  pub own_met : (weight : AnsweredQuery → ℕ) (place : ℕ) (counters : List (CounterOf (TicketedDesk D g) Item (Fixed D) h))
-      (olds others news : List (Pass Item (Fixed D))) → AreMet counters olds others news
+  pub own_met : (weight : AnsweredQuery → ℕ) (place : ℕ) (counters : List (CounterOf (TicketedDesk D g) TurnItem (Fixed D) h))
+      (olds others news : List (Pass TurnItem (Fixed D))) → AreMet counters olds others news
       → own_weight weight place news ≡ own_weight weight place olds + own_weight weight place others
   own_met weight place [] [] [] [] met = refl
   own_met weight zero (c ∷ counters) (o ∷ olds) (t ∷ others) (p ∷ news) met = weigh_both weight (mine o) (mine t) (mine p) met.0.mine_is
@@ -105,18 +128,18 @@ module _ {D : Type 0} {g h : _} where
   own_met weight place (c ∷ counters) (o ∷ olds) (t ∷ others) [] met = absurd met
 
   -- where passes were split, the rest has of its own what they had, and the parts have nothing
-  pub own_split : (weight : AnsweredQuery → ℕ) (place : ℕ) (counters : List (CounterOf (TicketedDesk D g) Item (Fixed D) h))
-      (olds news parts : List (Pass Item (Fixed D))) → AreSplit counters olds news parts
-      → (own_weight weight place news ≡ own_weight weight place olds) × (own_weight weight place parts ≡ 0)
-  own_split weight place [] [] [] [] split = (refl, refl)
-  own_split weight zero (c ∷ counters) (o ∷ olds) (p ∷ news) (q ∷ parts) split = (
-    ap (λ (v : View Item (Fixed D)). sum_by weight (history_of (entries_with v.drawn v.seen))) split.0.rest,
-    ap (λ ps. sum_by weight (history_of ps)) split.0.mine_is,
+  pub own_split : (place : ℕ) (counters : List (CounterOf (TicketedDesk D g) TurnItem (Fixed D) h)) (olds news parts : List (Pass TurnItem (Fixed D)))
+      → AreSplit counters olds news parts
+      → (own_at place news ≡ own_at place olds) × (own_at place parts ≡ [])
+  own_split place [] [] [] [] split = (refl, refl)
+  own_split zero (c ∷ counters) (o ∷ olds) (p ∷ news) (q ∷ parts) split = (
+    ap (λ (v : View TurnItem (Fixed D)). history_of (entries_with v.drawn v.seen)) split.0.rest,
+    ap (λ ps. history_of ps) split.0.mine_is,
   )
-  own_split weight (suc place) (c ∷ counters) (o ∷ olds) (p ∷ news) (q ∷ parts) split = own_split weight place counters olds news parts split.1
-  own_split weight place [] [] [] (q ∷ parts) split = absurd split
-  own_split weight place [] [] (p ∷ news) parts split = absurd split
-  own_split weight place [] (o ∷ olds) news parts split = absurd split
-  own_split weight place (c ∷ counters) [] news parts split = absurd split
-  own_split weight place (c ∷ counters) (o ∷ olds) [] parts split = absurd split
-  own_split weight place (c ∷ counters) (o ∷ olds) (p ∷ news) [] split = absurd split
+  own_split (suc place) (c ∷ counters) (o ∷ olds) (p ∷ news) (q ∷ parts) split = own_split place counters olds news parts split.1
+  own_split place [] [] [] (q ∷ parts) split = absurd split
+  own_split place [] [] (p ∷ news) parts split = absurd split
+  own_split place [] (o ∷ olds) news parts split = absurd split
+  own_split place (c ∷ counters) [] news parts split = absurd split
+  own_split place (c ∷ counters) (o ∷ olds) [] parts split = absurd split
+  own_split place (c ∷ counters) (o ∷ olds) (p ∷ news) [] split = absurd split

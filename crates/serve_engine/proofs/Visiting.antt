@@ -9,7 +9,7 @@ use Rattle.cqe_base.specs.Schema.{DatabaseSchema, Text}
 use Rattle.cqe_base.specs.Facts.{FactSet}
 use Rattle.cqe_base.specs.declared.user.User.{User}
 use Rattle.turnstile.specs.declared.pass.Pass.{Pass}
-use Rattle.desk_counter.specs.declared.item.Item.{Item}
+use Rattle.desk_counter.specs.declared.item.TurnItem.{TurnItem}
 use Rattle.desk_counter.specs.declared.item.Fixed.{Fixed}
 use Rattle.session_core.specs.Heard.{HeardLine, session_lines}
 use Rattle.session_core.specs.Talks.{written_lines, IsCut}
@@ -67,7 +67,7 @@ all_written WriteFault after texts no_write writes = absurd (no_write refl)
 
 -- A session over ends that were untouched is a connection that was served by the users as their passes are then.
 pub session_served : {D : Type 0} (S K : Type 0) (users : List User) (fixeds : List (Fixed D)) (ended : Ended) (held held' left : List ℕ)
-    (old new : List (Pass Item (Fixed D))) (before after : List ℕ) (sources sinks sources' sinks' : ℕ)
+    (old new : List (Pass TurnItem (Fixed D))) (before after : List ℕ) (sources sinks sources' sinks' : ℕ)
     → (session : Session S K users fixeds ended left old new before after) → AreUntouchedEnds S K held left before sources sinks → held' ≡ held
     → (ended ≡ ReadFault → Rose sources sources') → (ended ≡ WriteFault → Rose sinks sinks')
     → (schema : DatabaseSchema) (world : FactSet) → AreIn schema world fixeds → HaveSeenOpenings fixeds old

@@ -1,6 +1,7 @@
 -- Doors before and after their connections were served.
-use Rattle.std.specs.Prelude.{◌≡◌, ◌≢◌, ◌⊎◌, ℕ, ◌+◌, ◌≤◌, Bool, true, false, List, [], ◌∷◌, ◌++◌}
-use Rattle.std.specs.Prelude.{All, Option, Some, None, if◌then◌else◌}
+use Rattle.std.specs.Prelude.{◌≡◌, ◌≢◌, ◌⊎◌, ℕ, ◌+◌, ◌<◌, ◌≤◌, Bool, true, false, List, [], ◌∷◌}
+use Rattle.std.specs.Prelude.{◌++◌}
+use Rattle.std.specs.Prelude.{All, length, Option, Some, None, if◌then◌else◌}
 use Rattle.std.specs.List.{AllZip, list_any, sum_by}
 use Rattle.outside.specs.Visits.{Visit, one_if_any}
 use Rattle.worker_pool.specs.declared.worker.Worker.{Worker}
@@ -42,11 +43,12 @@ SomeFailed faults_of (door ∷ doors) = (faults_of door ≢ 0) ⊎ SomeFailed fa
 module _ {O : Type 0} (told : Type 0) (left_of ends_of faults_of : O → ℕ) (limit : ℕ) where
   -- What each outcome says, by how many connections the doors gave together: of the end, that no
   -- door has a connection left, or that these reach the limit, together with the doors that
-  -- answered that no further one comes; of failed links, that a door has failed; of want of memory,
-  -- that there were none.
+  -- answered that no further one comes, and are more than the limit together with all doors; of
+  -- failed links, that a door has failed; of want of memory, that there were none.
   abbrev pub HasOutcome : Outcome → ℕ → List O → Type 0
   HasOutcome Served total doors = told → All (λ door. left_of door ≡ 0) doors
-      ⊎ (limit ≤ total + sum_by (λ door. one_if_any (ends_of door)) doors)
+      ⊎ ((limit ≤ total + sum_by (λ door. one_if_any (ends_of door)) doors)
+      × (limit < total + length doors))
   HasOutcome LinksFailed total doors = SomeFailed faults_of doors
   HasOutcome Memory total doors = total ≡ 0
 

@@ -4,7 +4,7 @@ use Rattle.std.proofs.Props.{props}
 use Rattle.cqe_base.specs.FormulaCode.{formula_set}
 use Rattle.turnstile.specs.declared.pass.Pass.{Pass}
 use Rattle.turnstile.specs.Passes.{seen, fixed}
-use Rattle.desk_counter.specs.declared.item.Item.{Item}
+use Rattle.desk_counter.specs.declared.item.TurnItem.{TurnItem}
 use Rattle.desk_counter.specs.declared.item.Fixed.{Fixed}
 use Rattle.desk_counter.specs.declared.counter.CounterOf.{CounterOf}
 use Rattle.desk_counter.specs.Items.{history_of}
@@ -19,15 +19,15 @@ AtEach {V} {I} {F} {h} kept passes counters =
     → IsPassBy kept (slice_index_or passes k pass) (slice_index_or counters k counter)
 
 -- the pass has seen no fewer entries than its desk had at the opening
-abbrev pub HasSeenOpening : {D : Type 0} → Pass Item (Fixed D) → Type 0
+abbrev pub HasSeenOpening : {D : Type 0} → Pass TurnItem (Fixed D) → Type 0
 HasSeenOpening {D} pass = (desk : Fixed D) → fixed pass ≡ Some desk
     → length desk.opening ≤ length (history_of (seen pass))
 
 -- what the pass has seen of its desk is legal
-abbrev pub SeesLegally : {D : Type 0} → Pass Item (Fixed D) → Type 0
+abbrev pub SeesLegally : {D : Type 0} → Pass TurnItem (Fixed D) → Type 0
 SeesLegally {D} pass = (desk : Fixed D) → fixed pass ≡ Some desk → HasSeenLegal desk pass
 
 -- which holds in one way
-pub SeesLegally-prop : {D : Type 0} (passes : List (Pass Item (Fixed D)))
+pub SeesLegally-prop : {D : Type 0} (passes : List (Pass TurnItem (Fixed D)))
     → IsProp (All SeesLegally passes)
 SeesLegally-prop passes = hlevel (props, formula_set)

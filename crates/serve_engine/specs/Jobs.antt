@@ -4,7 +4,7 @@ use Rattle.outside.specs.Faults.{Rose}
 use Rattle.outside.specs.Visits.{Visit}
 use Rattle.cqe_base.specs.declared.user.User.{User}
 use Rattle.turnstile.specs.declared.pass.Pass.{Pass}
-use Rattle.desk_counter.specs.declared.item.Item.{Item}
+use Rattle.desk_counter.specs.declared.item.TurnItem.{TurnItem}
 use Rattle.desk_counter.specs.declared.item.Fixed.{Fixed}
 use Rattle.desk_counter.specs.declared.ticketed_desk.TicketedDesk.{TicketedDesk}
 use Rattle.session_core.specs.declared.counters.CountersOf.{CountersOf}
@@ -18,7 +18,7 @@ use Rattle.serve_engine.specs.Members.{AreServedBy}
 module _ {D G : Type 0} {g h : _} where
   -- the counters at which it serves
   abbrev pub job_counters : SessionJobOf (TicketedDesk D g) D G h
-      → CountersOf (TicketedDesk D g) Item (Fixed D) h
+      → CountersOf (TicketedDesk D g) TurnItem (Fixed D) h
   job_counters job = job.counters.now
 
   -- its passes
@@ -41,7 +41,7 @@ module _ {D G : Type 0} {g h : _} where
 -- A run is one session: how it ended, and what it read, did with the passes and wrote; where a
 -- stream failed, the count of its faults rose.
 pub record RunsSession {D : Type 0} (source_tells sink_tells : Type 0) (users : List User)
-    (fixeds : List (Fixed D)) (bytes : List ℕ) (old new : List (Pass Item (Fixed D)))
+    (fixeds : List (Fixed D)) (bytes : List ℕ) (old new : List (Pass TurnItem (Fixed D)))
     (before after : List ℕ) (sources sources' sinks sinks' : ℕ) : Type 0 where
   pub ended : Ended
   pub session : Session source_tells sink_tells users fixeds ended bytes old new before after

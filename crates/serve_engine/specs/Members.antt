@@ -1,27 +1,26 @@
 -- The users at their desks, as the passes of one worker know them.
-use Rattle.std.specs.Prelude.{◌≡◌, ℕ, zero, suc, ◌+◌, ◌/◌, ◌^◌, ◌≤◌, min, List, [], ◌∷◌, length}
-use Rattle.std.specs.Prelude.{sum_by}
-use Rattle.std.specs.List.{AllByRecursion, AllZip}
+use Rattle.std.specs.Prelude.{◌≡◌, ℕ, zero, suc, ◌/◌, ◌^◌, ◌≤◌, min, List, [], ◌∷◌, ◌++◌, length}
+use Rattle.std.specs.List.{AllByRecursion, AllZip, flat_map}
 use Rattle.outside.specs.Visits.{Visit}
 use Rattle.cqe_base.specs.Schema.{DatabaseSchema}
 use Rattle.cqe_base.specs.Facts.{FactSet}
-use Rattle.cqe_base.specs.History.{AnsweredQuery}
+use Rattle.cqe_base.specs.History.{History}
 use Rattle.turnstile.specs.declared.pass.Pass.{Pass}
 use Rattle.turnstile.specs.History.{IsPrefix}
 use Rattle.turnstile.specs.Passes.{seen, mine, shares, turns}
 use Rattle.user_desk.specs.Standings.{standing_of}
-use Rattle.desk_counter.specs.declared.item.Item.{Item}
+use Rattle.desk_counter.specs.declared.item.TurnItem.{TurnItem}
 use Rattle.desk_counter.specs.declared.item.Fixed.{Fixed}
 use Rattle.desk_counter.specs.declared.ticketed_desk.TicketedDesk.{TicketedDesk}
 use Rattle.desk_counter.specs.Items.{history_of, has_broke}
 use Rattle.session_core.specs.declared.counters.CountersOf.{CountersOf}
 use Rattle.session_core.specs.declared.counters.Passes.{Passes}
 use Rattle.session_core.specs.Members.{users_of, fixeds_of, passes_in}
-use Rattle.serve_engine.specs.Served.{Member, SessionMarks, entries_told, Served}
+use Rattle.serve_engine.specs.Served.{Member, SessionMarks, entries_told, SameEntries, Served}
 
 module _ {D : Type 0} where
   -- the user of a desk, by what a pass has seen of its entries
-  abbrev pub member_of : Fixed D → Pass Item (Fixed D) → Member
+  abbrev pub member_of : Fixed D → Pass TurnItem (Fixed D) → Member
   member_of fixed pass = record {
     profile = fixed.user;
     standing = standing_of fixed.standing;
@@ -31,7 +30,7 @@ module _ {D : Type 0} where
   }
 
   -- the users of all desks, each by the pass at his place
-  abbrev pub members_of : List (Fixed D) → List (Pass Item (Fixed D)) → List Member
+  abbrev pub members_of : List (Fixed D) → List (Pass TurnItem (Fixed D)) → List Member
   members_of (fixed ∷ fixeds) (pass ∷ passes) = member_of fixed pass ∷ members_of fixeds passes
   members_of (fixed ∷ fixeds) [] = []
   members_of [] passes = []
@@ -42,17 +41,17 @@ module _ {D : Type 0} where
       AllByRecursion (λ fixed. (fixed.schema ≡ schema) × (fixed.world ≡ world)) fixeds
 
   -- each pass has seen no fewer entries than its desk had at the opening
-  abbrev pub HaveSeenOpenings : List (Fixed D) → List (Pass Item (Fixed D)) → Type 0
+  abbrev pub HaveSeenOpenings : List (Fixed D) → List (Pass TurnItem (Fixed D)) → Type 0
   HaveSeenOpenings fixeds passes =
       AllZip (λ fixed pass. length fixed.opening ≤ length (history_of (seen pass))) fixeds passes
 
   -- A pass after sessions: it has as many shares, and has seen all that it had, and maybe more.
-  pub record IsPassLater (before after : Pass Item (Fixed D)) : Type 0 where
+  pub record IsPassLater (before after : Pass TurnItem (Fixed D)) : Type 0 where
     pub same_shares : shares after ≡ shares before
     pub later : IsPrefix (seen before) (seen after)
 
   -- so many sessions the passes have turns for, at most 2^31
-  abbrev pub room_in : List (Pass Item (Fixed D)) → ℕ
+  abbrev pub room_in : List (Pass TurnItem (Fixed D)) → ℕ
   room_in [] = 2 ^ 31
   room_in (pass ∷ passes) = min (turns pass / 2 ^ 26) (room_in passes)
 
@@ -60,25 +59,24 @@ module _ {D : Type 0} where
   abbrev pub ArePassesLater : Passes D → Passes D → Type 0
   ArePassesLater before after = AllZip IsPassLater (passes_in before) (passes_in after)
 
-  -- what the entries weigh that the pass at this place has of its own
-  abbrev pub own_weight : (AnsweredQuery → ℕ) → ℕ → List (Pass Item (Fixed D)) → ℕ
-  own_weight weight place [] = 0
-  own_weight weight zero (pass ∷ passes) = sum_by weight (history_of (mine pass))
-  own_weight weight (suc place) (pass ∷ passes) = own_weight weight place passes
+  -- the entries that the pass at this place has of its own
+  abbrev pub own_at : ℕ → List (Pass TurnItem (Fixed D)) → History
+  own_at place [] = []
+  own_at zero (pass ∷ passes) = history_of (mine pass)
+  own_at (suc place) (pass ∷ passes) = own_at place passes
 
-  -- However entries are weighed, each pass has more of its own what the marks weigh that were told
-  -- to the user at its place.
-  abbrev pub OwnMore : List (Pass Item (Fixed D)) → List (Pass Item (Fixed D)) → List SessionMarks
-      → Type 0
-  OwnMore before after visit_marks = (weight : AnsweredQuery → ℕ) (place : ℕ)
-      → own_weight weight place after
-      ≡ own_weight weight place before
-      + sum_by (λ marks. sum_by weight (entries_told place marks)) visit_marks
+  -- Each pass has of its own what it had, and the entries of the marks that were told to the user
+  -- at its place.
+  abbrev pub OwnMore : List (Pass TurnItem (Fixed D)) → List (Pass TurnItem (Fixed D))
+      → List SessionMarks → Type 0
+  OwnMore before after visit_marks = (place : ℕ)
+      → SameEntries (own_at place after)
+      (own_at place before ++ flat_map (entries_told place) visit_marks)
 
 module _ {D : Type 0} {g h : _} where
   -- A finished connection is served by the users of these desks, as the passes know them, wherever
   -- all desks are in one world.
-  abbrev pub IsServedBy : CountersOf (TicketedDesk D g) Item (Fixed D) h → Passes D → Visit
+  abbrev pub IsServedBy : CountersOf (TicketedDesk D g) TurnItem (Fixed D) h → Passes D → Visit
       → SessionMarks → Type 0
   IsServedBy counters passes visit marks =
       (schema : DatabaseSchema) (world : FactSet) → AreIn schema world (fixeds_of counters)
@@ -87,7 +85,7 @@ module _ {D : Type 0} {g h : _} where
 
   -- Finished connections are served so, each with its marks, and what the passes have more of their
   -- own are the entries of these.
-  pub record AreServedBy (counters : CountersOf (TicketedDesk D g) Item (Fixed D) h)
+  pub record AreServedBy (counters : CountersOf (TicketedDesk D g) TurnItem (Fixed D) h)
       (before passes : Passes D) (visits : List Visit) : Type 0 where
     pub visit_marks : List SessionMarks
     pub each : AllZip (IsServedBy counters passes) visits visit_marks

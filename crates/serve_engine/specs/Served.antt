@@ -1,16 +1,22 @@
 -- What a finished connection is to the users who are served.
 use Rattle.std.specs.Prelude.{◌≡◌, ◌⊎◌, ℕ, zero, suc, ◌==◌, Bool, true, false, List, [], ◌∷◌, ◌++◌}
-use Rattle.std.specs.Prelude.{length, Option, Some, None, if◌then◌else◌}
+use Rattle.std.specs.Prelude.{length, sum_by, Option, Some, None, if◌then◌else◌}
 use Rattle.std.specs.List.{AllZip}
 use Rattle.outside.specs.Visits.{Visit}
 use Rattle.cqe_base.specs.Schema.{DatabaseSchema, Text}
 use Rattle.cqe_base.specs.Facts.{FactSet}
-use Rattle.cqe_base.specs.History.{UserProfile, History}
+use Rattle.cqe_base.specs.History.{UserProfile, AnsweredQuery, History}
 use Rattle.cqe_base.specs.Run.{Standing, Reply}
 use Rattle.cqe_base.specs.declared.user.User.{User}
 use Rattle.session_core.specs.Heard.{HeardLine, session_lines}
 use Rattle.session_core.specs.Talks.{Talks, written_lines, IsCut}
 use Rattle.session_core.specs.Replied.{Replied}
+
+-- Two histories have the same entries, each as often: however entries are weighed, both weigh the
+-- same.
+abbrev pub SameEntries : History → History → Type 0
+SameEntries first second =
+    (weight : AnsweredQuery → ℕ) → sum_by weight first ≡ sum_by weight second
 
 -- A user while connections are served: who he is, how his desk stands, the entries at its opening,
 -- all its entries, and whether an append failed.

@@ -1,8 +1,8 @@
 -- What serving connections means for the users and for the connections.
-use Rattle.std.specs.Prelude.{◌≡◌, ◌⊎◌, ℕ, suc, ◌+◌, Bool, true, false, List, [], ◌∷◌, ◌++◌, sum_by}
+use Rattle.std.specs.Prelude.{◌≡◌, ◌⊎◌, ℕ, suc, ◌+◌, Bool, true, false, List, [], ◌∷◌, ◌++◌}
 use Rattle.std.specs.Prelude.{Option, Vec, is_some, string_bytes}
 use Rattle.std.specs.declared.alloc.Global.{Global}
-use Rattle.std.specs.List.{AllZip, list_any}
+use Rattle.std.specs.List.{AllZip, list_any, flat_map}
 use Rattle.outside.specs.Faults.{Rose}
 use Rattle.outside.specs.Visits.{Visit}
 use Rattle.cqe_base.specs.Schema.{DatabaseSchema}
@@ -12,6 +12,7 @@ use Rattle.cqe_base.specs.Censor.{IsLegal, admitted}
 use Rattle.cqe_base.specs.Hiding.{Hides}
 use Rattle.cqe_base.specs.declared.user.User.{User}
 use Rattle.user_desk.specs.Causes.{IsStanding}
+use Rattle.user_desk.specs.Entries.{IsNoLonger}
 use Rattle.user_desk.specs.Lives.{Holds, shown}
 use Rattle.user_desk.specs.Standings.{standing_of, is_open, is_sealed}
 use Rattle.user_desk.specs.declared.standing.DeskError.{DeskError}
@@ -20,7 +21,7 @@ use Rattle.desk_crew.specs.Crew.{refusal_of}
 use Rattle.desk_crew.specs.Shelved.{Journals, IsKept, AreKept}
 use Rattle.worker_pool.specs.Workers.{HasVisits}
 use Rattle.serve_engine.specs.Doors.{AreServedDoors}
-use Rattle.serve_engine.specs.Served.{Member, SessionMarks, entries_told, Served}
+use Rattle.serve_engine.specs.Served.{Member, SessionMarks, entries_told, SameEntries, Served}
 use Rattle.serve_engine.specs.declared.serving.Outcome.{Outcome}
 use Rattle.serve_engine.specs.declared.serving.Outcome.TheVariants as outcome
 use Rattle.serve_engine.specs.declared.run.ServeEnd.{ServeEnd}
@@ -34,16 +35,12 @@ pub record ServesNobody (journals : Journals) (given given' : ℕ) (back back' :
   pub back_same : back' ≡ back
   pub kept : AreKept journals
 
--- Of each user, from this place on: however entries are weighed, his history weighs what it did at
--- the opening, and what the entries of the marks weigh that connections told him. So behind the
--- opening each of these stands once, and no other.
+-- Of each user, from this place on: his history has the entries of the opening, and those of the
+-- marks that connections told him. So behind the opening each of these stands once, and no other.
 abbrev pub AreAllTold : ℕ → List Member → List SessionMarks → Type 0
 AreAllTold place [] visit_marks = Unit {0}
 AreAllTold place (member ∷ members) visit_marks =
-    ((weight : AnsweredQuery → ℕ)
-    → sum_by weight member.history
-    ≡ sum_by weight member.opening
-    + sum_by (λ marks. sum_by weight (entries_told place marks)) visit_marks)
+    SameEntries member.history (member.opening ++ flat_map (entries_told place) visit_marks)
     × AreAllTold (suc place) members visit_marks
 
 module _ (schema : DatabaseSchema) (world : FactSet) (header : List ℕ) (journals : Journals) where
@@ -76,6 +73,9 @@ module _ (schema : DatabaseSchema) (world : FactSet) (header : List ℕ) (journa
         → journals.image (string_bytes user.name) c
         → Holds schema world member.profile header
         (shown member.history member.standing in_flight) c
+    -- where no append failed, it has no more bytes than it had, or than his history needs
+    pub size : member.broke ≡ false → IsNoLonger (journals.bytes (string_bytes user.name))
+        member.history (journals.reads (string_bytes user.name))
     -- only where he is served has he entries, or did an append fail
     pub idle : is_open standing ≡ false → (member.history ≡ []) × (member.broke ≡ false)
     -- where it was refused, or nothing was appended, it is as it was

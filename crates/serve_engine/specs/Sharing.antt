@@ -7,7 +7,7 @@ use Rattle.cqe_base.specs.declared.user.User.{User}
 use Rattle.turnstile.specs.declared.pass.Pass.{Pass}
 use Rattle.turnstile.specs.History.{IsPrefix}
 use Rattle.user_desk.specs.Standings.{standing_of}
-use Rattle.desk_counter.specs.declared.item.Item.{Item}
+use Rattle.desk_counter.specs.declared.item.TurnItem.{TurnItem}
 use Rattle.desk_counter.specs.declared.item.Fixed.{Fixed}
 use Rattle.desk_counter.specs.declared.counter.CounterOf.{CounterOf}
 use Rattle.desk_counter.specs.declared.ticketed_desk.TicketedDesk.{TicketedDesk}
@@ -24,11 +24,11 @@ module _ {D : Type 0} {g h : _} where
   keeper_of seat = record { user = seat.user; journal = seat.journal; refusal = seat.refusal }
 
   -- its counter
-  abbrev pub seat_counter : DeskSeat D g h → CounterOf (TicketedDesk D g) Item (Fixed D) h
+  abbrev pub seat_counter : DeskSeat D g h → CounterOf (TicketedDesk D g) TurnItem (Fixed D) h
   seat_counter seat = counter_in seat.desk
 
   -- its pass
-  abbrev pub seat_pass : DeskSeat D g h → Pass Item (Fixed D)
+  abbrev pub seat_pass : DeskSeat D g h → Pass TurnItem (Fixed D)
   seat_pass seat = pass_in seat.desk
 
   -- the user of a seat, by what the pass there has seen

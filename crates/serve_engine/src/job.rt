@@ -3,7 +3,7 @@ ghost use Rattle.std.specs.Prelude.{◌≡◌, All, length};
 ghost use Rattle.session_core.specs.Members.{passes_in, counters_in};
 ghost use Rattle.serve_engine.specs.Held.{AtEach, HasSeenOpening, SeesLegally, SeesLegally-prop};
 
-use desk_counter::{Fixed, Item, Owned, TicketedDesk};
+use desk_counter::{Fixed, Owned, TicketedDesk, TurnItem};
 use outside::{Disk, Gate, Sink, Source};
 use session_core::{Counters, CountersOf, Passes, serve_session};
 use std::alloc::Global;
@@ -13,7 +13,7 @@ use worker_pool::Job;
 /// What a worker does with each connection. It stands for a `SessionJob` wherever a thread is to
 /// take it, since it says nothing of what is under the counters.
 #[derive(Drop)]
-pub struct SessionJobOf<'a, 'w, V: Owned<Item = Item, Fixed = Fixed<D>>, D, G> {
+pub struct SessionJobOf<'a, 'w, V: Owned<Item = TurnItem, Fixed = Fixed<D>>, D, G> {
     counters: &'a CountersOf<'w, V>,
     gate: &'a G,
     passes: Passes<D>,

@@ -1,9 +1,9 @@
 //! Serving from the first listening to the last journal that is back.
-ghost use Rattle.std.specs.Prelude.{◌≡◌, ◌⊎◌, ◌≤◌, ◌+◌, ◌++◌, ◌∷◌, ◌^◌, [], false, All, length};
-ghost use Rattle.std.specs.Prelude.{map, sum_by};
+ghost use Rattle.std.specs.Prelude.{◌≡◌, ◌⊎◌, ◌<◌, ◌≤◌, ◌+◌, ◌-◌, ◌++◌, ◌∷◌, ◌^◌, [], false, All};
+ghost use Rattle.std.specs.Prelude.{length, map, sum_by};
 ghost use Rattle.std.specs.List.{flat_map};
 ghost use Rattle.outside.specs.Faults.{Rose};
-ghost use Rattle.outside.specs.Shelf.{SameNames};
+ghost use Rattle.outside.specs.Shelf.{SameNames, SameBeside, NoneOut, NoneFell, SomeRose};
 ghost use Rattle.outside.specs.Visits.{place_of, one_if_any};
 ghost use Rattle.cqe_base.specs.Schema.{has_duplicate};
 ghost use Rattle.cqe_base.specs.History.{profile_of};
@@ -11,7 +11,7 @@ ghost use Rattle.cqe_base.specs.Limits.{KeepsLimits};
 ghost use Rattle.log_journal.specs.Opening.{header_bytes};
 ghost use Rattle.log_journal.specs.Names.{journal_name};
 ghost use Rattle.desk_crew.specs.Crew.{named_user};
-ghost use Rattle.desk_crew.specs.Shelved.{journals_on, SameBeside, NoneOut, NoneFell, SomeRose};
+ghost use Rattle.desk_crew.specs.Shelved.{journals_on};
 ghost use Rattle.serve_engine.specs.Doors.{SomeFailed};
 ghost use Rattle.serve_engine.specs.Serving.{Ends, EndsAt, LeavesJournals, IsDone, IsBroken};
 ghost use Rattle.serve_engine.specs.Serving.{end_of};
@@ -110,13 +110,20 @@ where
     // There are no more of them than the greatest number.
     ensures limited { L.tells → L.given links.new ≤ L.given links.old + listening.entry.sessions }
 
-    // It comes to its end where no connection is left, or these reach the greatest number, together
-    // with the doors that answered that no further one comes. Each worker has one door.
+    // All connections that are left are at hand again, where they were so before.
+    ensures left { L.tells → L.left links.old ≡ L.at_hand links.old
+        → L.left links.new ≡ L.at_hand links.new }
+
+    // It comes to its end where no connection is at hand, or these reach the greatest number,
+    // together with the doors that answered that no further one comes, and are more than it,
+    // together with all workers. Each worker has one door.
     ensures few_ended { L.ended links.new ≤ L.ended links.old + listening.entry.workers }
     ensures ended { L.tells → IsDone result
         → (L.at_hand links.new ≡ 0)
-        ⊎ (L.given links.old + listening.entry.sessions + L.ended links.old
-        ≤ L.given links.new + L.ended links.new) }
+        ⊎ ((L.given links.old + listening.entry.sessions + L.ended links.old
+        ≤ L.given links.new + L.ended links.new)
+        × (L.given links.old + listening.entry.sessions
+        < L.given links.new + listening.entry.workers)) }
 
     // No disk but the users' journals is touched, and all are back.
     ensures disks { SameBeside (map (journal_name registry.now.directory.now)
@@ -178,8 +185,12 @@ where
         result.0 }
     ensures ended { O.tells → IsDone result.0
         → All (λ door. O.left door ≡ 0) result.1.items
-        ⊎ (sum_by O.given doors.items + limit ≤ sum_by O.given result.1.items
-        + sum_by (λ door. one_if_any (O.ends door)) result.1.items) }
+        ⊎ ((sum_by O.given doors.items + limit ≤ sum_by O.given result.1.items
+        + sum_by (λ door. one_if_any (O.ends door)) result.1.items)
+        × (sum_by O.given doors.items + limit
+        < sum_by O.given result.1.items + length result.1.items)) }
+    ensures left { O.tells → sum_by O.left doors.items + sum_by O.given doors.items
+        ≡ sum_by O.left result.1.items + sum_by O.given result.1.items }
     ensures limited { O.tells → sum_by O.given result.1.items ≤ sum_by O.given doors.items + limit }
     ensures failed { result.0 ≡ ServeEnd.LinksFault → SomeFailed O.faults result.1.items }
     ensures doors { length result.1.items ≡ length doors.items }
@@ -234,6 +245,8 @@ fn take_back_all<L: Links>(links: &mut L, doors: Vec<L::D>)
     ensures given { L.tells → L.given links.new ≡ L.given links.old + sum_by L.D.given doors.items }
     ensures ended { L.ended links.new
         ≡ L.ended links.old + sum_by (λ door. one_if_any (L.D.ends door)) doors.items }
+    ensures left { L.tells
+        → L.left links.new ≡ L.left links.old - sum_by L.D.given doors.items }
     ensures at_hand { L.tells
         → L.at_hand links.new ≡ L.at_hand links.old + sum_by L.D.left doors.items }
     ensures back { L.tells → L.back links.new ≡ L.back links.old ++ flat_map L.D.back doors.items }

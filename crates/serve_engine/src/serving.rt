@@ -1,12 +1,12 @@
 //! Connections that are served at counters, side by side.
-ghost use Rattle.std.specs.Prelude.{◌≡◌, ◌≤◌, ◌+◌, ◌*◌, ◌^◌, ℕ, List, [], All, length, map, sum_by};
+ghost use Rattle.std.specs.Prelude.{◌≡◌, ◌≤◌, ◌+◌, ◌*◌, ◌^◌, ◌++◌, ℕ, List, [], All, length, map};
 ghost use Rattle.std.specs.Prelude.{vec_capacity, None, IfSome, IfNone};
-ghost use Rattle.cqe_base.specs.History.{AnsweredQuery};
+ghost use Rattle.std.specs.List.{flat_map};
 ghost use Rattle.session_core.specs.Members.{ArePassesOf, fixeds_of, passes_in};
 ghost use Rattle.serve_engine.specs.Doors.{AreServedDoors, HasOutcome, has_failed, outcome_of};
 ghost use Rattle.serve_engine.specs.Jobs.{job_counters, job_passes};
-ghost use Rattle.serve_engine.specs.Served.{SessionMarks};
-ghost use Rattle.serve_engine.specs.Members.{HaveSeenOpenings, IsServedBy, OwnMore, own_weight};
+ghost use Rattle.serve_engine.specs.Served.{SessionMarks, SameEntries};
+ghost use Rattle.serve_engine.specs.Members.{HaveSeenOpenings, IsServedBy, OwnMore, own_at};
 ghost use Rattle.serve_engine.specs.Passing.{HaveShares, HaveTurns, AreOn, OwnAlike, NoneOwn};
 ghost use Rattle.serve_engine.specs.Passing.{AreParts, IsFresh, IsBack};
 
@@ -133,10 +133,9 @@ fn dismiss<'a, 'w, D: Disk, G: Gate, O: Door + Drop>(
     ensures on { AreOn passes.old passes.new }
     ensures all_on { All (λ worker. AreOn (job_passes worker.job) passes.new) crew.entry.items }
     ensures shares { HaveShares 65 passes.new }
-    ensures own { (weight : AnsweredQuery → ℕ) (place : ℕ)
-        → own_weight weight place (passes_in passes.new)
-        ≡ own_weight weight place (passes_in passes.old) + sum_by
-        (λ worker. own_weight weight place (passes_in (job_passes worker.job))) crew.entry.items }
+    ensures own { (place : ℕ) → SameEntries (own_at place (passes_in passes.new))
+        (own_at place (passes_in passes.old) ++ flat_map
+        (λ worker. own_at place (passes_in (job_passes worker.job))) crew.entry.items) }
 {
     let mut doors = room;
     for worker in crew {

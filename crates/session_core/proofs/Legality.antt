@@ -11,7 +11,7 @@ use Rattle.turnstile.specs.declared.pass.Pass.{Pass}
 use Rattle.turnstile.specs.History.{longer}
 use Rattle.turnstile.specs.Passes.{seen}
 use Rattle.user_desk.specs.Desks.{desk_user}
-use Rattle.desk_counter.specs.declared.item.Item.{Item}
+use Rattle.desk_counter.specs.declared.item.TurnItem.{TurnItem}
 use Rattle.desk_counter.specs.declared.item.Fixed.{Fixed}
 use Rattle.desk_counter.specs.declared.ticketed_desk.TicketedDesk.{TicketedDesk}
 use Rattle.desk_counter.specs.declared.counter.CounterOf.{CounterOf}
@@ -27,7 +27,7 @@ module _ {D : Type 0} where
   desks_counted users fixeds desks = sym (length-map users profile_of) ∙ ap length (sym desks) ∙ length-map fixeds (λ (fixed : Fixed D). fixed.user)
 
   -- a pass that has seen as much has seen what is legal
-  same_seen : (fixed : Fixed D) (p q : Pass Item (Fixed D)) → seen q ≡ seen p → HasSeenLegal fixed p → HasSeenLegal fixed q
+  same_seen : (fixed : Fixed D) (p q : Pass TurnItem (Fixed D)) → seen q ≡ seen p → HasSeenLegal fixed p → HasSeenLegal fixed q
   same_seen fixed p q same legal = record {
     valid = legal.valid;
     user_of = legal.user_of;
@@ -36,7 +36,7 @@ module _ {D : Type 0} where
   }
 
   -- so has one that has seen the longer of what two have
-  longer_seen : (fixed : Fixed D) (p q r : Pass Item (Fixed D)) → seen r ≡ longer (seen p) (seen q) → HasSeenLegal fixed p → HasSeenLegal fixed q
+  longer_seen : (fixed : Fixed D) (p q r : Pass TurnItem (Fixed D)) → seen r ≡ longer (seen p) (seen q) → HasSeenLegal fixed p → HasSeenLegal fixed q
       → HasSeenLegal fixed r
   longer_seen fixed p q r is first second = by (leb (length (seen p)) (length (seen q))) is
     where
@@ -45,7 +45,8 @@ module _ {D : Type 0} where
       by false same = same_seen fixed p r same first
 
   -- what is legal hides
-  pub all_hide : LegalHistoriesHide → (fixeds : List (Fixed D)) (passes : List (Pass Item (Fixed D))) → HaveSeenLegal fixeds passes → EachHides fixeds passes
+  pub all_hide : LegalHistoriesHide → (fixeds : List (Fixed D)) (passes : List (Pass TurnItem (Fixed D))) → HaveSeenLegal fixeds passes
+      → EachHides fixeds passes
   all_hide hide [] [] legal = tt
   all_hide hide (f ∷ fixeds) (p ∷ passes) legal = (
     λ served. hide f.schema f.world f.user (history_of (seen p)) legal.0.valid legal.0.user_of (legal.0.admits served) legal.0.legal,
@@ -56,14 +57,14 @@ module _ {D : Type 0} where
 
 module _ {D : Type 0} {g h : _} where
   -- the owners of the desks are their users
-  pub owners_are : (counters : List (CounterOf (TicketedDesk D g) Item (Fixed D) h))
+  pub owners_are : (counters : List (CounterOf (TicketedDesk D g) TurnItem (Fixed D) h))
       → owners_by (λ value. desk_user (desk_of value)) counters ≡ map (λ (fixed : Fixed D). fixed.user) (map kept_by counters)
   owners_are [] = refl
   owners_are (c ∷ counters) = ap (λ (us : List UserProfile). (kept_by c).user ∷ us) (owners_are counters)
 
   -- another pass there, which has seen what is legal
-  pub legal_set : (counters : List (CounterOf (TicketedDesk D g) Item (Fixed D) h)) (passes : List (Pass Item (Fixed D))) (place : ℕ)
-      (new : Pass Item (Fixed D)) (c : CounterOf (TicketedDesk D g) Item (Fixed D) h) → place < length counters
+  pub legal_set : (counters : List (CounterOf (TicketedDesk D g) TurnItem (Fixed D) h)) (passes : List (Pass TurnItem (Fixed D))) (place : ℕ)
+      (new : Pass TurnItem (Fixed D)) (c : CounterOf (TicketedDesk D g) TurnItem (Fixed D) h) → place < length counters
       → HaveSeenLegal (map kept_by counters) passes
       → IsLegal (kept_by (get_or counters place c)).schema (kept_by (get_or counters place c)).world (kept_by (get_or counters place c)).user
       (history_of (seen new))
@@ -76,18 +77,18 @@ module _ {D : Type 0} {g h : _} where
   legal_set (d ∷ counters) [] place new c low legal is = absurd legal
 
   -- Passes are at these counters, and have seen what is legal.
-  pub record AreLegal (passes : List (Pass Item (Fixed D))) (counters : List (CounterOf (TicketedDesk D g) Item (Fixed D) h)) : Type 0 where
+  pub record AreLegal (passes : List (Pass TurnItem (Fixed D))) (counters : List (CounterOf (TicketedDesk D g) TurnItem (Fixed D) h)) : Type 0 where
     pub are : ArePasses passes counters
     pub legal : HaveSeenLegal (map kept_by counters) passes
 
   -- where passes were split, both the rest and the parts are so
-  pub split_legal : (counters : List (CounterOf (TicketedDesk D g) Item (Fixed D) h)) (olds news parts : List (Pass Item (Fixed D)))
+  pub split_legal : (counters : List (CounterOf (TicketedDesk D g) TurnItem (Fixed D) h)) (olds news parts : List (Pass TurnItem (Fixed D)))
       → AreSplit counters olds news parts → HaveSeenLegal (map kept_by counters) olds → AreLegal news counters × AreLegal parts counters
   split_legal [] [] [] [] split legal = (record { are = tt; legal = tt }, record { are = tt; legal = tt })
   split_legal (c ∷ counters) (o ∷ olds) (m ∷ news) (p ∷ parts) split legal =
       let rest = split_legal counters olds news parts split.1 legal.1 in
-      let kept : seen m ≡ seen o = ap (λ (v : View Item (Fixed D)). v.seen) split.0.rest in
-      let given : seen p ≡ seen o = ap (λ (v : View Item (Fixed D)). v.seen) split.0.part_view in (
+      let kept : seen m ≡ seen o = ap (λ (v : View TurnItem (Fixed D)). v.seen) split.0.rest in
+      let given : seen p ≡ seen o = ap (λ (v : View TurnItem (Fixed D)). v.seen) split.0.part_view in (
         record { are = (split.0.rest_is, rest.0.are); legal = (same_seen (kept_by c) o m kept legal.0, rest.0.legal) },
         record { are = (split.0.part_is, rest.1.are); legal = (same_seen (kept_by c) o p given legal.0, rest.1.legal) },
       )
@@ -99,12 +100,12 @@ module _ {D : Type 0} {g h : _} where
   split_legal (c ∷ counters) (o ∷ olds) (m ∷ news) [] split legal = absurd split
 
   -- and so are passes that met
-  pub met_legal : (counters : List (CounterOf (TicketedDesk D g) Item (Fixed D) h)) (olds others news : List (Pass Item (Fixed D)))
+  pub met_legal : (counters : List (CounterOf (TicketedDesk D g) TurnItem (Fixed D) h)) (olds others news : List (Pass TurnItem (Fixed D)))
       → AreMet counters olds others news → HaveSeenLegal (map kept_by counters) olds → HaveSeenLegal (map kept_by counters) others → AreLegal news counters
   met_legal [] [] [] [] met first second = record { are = tt; legal = tt }
   met_legal (c ∷ counters) (o ∷ olds) (t ∷ others) (m ∷ news) met first second =
       let rest = met_legal counters olds others news met.1 first.1 second.1 in
-      let both : seen m ≡ longer (seen o) (seen t) = ap (λ (v : View Item (Fixed D)). v.seen) met.0.view in
+      let both : seen m ≡ longer (seen o) (seen t) = ap (λ (v : View TurnItem (Fixed D)). v.seen) met.0.view in
       record { are = (met.0.pass_is, rest.are); legal = (longer_seen (kept_by c) o t m both first.0 second.0, rest.legal) }
   met_legal [] [] [] (m ∷ news) met first second = absurd met
   met_legal [] [] (t ∷ others) news met first second = absurd met

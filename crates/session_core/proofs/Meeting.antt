@@ -2,7 +2,7 @@
 use Rattle.std.proofs.Common.{◌≡◌, ℕ, zero, suc, ◌<◌, List, [], ◌∷◌, ◌++◌, length, get_or, refl, sym, ap, ◌∙◌, subst, append_assoc, arith}
 use Rattle.std.specs.Prelude.{slice_set, Result, Ok, Err, IsOk, IfErr}
 use Rattle.turnstile.specs.declared.pass.Pass.{Pass}
-use Rattle.desk_counter.specs.declared.item.Item.{Item}
+use Rattle.desk_counter.specs.declared.item.TurnItem.{TurnItem}
 use Rattle.desk_counter.specs.declared.item.Fixed.{Fixed}
 use Rattle.desk_counter.specs.declared.ticketed_desk.TicketedDesk.{TicketedDesk}
 use Rattle.desk_counter.specs.declared.counter.CounterOf.{CounterOf}
@@ -25,14 +25,14 @@ ok_unless (Err e) refuses never = absurd (never e refuses)
 
 module _ {D : Type 0} {g h : _} where
   -- All passes from a place on have met; those before it are as they were.
-  abbrev pub MetFrom : ℕ → List (CounterOf (TicketedDesk D g) Item (Fixed D) h) → List (Pass Item (Fixed D)) → List (Pass Item (Fixed D))
-      → List (Pass Item (Fixed D)) → Type 0
+  abbrev pub MetFrom : ℕ → List (CounterOf (TicketedDesk D g) TurnItem (Fixed D) h) → List (Pass TurnItem (Fixed D)) → List (Pass TurnItem (Fixed D))
+      → List (Pass TurnItem (Fixed D)) → Type 0
   MetFrom zero counters olds others news = AreMet counters olds others news
   MetFrom (suc place) [] [] [] [] = Unit {0}
   MetFrom (suc place) (c ∷ counters) (o ∷ olds) (t ∷ others) (m ∷ news) = (m ≡ o) × MetFrom place counters olds others news
   MetFrom (suc place) counters olds others news = ⊥
 
-  pub met_none : (counters : List (CounterOf (TicketedDesk D g) Item (Fixed D) h)) (olds others : List (Pass Item (Fixed D))) → ArePasses olds counters
+  pub met_none : (counters : List (CounterOf (TicketedDesk D g) TurnItem (Fixed D) h)) (olds others : List (Pass TurnItem (Fixed D))) → ArePasses olds counters
       → ArePasses others counters → MetFrom (length others) counters olds others olds
   met_none [] [] [] these those = tt
   met_none (c ∷ counters) (o ∷ olds) (t ∷ others) these those = (refl, met_none counters olds others these.1 those.1)
@@ -42,8 +42,8 @@ module _ {D : Type 0} {g h : _} where
   met_none (c ∷ counters) (o ∷ olds) [] these those = absurd those
 
   -- the pass before the place is as it was
-  pub met_here : (place : ℕ) (counters : List (CounterOf (TicketedDesk D g) Item (Fixed D) h)) (olds others news : List (Pass Item (Fixed D)))
-      (d : Pass Item (Fixed D)) → place < length counters → MetFrom (suc place) counters olds others news → get_or news place d ≡ get_or olds place d
+  pub met_here : (place : ℕ) (counters : List (CounterOf (TicketedDesk D g) TurnItem (Fixed D) h)) (olds others news : List (Pass TurnItem (Fixed D)))
+      (d : Pass TurnItem (Fixed D)) → place < length counters → MetFrom (suc place) counters olds others news → get_or news place d ≡ get_or olds place d
   met_here place [] olds others news d low met = absurd (omega (arith, low))
   met_here zero (c ∷ counters) (o ∷ olds) (t ∷ others) (m ∷ news) d low met = met.0
   met_here (suc place) (c ∷ counters) (o ∷ olds) (t ∷ others) (m ∷ news) d low met = met_here place counters olds others news d (omega (arith, low)) met.1
@@ -51,12 +51,12 @@ module _ {D : Type 0} {g h : _} where
   met_here place (c ∷ counters) (o ∷ olds) [] news d low met = absurd met
   met_here place (c ∷ counters) (o ∷ olds) (t ∷ others) [] d low met = absurd met
 
-  pub met_many : (place : ℕ) (counters : List (CounterOf (TicketedDesk D g) Item (Fixed D) h)) (olds others news : List (Pass Item (Fixed D)))
+  pub met_many : (place : ℕ) (counters : List (CounterOf (TicketedDesk D g) TurnItem (Fixed D) h)) (olds others news : List (Pass TurnItem (Fixed D)))
       → MetFrom (suc place) counters olds others news → (length news ≡ length counters) × (length olds ≡ length counters)
   met_many place [] [] [] [] met = (refl, refl)
   met_many zero (c ∷ counters) (o ∷ olds) (t ∷ others) (m ∷ news) met = let rest = are_many counters olds others news met.1 in (ap suc rest.0, ap suc rest.1)
     where
-      are_many : (counters : List (CounterOf (TicketedDesk D g) Item (Fixed D) h)) (olds others news : List (Pass Item (Fixed D)))
+      are_many : (counters : List (CounterOf (TicketedDesk D g) TurnItem (Fixed D) h)) (olds others news : List (Pass TurnItem (Fixed D)))
           → AreMet counters olds others news → (length news ≡ length counters) × (length olds ≡ length counters)
       are_many [] [] [] [] met = (refl, refl)
       are_many (c ∷ counters) (o ∷ olds) (t ∷ others) (m ∷ news) met = let rest = are_many counters olds others news met.1 in (ap suc rest.0, ap suc rest.1)
@@ -76,16 +76,17 @@ module _ {D : Type 0} {g h : _} where
   met_many place (c ∷ counters) (o ∷ olds) (t ∷ others) [] met = absurd met
 
   -- The next pass to meet, at its place.
-  pub record Next (counters : List (CounterOf (TicketedDesk D g) Item (Fixed D) h)) (olds all news : List (Pass Item (Fixed D))) (other : Pass Item (Fixed D))
+  pub record Next (counters : List (CounterOf (TicketedDesk D g) TurnItem (Fixed D) h)) (olds all news : List (Pass TurnItem (Fixed D)))
+      (other : Pass TurnItem (Fixed D))
       (place : ℕ) : Type 0 where
     pub low : place < length counters
     pub many : length news ≡ length counters
-    pub here : (d : Pass Item (Fixed D)) → get_or news place d ≡ get_or olds place d
-    pub there : (d : Pass Item (Fixed D)) → get_or all place d ≡ other
+    pub here : (d : Pass TurnItem (Fixed D)) → get_or news place d ≡ get_or olds place d
+    pub there : (d : Pass TurnItem (Fixed D)) → get_or all place d ≡ other
     pub met : MetFrom (suc place) counters olds all news
 
-  pub met_next : (counters : List (CounterOf (TicketedDesk D g) Item (Fixed D) h)) (olds all news left left' behind : List (Pass Item (Fixed D)))
-      (other : Pass Item (Fixed D)) (place : ℕ)
+  pub met_next : (counters : List (CounterOf (TicketedDesk D g) TurnItem (Fixed D) h)) (olds all news left left' behind : List (Pass TurnItem (Fixed D)))
+      (other : Pass TurnItem (Fixed D)) (place : ℕ)
       → all ≡ left ++ behind → left ≡ left' ++ other ∷ [] → place ≡ length left' → MetFrom (length left) counters olds all news → ArePasses all counters
       → Next counters olds all news other place
   met_next counters olds all news left left' behind other place whole cut at met those =
@@ -104,8 +105,8 @@ module _ {D : Type 0} {g h : _} where
       }
 
   -- one more met
-  pub met_more : (place : ℕ) (counters : List (CounterOf (TicketedDesk D g) Item (Fixed D) h)) (olds others news : List (Pass Item (Fixed D)))
-      (c : CounterOf (TicketedDesk D g) Item (Fixed D) h) (o t new : Pass Item (Fixed D)) → place < length counters
+  pub met_more : (place : ℕ) (counters : List (CounterOf (TicketedDesk D g) TurnItem (Fixed D) h)) (olds others news : List (Pass TurnItem (Fixed D)))
+      (c : CounterOf (TicketedDesk D g) TurnItem (Fixed D) h) (o t new : Pass TurnItem (Fixed D)) → place < length counters
       → MetFrom (suc place) counters olds others news → IsMet (get_or counters place c) (get_or olds place o) (get_or others place t) new
       → MetFrom place counters olds others (slice_set news place new)
   met_more place [] olds others news c o t new low met one = absurd (omega (arith, low))
@@ -117,15 +118,15 @@ module _ {D : Type 0} {g h : _} where
   met_more place (c' ∷ counters) (o' ∷ olds) (t' ∷ others) [] c o t new low met one = absurd met
 
   -- The passes before a place were split; those from it on are as they were.
-  abbrev pub SplitBelow : ℕ → List (CounterOf (TicketedDesk D g) Item (Fixed D) h) → List (Pass Item (Fixed D)) → List (Pass Item (Fixed D))
-      → List (Pass Item (Fixed D)) → Type 0
+  abbrev pub SplitBelow : ℕ → List (CounterOf (TicketedDesk D g) TurnItem (Fixed D) h) → List (Pass TurnItem (Fixed D)) → List (Pass TurnItem (Fixed D))
+      → List (Pass TurnItem (Fixed D)) → Type 0
   SplitBelow zero counters olds news parts = (news ≡ olds) × (parts ≡ [])
   SplitBelow (suc place) (c ∷ counters) (o ∷ olds) (m ∷ news) (p ∷ parts) = IsSplit c o m p × SplitBelow place counters olds news parts
   SplitBelow (suc place) counters olds news parts = ⊥
 
   -- the pass at the place is as it was
-  pub split_here : (place : ℕ) (counters : List (CounterOf (TicketedDesk D g) Item (Fixed D) h)) (olds news parts : List (Pass Item (Fixed D)))
-      (d : Pass Item (Fixed D)) → SplitBelow place counters olds news parts → get_or news place d ≡ get_or olds place d
+  pub split_here : (place : ℕ) (counters : List (CounterOf (TicketedDesk D g) TurnItem (Fixed D) h)) (olds news parts : List (Pass TurnItem (Fixed D)))
+      (d : Pass TurnItem (Fixed D)) → SplitBelow place counters olds news parts → get_or news place d ≡ get_or olds place d
   split_here zero counters olds news parts d split = ap (λ l. get_or l 0 d) split.0
   split_here (suc place) (c ∷ counters) (o ∷ olds) (m ∷ news) (p ∷ parts) d split = split_here place counters olds news parts d split.1
   split_here (suc place) [] olds news parts d split = absurd split
@@ -133,7 +134,7 @@ module _ {D : Type 0} {g h : _} where
   split_here (suc place) (c ∷ counters) (o ∷ olds) [] parts d split = absurd split
   split_here (suc place) (c ∷ counters) (o ∷ olds) (m ∷ news) [] d split = absurd split
 
-  pub split_lengths : (place : ℕ) (counters : List (CounterOf (TicketedDesk D g) Item (Fixed D) h)) (olds news parts : List (Pass Item (Fixed D)))
+  pub split_lengths : (place : ℕ) (counters : List (CounterOf (TicketedDesk D g) TurnItem (Fixed D) h)) (olds news parts : List (Pass TurnItem (Fixed D)))
       → SplitBelow place counters olds news parts → (length news ≡ length olds) × (length parts ≡ place)
   split_lengths zero counters olds news parts split = (ap length split.0, ap length split.1)
   split_lengths (suc place) (c ∷ counters) (o ∷ olds) (m ∷ news) (p ∷ parts) split =
@@ -144,8 +145,8 @@ module _ {D : Type 0} {g h : _} where
   split_lengths (suc place) (c ∷ counters) (o ∷ olds) (m ∷ news) [] split = absurd split
 
   -- one more was split
-  pub split_more : (place : ℕ) (counters : List (CounterOf (TicketedDesk D g) Item (Fixed D) h)) (olds news parts : List (Pass Item (Fixed D)))
-      (c : CounterOf (TicketedDesk D g) Item (Fixed D) h) (o new part : Pass Item (Fixed D)) → place < length counters → length olds ≡ length counters
+  pub split_more : (place : ℕ) (counters : List (CounterOf (TicketedDesk D g) TurnItem (Fixed D) h)) (olds news parts : List (Pass TurnItem (Fixed D)))
+      (c : CounterOf (TicketedDesk D g) TurnItem (Fixed D) h) (o new part : Pass TurnItem (Fixed D)) → place < length counters → length olds ≡ length counters
       → SplitBelow place counters olds news parts → IsSplit (get_or counters place c) (get_or olds place o) new part
       → SplitBelow (suc place) counters olds (slice_set news place new) (parts ++ part ∷ [])
   split_more zero [] olds news parts c o new part low many split one = absurd (omega (arith, low))
@@ -161,7 +162,7 @@ module _ {D : Type 0} {g h : _} where
   split_more (suc place) (c' ∷ counters) (o' ∷ olds) (m ∷ news) [] c o new part low many split one = absurd split
 
   -- all were
-  pub split_all : (place : ℕ) (counters : List (CounterOf (TicketedDesk D g) Item (Fixed D) h)) (olds news parts : List (Pass Item (Fixed D)))
+  pub split_all : (place : ℕ) (counters : List (CounterOf (TicketedDesk D g) TurnItem (Fixed D) h)) (olds news parts : List (Pass TurnItem (Fixed D)))
       → place ≡ length counters → length olds ≡ length counters → SplitBelow place counters olds news parts → AreSplit counters olds news parts
   split_all zero [] [] news parts is many split =
       subst (λ ns. AreSplit {g = g} {h = h} [] [] ns parts) (sym split.0) (subst (λ ps. AreSplit {g = g} {h = h} [] [] [] ps) (sym split.1) tt)

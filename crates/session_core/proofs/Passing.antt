@@ -8,7 +8,7 @@ use Rattle.cqe_base.specs.Run
 use Rattle.cqe_base.specs.declared.user.User.{User}
 use Rattle.turnstile.specs.declared.pass.Pass.{Pass}
 use Rattle.turnstile.specs.Passes.{turns}
-use Rattle.desk_counter.specs.declared.item.Item.{Item}
+use Rattle.desk_counter.specs.declared.item.TurnItem.{TurnItem}
 use Rattle.desk_counter.specs.declared.item.Fixed.{Fixed}
 use Rattle.desk_counter.specs.declared.ticketed_desk.TicketedDesk.{TicketedDesk}
 use Rattle.desk_counter.specs.declared.counter.CounterOf.{CounterOf}
@@ -29,7 +29,7 @@ logs_in_within (talks.further is rest) = omega (arith, logs_in_within rest)
 
 module _ {D : Type 0} where
   -- no asks at a place
-  pub at_nothing : (place : ℕ) (fixeds : List (Fixed D)) (passes : List (Pass Item (Fixed D))) → place < length fixeds → length passes ≡ length fixeds
+  pub at_nothing : (place : ℕ) (fixeds : List (Fixed D)) (passes : List (Pass TurnItem (Fixed D))) → place < length fixeds → length passes ≡ length fixeds
       → AsksAt place fixeds passes passes []
   at_nothing place [] passes low same = absurd (omega (arith, low))
   at_nothing place (f ∷ fixeds) [] low same = absurd (omega (arith, same))
@@ -37,44 +37,45 @@ module _ {D : Type 0} where
   at_nothing (suc place) (f ∷ fixeds) (p ∷ passes) low same = further (at_nothing place fixeds passes (omega (arith, low)) (omega (arith, same)))
 
   -- some asks there, and then others
-  pub at_then : {place : ℕ} {fixeds : List (Fixed D)} {old mid new : List (Pass Item (Fixed D))} {xs ys : List (Text × Run.Reply)}
+  pub at_then : {place : ℕ} {fixeds : List (Fixed D)} {old mid new : List (Pass TurnItem (Fixed D))} {xs ys : List (Text × Run.Reply)}
       → AsksAt place fixeds old mid xs → AsksAt place fixeds mid new ys → AsksAt place fixeds old new (xs ++ ys)
   at_then (here {fixed = f} {old = p} {new = q} first) (here {new = r} last) = here (asks_then f p q r first last)
   at_then (further first) (further last) = further (at_then first last)
 
   -- there are as many passes as before
-  pub at_length : {place : ℕ} {fixeds : List (Fixed D)} {old new : List (Pass Item (Fixed D))} {xs : List (Text × Run.Reply)} → AsksAt place fixeds old new xs
+  pub at_length : {place : ℕ} {fixeds : List (Fixed D)} {old new : List (Pass TurnItem (Fixed D))} {xs : List (Text × Run.Reply)}
+      → AsksAt place fixeds old new xs
       → length new ≡ length old
   at_length (here asks) = refl
   at_length (further rest) = ap suc (at_length rest)
 
-  fewer : (many few : ℕ) (passes : List (Pass Item (Fixed D))) → few ≤ many → AllByRecursion (λ pass. many ≤ turns pass) passes
+  fewer : (many few : ℕ) (passes : List (Pass TurnItem (Fixed D))) → few ≤ many → AllByRecursion (λ pass. many ≤ turns pass) passes
       → AllByRecursion (λ pass. few ≤ turns pass) passes
   fewer many few [] low all = tt
   fewer many few (p ∷ passes) low all = (omega (arith, low, all.0), fewer many few passes low all.1)
 
   -- each pass has the turns that are left of so many
-  pub at_turns : {place : ℕ} {fixeds : List (Fixed D)} {old new : List (Pass Item (Fixed D))} {xs : List (Text × Run.Reply)} (many few : ℕ)
+  pub at_turns : {place : ℕ} {fixeds : List (Fixed D)} {old new : List (Pass TurnItem (Fixed D))} {xs : List (Text × Run.Reply)} (many few : ℕ)
       → few + 2 * length xs ≤ many → AsksAt place fixeds old new xs
       → AllByRecursion (λ pass. many ≤ turns pass) old → AllByRecursion (λ pass. few ≤ turns pass) new
   at_turns many few enough (here {rest = rest} asks) all = (omega (arith, enough, asks.used, all.0), fewer many few rest (omega (arith, enough)) all.1)
   at_turns many few enough (further rest) all = (omega (arith, enough, all.0), at_turns many few enough rest all.1)
 
   -- the same of who is logged in
-  pub of_turns : (who : Option ℕ) (fixeds : List (Fixed D)) (old new : List (Pass Item (Fixed D))) (xs : List (Text × Run.Reply)) (many few : ℕ)
+  pub of_turns : (who : Option ℕ) (fixeds : List (Fixed D)) (old new : List (Pass TurnItem (Fixed D))) (xs : List (Text × Run.Reply)) (many few : ℕ)
       → few + 2 * length xs ≤ many → AsksOf who fixeds old new xs
       → AllByRecursion (λ pass. many ≤ turns pass) old → AllByRecursion (λ pass. few ≤ turns pass) new
   of_turns None fixeds old new xs many few enough asks all =
       subst (λ ps. AllByRecursion (λ pass. few ≤ turns pass) ps) (sym asks.0) (fewer many few old (omega (arith, enough)) all)
   of_turns (Some place) fixeds old new xs many few enough asks all = at_turns many few enough asks all
 
-  pub of_length : (who : Option ℕ) (fixeds : List (Fixed D)) (old new : List (Pass Item (Fixed D))) (xs : List (Text × Run.Reply))
+  pub of_length : (who : Option ℕ) (fixeds : List (Fixed D)) (old new : List (Pass TurnItem (Fixed D))) (xs : List (Text × Run.Reply))
       → AsksOf who fixeds old new xs → length new ≡ length old
   of_length None fixeds old new xs asks = ap length asks.0
   of_length (Some place) fixeds old new xs asks = at_length asks
 
   -- asks of who is logged in, and then those of a further request
-  pub of_then : (users : List User) (fixeds : List (Fixed D)) (old mid new : List (Pass Item (Fixed D)))
+  pub of_then : (users : List User) (fixeds : List (Fixed D)) (old mid new : List (Pass TurnItem (Fixed D)))
       (xs : List (Text × Run.Reply)) {who next : Option ℕ} {request : LineRequest} {text : Text} {ys : List (Text × Run.Reply)}
       → length users ≡ length fixeds → length mid ≡ length fixeds → AsksOf who fixeds old mid xs → Says users who request next ys text
       → AsksOf who fixeds mid new ys → AsksOf next fixeds old new (xs ++ ys)
@@ -93,13 +94,13 @@ module _ {D : Type 0} where
   of_then users fixeds old mid new xs {who = Some place} many as_many asks unknown more = at_then asks more
 
   -- no asks of who is logged in
-  pub of_nothing : (who : Option ℕ) (fixeds : List (Fixed D)) (passes : List (Pass Item (Fixed D))) → IfSome who (λ place. place < length fixeds)
+  pub of_nothing : (who : Option ℕ) (fixeds : List (Fixed D)) (passes : List (Pass TurnItem (Fixed D))) → IfSome who (λ place. place < length fixeds)
       → length passes ≡ length fixeds → AsksOf who fixeds passes passes []
   of_nothing None fixeds passes low same = (refl, refl)
   of_nothing (Some place) fixeds passes low same = at_nothing place fixeds passes low same
 
   -- every pass at a place
-  pub turns_at : (few : ℕ) (passes : List (Pass Item (Fixed D))) (place : ℕ) (p : Pass Item (Fixed D)) → place < length passes
+  pub turns_at : (few : ℕ) (passes : List (Pass TurnItem (Fixed D))) (place : ℕ) (p : Pass TurnItem (Fixed D)) → place < length passes
       → AllByRecursion (λ pass. few ≤ turns pass) passes → few ≤ turns (get_or passes place p)
   turns_at few [] place p low all = absurd (omega (arith, low))
   turns_at few (q ∷ passes) zero p low all = all.0
@@ -107,7 +108,7 @@ module _ {D : Type 0} where
 
   -- a request without an ask changes no pass
   pub nothing_asked : (users : List User) (fixeds : List (Fixed D)) (who who' next next' : Option ℕ) (request request' : LineRequest) (text : Text)
-      (passes : List (Pass Item (Fixed D)))
+      (passes : List (Pass TurnItem (Fixed D)))
       → IfSome who (λ place. place < length fixeds) → length passes ≡ length fixeds → who ≡ who' → next ≡ next' → request ≡ request'
       → Says users who' request' next' [] text → Replies users fixeds who request next text passes passes
   nothing_asked users fixeds who who' next next' request request' text passes within many who_is next_is request_is says = record {
@@ -119,7 +120,7 @@ module _ {D : Type 0} where
 
   -- an ask is replied to
   pub something_asked : (users : List User) (fixeds : List (Fixed D)) (who : Option ℕ) (place : ℕ) (request : LineRequest) (asked text : Text)
-      (reply : Run.Reply) (old new : List (Pass Item (Fixed D)))
+      (reply : Run.Reply) (old new : List (Pass TurnItem (Fixed D)))
       → who ≡ Some place → request ≡ ask_for asked → text ≡ reply_text reply → AsksAt place fixeds old new ((asked, reply) ∷ [])
       → Replies users fixeds who request who text old new
   something_asked users fixeds who place request asked text reply old new who_is request_is text_is used = record {
@@ -132,7 +133,7 @@ module _ {D : Type 0} where
 
 module _ {D : Type 0} {g h : _} where
   -- as many passes as fixed parts
-  pub passes_kept : (passes : List (Pass Item (Fixed D))) (counters : List (CounterOf (TicketedDesk D g) Item (Fixed D) h)) → ArePasses passes counters
+  pub passes_kept : (passes : List (Pass TurnItem (Fixed D))) (counters : List (CounterOf (TicketedDesk D g) TurnItem (Fixed D) h)) → ArePasses passes counters
       → length passes ≡ length (map kept_by counters)
   passes_kept [] [] all = refl
   passes_kept (p ∷ passes) (c ∷ counters) all = ap suc (passes_kept passes counters all.1)
@@ -140,7 +141,7 @@ module _ {D : Type 0} {g h : _} where
   passes_kept (p ∷ passes) [] all = absurd all
 
   -- as many passes as counters
-  pub passes_many : (passes : List (Pass Item (Fixed D))) (counters : List (CounterOf (TicketedDesk D g) Item (Fixed D) h)) → ArePasses passes counters
+  pub passes_many : (passes : List (Pass TurnItem (Fixed D))) (counters : List (CounterOf (TicketedDesk D g) TurnItem (Fixed D) h)) → ArePasses passes counters
       → length passes ≡ length counters
   passes_many [] [] all = refl
   passes_many (p ∷ passes) (c ∷ counters) all = ap suc (passes_many passes counters all.1)
@@ -148,8 +149,9 @@ module _ {D : Type 0} {g h : _} where
   passes_many (p ∷ passes) [] all = absurd all
 
   -- the pass at a place is of the counter there
-  pub pass_at : (passes : List (Pass Item (Fixed D))) (counters : List (CounterOf (TicketedDesk D g) Item (Fixed D) h)) (place : ℕ) (p : Pass Item (Fixed D))
-      (c : CounterOf (TicketedDesk D g) Item (Fixed D) h)
+  pub pass_at : (passes : List (Pass TurnItem (Fixed D))) (counters : List (CounterOf (TicketedDesk D g) TurnItem (Fixed D) h)) (place : ℕ)
+      (p : Pass TurnItem (Fixed D))
+      (c : CounterOf (TicketedDesk D g) TurnItem (Fixed D) h)
       → place < length counters → ArePasses passes counters → IsPassOf (get_or passes place p) (get_or counters place c)
   pass_at [] [] place p c low all = absurd (omega (arith, low))
   pass_at (q ∷ passes) (d ∷ counters) zero p c low all = all.0
@@ -158,8 +160,8 @@ module _ {D : Type 0} {g h : _} where
   pass_at (q ∷ passes) [] place p c low all = absurd all
 
   -- another pass there
-  pub passes_set : (passes : List (Pass Item (Fixed D))) (counters : List (CounterOf (TicketedDesk D g) Item (Fixed D) h)) (place : ℕ)
-      (new : Pass Item (Fixed D)) (c : CounterOf (TicketedDesk D g) Item (Fixed D) h)
+  pub passes_set : (passes : List (Pass TurnItem (Fixed D))) (counters : List (CounterOf (TicketedDesk D g) TurnItem (Fixed D) h)) (place : ℕ)
+      (new : Pass TurnItem (Fixed D)) (c : CounterOf (TicketedDesk D g) TurnItem (Fixed D) h)
       → ArePasses passes counters → IsPassOf new (get_or counters place c) → ArePasses (slice_set passes place new) counters
   passes_set [] [] place new c all is = tt
   passes_set (q ∷ passes) (d ∷ counters) zero new c all is = (is, all.1)
@@ -168,8 +170,8 @@ module _ {D : Type 0} {g h : _} where
   passes_set (q ∷ passes) [] place new c all is = absurd all
 
   -- asks at the place
-  pub asked_at : (passes : List (Pass Item (Fixed D))) (counters : List (CounterOf (TicketedDesk D g) Item (Fixed D) h)) (place : ℕ)
-      (p new : Pass Item (Fixed D)) (c : CounterOf (TicketedDesk D g) Item (Fixed D) h) (asks : List (Text × Run.Reply))
+  pub asked_at : (passes : List (Pass TurnItem (Fixed D))) (counters : List (CounterOf (TicketedDesk D g) TurnItem (Fixed D) h)) (place : ℕ)
+      (p new : Pass TurnItem (Fixed D)) (c : CounterOf (TicketedDesk D g) TurnItem (Fixed D) h) (asks : List (Text × Run.Reply))
       → place < length counters → ArePasses passes counters → Asks (kept_by (get_or counters place c)) (get_or passes place p) new asks
       → AsksAt place (map kept_by counters) passes (slice_set passes place new) asks
   asked_at [] [] place p new c asks low all is = absurd (omega (arith, low))

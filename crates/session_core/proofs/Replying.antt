@@ -14,8 +14,8 @@ use Rattle.user_log.specs.Replies.{reply_of}
 use Rattle.user_log.specs.declared.reply.Reply.{Reply}
 use Rattle.user_log.specs.declared.reply.Reply.TheVariants.{Mark, Syntax, Full, Size, Closed, Sealed, Broken, Memory}
 use Rattle.user_desk.specs.Standings.{standing_of}
-use Rattle.desk_counter.specs.declared.item.Item.{Item}
-use Rattle.desk_counter.specs.declared.item.Item.TheVariants.{Kept, Broke}
+use Rattle.desk_counter.specs.declared.item.TurnItem.{TurnItem}
+use Rattle.desk_counter.specs.declared.item.TurnItem.TheVariants.{Kept, Broke}
 use Rattle.desk_counter.specs.declared.item.Fixed.{Fixed}
 use Rattle.desk_counter.specs.Items.{history_of, flying, has_broke}
 use Rattle.desk_counter.specs.Asks.{entry_for, NoMark, Adds, answered as adds_answered, broke as adds_broke, coded as adds_coded, wanted as adds_wanted, Asked}
@@ -64,13 +64,13 @@ module _ (schema : DatabaseSchema) (world : FactSet) (user : UserProfile) (stand
 -- ---- pairs
 
 -- an append that failed among pairs failed among these and further ones
-pub broke_on : (xs ys : Entries Item) → has_broke xs ≡ true → has_broke (xs ++ ys) ≡ true
+pub broke_on : (xs ys : Entries TurnItem) → has_broke xs ≡ true → has_broke (xs ++ ys) ≡ true
 broke_on [] ys is = absurd cc
 broke_on ((t, Kept x) ∷ xs) ys is = broke_on xs ys is
 broke_on ((t, Broke x) ∷ xs) ys is = refl
 
 -- an append failed among pairs and further ones where it failed among one of these
-broke_both : (xs ys : Entries Item) → has_broke (xs ++ ys) ≡ (has_broke xs || has_broke ys)
+broke_both : (xs ys : Entries TurnItem) → has_broke (xs ++ ys) ≡ (has_broke xs || has_broke ys)
 broke_both [] ys = refl
 broke_both ((t, Kept x) ∷ xs) ys = broke_both xs ys
 broke_both ((t, Broke x) ∷ xs) ys = refl
@@ -87,7 +87,7 @@ or_all false b c = refl
 
 module _ {D : Type 0} (fixed : Fixed D) where
   -- no asks
-  pub asks_nothing : (pass : Pass Item (Fixed D)) → Asks fixed pass pass []
+  pub asks_nothing : (pass : Pass TurnItem (Fixed D)) → Asks fixed pass pass []
   asks_nothing pass = record {
     entries = [];
     fails = false;
@@ -100,7 +100,7 @@ module _ {D : Type 0} (fixed : Fixed D) where
   }
 
   -- some asks, and then others
-  pub asks_then : (p q r : Pass Item (Fixed D)) {xs ys : List (Text × Run.Reply)} → Asks fixed p q xs → Asks fixed q r ys → Asks fixed p r (xs ++ ys)
+  pub asks_then : (p q r : Pass TurnItem (Fixed D)) {xs ys : List (Text × Run.Reply)} → Asks fixed p q xs → Asks fixed q r ys → Asks fixed p r (xs ++ ys)
   asks_then p q r {xs} {ys} first last =
       let more = last.later.0 in
       let grown : history_of (seen r) ≡ history_of (seen q) ++ history_of more = ap history_of last.later.1 ∙ history_all (seen q) more in
@@ -135,7 +135,7 @@ module _ {D : Type 0} (fixed : Fixed D) where
   code_told Memory none = tt
 
   -- one ask at a counter
-  pub asks_once : (old new : Pass Item (Fixed D)) (text : Text) (said : Reply) → Asked fixed old new text said → shares new ≡ shares old
+  pub asks_once : (old new : Pass TurnItem (Fixed D)) (text : Text) (said : Reply) → Asked fixed old new text said → shares new ≡ shares old
       → turns old ≤ turns new + 2
       → Asks fixed old new ((text, reply_of said) ∷ [])
   asks_once old new text said asked same_shares used = of_adds asked.adds

@@ -8,14 +8,14 @@ use Rattle.turnstile.specs.declared.pass.Pass.{Pass}
 use Rattle.turnstile.specs.History.{IsPrefix}
 use Rattle.turnstile.specs.Passes.{seen, mine, shares, turns}
 use Rattle.user_desk.specs.Standings.{standing_of}
-use Rattle.desk_counter.specs.declared.item.Item.{Item}
+use Rattle.desk_counter.specs.declared.item.TurnItem.{TurnItem}
 use Rattle.desk_counter.specs.declared.item.Fixed.{Fixed}
 use Rattle.desk_counter.specs.Items.{history_of, has_broke}
 use Rattle.session_core.specs.Replied.{Replied}
 
 module _ {D : Type 0} where
   -- the replies to these asks are by what the pass has seen after them, in the order of the asks
-  abbrev pub AreReplied : Fixed D → Pass Item (Fixed D) → Pass Item (Fixed D)
+  abbrev pub AreReplied : Fixed D → Pass TurnItem (Fixed D) → Pass TurnItem (Fixed D)
       → List (Text × Reply) → History → Bool → Type 0
   AreReplied fixed old new asks entries fails =
       Replied fixed.schema fixed.world fixed.user (standing_of fixed.standing)
@@ -25,7 +25,8 @@ module _ {D : Type 0} where
   -- What asks do with a pass: they were replied to by what it has seen since; it has the entries
   -- of their marks more of its own, in order, each once; and an entry whose append failed it has of
   -- its own only where an append of theirs did.
-  pub record Asks (fixed : Fixed D) (old new : Pass Item (Fixed D)) (asks : List (Text × Reply)) :
+  pub record Asks (fixed : Fixed D) (old new : Pass TurnItem (Fixed D))
+      (asks : List (Text × Reply)) :
       Type 0 where
     pub entries : History
     pub fails : Bool
@@ -37,18 +38,20 @@ module _ {D : Type 0} where
     pub used : turns old ≤ turns new + 2 * length asks
 
   -- The pass at a place was used for these asks, and no other changed.
-  pub data AsksAt : ℕ → List (Fixed D) → List (Pass Item (Fixed D)) → List (Pass Item (Fixed D))
+  pub data AsksAt : ℕ → List (Fixed D) → List (Pass TurnItem (Fixed D))
+      → List (Pass TurnItem (Fixed D))
       → List (Text × Reply) → Type 0 where
-    here : {fixed : Fixed D} {others : List (Fixed D)} {old new : Pass Item (Fixed D)}
-        {rest : List (Pass Item (Fixed D))} {asks : List (Text × Reply)}
+    here : {fixed : Fixed D} {others : List (Fixed D)} {old new : Pass TurnItem (Fixed D)}
+        {rest : List (Pass TurnItem (Fixed D))} {asks : List (Text × Reply)}
         → Asks fixed old new asks → AsksAt zero (fixed ∷ others) (old ∷ rest) (new ∷ rest) asks
-    further : {place : ℕ} {fixed : Fixed D} {others : List (Fixed D)} {same : Pass Item (Fixed D)}
-        {old new : List (Pass Item (Fixed D))} {asks : List (Text × Reply)}
+    further : {place : ℕ} {fixed : Fixed D} {others : List (Fixed D)}
+        {same : Pass TurnItem (Fixed D)}
+        {old new : List (Pass TurnItem (Fixed D))} {asks : List (Text × Reply)}
         → AsksAt place others old new asks
         → AsksAt (suc place) (fixed ∷ others) (same ∷ old) (same ∷ new) asks
 
   -- the passes of a session of which this is logged in at its end: without a login none changed
-  abbrev pub AsksOf : Option ℕ → List (Fixed D) → List (Pass Item (Fixed D))
-      → List (Pass Item (Fixed D)) → List (Text × Reply) → Type 0
+  abbrev pub AsksOf : Option ℕ → List (Fixed D) → List (Pass TurnItem (Fixed D))
+      → List (Pass TurnItem (Fixed D)) → List (Text × Reply) → Type 0
   AsksOf None fixeds old new asks = (new ≡ old) × (asks ≡ [])
   AsksOf (Some place) fixeds old new asks = AsksAt place fixeds old new asks

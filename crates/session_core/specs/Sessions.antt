@@ -8,7 +8,7 @@ use Rattle.cqe_base.specs.Run.{Reply}
 use Rattle.cqe_base.specs.declared.user.User.{User}
 use Rattle.turnstile.specs.declared.pass.Pass.{Pass}
 use Rattle.line_protocol.specs.Requests.{quit_session, request_of}
-use Rattle.desk_counter.specs.declared.item.Item.{Item}
+use Rattle.desk_counter.specs.declared.item.TurnItem.{TurnItem}
 use Rattle.desk_counter.specs.declared.item.Fixed.{Fixed}
 use Rattle.session_core.specs.Heard.{HeardLine, heard, overlong, goes_on, session_lines}
 use Rattle.session_core.specs.Talks.{Talks, written_lines, IsCut}
@@ -48,7 +48,7 @@ Writes ReadFault old new texts = new ≡ old ++ written_lines texts
 -- sink what was written. At most 100,000 lines are answered.
 pub record Session {D : Type 0} (source_tells sink_tells : Type 0) (users : List User)
     (fixeds : List (Fixed D)) (ended : Ended) (bytes : List ℕ)
-    (old new : List (Pass Item (Fixed D))) (before after : List ℕ) : Type 0 where
+    (old new : List (Pass TurnItem (Fixed D))) (before after : List ℕ) : Type 0 where
   pub own : AreDesksOf users fixeds
   pub lines : List HeardLine
   pub who : Option ℕ

@@ -58,6 +58,7 @@ fn a_served_user_has_entries_and_secrets(rt: HostRuntime) -> Result<(), Fail> {
         method: "combined",
         standing: "open",
         entries: Vec::from_array(alloc, entries)?,
+        secrecies: None,
         secrets: Vec::from_array(alloc, secrets)?,
     };
     assert_eq!(rt;
@@ -89,6 +90,7 @@ fn worlds_may_be_empty_or_spent(rt: HostRuntime) -> Result<(), Fail> {
         method: "refusal",
         standing: "open",
         entries: Vec::from_array(alloc, entries)?,
+        secrecies: None,
         secrets: Vec::from_array(alloc, secrets)?,
     };
     assert_eq!(rt;
@@ -110,6 +112,7 @@ fn a_user_who_is_refused_has_one_line(rt: HostRuntime) -> Result<(), Fail> {
         method: "lying",
         standing: "closed",
         entries: Vec::new(alloc),
+        secrecies: None,
         secrets: Vec::new(alloc),
     };
     assert_eq!(rt;

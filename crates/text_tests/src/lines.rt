@@ -193,6 +193,7 @@ fn a_phrase_opens_by_its_digest(rt: HostRuntime) -> Result<(), Fail> {
         method: Method::Refusal,
         know: Vec::new(alloc),
         secrets: Vec::new(alloc),
+        pairs: 0,
         budget: 1,
         token: Some(ABC),
     };

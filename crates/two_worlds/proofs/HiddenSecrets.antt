@@ -1,10 +1,11 @@
 -- Each countermodel of the log against what is guarded for a secret hides it.
 use Rattle.std.proofs.Common.{◌≡◌, ℕ, ◌<◌, Bool, true, false, List, length, refl, sym, ap, subst, ◌∙◌, arith}
 use Rattle.std.specs.Prelude.{Contains, Option, Some, None, Result, Ok, Err, IfOk, IfSome}
-use Rattle.std.specs.List.{list_any}
+use Rattle.std.specs.List.{list_any, list_all}
 use Rattle.std.proofs.lemmas.Bool.{both_ways}
 use Rattle.std.proofs.lemmas.List.Elements.{Contains-get_or}
 use Rattle.std.proofs.lemmas.List.Folds.{list_any_at}
+use Rattle.std.proofs.lemmas.List.Sums.{AllPass-from_list_all}
 use Rattle.cqe_base.specs.declared.user.Method.{Method}
 use Rattle.cqe_base.specs.declared.user.Method.TheVariants.{Lying, Refusal, Combined}
 use Rattle.cqe_base.specs.Schema.{DatabaseSchema, is_valid_schema}
@@ -12,10 +13,10 @@ use Rattle.cqe_base.specs.Facts.{FactSet}
 use Rattle.cqe_base.specs.Formula.{Formula, falsum}
 use Rattle.cqe_base.specs.Truth.{true_in}
 use Rattle.cqe_base.specs.Entailment.{entails, IsCountermodel}
-use Rattle.cqe_base.specs.History.{UserProfile, History, log, is_user_of}
+use Rattle.cqe_base.specs.History.{UserProfile, History, secret_at, log, is_user_of}
 use Rattle.cqe_base.specs.Censor.{guarded, guarded_by}
 use Rattle.cqe_base.specs.Hiding.{IsAlike, AdmittedAreAdmissible}
-use Rattle.cqe_base.specs.OtherWorlds.{secret_at, guard_by, guard_at, IsLegalSomewhere, LogsKeepSecrets, CountermodelsAreAlike, LegalEntriesReplyAlike}
+use Rattle.cqe_base.specs.OtherWorlds.{guard_by, guard_at, IsLegalSomewhere, LogsKeepSecrets, CountermodelsAreAlike, LegalEntriesReplyAlike}
 use Rattle.cqe_base.specs.OtherWorlds.{FalseDisjunctions}
 use Rattle.cqe_base.specs.Censor.{admission_budget}
 use Rattle.entailment.specs.Verdicts.{verdict_of_probe}
@@ -42,6 +43,12 @@ module _ (schema : DatabaseSchema) (user : UserProfile) (entries : History) (sec
 
   is_guarded : Contains (guarded user) (guard_at user secret)
   is_guarded = guards user.method user.secrets secret (secret_at user secret) is_secret
+
+  -- it passes each test that all guarded sentences pass
+  pub guard_passes : (p : Formula → Bool) → list_all p (guarded user) ≡ true → p (guard_at user secret) ≡ true
+  guard_passes p all =
+      let within = is_guarded in
+      ap p (sym within.2) ∙ AllPass-from_list_all p (guarded user) all within.0 (guard_at user secret) within.1
 
   -- the log doesn't entail what is guarded for the secret
   pub unknown : AdmittedAreAdmissible → LogsKeepSecrets → is_valid_schema schema ≡ true → is_user_of schema user ≡ true → IsLegalSomewhere schema user entries

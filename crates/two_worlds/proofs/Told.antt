@@ -1,10 +1,13 @@
 -- Entries in memory as a history, cut at a place.
-use Rattle.std.proofs.Common.{◌≡◌, ℕ, ◌+◌, ◌<◌, List, [], ◌∷◌, ◌++◌, length, get_or, map, take, drop, sym, ap, ◌∙◌, subst, add-one}
+use Rattle.std.proofs.Common.{◌≡◌, ℕ, ◌+◌, ◌<◌, ◌≤◌, arith, List, [], ◌∷◌, ◌++◌, length, get_or, map, take, drop, sym, ap, ◌∙◌, subst, add-one}
 use Rattle.std.proofs.lemmas.List.{get_or-map, length-map, take_more, take-append-drop}
+use Rattle.std.proofs.lemmas.List.Sums.{sum_by-append}
 use Rattle.std.proofs.Math.Seq.{drop-cons}
 use Rattle.cqe_base.specs.declared.user.Entry.{Entry}
 use Rattle.cqe_base.specs.Schema.{DatabaseSchema}
-use Rattle.cqe_base.specs.History.{UserProfile, History, answered_query_of}
+use Rattle.cqe_base.specs.Entailment.{Signed}
+use Rattle.cqe_base.specs.History.{UserProfile, History, answered_query_of, signed_nodes}
+use Rattle.entailment.specs.Logs.{log_nodes}
 use Rattle.cqe_base.specs.Limits.{KeepsSizesAt, KeepsSizes}
 
 -- the history of entries in memory
@@ -33,3 +36,14 @@ module _ (entries : List Entry) (i : ℕ) (entry : Entry) (is : entry ≡ get_or
   pub sizes_at : (schema : DatabaseSchema) (user : UserProfile) → KeepsSizes schema user (history_of entries)
       → KeepsSizesAt schema user (take i (history_of entries)) (answered_query_of entry)
   sizes_at schema user sizes = sizes (take i (history_of entries)) (answered_query_of entry) (drop (i + 1) (history_of entries)) around
+
+-- a log with one more sentence that has room
+pub nodes_added : (schema schema' : DatabaseSchema) (log log' : List Signed) (s : Signed) → schema' ≡ schema → log' ≡ log ++ s ∷ []
+    → log_nodes schema log + signed_nodes schema s.0 s.1 ≤ 60000 → log_nodes schema' log' ≤ 60000
+nodes_added schema schema' log log' s same grown room =
+    let sum : log_nodes schema (log ++ s ∷ []) ≡ log_nodes schema log + log_nodes schema (s ∷ []) =
+    sum_by-append (λ signed. signed_nodes schema signed.0 signed.1) log (s ∷ []) in
+    let one : log_nodes schema (s ∷ []) ≡ signed_nodes schema s.0 s.1 = omega arith in
+    let whole : log_nodes schema (log ++ s ∷ []) ≤ 60000 = omega arith in
+    let path : log_nodes schema' log' ≡ log_nodes schema (log ++ s ∷ []) = λ k. log_nodes (same k) (grown k) in
+    subst (λ n. n ≤ 60000) (sym path) whole

@@ -6,10 +6,9 @@ use Rattle.cqe_base.specs.Facts.{FactSet, IsWorldOf}
 use Rattle.cqe_base.specs.Formula.{Formula}
 use Rattle.cqe_base.specs.Truth.{true_in}
 use Rattle.cqe_base.specs.Entailment.{all_hold_in}
-use Rattle.cqe_base.specs.History.{UserProfile, History, known}
+use Rattle.cqe_base.specs.History.{UserProfile, History, secret_at, known}
 use Rattle.cqe_base.specs.Censor.{IsLegal, admitted}
 use Rattle.cqe_base.specs.Hiding.{RepliesAlike}
-use Rattle.cqe_base.specs.OtherWorlds.{secret_at}
 
 -- the other world is one of the schema; what the user knows is true there and the secret false, for
 -- lying every secret; it admits him, his entries are legal there, and each run that ends with them

@@ -8,8 +8,9 @@ ghost use Rattle.cqe_base.specs.Outcome.{Spent, outcome};
 ghost use Rattle.cqe_base.specs.History.{profile_of, answered_query_of, told_by, log};
 ghost use Rattle.cqe_base.specs.Censor.{admission_budget};
 ghost use Rattle.cqe_base.specs.Limits.{KeepsLimits, KeepsSizes};
-ghost use Rattle.cqe_base.specs.Hiding.{LegalHistoriesHide};
+ghost use Rattle.cqe_base.specs.Hiding.{LegalHistoriesHide, SecreciesStayOpen};
 ghost use Rattle.cqe_base.specs.OtherWorlds.{IsLegalSomewhere, guard_at};
+ghost use Rattle.cqe_base.specs.Secrecies.{LiarsKeepNoSecrecy};
 ghost use Rattle.entailment.specs.Logs.{log_nodes};
 ghost use Rattle.entailment.specs.Views.{schema_of, log_of};
 ghost use Rattle.entailment.specs.Verdicts.{verdict_of_probe};
@@ -31,6 +32,16 @@ pub fn law_hides()
     ensures { LegalHistoriesHide }
 {
     cqe_base::laws::law_hides();
+}
+
+/// Secrecies: such a history leaves each of his secrecies open, with another world in which it is
+/// true and one in which it is false. A lying user with a secrecy is never admitted. It computes
+/// nothing.
+pub fn law_secrecy()
+    ensures open { SecreciesStayOpen }
+    ensures liars { LiarsKeepNoSecrecy }
+{
+    cqe_base::laws::law_secrecy();
 }
 
 /// A world in which what the user knows is true and this secret false, that admits him and for

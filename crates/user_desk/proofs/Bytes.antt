@@ -44,7 +44,7 @@ module _ (schema : DatabaseSchema) (header : List ℕ) where
   pub stands_more : (entries : History) (next : Recorded) (entry : AnsweredQuery) (old new : List ℕ) → entry_of schema next ≡ Some entry
       → StandsFor schema header entries old → Adds old next new → StandsFor schema header (entries ++ entry ∷ []) new
   stands_more entries next entry old new is stands adds =
-      let journal = adds header (records old) stands.journal in
+      let journal = (adds header (records old) stands.journal).0 in
       let found = records_are header (records old ++ next ∷ []) new journal in
       record {
         journal = subst (λ l. IsJournal header l new) (sym found) journal;

@@ -7,3 +7,4 @@ pub mod Taking
 pub mod Recording
 pub mod Since
 pub mod Deciding
+pub mod Sizes

@@ -1,6 +1,6 @@
 -- What the records of a journal stand for: the entries of a user.
-use Rattle.std.specs.Prelude.{◌≡◌, ℕ, ◌==◌, ◌≤◌, List, length, map, take, Option, Some, None}
-use Rattle.std.specs.Prelude.{Result, Ok, if◌then◌else◌}
+use Rattle.std.specs.Prelude.{◌≡◌, ℕ, ◌+◌, ◌==◌, ◌≤◌, max, List, length, map, take, sum_by}
+use Rattle.std.specs.Prelude.{Option, Some, None, Result, Ok, if◌then◌else◌}
 use Rattle.cqe_base.specs.declared.user.Mark.{Mark}
 use Rattle.cqe_base.specs.declared.user.Mark.TheVariants.{Yes, No, Refused, Undecided}
 use Rattle.cqe_base.specs.Schema.{DatabaseSchema, Text}
@@ -50,3 +50,12 @@ pub record StandsWithin (schema : DatabaseSchema) (header : List ℕ) (least : �
   pub journal : IsJournal header (records bytes) bytes
   pub enough : least ≤ length (records bytes)
   pub are : map (entry_of schema) (records bytes) ≡ map Some (take (length (records bytes)) entries)
+
+-- how many bytes the journal of these entries needs: its header, a record with the text of each,
+-- and its closed gate
+abbrev pub bytes_needed : History → ℕ
+bytes_needed entries = 73 + sum_by (λ entry. 4 + entry.length) entries
+
+-- the bytes are no more than there were before, or than the journal of these entries needs
+abbrev pub IsNoLonger : List ℕ → History → List ℕ → Type 0
+IsNoLonger before entries bytes = length bytes ≤ max (length before) (bytes_needed entries)

@@ -1,6 +1,7 @@
 //! A desk between its opening and its close.
 ghost use Rattle.std.specs.Prelude.{◌≡◌, ◌≤◌, ◌++◌, ◌∷◌, [], true, false, List, ℕ, length, map};
-ghost use Rattle.std.specs.Prelude.{option_map, option_to_list, None, IfSome, IfNone, ◌↔◌, IsTrue};
+ghost use Rattle.std.specs.Prelude.{option_map, option_to_list, is_some, None, IfSome, IfNone, ◌↔◌};
+ghost use Rattle.std.specs.Prelude.{IsTrue};
 ghost use Rattle.outside.specs.Disk.{Elapses};
 ghost use Rattle.outside.specs.Faults.{Rose};
 ghost use Rattle.cqe_base.specs.Formula.{formula_of};
@@ -10,6 +11,7 @@ ghost use Rattle.cqe_base.specs.Censor.{IsLegal, admitted};
 ghost use Rattle.cqe_base.specs.Run.{UserState, after_event, stop};
 ghost use Rattle.log_journal.specs.Opening.{header_bytes};
 ghost use Rattle.user_log.specs.UserLogs.{kept_schema, kept_world, kept_user, kept_history};
+ghost use Rattle.user_desk.specs.Entries.{IsNoLonger};
 ghost use Rattle.user_desk.specs.Kept.{IsKept, IsKept-prop, StandsSince, StandsSince-prop};
 ghost use Rattle.user_desk.specs.Stored.{stored_disk, opened_disk, has_journal, has_failed};
 ghost use Rattle.user_desk.specs.Standings.{is_open, is_sealed};
@@ -48,6 +50,9 @@ pub struct Desk<'w, D: Disk> {
     ghost still: { opened ≡ length (kept_history log)
         → option_map answered_query_of in_flight ≡ None
         → stored_disk store ≡ opened_disk store },
+    ghost size: { D.tells → is_some (option_map answered_query_of in_flight) ≡ false
+        → IsNoLonger (D.reads (opened_disk store)) (kept_history log)
+        (D.reads (stored_disk store)) },
 }
 
 impl<'w, D: Disk> Desk<'w, D> {
@@ -129,6 +134,11 @@ impl<'w, D: Disk> Desk<'w, D> {
         ensures rests { is_sealed (desk_standing self.now) ≡ true → (c : List ℕ)
             → D.image_since (desk_disk self.now) (D.moment (opening_disk self.now)) c
             → D.image (opening_disk self.now) c }
+
+        // Where no append failed, the disk has grown for the entries alone.
+        ensures size { D.tells → is_broken_desk self.now ≡ false
+            → IsNoLonger (D.reads (opening_disk self.now)) (desk_history self.now)
+            (D.reads (desk_disk self.now)) }
 
         // The clock has gone on since, the count of faults hasn't fallen, and it rose where an
         // append failed.

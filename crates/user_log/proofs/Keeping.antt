@@ -29,6 +29,23 @@ decided schema view_schema world user log_is view_log query spent implied yes_ha
     let at_log = subst (λ l. AreFindings schema user l query spent implied yes_harm no_harm) same_log at_schema in
     decide schema world user log_is query spent implied yes_harm no_harm at_log
 
+-- what is kept, of a view with the same log and of the same entries
+pub kept_same : (schema : DatabaseSchema) (world : FactSet) (user : UserProfile) (entries entries' : History)
+    (view_schema view_schema' : DatabaseSchema) (view_log view_log' : List Signed) (text_bytes view_nodes : ℕ)
+    → entries' ≡ entries → view_schema' ≡ view_schema → view_log' ≡ view_log
+    → IsKept schema world user entries view_schema view_log text_bytes view_nodes
+    → IsKept schema world user entries' view_schema' view_log' text_bytes view_nodes
+kept_same schema world user entries entries' view_schema view_schema' view_log view_log' text_bytes view_nodes same_entries same_schema same_log kept =
+    subst (λ h. IsKept schema world user h view_schema' view_log' text_bytes view_nodes) (sym same_entries) record {
+      limits = kept.limits;
+      schema_is = same_schema ∙ kept.schema_is;
+      log_is = same_log ∙ kept.log_is;
+      text_is = kept.text_is;
+      nodes_are = kept.nodes_are;
+      legal = kept.legal;
+      sizes = kept.sizes;
+    }
+
 no_entry : (before : History) (entry : AnsweredQuery) (after : History) → [] ≡ before ++ entry ∷ after → ⊥
 no_entry [] entry after e = cc
 no_entry (x ∷ before) entry after e = cc

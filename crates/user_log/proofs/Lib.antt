@@ -2,3 +2,5 @@ pub mod Sizes
 pub mod Keeping
 pub mod Asking
 mod Costs
+mod SameLogs
+pub mod Crossing

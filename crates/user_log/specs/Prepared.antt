@@ -1,10 +1,10 @@
 -- An entry that is ready to be added to a user's log.
-use Rattle.std.specs.Prelude.{◌≡◌, ◌<◌, ◌++◌, vec_len, vec_capacity}
+use Rattle.std.specs.Prelude.{◌≡◌, ◌<◌, vec_len, vec_capacity}
 use Rattle.cqe_base.specs.Formula.{formula_of}
-use Rattle.cqe_base.specs.History.{AnsweredQuery, answered_query_of, log, told_by}
+use Rattle.cqe_base.specs.History.{AnsweredQuery, answered_query_of, log}
 use Rattle.cqe_base.specs.Censor.{rule}
 use Rattle.cqe_base.specs.Limits.{KeepsSizesAt}
-use Rattle.entailment.specs.Views.{schema_of, log_of}
+use Rattle.entailment.specs.Views.{room_of}
 use Rattle.user_log.specs.Nodes.{told_nodes}
 use Rattle.user_log.specs.UserLogs.{kept_schema, kept_world, kept_user, kept_history}
 use Rattle.user_log.specs.declared.log.UserLog.{UserLog}
@@ -14,13 +14,12 @@ use Rattle.user_log.specs.declared.prepared.Prepared.{Prepared}
 abbrev pub prepared_entry : Prepared → AnsweredQuery
 prepared_entry prepared = answered_query_of prepared.new_entry
 
--- the entry has its mark by the rule and is within the limits, the view is that of the log with it,
--- and there is room for it
+-- the entry has its mark by the rule and is within the limits, its query is there once more, and
+-- there is room for both
 pub record IsPrepared (before : UserLog) (prepared : Prepared) : Type 0 where
   pub room : vec_len before.entries < vec_capacity before.entries
-  pub schema : schema_of prepared.view ≡ schema_of before.view
-  pub told : log_of prepared.view
-      ≡ log_of before.view ++ told_by prepared.new_entry.mark (formula_of prepared.new_entry.query)
+  pub view_room : 0 < room_of before.view
+  pub told : formula_of prepared.told ≡ formula_of prepared.new_entry.query
   pub nodes : prepared.nodes
       ≡ told_nodes (kept_schema before) prepared.new_entry.mark
       (formula_of prepared.new_entry.query)

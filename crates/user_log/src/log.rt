@@ -8,7 +8,7 @@ ghost use Rattle.cqe_base.specs.History.{signed_nodes};
 ghost use Rattle.cqe_base.specs.Censor.{rule, IsLegal};
 ghost use Rattle.cqe_base.specs.Run.{is_full, is_too_large};
 ghost use Rattle.cqe_base.specs.Limits.{KeepsLimits, KeepsSizes};
-ghost use Rattle.entailment.specs.Views.{schema_of, log_of};
+ghost use Rattle.entailment.specs.Views.{schema_of, log_of, room_of};
 ghost use Rattle.entailment.specs.Logs.{log_nodes};
 ghost use Rattle.user_log.specs.Nodes.{told_nodes};
 ghost use Rattle.user_log.specs.Kept.{IsKept, IsKept-prop};
@@ -23,7 +23,6 @@ use cqe_base::world::World;
 use entailment::View;
 use sentence_text::{ReadError, read_sentence};
 use std::alloc::{AllocError, Global};
-use std::mem;
 use truth_eval::holds;
 
 /// A history has at most so many entries.
@@ -115,15 +114,16 @@ impl<'w> UserLog<'w> {
             (kept_history self.now) }
     {}
 
-    /// The reply to a text by the entries so far, which it doesn't change.
-    pub fn weigh(&self, alloc: Global, text: &str) -> Result<Weighed, AllocError>
+    /// The reply to a text by the entries so far. It changes nothing that a caller sees.
+    pub fn weigh(&mut self, alloc: Global, text: &str) -> Result<Weighed, AllocError>
         requires { length text.now ≤ 4096 }
+        ensures same { self.new ≡ self.old }
         ensures weighed { IfOk result
-            (IsWeighed (kept_schema self.now) (kept_world self.now) (kept_user self.now)
-            (kept_history self.now) text.now) }
+            (IsWeighed (kept_schema self.old) (kept_world self.old) (kept_user self.old)
+            (kept_history self.old) text.now) }
         ensures undecided { IfOk result
-            (IsUndecidedByCost (kept_schema self.now) (kept_user self.now)
-            (kept_history self.now)) }
+            (IsUndecidedByCost (kept_schema self.old) (kept_user self.old)
+            (kept_history self.old)) }
     {
         let query = match read_sentence(alloc, self.schema, text) {
             Ok(query) => query,
@@ -159,21 +159,22 @@ impl<'w> UserLog<'w> {
     }
 
     /// The mark of a query by the rule.
-    fn mark(&self, alloc: Global, query: &Sentence) -> Result<Mark, AllocError>
-        requires sentence { is_sentence_of (kept_schema self.now) (formula_of query.now) ≡ true }
-        requires small { is_too_large (kept_schema self.now) (kept_user self.now)
-            (kept_history self.now) (formula_of query.now) ≡ false }
+    fn mark(&mut self, alloc: Global, query: &Sentence) -> Result<Mark, AllocError>
+        requires sentence { is_sentence_of (kept_schema self.old) (formula_of query.now) ≡ true }
+        requires small { is_too_large (kept_schema self.old) (kept_user self.old)
+            (kept_history self.old) (formula_of query.now) ≡ false }
+        ensures same { self.new ≡ self.old }
         ensures rule { IfOk result (λ mark. mark
-            ≡ rule (kept_schema self.now) (kept_world self.now) (kept_user self.now)
-            (log (kept_user self.now) (kept_history self.now)) (formula_of query.now)) }
+            ≡ rule (kept_schema self.old) (kept_world self.old) (kept_user self.old)
+            (log (kept_user self.old) (kept_history self.old)) (formula_of query.now)) }
         ensures undecided { IfOk result (λ mark.
-            IsMarkByCost (kept_schema self.now) (kept_user self.now) (kept_history self.now)
+            IsMarkByCost (kept_schema self.old) (kept_user self.old) (kept_history self.old)
             (formula_of query.now) mark) }
     {
         law_limits();
         law_findings_decide();
         law_undecided_is_cost();
-        let findings = examine(alloc, &self.view, self.user, query)?;
+        let findings = examine(alloc, &mut self.view, self.user, query)?;
         let truth = holds(self.schema, self.world, query);
         Ok(decide(self.user.method, &findings, truth))
     }
@@ -186,7 +187,7 @@ impl<'w> UserLog<'w> {
         text: &str,
         query: Sentence,
         mark: Mark,
-    ) -> Result<Prepared<'w>, AllocError>
+    ) -> Result<Prepared, AllocError>
         requires few { length text.now ≤ 4096 }
         requires answer { IsAnswer (kept_schema self.old) (kept_world self.old) (kept_user self.old)
             (kept_history self.old) text.now (formula_of query) mark }
@@ -210,9 +211,9 @@ impl<'w> UserLog<'w> {
         law_limits();
         law_legal_grows();
         self.entries.reserve(1)?;
+        self.view.reserve()?;
         let nodes = told_nodes(self.schema, &query, mark);
-        let mut view = self.view.copy(alloc)?;
-        tell(alloc, &mut view, &query, mark)?;
+        let told = query.copy(alloc)?;
         let length = text.len() as u32;
         let new_entry = Entry {
             query,
@@ -220,27 +221,28 @@ impl<'w> UserLog<'w> {
             length,
         };
         Ok(Prepared {
-            view,
+            told,
             new_entry,
             nodes,
         })
     }
 
     /// Adds an entry that was prepared for these entries. It takes no memory.
-    pub fn commit(&mut self, prepared: Prepared<'w>)
+    pub fn commit(&mut self, prepared: Prepared)
         requires { IsPrepared self.old prepared }
         ensures same { IsOfSame self.old self.new }
         ensures added { kept_history self.new
-            ≡ kept_history self.old ++ prepared_entry prepared.entry ∷ [] }
+            ≡ kept_history self.old ++ prepared_entry prepared ∷ [] }
     {
+        law_limits();
         law_logs();
         law_legal_grows();
         let Prepared {
-            view,
+            told,
             new_entry,
             nodes,
         } = prepared;
-        let _before = mem::replace(&mut self.view, view);
+        tell(&mut self.view, told, new_entry.mark);
         self.text_bytes += u64::from(new_entry.length);
         self.view_nodes += nodes;
         self.entries.push_reserved(new_entry);
@@ -303,21 +305,20 @@ fn told_nodes(schema: &Schema, query: &Sentence, mark: Mark) -> u64
     }
 }
 
-/// Appends to a log what a mark tells of its query. A refusal changes nothing.
-fn tell(alloc: Global, view: &mut View<'_>, query: &Sentence, mark: Mark) -> Result<(), AllocError>
-    requires sentence { is_sentence_of (schema_of view.old) (formula_of query.now) ≡ true }
-    requires query { nodes (schema_of view.old) (formula_of query.now) ≤ 20000 }
-    requires room { (yes : Bool)
+/// Appends to a log what a mark tells of its query. It takes no memory.
+fn tell(view: &mut View<'_>, query: Sentence, mark: Mark)
+    requires sentence { is_sentence_of (schema_of view.old) (formula_of query) ≡ true }
+    requires query { nodes (schema_of view.old) (formula_of query) ≤ 20000 }
+    requires nodes { (yes : Bool)
         → log_nodes (schema_of view.old) (log_of view.old)
-        + signed_nodes (schema_of view.old) (formula_of query.now) yes ≤ 60000 }
+        + signed_nodes (schema_of view.old) (formula_of query) yes ≤ 60000 }
+    requires room { 0 < room_of view.old }
     ensures schema { schema_of view.new ≡ schema_of view.old }
-    ensures told { OnOk result (log_of view.new
-        ≡ log_of view.old ++ told_by mark (formula_of query.now)) }
-    ensures refused { OnErr result (log_of view.new ≡ log_of view.old) }
+    ensures told { log_of view.new ≡ log_of view.old ++ told_by mark (formula_of query) }
 {
     match mark {
-        Mark::Yes => view.add(alloc, query, true),
-        Mark::No => view.add(alloc, query, false),
-        Mark::Refused | Mark::Undecided => Ok(()),
+        Mark::Yes => view.push_reserved(query, true),
+        Mark::No => view.push_reserved(query, false),
+        Mark::Refused | Mark::Undecided => {}
     }
 }

@@ -24,6 +24,7 @@ use Rattle.cqe_base.specs.Reading
 use Rattle.cqe_base.specs.Reading.{Refusal, reading}
 use Rattle.cqe_base.specs.History.{view_size, log, known, told}
 use Rattle.sentence_text.specs.Laws.{CanonicalFormsRead}
+use Rattle.policy_files.specs.declared.keys.PolicyVersion.TheVariants.{One}
 use Rattle.policy_files.specs.declared.error.PolicyError.TheVariants.{NotToml, WrongKind, Limit, DuplicateUser}
 use Rattle.policy_files.specs.Tree.{is_table, tables_in, declarations}
 use Rattle.policy_files.specs.Keys.{◌>>=◌, key_place, text_place, of_kind, required, within}
@@ -77,9 +78,10 @@ unfolding digits reading Tokens.tokens_from Tokens.end_from Tokens.token_length 
     Reading.domain Reading.pass Reading.variable_named Reading.inside Reading.at_end Reading.ends_quantified
 known_read = refl
 
-known_step : (number : ℕ) → sentences_of workload_schema number (codes "know") 0 256 (array (items_of (string known_text ∷ []))) ≡ Ok (drug_means_illness ∷ [])
+known_step : (number : ℕ)
+    → sentences_of workload_schema number (codes "know") (record { least = 0; greatest = 256; nodes = 20000 }) (array (items_of (string known_text ∷ []))) ≡ Ok (drug_means_illness ∷ [])
 unfolding sentences_of sentence_of digits
-known_step number = ap (λ (r : Result Formula Refusal). small_sentence workload_schema number (codes "know") 0 r >>= λ sentence. Ok (sentence ∷ [])) known_read
+known_step number = ap (λ (r : Result Formula Refusal). small_sentence workload_schema number (codes "know") 20000 0 r >>= λ sentence. Ok (sentence ∷ [])) known_read
 
 secret_length : (person : ℕ) → person < 40 → nat_lt 4096 (length (secret_text person)) ≡ false
 secret_length person low =
@@ -97,15 +99,15 @@ module _ (law : CanonicalFormsRead) where
 
   -- a secret is a sentence that is small enough
   secret_step : (number index person : ℕ) → person < 40
-      → sentence_of workload_schema number (codes "secrets") index (secret_text person) ≡ Ok (has_first_illness person)
+      → sentence_of workload_schema number (codes "secrets") 20000 index (secret_text person) ≡ Ok (has_first_illness person)
   unfolding sentence_of
   secret_step number index person low =
       ap (λ (t : Bool). if t then Err (Limit (text_place number (codes "secrets") index None))
-      else small_sentence workload_schema number (codes "secrets") index (reading workload_schema (secret_text person))) (secret_length person low)
-      ∙ ap (λ r. small_sentence workload_schema number (codes "secrets") index r) (secret_read person low)
+      else small_sentence workload_schema number (codes "secrets") 20000 index (reading workload_schema (secret_text person))) (secret_length person low)
+      ∙ ap (λ r. small_sentence workload_schema number (codes "secrets") 20000 index r) (secret_read person low)
 
   secrets_step : (number a b c : ℕ) → a < 40 → b < 40 → c < 40
-      → sentences_of workload_schema number (codes "secrets") 1 16
+      → sentences_of workload_schema number (codes "secrets") (record { least = 1; greatest = 16; nodes = 20000 })
       (array (items_of (string (secret_text a) ∷ string (secret_text b) ∷ string (secret_text c) ∷ [])))
       ≡ Ok (has_first_illness a ∷ has_first_illness b ∷ has_first_illness c ∷ [])
   unfolding sentences_of
@@ -139,6 +141,7 @@ module _ (law : CanonicalFormsRead) where
               method = method;
               know = drug_means_illness ∷ [];
               secrets = has_first_illness a ∷ has_first_illness b ∷ has_first_illness c ∷ [];
+              pairs = 0;
               budget =
                   1000000;
             };
@@ -152,7 +155,7 @@ module _ (law : CanonicalFormsRead) where
   below seed n = mod-lt (state_after seed (n + 1) / 65536) {m = 40} (omega arith)
 
   user_reads : (seed k : ℕ) (earlier : List Text) (number : ℕ) → k < 256 → contains_text earlier (user_name k) ≡ false
-      → user_of workload_schema earlier number (user_tree seed k) ≡ Ok (workload_user seed k)
+      → user_of One workload_schema earlier number (user_tree seed k) ≡ Ok (workload_user seed k)
   unfolding user_of
   user_reads seed k earlier number low new =
       let a = secret_person seed k 0 in
@@ -163,13 +166,13 @@ module _ (law : CanonicalFormsRead) where
       with_small_view workload_schema number (record {
         name =
             name;
-        profile = record { method = method; know = know; secrets = secrets; budget = 1000000 };
+        profile = record { method = method; know = know; secrets = secrets; pairs = 0; budget = 1000000 };
         token = None;
       }))
       ∙ small number (user_name k) (method_at k) a b c (workload_user seed k) refl
 
   users_read : (seed a n : ℕ) → a + n ≤ 256
-      → users_behind workload_schema (map (workload_user seed) (range_with_len 0 a)) (map (user_tree seed) (range_with_len a n))
+      → users_behind One workload_schema (map (workload_user seed) (range_with_len 0 a)) (map (user_tree seed) (range_with_len a n))
       ≡ Ok (map (workload_user seed) (range_with_len 0 (a + n)))
   users_read seed a zero low = ap (λ m. Ok (map (workload_user seed) (range_with_len 0 m))) (none a)
     where
@@ -177,10 +180,10 @@ module _ (law : CanonicalFormsRead) where
       none a = omega arith
   users_read seed a (suc n) low =
       let before = map (workload_user seed) (range_with_len 0 a) in
-      ap (λ r. r >>= λ user. users_behind workload_schema (before ++ user ∷ []) (map (user_tree seed) (range_with_len (a + 1) n)))
+      ap (λ r. r >>= λ user. users_behind One workload_schema (before ++ user ∷ []) (map (user_tree seed) (range_with_len (a + 1) n)))
       (user_reads seed a (names_of before) (length before) (omega (arith, low))
       (ap (λ names. contains_text names (user_name a)) (names_are seed 0 a) ∙ new_name a 0 a (omega (arith, low)) (omega arith)))
-      ∙ ap (λ read. users_behind workload_schema read (map (user_tree seed) (range_with_len (a + 1) n)))
+      ∙ ap (λ read. users_behind One workload_schema read (map (user_tree seed) (range_with_len (a + 1) n)))
       (sym (ap (map (workload_user seed)) (range_to a) ∙ map-append (workload_user seed) (range_with_len 0 a) (a ∷ [])))
       ∙ users_read seed (a + 1) n (omega (arith, low))
       ∙ ap (λ m. Ok (map (workload_user seed) (range_with_len 0 m))) (next a n)
@@ -219,9 +222,9 @@ module _ (law : CanonicalFormsRead) where
       let trees = map (user_tree seed) (range_with_len 0 users) in
       ap (λ r. r >>= λ tables. schema_in (declarations domain_members) (declarations relation_members) >>= λ schema.
       within 1 256 (key_place None (codes "users")) (length tables) >>= λ count.
-      users_behind schema [] tables >>= λ users. Ok (record { schema = schema; users = users })) (tables_step seed (range_with_len 0 users))
+      users_behind One schema [] tables >>= λ users. Ok (record { schema = schema; users = users })) (tables_step seed (range_with_len 0 users))
       ∙ (λ i. schema_step i >>= λ schema. count_step users trees some few (length-map-range_with_len (user_tree seed) 0 users) i >>= λ count.
-      users_behind schema [] trees >>= λ users. Ok (record { schema = schema; users = users }))
+      users_behind One schema [] trees >>= λ users. Ok (record { schema = schema; users = users }))
       ∙ ap (λ r. r >>= λ users. Ok (record { schema = workload_schema; users = users })) (users_read seed 0 users (omega (arith, few))
       ∙ ap (λ n. Ok (map (workload_user seed) (range_with_len 0 n))) (all users))
     where

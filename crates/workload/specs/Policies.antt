@@ -43,6 +43,7 @@ workload_user seed number = record {
     method = method_at number;
     know = drug_means_illness ∷ [];
     secrets = map (λ secret. has_first_illness (secret_person seed number secret)) (0 ∷ 1 ∷ 2 ∷ []);
+    pairs = 0;
     budget = 1000000;
   };
   token = None;

@@ -215,7 +215,7 @@ fn causes_come_in_their_order(rt: HostRuntime) -> Result<(), Fail> {
     for (put, bytes, status, complaint) in [
         ("other", POLICY, 8, "cqe: missing p\n"),
         ("p", POLICY, 8, "cqe: missing f\n"),
-        ("p", "version = 2", 3, "cqe: policy 9\n"),
+        ("p", "version = 3", 3, "cqe: policy 9\n"),
     ] {
         let mut shelf = MemoryShelf::new(alloc);
         shelf.put(alloc, put, bytes.as_bytes())?;

@@ -6,7 +6,8 @@ use Rattle.outside.specs.Streams.{AppendsPart}
 use Rattle.log_journal.specs.Opening.{header_bytes}
 use Rattle.batch_engine.specs.Batches.{item_in}
 use Rattle.batch_engine.specs.BatchOf.{items_of}
-use Rattle.desk_crew.specs.Shelved.{journals, SameBeside, AllOut, AllIn, AreLater}
+use Rattle.outside.specs.Shelf.{SameBeside, AllOut, AllIn}
+use Rattle.desk_crew.specs.Shelved.{journals, AreLater}
 use Rattle.batch_engine.specs.Steps.{RunsAll}
 use Rattle.batch_engine.proofs.Running.{item_short, items_more, items_split, stay_run, runs_first, runs_more, runs_stopped, runs_cut}
 use Rattle.batch_engine.proofs.run.answer_all.Goals.{then-is_broken, else-is_broken}

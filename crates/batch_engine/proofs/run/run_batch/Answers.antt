@@ -5,7 +5,8 @@ use Rattle.log_journal.specs.Opening.{header_bytes}
 use Rattle.batch_engine.specs.BatchOf.{items_of}
 use Rattle.batch_engine.specs.Batch.{AppendsAll}
 use Rattle.desk_crew.specs.Crew.{named_user}
-use Rattle.desk_crew.specs.Shelved.{is_among, journals, journals_on, SameBeside, AllOut, AreLater, AreOut}
+use Rattle.outside.specs.Shelf.{is_among, SameBeside, AllOut, AreOut}
+use Rattle.desk_crew.specs.Shelved.{journals, journals_on, AreLater}
 use Rattle.batch_engine.proofs.Running.{stay_run}
 use Rattle.batch_engine.proofs.Failing.{run_broken, all_weaker}
 use Rattle.desk_crew.proofs.Rising.{some_rose}

@@ -4,7 +4,7 @@ use Rattle.std.proofs.lemmas.Bool.{leb-true}
 use Rattle.cqe_base.specs.Formula.{formula_of, nodes, is_sentence_of}
 use Rattle.cqe_base.specs.History.{profile_of, known}
 use Rattle.entailment.specs.Logs.{log_nodes}
-use Rattle.entailment.specs.Views.{log_of}
+use Rattle.entailment.specs.Views.{schema_of, log_of}
 use Rattle.censors.specs.Admitting.{probe_objection, secrets_objection}
 use Rattle.censors.proofs.Probing.{each_passes}
 use Rattle.censors.proofs.Objections.{objection_here, silent_before-more}
@@ -50,8 +50,8 @@ loop-number-preserved c =
     probe_objection schema (log_of c.loop-number.view) (formula_of c.secret-item.result) (Some c.loop-number.number)) c.loop-number.invariant.schema in
     let at = ap (λ log. probe_objection c.args.schema.now log (formula_of c.secret-item.result) (Some c.loop-number.number)) c.loop-number.invariant.log in
     record {
-      schema = c.in_ok-found.ensures.schema ∙ c.loop-number.invariant.schema;
-      log = c.in_ok-found.ensures.log ∙ c.loop-number.invariant.log;
+      schema = ap schema_of c.in_ok-found.ensures.same ∙ c.loop-number.invariant.schema;
+      log = ap log_of c.in_ok-found.ensures.same ∙ c.loop-number.invariant.log;
       so_far = silent_before-more c.args.schema.now
           (known (profile_of c.args.user.now)) c.deref-secret-items.result.now c.loop-number.number c.secret-item.result c.secret-item.is
           c.loop-number-test.true

@@ -7,7 +7,6 @@ use Rattle.censors.proofs.examination.ask_each.Given as goal
 
 abbrev pub invariant-loop-goal : goal.invariant-loop-goal
 invariant-loop-goal l = record {
-  schema : schema_of l.view ≡ schema_of l.fn.view;
-  log : log_of l.view ≡ log_of l.fn.view;
+  same : l.view ≡ l.fn.view;
   so_far : IsAnswerOfAll (schema_of l.fn.view) l.budget (log_of l.fn.view ++ signed_at l.premise ∷ []) (take l.goal-index (map formula_of l.goals)) l.all;
 }

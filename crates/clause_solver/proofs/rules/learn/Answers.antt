@@ -10,6 +10,8 @@ use Rattle.clause_store.specs.PlainLines.{line_of}
 use Rattle.clause_solver.specs.Watching.{IsWatched}
 use Rattle.clause_solver.specs.IndexedStates.{plain_of, IsHighestBeside}
 use Rattle.cqe_base.proofs.MachineBound.{back_low}
+use Rattle.std.proofs.lemmas.Bool.{eqb-true}
+use Rattle.clause_solver.proofs.Entering.{single_but}
 use Rattle.clause_solver.proofs.Learnt.{learnt_watched}
 use Rattle.clause_solver.proofs.rules.learn.Goals as goal
 use Rattle.clause_solver.proofs.rules.learn.Goals.{In-Some, After-because}
@@ -66,17 +68,29 @@ enter-requires-clause-watched c =
     let t = s.assignment.trail in
     let trail : c.assign.new.self.assignment.trail ≡ Because c.len-number.result c.in-Some.asserting ∷ cut (back d) t =
     ap (λ (x : State). x.trail) c.in_ok-assign.ensures.plain ∙ (λ i. c.because.ensures i ∷ shorter b i) in
-    subst (λ u. IsWatched u c.deref-4.result.now (record {
+    let unit : c.is_single-unit.result ≡ eqb (length c.args.line.clause.items) 1 =
+    c.is_single-unit.ensures ∙ ap (λ x. eqb (length x) 1) c.deref-4.ensures.value in
+    subst (λ u. IsWatched u c.deref-5.result.now (record {
       first =
           c.in-Some.asserting;
       second = c.highest_beside-second.result;
-    }) (eqb (length c.deref-4.result.now) 1) (eqb (length c.deref-4.result.now) 0)) (sym trail)
+    }) c.is_single-unit.result (eqb (length c.deref-5.result.now) 0)) (sym trail)
     (subst (λ x. IsWatched (Because c.len-number.result c.in-Some.asserting ∷ cut (back d) t) x
-    (record { first = c.in-Some.asserting; second = c.highest_beside-second.result }) (eqb (length x) 1) (eqb (length x) 0)) (sym c.deref-4.ensures.value)
+    (record { first = c.in-Some.asserting; second = c.highest_beside-second.result }) c.is_single-unit.result (eqb (length x) 0)) (sym c.deref-5.ensures.value)
+    (subst (λ u. IsWatched (Because c.len-number.result c.in-Some.asserting ∷ cut (back d) t) c.args.line.clause.items
+    (record { first = c.in-Some.asserting; second = c.highest_beside-second.result }) u (eqb (length c.args.line.clause.items) 0)) (sym unit)
     (learnt_watched s.assignment.variables c.len-number.result
     (back d) t c.args.line.clause.items c.in-Some.asserting c.highest_beside-second.result c.requires.indexed.looked.distinct
     (gone_back d) c.requires.walked.clause.no_repeat
-    (subst (λ x. IsHighestBeside t x c.in-Some.asserting c.highest_beside-second.result) c.deref-3.ensures.value c.highest_beside-second.ensures)))
+    (subst (λ x. IsHighestBeside t x c.in-Some.asserting c.highest_beside-second.result) c.deref-3.ensures.value c.highest_beside-second.ensures))))
+
+pub enter-requires-clause-unit : goal.enter-requires-clause-unit
+enter-requires-clause-unit c =
+    let unit : c.is_single-unit.result ≡ eqb (length c.deref-5.result.now) 1 =
+    c.is_single-unit.ensures ∙ ap (λ x. eqb (length x) 1) (c.deref-4.ensures.value ∙ sym c.deref-5.ensures.value) in
+    λ u.
+    let one : length c.deref-5.result.now ≡ 1 = eqb-true (length c.deref-5.result.now) 1 (sym unit ∙ u) in
+    single_but c.assign.new.self.assignment.trail c.deref-5.result.now c.in-Some.asserting one ((enter-requires-clause-watched c).first_in (omega arith))
 
 pub returns-clause-plain : goal.returns-clause-plain
 returns-clause-plain c =
@@ -94,7 +108,7 @@ returns-clause-plain c =
       trail = c.because.result ∷ c.cut.new.self.assignment.trail;
       lines =
           map line_of c.cut.new.self.lines.items;
-    })) ∙ ap (λ (x : State). x.clauses) c.cut.ensures.plain) i ++ c.deref-4.ensures.value i ∷ []) in
+    })) ∙ ap (λ (x : State). x.clauses) c.cut.ensures.plain) i ++ c.deref-5.ensures.value i ∷ []) in
     let trail : c.enter.new.self.assignment.trail ≡ with_asserted (length s.clauses) (find (is_current t) c.args.line.clause.items) (cut (back d) t) =
     ap (λ (x : State). x.trail) two ∙ ap (λ (x : State). x.trail) one
     ∙ (λ i. c.because.ensures i ∷ shorter b i)

@@ -1,10 +1,11 @@
-use Rattle.std.proofs.Common.{◌≡◌, ◌<◌, eqb, List, [], ◌∷◌, ◌++◌, length, get_or, take, sym, ap, ◌∙◌, subst, arith}
+use Rattle.std.proofs.Common.{◌≡◌, ◌<◌, true, eqb, List, [], ◌∷◌, ◌++◌, length, get_or, take, sym, ap, ◌∙◌, subst, arith}
+use Rattle.std.proofs.lemmas.Bool.{eqb-true}
 use Rattle.std.proofs.lemmas.List.{get_or_read, take_more}
 use Rattle.cqe_base.specs.Literal.{Literal, HasNoRepeat, ClauseBelow}
 use Rattle.cqe_base.proofs.Analysis.{each_at}
 use Rattle.cqe_base.proofs.NoRepeats.{no_repeat_at}
-use Rattle.clause_solver.specs.Watching.{IsWatched, HaveSameLiterals}
-use Rattle.clause_solver.proofs.Entering.{code_listed}
+use Rattle.clause_solver.specs.Watching.{IsWatched, HaveSameLiterals, AllFalseBut}
+use Rattle.clause_solver.proofs.Entering.{code_listed, single_but}
 use Rattle.clause_solver.proofs.Learnt.{given_watched}
 use Rattle.clause_solver.proofs.run.watched.Goals as goal
 use Rattle.clause_solver.proofs.run.watched.Goals.{After-first_two-first}
@@ -32,6 +33,11 @@ watched c =
       second = p.1;
     }) (eqb (length x) 1) (eqb (length x) 0)) (sym c.first_two-first.ensures) (given_watched x once)
 
+only : (c : After-first_two-first) → eqb (length c.clause-clause.result.now) 1 ≡ true → AllFalseBut [] c.first_two-first.result.0 c.clause-clause.result.now
+only c u =
+    let one = eqb-true (length c.clause-clause.result.now) 1 u in
+    single_but [] c.clause-clause.result.now c.first_two-first.result.0 one ((watched c).first_in (omega arith))
+
 pub enter-requires-clause-first : goal.enter-requires-clause-first
 enter-requires-clause-first c =
     let d = (goal.at.enter-requires-clause-first c).After-first_two-first in
@@ -51,7 +57,10 @@ loop-number-preserved c =
     let cs = c.args.clauses.now in
     let k = c.loop-number.number in
     record {
-      watches = c.in_ok-enter.ensures.watches c.args.variables [] v.watches (below d) (watched d);
+      watches = c.in_ok-enter.ensures.watches c.args.variables [] v.watches (below d)
+          (subst (λ u. IsWatched [] c.clause-clause.result.now (record { first = c.first_two-first.result.0; second = c.first_two-first.result.1 }) u
+          (eqb (length c.clause-clause.result.now) 0)) (sym c.is_single-unit.ensures) (watched d))
+          (λ u. only d (sym c.is_single-unit.ensures ∙ u));
       same =
           subst (λ xs. HaveSameLiterals xs c.enter.new.self.sorted)
           (ap (λ x. take k cs ++ x ∷ []) (at d) ∙ sym (take_more cs k [] (within d)))

@@ -23,7 +23,7 @@ use Rattle.cqe_top.proofs.Finding.{is_named, one_named, named_at, nobody_named}
 use Rattle.cqe_top.proofs.Good.{unread, init_succeeds, batch_succeeds, audit_succeeds, nobody_succeeds}
 use Rattle.cqe_top.proofs.Over.{serve_over, init_caused, some_rose, same_journals, touches_over, init_over, others_over, bytes_over, images_over, batch_over}
 use Rattle.cqe_top.proofs.Over.{batch_left, serve_left, one_of}
-use Rattle.cqe_top.proofs.Serving.{serve_succeeds}
+use Rattle.cqe_top.proofs.Serving.{serve_succeeds, served_out}
 use Rattle.cqe_top.proofs.Users.{batch_names_are}
 use Rattle.cqe_top.proofs.over_files.run_over_files.Goals as goal
 
@@ -319,7 +319,8 @@ returns-clause-command g c =
       unheard = λ told same name. ap (λ shelf. g.F.Shelf.disk shelf name) (ran.unheard told same) ∙ read.disks name;
       heard = ran.heard;
       few_ended = ran.few_ended;
-      ends = ran.ended;
+      ends = λ told done. served_out scene.links listening.workers listening.sessions (ran.left told) (ran.ended told done);
+      left = ran.left;
       limited = ran.limited;
     } in
     let does : OfServe scene files listening.address.now listening.workers listening.sessions (ends.Serve inputs.policy.users c.run_serve-end.result) = record {

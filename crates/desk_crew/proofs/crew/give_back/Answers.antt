@@ -38,6 +38,7 @@ loop-seat-preserved g c =
             later =
                 closed.later;
             cause = closed.cause;
+            size = λ told. closed.size (g.met.F.Shelf.tells_disks told);
             shut = closed.shut;
             still =
                 closed.still;

@@ -2,11 +2,11 @@ use Rattle.std.proofs.Common.{◌≡◌, ◌+◌, length, take, map, refl, sym, 
 use Rattle.std.specs.Prelude.{Err}
 use Rattle.std.proofs.lemmas.List.{take_all}
 use Rattle.outside.proofs.Rises.{rose_wide}
-use Rattle.outside.specs.Shelf.{bytes_on, image_on}
+use Rattle.outside.specs.Shelf.{bytes_on, image_on, is_among}
 use Rattle.log_journal.specs.Opening.{header_bytes}
 use Rattle.desk_crew.specs.declared.crew.NotOpened.TheVariants.{Shelf}
 use Rattle.log_journal.specs.Names.{journal_name}
-use Rattle.desk_crew.specs.Shelved.{is_among, journals}
+use Rattle.desk_crew.specs.Shelved.{journals}
 use Rattle.desk_crew.proofs.Shelving.{later_on, beside_one}
 use Rattle.desk_crew.proofs.Opening.{Opened, names, no_journal, seat_journals, first_distinct, seats_distinct, seats_later, opened_none, next_none, next_in}
 use Rattle.desk_crew.proofs.Opening.{opened_more, none_out, none_fell, all_same}

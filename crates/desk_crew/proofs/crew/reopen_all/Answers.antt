@@ -3,7 +3,8 @@ use Rattle.std.specs.Prelude.{◌==◌}
 use Rattle.cqe_base.specs.History.{profile_of}
 use Rattle.cqe_base.specs.Limits.{KeepsLimits}
 use Rattle.desk_crew.specs.Crew.{seat_user, seat_journal, seat_disk}
-use Rattle.desk_crew.specs.Shelved.{journals, SameBeside, AllOut, AreLater}
+use Rattle.outside.specs.Shelf.{SameBeside, AllOut}
+use Rattle.desk_crew.specs.Shelved.{journals, AreLater}
 use Rattle.desk_crew.specs.Seats.{DeskSeat}
 use Rattle.desk_crew.proofs.Asking.{all_second}
 use Rattle.desk_crew.proofs.Shelving.{first_removed, none_left}

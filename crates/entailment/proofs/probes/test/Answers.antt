@@ -1,58 +1,149 @@
-use Rattle.std.proofs.Common.{◌++◌}
+use Rattle.std.proofs.Common.{◌≡◌, ◌≤◌, ◌++◌, true, length, take, refl, ap, sym, subst, ◌∙◌}
+use Rattle.std.proofs.lemmas.Result.{IfOk-weaker}
+use Rattle.cqe_base.specs.Schema.{is_valid_schema}
+use Rattle.clause_form.specs.Forms.{Form, size_of}
+use Rattle.clause_solver.specs.Beginnings.{IsBeginning}
+use Rattle.entailment.specs.Logs.{told_log}
 use Rattle.entailment.specs.Views.{schema_of, log_of}
-use Rattle.entailment.specs.Forms.{with_negated}
+use Rattle.entailment.specs.Forms.{form_of_log, with_negated, IsForProbe}
 use Rattle.entailment.specs.Probes.{premise_of, goal_of, outcome_of}
 use Rattle.entailment.proofs.LogForms.{premises-sentences, probe-sentences}
+use Rattle.entailment.proofs.ViewForms.{cut-back, is-within}
+use Rattle.entailment.proofs.KeptClauses.{taken-begins}
+use Rattle.entailment.proofs.OpenViews.{schema-is, own-small, own-form, own-verdict}
 use Rattle.entailment.proofs.Verdicts.{outcome-is, verdict-is, true-verdict}
 use Rattle.entailment.proofs.CostBounds.{spent-by-cost}
 use Rattle.entailment.proofs.probes.test.Goals as goal
+
+pub probed-verdict-requires-clause-form : goal.probed-verdict-requires-clause-form
+probed-verdict-requires-clause-form c =
+    let view = c.args.view.now in
+    let same = schema-is c.view.inside _ c.view.view_is c.view.invariant in
+    let small = own-small c.view.inside _ c.view.view_is c.view.invariant in
+    subst (λ s. IsForProbe s (premise_of c.args.probe.now) (goal_of c.args.probe.now) c.form_rest.new.former) (sym same) (
+      log_of view,
+      record {
+        form_is = own-form c.view.inside _ c.view.view_is c.view.invariant c.as_slice.result.now c.as_slice.ensures.value
+            c.form_rest.new.former c.in_ok-form_rest.ensures.whole;
+        sentences = small.sentences;
+        premise_sentence = c.requires.premise;
+        goal_sentence = c.requires.goal;
+        premise_nodes = c.requires.premise_nodes;
+        goal_nodes = c.requires.goal_nodes;
+        all_nodes = c.requires.all_nodes;
+      },
+    )
+
+pub cut-requires : goal.cut-requires
+cut-requires c =
+    let v = c.view.inside in
+    let log = told_log c.as_slice.result.now in
+    let more = c.probed-verdict.ensures.more log c.in_ok-form_rest.ensures.whole in
+    is-within v.schema.now log more.0 c.probed-verdict.new.former c.mark-before.result more.1
+    (c.mark-before.ensures ∙ ap size_of c.in_ok-form_rest.ensures.whole)
+
+pub probed-verdict-requires-clause-kept : goal.probed-verdict-requires-clause-kept
+probed-verdict-requires-clause-kept c =
+    let v = c.view.inside in
+    let was = c.view.invariant.form ∙ ap (λ items. form_of_log v.schema.now (take v.formed (told_log items))) (sym c.as_slice.ensures.value) in
+    taken-begins c.law_clause_form_is_prefix.ensures v.schema.now (told_log c.as_slice.result.now) v.formed c.form_rest.new.formed v.kept
+    v.former c.form_rest.new.former c.form_rest.ensures.grows was c.form_rest.ensures.form c.view.invariant.kept
+
+pub invariant_of-view : goal.invariant_of-view
+invariant_of-view c =
+    let v = c.view.inside in
+    let same = c.as_slice.ensures.value in
+    let was = c.view.invariant.form ∙ ap (λ items. form_of_log v.schema.now (take v.formed (told_log items))) (sym same) in
+    record {
+      small = c.view.invariant.small;
+      within = subst (λ items. c.form_rest.new.formed ≤ length (told_log items)) same c.form_rest.ensures.within;
+      form = c.form_rest.ensures.form ∙ ap (λ items. form_of_log v.schema.now (take c.form_rest.new.formed (told_log items))) same;
+      kept = taken-begins c.law_clause_form_is_prefix.ensures v.schema.now (told_log c.as_slice.result.now) v.formed c.form_rest.new.formed v.kept
+          v.former c.form_rest.new.former c.form_rest.ensures.grows was c.form_rest.ensures.form c.view.invariant.kept;
+    }
+
+pub invariant_of-view-2 : goal.invariant_of-view-2
+invariant_of-view-2 c =
+    let v = c.view.inside in
+    let same = c.as_slice.ensures.value in
+    let log = take c.form_rest.new.formed (told_log c.as_slice.result.now) in
+    let more = c.probed-verdict.ensures.more log c.form_rest.ensures.form in
+    let back : c.cut.new.self ≡ form_of_log v.schema.now log =
+    cut-back v.schema.now log more.0 c.probed-verdict.new.former c.cut.new.self c.mark-before.result c.cut.ensures more.1
+    (c.mark-before.ensures ∙ ap size_of c.form_rest.ensures.form) in
+    record {
+      small = c.view.invariant.small;
+      within = subst (λ items. c.form_rest.new.formed ≤ length (told_log items)) same c.form_rest.ensures.within;
+      form = back ∙ ap (λ items. form_of_log v.schema.now (take c.form_rest.new.formed (told_log items))) same;
+      kept = subst (λ (f : Form). IsBeginning c.probed-verdict.new.kept f.clauses) (c.form_rest.ensures.form ∙ sym back) c.probed-verdict.ensures.kept;
+    }
 
 pub returns-clause-outcome : goal.returns-clause-outcome
 returns-clause-outcome c =
     let view = c.args.view.now in
     let probe = c.args.probe.now in
-    outcome-is (schema_of view) (log_of view ++ premise_of probe) (goal_of probe) c.args.budget
-    c.in_ok-former.former c.in_ok-former.ensures.form
-    c.in_ok-verdict_of.field-0 c.in_ok-verdict_of.ensures
+    let premises = log_of view ++ premise_of probe in
+    IfOk-weaker c.probed-verdict.result _ _
+    (λ verdict checked. outcome-is (schema_of view) premises (goal_of probe) c.args.budget
+    (form_of_log (schema_of view) (with_negated premises (goal_of probe))) refl verdict
+    (own-verdict c.view.inside _ c.view.view_is c.view.invariant c.as_slice.result.now c.as_slice.ensures.value
+    c.form_rest.new.former c.in_ok-form_rest.ensures.whole
+    (premise_of probe) (goal_of probe) c.args.budget verdict checked))
+    c.probed-verdict.ensures.verdict
 
 pub returns-clause-end : goal.returns-clause-end
 returns-clause-end c =
     let view = c.args.view.now in
     let probe = c.args.probe.now in
-    verdict-is (schema_of view) (log_of view ++ premise_of probe) (goal_of probe) c.args.budget
-    c.in_ok-former.former c.in_ok-former.ensures.form
-    c.in_ok-verdict_of.field-0 c.in_ok-verdict_of.ensures
+    let premises = log_of view ++ premise_of probe in
+    IfOk-weaker c.probed-verdict.result _ _
+    (λ verdict checked. verdict-is (schema_of view) premises (goal_of probe) c.args.budget
+    (form_of_log (schema_of view) (with_negated premises (goal_of probe))) refl verdict
+    (own-verdict c.view.inside _ c.view.view_is c.view.invariant c.as_slice.result.now c.as_slice.ensures.value
+    c.form_rest.new.former c.in_ok-form_rest.ensures.whole
+    (premise_of probe) (goal_of probe) c.args.budget verdict checked)
     c.law_clause_form_uses_its_variables.ensures c.law_clause_form_has_no_repeat.ensures
-    c.law_budget_is_whole_cost.ensures c.law_machine_ends_are_right.ensures
+    c.law_budget_is_whole_cost.ensures c.law_machine_ends_are_right.ensures)
+    c.probed-verdict.ensures.verdict
 
 pub returns-clause-sound : goal.returns-clause-sound
 returns-clause-sound c =
     let view = c.args.view.now in
     let probe = c.args.probe.now in
-    let of_log = view.small.sentences in
-    true-verdict (schema_of view) (log_of view ++ premise_of probe) (goal_of probe) c.args.budget
-    c.in_ok-former.former c.in_ok-former.ensures.form
-    c.in_ok-verdict_of.field-0 c.in_ok-verdict_of.ensures
+    let premises = log_of view ++ premise_of probe in
+    let small = own-small c.view.inside _ c.view.view_is c.view.invariant in
+    let same = schema-is c.view.inside _ c.view.view_is c.view.invariant in
+    IfOk-weaker c.probed-verdict.result _ _
+    (λ verdict checked. true-verdict (schema_of view) premises (goal_of probe) c.args.budget
+    (form_of_log (schema_of view) (with_negated premises (goal_of probe))) refl verdict
+    (own-verdict c.view.inside _ c.view.view_is c.view.invariant c.as_slice.result.now c.as_slice.ensures.value
+    c.form_rest.new.former c.in_ok-form_rest.ensures.whole
+    (premise_of probe) (goal_of probe) c.args.budget verdict checked)
     c.law_refutation_entails.ensures c.law_model_is_countermodel.ensures
-    c.known.ensures
-    (premises-sentences (schema_of view) (log_of view) (premise_of probe) of_log c.requires.premise)
-    c.requires.goal
+    (subst (λ s. is_valid_schema s ≡ true) same c.known.ensures)
+    (premises-sentences (schema_of view) (log_of view) (premise_of probe) small.sentences c.requires.premise)
+    c.requires.goal)
+    c.probed-verdict.ensures.verdict
 
 pub returns-clause-spent : goal.returns-clause-spent
 returns-clause-spent c =
     let view = c.args.view.now in
     let probe = c.args.probe.now in
-    spent-by-cost c.law_spent_is_cost.ensures
-    (schema_of view) (log_of view ++ premise_of probe) (goal_of probe) c.args.budget
-    (outcome_of c.in_ok-verdict_of.field-0) (returns-clause-outcome c)
+    IfOk-weaker c.probed-verdict.result _ _
+    (λ verdict is. spent-by-cost c.law_spent_is_cost.ensures
+    (schema_of view) (log_of view ++ premise_of probe) (goal_of probe) c.args.budget (outcome_of verdict) is)
+    (returns-clause-outcome c)
 
 pub returns-clause-models : goal.returns-clause-models
 returns-clause-models c =
     let view = c.args.view.now in
     let probe = c.args.probe.now in
-    let of_log = view.small.sentences in
-    c.law_models_are_worlds_of_schema.ensures
+    let small = own-small c.view.inside _ c.view.view_is c.view.invariant in
+    let same = schema-is c.view.inside _ c.view.view_is c.view.invariant in
+    IfOk-weaker c.probed-verdict.result _ _
+    (λ verdict checked. c.law_models_are_worlds_of_schema.ensures
     (schema_of view) (with_negated (log_of view ++ premise_of probe) (goal_of probe))
-    c.known.ensures
+    (subst (λ s. is_valid_schema s ≡ true) same c.known.ensures)
     (probe-sentences (schema_of view) (log_of view) (premise_of probe) (goal_of probe)
-    of_log c.requires.premise c.requires.goal)
+    small.sentences c.requires.premise c.requires.goal))
+    c.probed-verdict.ensures.verdict

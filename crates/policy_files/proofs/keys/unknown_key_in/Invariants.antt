@@ -8,6 +8,6 @@ use Rattle.policy_files.proofs.keys.unknown_key_in.Given as goal
 -- the least unknown key is among the members that are left, which ascend
 abbrev pub invariant-loop-key : goal.invariant-loop-key
 invariant-loop-key l = record {
-  left : unknown_key (keys_at l.user) (members_view l.key-iterator) ≡ unknown_key (keys_at l.user) (table_view l.table);
+  left : unknown_key (keys_at l.version l.user) (members_view l.key-iterator) ≡ unknown_key (keys_at l.version l.user) (table_view l.table);
   ascend : Ascend l.key-iterator;
 }

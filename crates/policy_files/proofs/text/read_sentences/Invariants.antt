@@ -8,5 +8,5 @@ use Rattle.policy_files.proofs.text.read_sentences.Given as goal
 abbrev pub invariant-loop-text : goal.invariant-loop-text
 invariant-loop-text l =
     (length l.read.items ≡ l.text-index)
-    × (sentences_behind l.schema l.user l.key (map formula_of l.read.items) (map view (drop l.text-index l.texts))
-    ≡ sentences_behind l.schema l.user l.key [] (map view l.texts))
+    × (sentences_behind l.schema l.user l.key l.most (map formula_of l.read.items) (map view (drop l.text-index l.texts))
+    ≡ sentences_behind l.schema l.user l.key l.most [] (map view l.texts))

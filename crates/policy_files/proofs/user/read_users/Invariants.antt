@@ -8,5 +8,5 @@ use Rattle.policy_files.proofs.user.read_users.Given as goal
 abbrev pub invariant-loop-table : goal.invariant-loop-table
 invariant-loop-table l =
     (length l.users.items ≡ l.table-index)
-    × (users_behind l.schema (map policy_user_of l.users.items) (map view (drop l.table-index l.tables))
-    ≡ users_behind l.schema [] (map view l.tables))
+    × (users_behind l.version l.schema (map policy_user_of l.users.items) (map view (drop l.table-index l.tables))
+    ≡ users_behind l.version l.schema [] (map view l.tables))

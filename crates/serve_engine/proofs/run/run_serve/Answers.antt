@@ -30,8 +30,25 @@ returns-clause-ended g c links_told done =
     let gave = back.given links_told ∙ ap (λ n. n + sum_by g.L.D.Door.given c.serve_opened-end.result.1.items) (heard.given links_told) in
     let ended = back.ended ∙ ap (λ n. n + sum_by (λ door. one_if_any (g.L.D.Door.ends door)) c.serve_opened-end.result.1.items) heard.ended in
     at_end g.L.D.Door.left c.serve_opened-end.result.1.items (g.L.Links.at_hand c.take_back_all.new.links) (heard.all links_told (omega (arith, some)))
-    (back.at_hand links_told) _ _ (λ most. omega (arith, most, none, gave, ended))
-    (c.serve_opened-end.ensures.ended (g.met.L.Links.tells_doors links_told) done)
+    (back.at_hand links_told) (c.serve_opened-end.ensures.ended (g.met.L.Links.tells_doors links_told) done)
+    (λ most.
+    let with_ended = most.0 in
+    let with_doors = most.1 in
+    let doors = c.serve_opened-end.ensures.doors in
+    let count = heard.count in
+    (omega (arith, with_ended, none, gave, ended), omega (arith, with_doors, none, gave, doors, count)))
+
+pub returns-clause-left : goal.returns-clause-left
+returns-clause-left g c links_told all =
+    let heard = c.in-Ok.ensures in
+    let back = c.take_back_all.ensures in
+    let none = new_given g.L.D.Door.given g.L.D.Door.back c.in-Ok.doors.items (heard.fresh links_told) in
+    let spread = heard.spread links_told in
+    let same = heard.left links_told in
+    let served = c.serve_opened-end.ensures.left (g.met.L.Links.tells_doors links_told) in
+    let left = back.left links_told in
+    let at_hand = back.at_hand links_told in
+    omega (arith, all, none, spread, same, served, left, at_hand)
 
 pub returns-clause-limited : goal.returns-clause-limited
 returns-clause-limited g c links_told =

@@ -1,14 +1,16 @@
 use Rattle.std.proofs.Common.{◌∙◌, length, map, refl, sym, ap, subst, arith}
 use Rattle.cqe_base.specs.Schema.{has_duplicate}
 use Rattle.log_journal.specs.Opening.{header_bytes}
-use Rattle.desk_crew.specs.Shelved.{is_among, journals_on, AllOut, AreOut}
+use Rattle.outside.specs.Shelf.{is_among, AllOut, AreOut}
+use Rattle.desk_crew.specs.Shelved.{journals_on}
 use Rattle.desk_crew.proofs.Rising.{some_rose, any_failed}
 use Rattle.desk_crew.proofs.Opening.{seat_journals, seats_distinct, seats_later, same_length, all_out, none_out, none_fell}
 use Rattle.serve_engine.specs.Serving.{HaveServed, EndsAt, IsDone, IsBroken}
 use Rattle.serve_engine.specs.Served.{Served}
 use Rattle.serve_engine.specs.Sharing.{seat_member, IsServedAt}
 use Rattle.serve_engine.proofs.Apart.{served_still, apart_own}
-use Rattle.serve_engine.proofs.Histories.{broken_end, have_served, all_in_world, broke_at, journals_on_same, later_on_seats, doors_many, doors_gave, ended_at}
+use Rattle.serve_engine.proofs.Histories.{broken_end, have_served, all_in_world, broke_at, journals_on_same, later_on_seats, doors_many, doors_gave, doors_left}
+use Rattle.serve_engine.proofs.Histories.{ended_at}
 use Rattle.serve_engine.proofs.Histories.{failed_at, ends_at, seats_desks, seats_legal, seats_fresh, seats_turns, seats_own, own_from, all_told}
 use Rattle.serve_engine.proofs.run.serve_opened.Goals as goal
 
@@ -151,6 +153,13 @@ returns-clause-ended g c door_told done =
     (IsServedAt c.args.registry.now.users.now c.serve_seats-outcome.result.1.items) door_told g.O.Door.ends c.args.limit served.0 served.1
     c.args.doors.items c.serve_seats-outcome.result.2.items c.serve_seats-outcome.result.0 c.refusals_of-refusals.result c.give_back-is_broken.result
     served.2 served.3 (subst IsDone c.end_of.ensures done)
+
+pub returns-clause-left : goal.returns-clause-left
+returns-clause-left g c door_told =
+    let served = c.serve_seats-outcome.ensures.served in
+    doors_left g.O.Door.tells g.O.Door.given g.O.Door.left g.O.Door.faults g.O.Door.back
+    (IsServedAt c.args.registry.now.users.now c.serve_seats-outcome.result.1.items) door_told served.0 served.1 c.args.doors.items
+    c.serve_seats-outcome.result.2.items served.2
 
 pub returns-clause-limited : goal.returns-clause-limited
 returns-clause-limited g c door_told =

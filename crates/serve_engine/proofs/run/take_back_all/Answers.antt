@@ -1,4 +1,5 @@
-use Rattle.std.proofs.Common.{◌∷◌, [], ◌∙◌, arith, length-append}
+use Rattle.std.proofs.Common.{◌∷◌, [], refl, sym, ◌∙◌, arith, rules, append-nil, length-append}
+use Rattle.std.proofs.lemmas.List.Sums.{sum_by-append}
 use Rattle.outside.specs.Visits.{one_if_any}
 use Rattle.worker_pool.proofs.Seating.{read_on, read_more}
 use Rattle.serve_engine.proofs.Backing.{sum_more, flat_more, failed_more}
@@ -10,6 +11,20 @@ take_back-requires g c =
     let more = read_more c.args.doors.items c.loop-door.yielded _ _ c.in-Some.door c.loop-door.invariant.rest c.in-Some.ensures.steps.0 in
     let enough = c.requires in
     omega (arith, out, more, enough)
+
+pub loop-door-init : goal.loop-door-init
+loop-door-init g c = record {
+  rest = search rules;
+  out = omega arith;
+  ended = omega arith;
+  given = λ t. omega arith;
+  left = λ t. omega arith;
+  at_hand = λ t. omega arith;
+  back = λ t. sym (append-nil (g.L.Links.back c.args.links.now));
+  listened = λ t. refl;
+  later = omega arith;
+  failed = λ none. absurd none;
+}
 
 pub loop-door-preserved : goal.loop-door-preserved
 loop-door-preserved g c =
@@ -25,6 +40,11 @@ loop-door-preserved g c =
       out = omega (arith, out, less, read);
       ended = sum_more (λ door. one_if_any (g.L.D.Door.ends door)) c.loop-door.yielded c.in-Some.door _ _ _ so_far.ended back.ended;
       given = λ t. sum_more g.L.D.Door.given c.loop-door.yielded c.in-Some.door _ _ _ (so_far.given t) (back.given t);
+      left = λ t.
+          let before = so_far.left t in
+          let less = back.left t in
+          let more = sum_by-append g.L.D.Door.given c.loop-door.yielded (c.in-Some.door ∷ []) in
+          omega (arith, before, less, more);
       at_hand = λ t. sum_more g.L.D.Door.left c.loop-door.yielded c.in-Some.door _ _ _ (so_far.at_hand t) (back.at_hand t);
       listened = λ t. back.listened t ∙ so_far.listened t;
       back = λ t. flat_more g.L.D.Door.back c.loop-door.yielded c.in-Some.door _ _ _ (so_far.back t) (back.back t);

@@ -1,4 +1,4 @@
-use Rattle.std.proofs.Common.{◌≡◌, ◌+◌, ◌++◌, ◌≤◌, length}
+use Rattle.std.proofs.Common.{◌≡◌, ◌+◌, ◌-◌, ◌++◌, ◌≤◌, length}
 use Rattle.std.specs.List.{sum_by, flat_map}
 use Rattle.std.specs.Vec.Iter.{into_iter_items}
 use Rattle.outside.specs.Faults.{Rose}
@@ -13,6 +13,7 @@ invariant-loop-door g l = record {
   out : g.L.Links.out l.fn.links ≡ g.L.Links.out l.links + length l.yielded;
   ended : g.L.Links.ended l.links ≡ g.L.Links.ended l.fn.links + sum_by (λ door. one_if_any (g.L.D.Door.ends door)) l.yielded;
   given : g.L.Links.tells → g.L.Links.given l.links ≡ g.L.Links.given l.fn.links + sum_by g.L.D.Door.given l.yielded;
+  left : g.L.Links.tells → g.L.Links.left l.links ≡ g.L.Links.left l.fn.links - sum_by g.L.D.Door.given l.yielded;
   at_hand : g.L.Links.tells → g.L.Links.at_hand l.links ≡ g.L.Links.at_hand l.fn.links + sum_by g.L.D.Door.left l.yielded;
   back : g.L.Links.tells → g.L.Links.back l.links ≡ g.L.Links.back l.fn.links ++ flat_map g.L.D.Door.back l.yielded;
   listened : g.L.Links.tells → g.L.Links.listened l.links ≡ g.L.Links.listened l.fn.links;

@@ -1,4 +1,4 @@
-use Rattle.std.proofs.Common.{◌≡◌, ◌+◌, length, refl, sym, ap, subst, ◌∙◌, rules, arith}
+use Rattle.std.proofs.Common.{◌≡◌, ◌+◌, [], ◌∷◌, ◌++◌, length, refl, sym, ap, subst, ◌∙◌, rules, arith, sum_by, append-nil}
 use Rattle.std.specs.Vec.Iter.{into_iter_items}
 use Rattle.std.proofs.lemmas.List.Elements.{All-push, All-nil, All-weaker}
 use Rattle.session_core.specs.Members.{ArePassesOf, passes_in}
@@ -6,9 +6,9 @@ use Rattle.session_core.specs.declared.counters.Passes.{Passes}
 use Rattle.worker_pool.proofs.Seating.{read_on, next_of}
 use Rattle.serve_engine.specs.Jobs.{job_passes}
 use Rattle.std.proofs.lemmas.List.Sums.{sum_by_push}
-use Rattle.serve_engine.specs.Members.{own_weight}
+use Rattle.serve_engine.specs.Members.{own_at}
 use Rattle.serve_engine.specs.Passing.{HaveShares, AreOn, IsBack}
-use Rattle.serve_engine.proofs.Owning.{own_met}
+use Rattle.serve_engine.proofs.Owning.{own_weight, own_met, weigh_more}
 use Rattle.serve_engine.proofs.Meeting.{on_same, on_then, have_met}
 use Rattle.serve_engine.proofs.Reading.{grown}
 use Rattle.serve_engine.proofs.serving.dismiss.Goals as goal
@@ -23,7 +23,7 @@ loop-worker-init g c =
       these = c.requires.these;
       on = on_same (passes_in c.args.passes.now);
       all_on = All-nil (λ worker. AreOn (job_passes worker.job) c.args.passes.now);
-      own = λ weight place. omega arith;
+      own = λ place weight. ap (sum_by weight) (sym (append-nil (own_at place (passes_in c.args.passes.now))));
       shares = (c.requires.rest.0, c.requires.rest.1, omega (arith, total, all));
       room = refl;
     }
@@ -56,12 +56,14 @@ loop-worker-preserved g c =
           (All-weaker (λ worker. AreOn (job_passes worker.job) c.loop-worker.passes) (λ worker. AreOn (job_passes worker.job) c.meet.new.passes) (λ worker on.
           on_then (passes_in (job_passes worker.job)) old new on met.on) c.loop-worker.yielded so_far.all_on)
           (subst (λ (passes : Passes g.row.D.Denot). AreOn passes c.meet.new.passes) c.into_passes.ensures.same met.those_on);
-      own = λ weight place.
+      own = λ place weight.
+          let first = own_at place (passes_in c.args.passes.now) in
           let both = own_met weight place c.args.counters.now.counters.items old (passes_in c.into_passes.result) new c.meet.ensures.met in
           let this = ap (λ (passes : Passes g.row.D.Denot). own_weight weight place (passes_in passes)) c.into_passes.ensures.same in
-          let before = so_far.own weight place in
+          let before = so_far.own place weight ∙ weigh_more weight first (λ worker. own_at place (passes_in (job_passes worker.job))) c.loop-worker.yielded in
+          let then = weigh_more weight first (λ worker. own_at place (passes_in (job_passes worker.job))) (c.loop-worker.yielded ++ c.in-Some.worker ∷ []) in
           let all = sum_by_push (λ worker. own_weight weight place (passes_in (job_passes worker.job))) c.loop-worker.yielded c.in-Some.worker in
-          omega (arith, both, this, before, all);
+          omega (arith, both, this, before, then, all);
       shares = (so_far.shares.0 + 1, met.have, omega (arith, next, total));
       room = c.push_reserved.ensures.capacity ∙ so_far.room;
     }

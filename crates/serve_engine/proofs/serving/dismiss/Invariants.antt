@@ -1,8 +1,9 @@
-use Rattle.std.proofs.Common.{◌≡◌, ℕ, ◌+◌, ◌++◌, All, length, map, sum_by, vec_capacity}
+use Rattle.std.proofs.Common.{◌≡◌, ℕ, ◌+◌, ◌++◌, All, length, map, vec_capacity}
+use Rattle.std.specs.List.{flat_map}
 use Rattle.std.specs.Vec.Iter.{into_iter_items}
 use Rattle.session_core.specs.Members.{ArePassesOf, passes_in}
-use Rattle.cqe_base.specs.History.{AnsweredQuery}
-use Rattle.serve_engine.specs.Members.{own_weight}
+use Rattle.serve_engine.specs.Served.{SameEntries}
+use Rattle.serve_engine.specs.Members.{own_at}
 use Rattle.serve_engine.specs.Jobs.{job_passes}
 use Rattle.serve_engine.specs.Passing.{HaveShares, AreOn}
 use Rattle.serve_engine.proofs.serving.dismiss.Given as goal
@@ -15,8 +16,8 @@ invariant-loop-worker g l = record {
   these : ArePassesOf l.passes l.counters;
   on : AreOn l.initial.passes l.passes;
   all_on : All (λ worker. AreOn (job_passes worker.job) l.passes) l.yielded;
-  own : (weight : AnsweredQuery → ℕ) (place : ℕ) → own_weight weight place (passes_in l.passes)
-      ≡ own_weight weight place (passes_in l.initial.passes) + sum_by (λ worker. own_weight weight place (passes_in (job_passes worker.job))) l.yielded;
+  own : (place : ℕ) → SameEntries (own_at place (passes_in l.passes))
+      (own_at place (passes_in l.initial.passes) ++ flat_map (λ worker. own_at place (passes_in (job_passes worker.job))) l.yielded);
   shares : (n : ℕ) × HaveShares n l.passes × (n + length (into_iter_items l.worker-iterator) ≡ 65);
   room : vec_capacity l.doors ≡ vec_capacity l.initial.doors;
 }

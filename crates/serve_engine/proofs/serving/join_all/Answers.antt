@@ -1,9 +1,9 @@
-use Rattle.std.proofs.Common.{◌≡◌, ◌+◌, length, refl, subst, ap, rules, arith}
+use Rattle.std.proofs.Common.{◌≡◌, ◌+◌, length, sum_by, refl, subst, ap, rules, arith}
 use Rattle.std.specs.Vec.Iter.{into_iter_items}
 use Rattle.session_core.specs.Members.{ArePassesOf, passes_in}
 use Rattle.worker_pool.proofs.Seating.{read_on, next_of}
 use Rattle.serve_engine.specs.Passing.{HaveShares, NoneOwn}
-use Rattle.serve_engine.proofs.Owning.{own_met}
+use Rattle.serve_engine.proofs.Owning.{own_weight, own_met}
 use Rattle.serve_engine.proofs.Meeting.{on_same, on_then, have_met}
 use Rattle.serve_engine.proofs.serving.join_all.Goals as goal
 
@@ -12,7 +12,7 @@ loop-part-init g c = record {
   rest = search rules;
   these = c.requires.these;
   on = on_same (passes_in c.args.passes.now);
-  own = λ weight place. refl;
+  own = λ place weight. refl;
   shares =
       let total = c.requires.rest.2 in
       let all : length (into_iter_items c.into_iter-part-iterator.result) ≡ length c.args.parts.items = ap length (search rules) in
@@ -38,11 +38,12 @@ loop-part-preserved g c =
       rest = read_on c.args.parts.items c.loop-part.yielded _ _ _ so_far.rest step;
       these = c.meet.ensures.passes;
       on = on_then (passes_in c.args.passes.now) old new so_far.on met.on;
-      own = λ weight place.
+      own = λ place weight.
           let both = own_met weight place c.args.counters.now.counters.items old (passes_in c.in-Some.part) new c.meet.ensures.met in
-          let none = next_of NoneOwn c.args.parts.items c.loop-part.yielded _ _ c.in-Some.part so_far.rest step c.requires.none weight place in
-          let before = so_far.own weight place in
-          omega (arith, both, none, before);
+          let none = next_of NoneOwn c.args.parts.items c.loop-part.yielded _ _ c.in-Some.part so_far.rest step c.requires.none place in
+          let nothing : own_weight weight place (passes_in c.in-Some.part) ≡ 0 = ap (sum_by weight) none in
+          let before = so_far.own place weight in
+          omega (arith, both, nothing, before);
       shares = (so_far.shares.0 + 1, met.have, omega (arith, one_less, total));
     }
 

@@ -1,5 +1,5 @@
 use denote.Param.Send.{sendable}
-use Rattle.std.proofs.Common.{rules, arith, ◌≡◌, ◌≤◌, [], length, refl, sym, ap, subst}
+use Rattle.std.proofs.Common.{rules, arith, ◌≡◌, ◌≤◌, ◌∙◌, [], length, sum_by, refl, sym, ap, subst}
 use Rattle.std.specs.Prelude.{None}
 use Rattle.std.proofs.lemmas.List.{length-map}
 use Rattle.std.proofs.lemmas.List.Elements.{All-same, All-weaker, All-from_recursion, recursion_from_All}
@@ -7,7 +7,9 @@ use Rattle.desk_counter.proofs.Crossing.{ticketed_desk_send}
 use Rattle.session_core.specs.Members.{passes_in, fixeds_of}
 use Rattle.serve_engine.specs.Doors.{AreServedDoors}
 use Rattle.serve_engine.specs.Jobs.{job_passes, job_runs}
-use Rattle.serve_engine.specs.Members.{HaveSeenOpenings, IsServedBy, own_weight, room_in}
+use Rattle.serve_engine.specs.Members.{HaveSeenOpenings, IsServedBy, own_at, room_in}
+use Rattle.serve_engine.specs.Served.{entries_told}
+use Rattle.serve_engine.proofs.Owning.{own_weight, weigh_more}
 use Rattle.serve_engine.specs.Passing.{AreParts, IsFresh, IsBack}
 use Rattle.serve_engine.proofs.Crossing.{job_send}
 use Rattle.serve_engine.proofs.Apart.{none_served}
@@ -31,7 +33,7 @@ returns-in_default-clause-served g c = (
       (IsServedBy c.args.counters.now c.args.passes.now) c.args.doors.items,
   refl,
   omega arith,
-  λ t weight place. omega arith,
+  λ t place weight. let none = weigh_more weight (own_at place (passes_in c.args.passes.now)) (entries_told place) [] in omega (arith, none),
 )
 
 pub returns-in_default-split_all-clause-served : goal.returns-in_default-split_all-clause-served
@@ -42,7 +44,10 @@ returns-in_default-split_all-clause-served g c = (
       (IsServedBy c.args.counters.now c.split_all.new.passes) c.args.doors.items,
   refl,
   omega arith,
-  λ t weight place. let same = c.split_all.ensures.own weight place in omega (arith, same),
+  λ t place weight.
+      let same = c.split_all.ensures.own place weight in
+      let none = weigh_more weight (own_at place (passes_in c.args.passes.now)) (entries_told place) [] in
+      omega (arith, same, none),
 )
 
 pub crew_of-crew-requires-clause-opened : goal.crew_of-crew-requires-clause-opened
@@ -137,8 +142,9 @@ returns-in-Ok-clause-served g c =
     (c.crew_of-crew.ensures.fresh first c.in-Some.ensures.parts) c.dismiss.ensures.all_on c.in-Ok.ensures.reached c.in-Ok.ensures.served
     c.in-Ok.ensures.limit
     (λ weight place.
-    let all = c.dismiss.ensures.own weight place in
-    let rest = c.split_all.ensures.own weight place in
+    let all = c.dismiss.ensures.own place weight
+    ∙ weigh_more weight (own_at place (passes_in c.split_all.new.passes)) (λ worker. own_at place (passes_in (job_passes worker.job))) c.in-Ok.crew.items in
+    let rest = c.split_all.ensures.own place weight in
     omega (arith, all, rest))
 
 pub returns-in-Err-clause-on : goal.returns-in-Err-clause-on
@@ -158,12 +164,15 @@ returns-in-Err-clause-served g c =
           (none_served g.O.Door.tells g.O.Door.given g.O.Door.left g.O.Door.faults g.O.Door.back stands c.args.doors.items),
       refl,
       omega arith,
-      λ t weight place.
-          let all = c.dismiss-in-Err.ensures.own weight place in
-          let rest = c.split_all.ensures.own weight place in
+      λ t place weight.
+          let all = c.dismiss-in-Err.ensures.own place weight
+          ∙ weigh_more weight (own_at place (passes_in c.split_all.new.passes)) (λ worker. own_at place (passes_in (job_passes worker.job)))
+          c.in-Err.crew.items in
+          let rest = c.split_all.ensures.own place weight in
+          let told = weigh_more weight (own_at place (passes_in c.args.passes.now)) (entries_told place) [] in
           let none = sum_none (λ worker. own_weight weight place (passes_in (job_passes worker.job))) c.in-Err.crew.items
           (All-same (λ worker. own_weight weight place (passes_in (job_passes worker.job)) ≡ 0) c.in-Err.crew.items c.crew_of-crew.result.items same
           (All-weaker (IsFresh c.args.counters.now c.args.passes.now) (λ worker. own_weight weight place (passes_in (job_passes worker.job))
-          ≡ 0) (λ worker is. is.parts.none_own weight place) c.crew_of-crew.result.items fresh)) in
-          omega (arith, all, rest, none),
+          ≡ 0) (λ worker is. ap (sum_by weight) (is.parts.none_own place)) c.crew_of-crew.result.items fresh)) in
+          omega (arith, all, rest, none, told),
     )

@@ -1,10 +1,9 @@
-use Rattle.std.proofs.Common.{◌≡◌, ◌-◌, ◌*◌, ◌^◌, [], ◌∷◌, length, refl, sym, ap, subst, ◌∙◌, rules, arith, length-append}
+use Rattle.std.proofs.Common.{◌≡◌, ◌-◌, ◌*◌, ◌^◌, [], ◌∷◌, length, sum_by, refl, sym, ap, subst, ◌∙◌, rules, arith, length-append}
 use Rattle.std.proofs.lemmas.List.Elements.{All-push, All-same, All-nil, All-weaker}
 use Rattle.session_core.specs.Members.{ArePassesOf, passes_in}
 use Rattle.session_core.specs.declared.counters.Passes.{Passes}
-use Rattle.serve_engine.specs.Members.{own_weight}
 use Rattle.serve_engine.specs.Passing.{AreParts, AreOn, NoneOwn, HaveShares}
-use Rattle.serve_engine.proofs.Owning.{own_split}
+use Rattle.serve_engine.proofs.Owning.{own_weight, own_split}
 use Rattle.serve_engine.proofs.Meeting.{on_same, on_then, can_split, have_split}
 use Rattle.serve_engine.proofs.serving.split_all.Goals as goal
 
@@ -18,7 +17,7 @@ loop-init g c =
     record {
       these = c.requires.these;
       on = on_same (passes_in c.args.passes.now);
-      own = λ weight place. refl;
+      own = λ place weight. refl;
       count = ap length empty;
       those = All-same (λ part. ArePassesOf part c.args.counters.now) _ [] empty (All-nil (λ part. ArePassesOf part c.args.counters.now));
       parts = All-same (AreParts c.args.passes.now) _ [] empty (All-nil (AreParts c.args.passes.now));
@@ -58,12 +57,12 @@ pub join_all-requires-clause-none : goal.join_all-requires-clause-none
 join_all-requires-clause-none g c = All-weaker (AreParts c.args.passes.now) NoneOwn (λ part is. is.none_own) c.loop.parts.items c.loop.invariant.parts
 
 pub returns-in_err-parts-clause-own : goal.returns-in_err-parts-clause-own
-returns-in_err-parts-clause-own g c weight place = refl
+returns-in_err-parts-clause-own g c place weight = refl
 
 pub returns-in-Err-clause-own : goal.returns-in-Err-clause-own
-returns-in-Err-clause-own g c weight place =
-    c.join_all.ensures.own weight place ∙ ap (λ (passes : Passes g.row.D.Denot). own_weight weight place (passes_in passes)) c.in-Err.ensures.same
-    ∙ c.loop.invariant.own weight place
+returns-in-Err-clause-own g c place weight =
+    c.join_all.ensures.own place weight ∙ ap (λ (passes : Passes g.row.D.Denot). own_weight weight place (passes_in passes)) c.in-Err.ensures.same
+    ∙ c.loop.invariant.own place weight
 
 pub returns-in-Err-clause-on : goal.returns-in-Err-clause-on
 returns-in-Err-clause-on g c =
@@ -92,7 +91,8 @@ loop-preserved g c =
     record {
       these = c.split.ensures.passes;
       on = on_then first old new so_far.on parts.on;
-      own = λ weight place. (own_split weight place c.args.counters.now.counters.items old new part c.in-Ok.ensures.split).0 ∙ so_far.own weight place;
+      own = λ place weight.
+          ap (sum_by weight) (own_split place c.args.counters.now.counters.items old new part c.in-Ok.ensures.split).0 ∙ so_far.own place weight;
       count = omega (arith, one_more, count);
       those = All-same (λ part. ArePassesOf part c.args.counters.now) _ _ added
           (All-push (λ part. ArePassesOf part c.args.counters.now) c.loop.parts.items c.in-Ok.part so_far.those c.in-Ok.ensures.parts);
@@ -101,8 +101,7 @@ loop-preserved g c =
             shares_are = parts.parts_have;
             turns_are = parts.parts_may;
             on = on_then first old part so_far.on parts.those_on;
-            none_own =
-                λ weight place. (own_split weight place c.args.counters.now.counters.items old new part c.in-Ok.ensures.split).1;
+            none_own = λ place. (own_split place c.args.counters.now.counters.items old new part c.in-Ok.ensures.split).1;
           }));
       shares = (so_far.shares.0 - 1, parts.have, omega (arith, few, more, shares_left));
       turns = (so_far.turns.0 - 2 ^ 57, parts.may, omega (arith, few, more, turns_left));

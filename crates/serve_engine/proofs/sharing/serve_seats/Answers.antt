@@ -1,4 +1,4 @@
-use Rattle.std.proofs.Common.{◌≡◌, ◌≤◌, ◌∙◌, [], length, map, refl, sym, ap, subst, arith}
+use Rattle.std.proofs.Common.{◌≡◌, ◌≤◌, ◌∙◌, [], length, map, sum_by, append-nil, refl, sym, ap, subst, arith}
 use Rattle.std.proofs.lemmas.List.{length-map}
 use Rattle.std.specs.List.{AllByRecursion, AllZip}
 use Rattle.turnstile.specs.History.{IsPrefix}
@@ -6,7 +6,7 @@ use Rattle.turnstile.specs.Passes.{seen, shares, turns}
 use Rattle.desk_counter.specs.Counters.{kept_by}
 use Rattle.desk_crew.specs.Crew.{seat_kept}
 use Rattle.session_core.specs.Members.{AreDesksOf, HaveSeenLegal, ArePasses}
-use Rattle.serve_engine.specs.Members.{members_of, HaveSeenOpenings, OwnMore}
+use Rattle.serve_engine.specs.Members.{members_of, HaveSeenOpenings, OwnMore, own_at}
 use Rattle.serve_engine.specs.Served.{Served}
 use Rattle.serve_engine.specs.Sharing.{keeper_of, seat_counter, seat_pass, IsServedAt}
 use Rattle.serve_engine.proofs.Apart.{kept_apart, served_still, none_served, apart_turns, apart_opened, seats_on, seats_same, served_at}
@@ -120,5 +120,5 @@ returns-in_default-clause-served g c = (
       (IsServedAt c.args.users.now c.args.seats.items) c.args.doors.items,
   refl,
   omega arith,
-  λ t weight place. omega arith,
+  λ t place weight. ap (sum_by weight) (sym (append-nil (own_at place (map seat_pass c.args.seats.items)))),
 )

@@ -1,7 +1,9 @@
-use Rattle.std.proofs.Common.{true, map, subst, ◌∙◌, arith}
+use Rattle.std.proofs.Common.{◌≡◌, ◌≤◌, nat_le, true, map, sym, subst, ◌∙◌, arith}
 use Rattle.std.proofs.lemmas.List.{length-map}
 use Rattle.std.proofs.lemmas.Result.{IfOk-weaker}
-use Rattle.cqe_base.specs.Formula.{formula_of}
+use Rattle.std.proofs.lemmas.Bool.{leb-true}
+use Rattle.cqe_base.specs.Formula.{formula_of, nodes, is_sentence_of}
+use Rattle.cqe_base.specs.Outcome.{outcome}
 use Rattle.cqe_base.specs.Entailment.{entails, IsCountermodel}
 use Rattle.cqe_base.specs.History.{profile_of, answered_query_of, log}
 use Rattle.cqe_base.specs.OtherWorlds.{guard_at}
@@ -10,8 +12,46 @@ use Rattle.entailment.specs.Views.{schema_of, log_of}
 use Rattle.entailment.specs.Verdicts.{verdict_of_probe}
 use Rattle.two_worlds.specs.Others.{HidesSecret}
 use Rattle.two_worlds.specs.OtherWorld.{world_in}
-use Rattle.two_worlds.proofs.HiddenSecrets.{unknown, hidden, of_found, one-for-lies}
+use Rattle.two_worlds.proofs.HiddenSecrets.{unknown, guard_passes, hidden, of_found, one-for-lies}
 use Rattle.two_worlds.proofs.worlds.other_world.Goals as goal
+
+pub countermodel-requires-clause-sentence : goal.countermodel-requires-clause-sentence
+countermodel-requires-clause-sentence c =
+    let user = profile_of c.args.user.now in
+    let fits = c.law_limits.ensures.probes c.args.schema.now user c.requires.limits in
+    (λ k. is_sentence_of (c.in_ok-view.ensures.schema k) (c.in_ok-goal.ensures k))
+    ∙ guard_passes c.args.schema.now user (map answered_query_of c.args.entries.now) c.args.secret
+    (omega (
+      arith,
+      length-map c.args.user.now.secrets.items formula_of,
+      c.args.user.now.secrets.ok.0,
+      c.requires.secret,
+    )) (is_sentence_of c.args.schema.now) fits.guarded_sentences
+
+pub countermodel-requires-clause-goal_nodes : goal.countermodel-requires-clause-goal_nodes
+countermodel-requires-clause-goal_nodes c =
+    let user = profile_of c.args.user.now in
+    let fits = c.law_limits.ensures.probes c.args.schema.now user c.requires.limits in
+    let same : nodes (schema_of c.in_ok-view.view) (formula_of c.in_ok-goal.goal) ≡ nodes c.args.schema.now (guard_at user c.args.secret) =
+    λ k. nodes (c.in_ok-view.ensures.schema k) (c.in_ok-goal.ensures k) in
+    subst (λ n. n ≤ 40000) (sym same) (leb-true _ 40000
+    (guard_passes c.args.schema.now user (map answered_query_of c.args.entries.now) c.args.secret
+    (omega (
+      arith,
+      length-map c.args.user.now.secrets.items formula_of,
+      c.args.user.now.secrets.ok.0,
+      c.requires.secret,
+    )) (λ goal. nat_le (nodes c.args.schema.now goal) 40000) fits.guarded_nodes))
+
+pub returns-clause-spent : goal.returns-clause-spent
+returns-clause-spent c =
+    let user = profile_of c.args.user.now in
+    let same : outcome (schema_of c.in_ok-view.view) (log_of c.in_ok-view.view) (formula_of c.in_ok-goal.goal, true) admission_budget
+    ≡ outcome c.args.schema.now (log user (map answered_query_of c.args.entries.now)) (guard_at user c.args.secret, true) admission_budget =
+    λ k. outcome (c.in_ok-view.ensures.schema k) (c.in_ok-view.ensures.log k) (c.in_ok-goal.ensures k, true) admission_budget in
+    IfOk-weaker c.countermodel.result _ _
+    (λ found both. (λ none. sym same ∙ both.0 none, λ spent. both.1 (same ∙ spent)))
+    c.countermodel.ensures.spent
 
 pub countermodel-requires-clause-unknown : goal.countermodel-requires-clause-unknown
 countermodel-requires-clause-unknown c =

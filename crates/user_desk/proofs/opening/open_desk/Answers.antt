@@ -1,4 +1,4 @@
-use Rattle.std.proofs.Common.{ℕ, List, map, sym, subst, ◌∙◌}
+use Rattle.std.proofs.Common.{ℕ, List, map, sym, ap, subst, ◌∙◌}
 use Rattle.cqe_base.specs.History.{profile_of}
 use Rattle.log_journal.specs.Opening.{header_bytes, recorded, IsRefused}
 use Rattle.log_journal.specs.Records.{IsJournal}
@@ -9,6 +9,7 @@ use Rattle.user_desk.proofs.Refusing.{standing_from}
 use Rattle.user_desk.proofs.Restarting.{restarts, opens_served}
 use Rattle.user_desk.proofs.Keeping.{legal_at, sizes_at, standing_sealed_by, kept_first, open_not_sealed}
 use Rattle.user_desk.proofs.Since.{since_first}
+use Rattle.user_desk.proofs.Sizes.{size_at_opening}
 use Rattle.user_desk.proofs.Taking.{count_of}
 use Rattle.user_desk.proofs.opening.open_desk.Goals as goal
 
@@ -46,6 +47,7 @@ invariant_of-result g c =
     record {
       kept = kept;
       still = λ count none. sym began;
+      size = λ told whole. size_at_opening (kept_history c.in-Ok-replay.log) _ _ (ap (λ d. g.D.Disk.reads d) began);
       since = since_first g.D.Disk.tells (λ i. g.D.Disk.image (stored_disk store) i) (λ i.
           g.D.Disk.image_since (stored_disk store) (g.D.Disk.moment (opened_disk store)) i) _ _ _ (header_bytes c.args.header.now) c.in-Ok-replay.standing _
           (kept_history c.in-Ok-replay.log) _ _ kept

@@ -1,5 +1,5 @@
 use Rattle.std.proofs.Common.{false}
 use Rattle.user_log.proofs.log.tell.Goals as goal
 
-pub add-requires-in-No-clause-room : goal.add-requires-in-No-clause-room
-add-requires-in-No-clause-room c = c.requires.room false
+pub push_reserved-requires-in-No-clause-nodes : goal.push_reserved-requires-in-No-clause-nodes
+push_reserved-requires-in-No-clause-nodes c = c.requires.nodes false

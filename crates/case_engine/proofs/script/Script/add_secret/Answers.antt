@@ -13,4 +13,4 @@ returns-then-not-keeps_limits-clause-refused c =
     (formula_of c.in_ok-sentence.sentence) c.args.self.now.sound (λ few. omega (arith, counted, few))
     (λ many. omega (arith, counted, many)) c.law_views_without_entries.ensures
     _ c.in_ok-sentence.ensures.read (grind (arith, common_steps, summed, counted, c.saturating_add.ensures))
-    (grind (arith, common_steps, c.keeps_limits.ensures, c.len.ensures, c.if-not-keeps_limits.true))
+    (grind (arith, common_steps, c.keeps_limits.ensures, c.secret_count.ensures.count, c.if-not-keeps_limits.true))

@@ -17,7 +17,9 @@ pub returns-clause-looked : goal.returns-clause-looked
 returns-clause-looked c =
     let s = c.args.self.now in
     record {
-      watches = c.in_ok-enter.ensures.watches s.assignment.variables s.assignment.trail c.requires.looked.watches c.requires.below c.requires.watched;
+      watches =
+          c.in_ok-enter.ensures.watches s.assignment.variables s.assignment.trail c.requires.looked.watches c.requires.below c.requires.watched
+          c.requires.unit;
       same = subst (λ cs. HaveSameLiterals cs c.enter.new.self.sorted) (sym c.in_ok-push.ensures.pushed)
           (c.in_ok-enter.ensures.sorted s.clauses c.requires.looked.same);
       distinct = c.requires.looked.distinct;

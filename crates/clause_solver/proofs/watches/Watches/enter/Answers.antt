@@ -1,12 +1,12 @@
-use Rattle.std.proofs.Common.{◌≡◌, ◌<◌, ℕ, false, eqb, ◌&&◌, ◌||◌, List, [], ◌∷◌, ◌++◌, length, get_or, set, map, refl, sym, ap, ◌∙◌, subst, arith}
+use Rattle.std.proofs.Common.{◌≡◌, ◌<◌, ℕ, true, false, eqb, ◌⊎◌, List, [], ◌∷◌, ◌++◌, length, get_or, set, map, refl, sym, ap, ◌∙◌, subst, arith}
 use Rattle.std.proofs.lemmas.Bool.{eqb-true, eqb-false}
 use Rattle.std.proofs.lemmas.List.Elements.{recursion_from_All, All-from_recursion}
 use Rattle.std.proofs.lemmas.List.Sorted.{list_any-IsPermutation, length_permutation, All-permutation}
 use Rattle.cqe_base.specs.Literal.{Literal, Positive, variable_of, same_literal, has_literal, ClauseBelow}
-use Rattle.cqe_base.specs.Machine.{Assigned}
+use Rattle.cqe_base.specs.Machine.{Assigned, is_false}
 use Rattle.clause_solver.specs.declared.watches.Pair.{Pair}
 use Rattle.clause_store.specs.Codes.{code_of}
-use Rattle.clause_solver.specs.Watching.{IsWatched, HaveSameLiterals, has_number}
+use Rattle.clause_solver.specs.Watching.{IsWatched, HaveSameLiterals, AllFalseBut}
 use Rattle.clause_solver.specs.WatchesInside.{AreWatches, lists_of, units_of}
 use Rattle.clause_solver.proofs.Looks.{watch_of, same_watching, low_listed}
 use Rattle.clause_solver.proofs.Entering.{watched_same, entered_watched, entered_empty, same_more}
@@ -30,10 +30,16 @@ low c n h = recursion_from_All (λ l. variable_of l < n) (sorted c)
     (All-permutation (λ l. variable_of l < n) c.args.clause.now (sorted c) c.in_ok-sort_clause.ensures
     (All-from_recursion (λ l. variable_of l < n) c.args.clause.now h))
 
-watched : (c : In_ok-push) (t : List Assigned) → IsWatched t c.args.clause.now (pair c) (eqb (length c.args.clause.now) 1) (eqb (length c.args.clause.now) 0)
-    → IsWatched t (sorted c) (pair c) (eqb (length (sorted c)) 1) (eqb (length (sorted c)) 0)
-watched c t w = subst (λ m. IsWatched t (sorted c) (pair c) (eqb m 1) (eqb m 0)) (same_size c)
+watched : (c : In_ok-push) (t : List Assigned) → IsWatched t c.args.clause.now (pair c) c.args.unit (eqb (length c.args.clause.now) 0)
+    → IsWatched t (sorted c) (pair c) c.args.unit (eqb (length (sorted c)) 0)
+watched c t w = subst (λ m. IsWatched t (sorted c) (pair c) c.args.unit (eqb m 0)) (same_size c)
     (watched_same t c.args.clause.now (sorted c) (same_has c) (same_size c) (pair c) _ _ w)
+
+unit : (c : In_ok-push) (t : List Assigned) → (c.args.unit ≡ true → AllFalseBut t c.args.first c.args.clause.now)
+    → c.args.unit ≡ true → AllFalseBut t c.args.first (sorted c)
+unit c t h u = recursion_from_All (λ m. (m ≡ c.args.first) ⊎ (is_false t m ≡ true)) (sorted c)
+    (All-permutation (λ m. (m ≡ c.args.first) ⊎ (is_false t m ≡ true)) c.args.clause.now (sorted c) c.in_ok-sort_clause.ensures
+    (All-from_recursion (λ m. (m ≡ c.args.first) ⊎ (is_false t m ≡ true)) c.args.clause.now (h u)))
 
 number : (c : In_ok-push) (n : ℕ) (t : List Assigned) → AreWatches n t c.args.self.now → c.len-number.result ≡ length c.args.self.now.sorted
 number c n t h = c.len-number.ensures ∙ c.args.self.now.pairs.ok.0 ∙ h.pairs_room
@@ -49,10 +55,10 @@ returns-then-is_empty-clause-watches c =
     let d = (goal.at.returns-then-is_empty-clause-watches c).In_ok-push in
     let s = c.args.self.now in
     let none : length c.args.clause.now ≡ 0 = eqb-true (length c.args.clause.now) 0 (sym c.is_empty.ensures ∙ c.if-is_empty.true) in
-    λ n t h b w.
+    λ n t h b w u.
     same_watching n t (Positive 0) [] _ _ _ _ _ _ _ _ _ _ (pushed d) refl c.in_ok-push.ensures.items refl c.lower.ensures
     (entered_empty n t s.sorted (lists_of s) s.pairs.items (units_of s) s.falsified (Positive 0) h (sorted d) (pair d) (low d n b) c.len-number.result
-    (number d n t h) (size_zero d none) (w.empty none).0 (watched d t w))
+    (number d n t h) (size_zero d none) (w.empty none).0)
 
 pub returns-then-is_empty-clause-sorted : goal.returns-then-is_empty-clause-sorted
 returns-then-is_empty-clause-sorted c =
@@ -72,24 +78,24 @@ returns-clause-watches c =
     let k2 = code_of c.args.second in
     let v1 = watch_of c.len-number.result c.args.second in
     let v2 = watch_of c.len-number.result c.args.first in
-    let u = c.in_ok-add_unit.ensures in
+    let m = c.in_ok-add_unit.ensures in
     let w1 = c.in_ok-watch.ensures in
     let w2 = c.in_ok-watch-2.ensures in
-    λ n t h b w.
+    λ n t h b w u.
     same_watching n t (Positive 0) [] _ _ _ _ _ _ (units_of c.add_unit.new.self) _ _ _
-    (w2.sorted ∙ w1.sorted ∙ u.sorted ∙ pushed d)
+    (w2.sorted ∙ w1.sorted ∙ m.sorted ∙ pushed d)
     (w2.lists ∙ ap (λ ls. set ls k2 (get_or ls k2 [] ++ v2 ∷ [])) (w1.lists
-    ∙ ap (λ ls. set (map (λ v. v.items) ls.items) k1 (get_or (map (λ v. v.items) ls.items) k1 [] ++ v1 ∷ [])) u.lists))
-    (ap (λ v. v.items) (w2.pairs ∙ w1.pairs ∙ u.pairs) ∙ c.in_ok-push.ensures.items)
+    ∙ ap (λ ls. set (map (λ v. v.items) ls.items) k1 (get_or (map (λ v. v.items) ls.items) k1 [] ++ v1 ∷ [])) m.lists))
+    (ap (λ v. v.items) (w2.pairs ∙ w1.pairs ∙ m.pairs) ∙ c.in_ok-push.ensures.items)
     (w2.units ∙ w1.units)
-    (w2.falsified ∙ w1.falsified ∙ u.falsified)
+    (w2.falsified ∙ w1.falsified ∙ m.falsified)
     (entered_watched n t s.sorted (lists_of s) s.pairs.items (units_of s) s.falsified (Positive 0) h (sorted d) (pair d) (low d n b) c.len-number.result
     (number d n t h)
     (let e = same_size d in omega arith)
     (low_listed s k1 (c.requires.first pos)) (low_listed s k2 (c.requires.second pos))
     (units_of c.add_unit.new.self)
-    (λ i. u.units i ∙ ap (λ m. has_number (units_of s) i || (eqb m 1 && eqb c.len-number.result i)) (same_size d))
-    (watched d t w))
+    c.args.unit m.units
+    (watched d t w) (unit d t u))
 
 pub returns-clause-sorted : goal.returns-clause-sorted
 returns-clause-sorted c =

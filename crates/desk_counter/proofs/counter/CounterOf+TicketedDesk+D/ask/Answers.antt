@@ -3,7 +3,7 @@ use Rattle.cqe_base.specs.Censor.{IsLegal}
 use Rattle.cqe_base.specs.Limits.{KeepsSizes}
 use Rattle.turnstile.specs.declared.view.View.{View}
 use Rattle.turnstile.specs.Passes.{view_of, seen}
-use Rattle.desk_counter.specs.declared.item.Item.{Item}
+use Rattle.desk_counter.specs.declared.item.TurnItem.{TurnItem}
 use Rattle.desk_counter.specs.declared.item.Fixed.{Fixed}
 use Rattle.std.specs.Prelude.{◌↔◌, IsTrue}
 use Rattle.user_log.specs.declared.reply.Reply.TheVariants.{Broken}
@@ -49,7 +49,7 @@ returns-clause-legal g c =
     let kept : Fixed g.row.D.Denot = kept_by c.args.self.now in
     let value = c.enter-turn.result.value in
     let same = c.settle-reply.ensures.fixed ∙ one_fixed _ (fixed_in value) kept c.enter-turn.ensures.fixed c.requires.pass.kept in
-    let saw : seen c.leave.new.pass ≡ pairs_in c.settle-reply.new.self = ap (λ (v : View Item (Fixed g.row.D.Denot)). v.seen) c.leave.ensures.view in
+    let saw : seen c.leave.new.pass ≡ pairs_in c.settle-reply.new.self = ap (λ (v : View TurnItem (Fixed g.row.D.Denot)). v.seen) c.leave.ensures.view in
     subst (λ ps. IsLegal kept.schema kept.world kept.user (history_of ps)) (sym saw)
     (subst (λ (f : Fixed g.row.D.Denot). IsLegal f.schema f.world f.user (history_of (pairs_in c.settle-reply.new.self))) same c.known.ensures.legal)
 
@@ -58,16 +58,16 @@ returns-clause-sizes g c =
     let kept : Fixed g.row.D.Denot = kept_by c.args.self.now in
     let value = c.enter-turn.result.value in
     let same = c.settle-reply.ensures.fixed ∙ one_fixed _ (fixed_in value) kept c.enter-turn.ensures.fixed c.requires.pass.kept in
-    let saw : seen c.leave.new.pass ≡ pairs_in c.settle-reply.new.self = ap (λ (v : View Item (Fixed g.row.D.Denot)). v.seen) c.leave.ensures.view in
+    let saw : seen c.leave.new.pass ≡ pairs_in c.settle-reply.new.self = ap (λ (v : View TurnItem (Fixed g.row.D.Denot)). v.seen) c.leave.ensures.view in
     subst (λ ps. KeepsSizes kept.schema kept.user (history_of ps)) (sym saw)
     (subst (λ (f : Fixed g.row.D.Denot). KeepsSizes f.schema f.user (history_of (pairs_in c.settle-reply.new.self))) same c.known.ensures.sizes)
 
 pub returns-clause-last : goal.returns-clause-last
 returns-clause-last g c =
-    let saw : seen c.leave.new.pass ≡ pairs_in c.settle-reply.new.self = ap (λ (v : View Item (Fixed g.row.D.Denot)). v.seen) c.leave.ensures.view in
+    let saw : seen c.leave.new.pass ≡ pairs_in c.settle-reply.new.self = ap (λ (v : View TurnItem (Fixed g.row.D.Denot)). v.seen) c.leave.ensures.view in
     subst (λ ps. BrokeIsLast ps) (sym saw) c.known.ensures.last
 
 pub returns-clause-broken : goal.returns-clause-broken
 returns-clause-broken g c =
-    let saw : seen c.leave.new.pass ≡ pairs_in c.settle-reply.new.self = ap (λ (v : View Item (Fixed g.row.D.Denot)). v.seen) c.leave.ensures.view in
+    let saw : seen c.leave.new.pass ≡ pairs_in c.settle-reply.new.self = ap (λ (v : View TurnItem (Fixed g.row.D.Denot)). v.seen) c.leave.ensures.view in
     subst (λ ps. (c.settle-reply.result ≡ Broken) ↔ IsTrue (has_broke ps)) (sym saw) c.settle-reply.ensures.broken

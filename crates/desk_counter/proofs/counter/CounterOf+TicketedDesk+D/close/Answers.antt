@@ -13,7 +13,8 @@ use Rattle.desk_counter.specs.Counters.{kept_by}
 use Rattle.desk_counter.proofs.Asking.{one_fixed}
 use Rattle.desk_counter.proofs.Pairs.{history_all}
 use Rattle.desk_counter.proofs.DeskSettles.{history_in, flying_in}
-use Rattle.desk_counter.proofs.Closing.{closed_legal, closed_sizes, closed_whole, closed_images, closed_since, closed_cause, closed_idle, closed_still}
+use Rattle.desk_counter.proofs.Closing.{closed_legal, closed_sizes, closed_whole, closed_images, closed_since, closed_cause, closed_size, closed_idle}
+use Rattle.desk_counter.proofs.Closing.{closed_still}
 use Rattle.desk_counter.proofs.counter.CounterOf+TicketedDesk+D.close.Goals as goal
 
 pub returns-clause-history : goal.returns-clause-history
@@ -60,6 +61,11 @@ pub returns-clause-cause : goal.returns-clause-cause
 returns-clause-cause g c =
     closed_cause c.into_desk-desk.result (kept_by c.args.self) (seen c.args.pass) (returns-clause-kept g c) (returns-clause-history g c)
     (returns-clause-in_flight g c) g.D.Disk.faults c.known.ensures.cause
+
+pub returns-clause-size : goal.returns-clause-size
+returns-clause-size g c =
+    closed_size c.into_desk-desk.result (kept_by c.args.self) (seen c.args.pass) (returns-clause-kept g c) (returns-clause-history g c)
+    (returns-clause-in_flight g c) g.D.Disk.tells (λ d. g.D.Disk.reads d) c.known.ensures.size
 
 pub returns-clause-since : goal.returns-clause-since
 returns-clause-since g c =

@@ -2,7 +2,7 @@ use Rattle.std.proofs.Common.{ap, ◌∙◌}
 use Rattle.turnstile.specs.declared.view.View.{View}
 use Rattle.user_desk.specs.declared.desk.Desk.{Desk}
 use Rattle.user_desk.specs.Desks.{desk_history, entry_in_flight}
-use Rattle.desk_counter.specs.declared.item.Item.{Item}
+use Rattle.desk_counter.specs.declared.item.TurnItem.{TurnItem}
 use Rattle.desk_counter.specs.declared.item.Fixed.{Fixed}
 use Rattle.desk_counter.specs.declared.ticketed_desk.TicketedDesk.{TicketedDesk}
 use Rattle.desk_counter.specs.Items.{history_of, flying}
@@ -17,10 +17,10 @@ returns-in-Ok-clause-first g c =
 
 pub returns-in-Ok-clause-history : goal.returns-in-Ok-clause-history
 returns-in-Ok-clause-history g c =
-    ap (λ (v : View Item (Fixed g.row.D.Denot)). history_of v.seen) c.in-Ok.ensures.view ∙ history_in c.in_ok-value.value
+    ap (λ (v : View TurnItem (Fixed g.row.D.Denot)). history_of v.seen) c.in-Ok.ensures.view ∙ history_in c.in_ok-value.value
     ∙ ap (λ (d : Desk g.row.D.Denot g.D.Disk). desk_history d) c.in_ok-value.ensures.desk
 
 pub returns-in-Ok-clause-in_flight : goal.returns-in-Ok-clause-in_flight
 returns-in-Ok-clause-in_flight g c =
-    ap (λ (v : View Item (Fixed g.row.D.Denot)). flying v.seen) c.in-Ok.ensures.view ∙ flying_in c.in_ok-value.value
+    ap (λ (v : View TurnItem (Fixed g.row.D.Denot)). flying v.seen) c.in-Ok.ensures.view ∙ flying_in c.in_ok-value.value
     ∙ ap (λ (d : Desk g.row.D.Denot g.D.Disk). entry_in_flight d) c.in_ok-value.ensures.desk

@@ -5,6 +5,7 @@ use Rattle.outside.specs.Faults.{Rose}
 use Rattle.cqe_base.specs.Formula.{formula_of}
 use Rattle.cqe_base.specs.History.{AnsweredQuery, History}
 use Rattle.log_journal.specs.Records.{Recorded, KeepsOrAdds}
+use Rattle.log_journal.specs.Opening.{header_bytes}
 use Rattle.user_log.specs.Prepared.{prepared_entry}
 use Rattle.user_log.specs.UserLogs.{kept_schema, kept_world, kept_user, kept_history}
 use Rattle.user_desk.specs.Standings.{is_sealed, standing_of}
@@ -13,6 +14,7 @@ use Rattle.user_desk.specs.Lives.{shown}
 use Rattle.user_desk.specs.Desks.{state_of}
 use Rattle.user_desk.proofs.Asking.{failure_settles}
 use Rattle.user_desk.proofs.Recording.{still_holds, record_of_answer, legal_back, sizes_back, growing, kept_added, kept_flying, moment_holds}
+use Rattle.user_desk.proofs.Sizes.{size_added}
 use Rattle.user_desk.proofs.Since.{split_moments, since_added, since_flying, some_not_none}
 use Rattle.user_desk.proofs.desk.Desk.record.Goals as goal
 
@@ -46,6 +48,13 @@ invariant_of-self-in-Ok-append g c =
     ∙ ap (λ e. kept_history desk.log ++ e ∷ []) c.in-Ok.ensures.entry in
     record {
       still = λ count none. absurd (omega (arith, count, desk.since.begins, ap length grown, length-append (kept_history desk.log) (entry ∷ [])));
+      size = λ told whole.
+          size_added (kept_schema desk.log) (header_bytes desk.header) (kept_history desk.log) _ entry next (g.D.Disk.reads (opened_disk desk.store)) _
+          (g.D.Disk.reads (stored_disk desk.store)) bytes
+          (g.D.Disk.reads (stored_disk c.append.new.self)) is (grows.stands told) grown
+          (ap (λ d. g.D.Disk.reads d) (c.append.ensures.opened ∙ c.reserve.ensures.opened)) (ap (λ d. g.D.Disk.reads d) c.reserve.ensures.disk)
+          (c.in-Ok-append.ensures.added told _ (g.met.D.Disk.read_is_image (stored_disk c.append.new.self) told))
+          (desk.size told (ap (λ (o : Option AnsweredQuery). is_some o) c.requires.whole));
       kept = kept_added _ _ _ _ _ _ _ _ _ entry next bytes grows _ _ _ _ _ _ _ (again.schema ∙ same.schema) (again.world ∙ same.world)
           (again.user ∙ same.user) grown
           c.append.ensures.journal c.in-Ok-append.ensures.whole c.in-Ok-append.ensures.added;
@@ -78,6 +87,7 @@ invariant_of-self-in-Err g c =
     sizes read is in
     record {
       still = λ count none. absurd (some_not_none none);
+      size = λ told whole. absurd cc;
       kept = kept_flying _ _ _ _ _ _ _ _ _ entry next bytes grows _ _ _ _ _ _ _ _ same.schema same.world same.user c.in-Ok.ensures.unchanged
           (c.into_entry.ensures ∙ c.in-Ok.ensures.entry)
           c.append.ensures.journal c.in-Err.ensures.failed c.in-Err.ensures.either;

@@ -6,6 +6,7 @@ use Rattle.entailment.specs.Logs.{log_nodes}
 use Rattle.entailment.specs.Views.{log_of}
 use Rattle.user_log.specs.UserLogs.{kept_schema, kept_world, kept_user, kept_history}
 use Rattle.user_log.proofs.Keeping.{decided}
+use Rattle.user_log.proofs.SameLogs.{kept_with, same_log}
 use Rattle.user_log.proofs.Costs.{mark_by_cost}
 use Rattle.user_log.proofs.log.UserLog.mark.Goals as goal
 
@@ -18,6 +19,15 @@ examine-requires-clause-all_nodes c =
     (map answered_query_of c.args.self.now.entries.items) query kept.limits c.requires.small in
     subst (λ s. log_nodes s (log_of c.args.self.now.view) + nodes s query ≤ 60000) (sym kept.schema_is)
     (subst (λ told. log_nodes schema told + nodes schema query ≤ 60000) (sym kept.log_is) (fits.log_nodes true))
+
+pub invariant_of-self : goal.invariant_of-self
+invariant_of-self c = record { kept = kept_with c.args.self.now c.examine.new.view c.examine.ensures.same }
+
+pub returns-in_err-findings-clause-same : goal.returns-in_err-findings-clause-same
+returns-in_err-findings-clause-same c = same_log c.args.self.now c.examine.new.view c.examine.ensures.same _
+
+pub returns-clause-same : goal.returns-clause-same
+returns-clause-same c = same_log c.args.self.now c.examine.new.view c.examine.ensures.same _
 
 pub returns-clause-rule : goal.returns-clause-rule
 returns-clause-rule c =

@@ -1,0 +1,40 @@
+//! What a command does: a case, the run of a workload, or something over files.
+ghost use Rattle.std.specs.Prelude.{◌≡◌};
+ghost use Rattle.command_words.specs.Readings.{reading_in};
+ghost use Rattle.cqe_top.specs.Tasks.{reading_of_part};
+
+use crate::over_files::Task;
+use command_words::{Command, Files, SelfrunWords};
+use serve_engine::Listening;
+
+/// What a command does.
+#[derive(Clone, Copy)]
+pub(crate) enum Part<'w> {
+    /// A case is answered.
+    Case,
+    /// A workload is made and run.
+    Selfrun(SelfrunWords),
+    /// Something is done over the files of these names.
+    OverFiles(Files<'w>, Task<'w>),
+}
+
+/// What this command does.
+pub(crate) fn part_of<'w>(command: Command<'w>) -> Part<'w>
+    ensures { reading_of_part result ≡ reading_in command }
+{
+    match command {
+        Command::Case => Part::Case,
+        Command::Init(files) => Part::OverFiles(files, Task::Init),
+        Command::Batch(files) => Part::OverFiles(files, Task::Batch),
+        Command::Audit(words) => Part::OverFiles(words.files, Task::Audit(words.user, words.json)),
+        Command::Selfrun(words) => Part::Selfrun(words),
+        Command::Serve(words) => {
+            let listening = Listening {
+                address: words.listen,
+                workers: words.workers,
+                sessions: words.sessions,
+            };
+            Part::OverFiles(words.files, Task::Serve(listening))
+        }
+    }
+}

@@ -1,0 +1,17 @@
+-- A view may go to another thread.
+use denote.Ref.{NamedLft}
+use denote.Param.Send.{IsSend, sendable}
+use Rattle.std.proofs.Crossing.{crosses}
+use Rattle.cqe_base.specs.contracts.sentence.Sentence as Sentence
+use Rattle.cqe_base.proofs.sentence.Sentence.TheLaws.TheKnot as knot
+use Rattle.cqe_base.proofs.schema.Schema.TheSendSync as schema
+use Rattle.clause_form.proofs.former.Former.TheSendSync as former
+use Rattle.clause_solver.proofs.kept_search.KeptSearch.TheSendSync as kept_search
+use Rattle.entailment.specs.contracts.view.View as View
+
+-- apart, since a `search` that goes down through a sentence and on runs out of steps
+pub sentence_send : IsSend (Sentence.the_field).row
+sentence_send = search (sendable, crosses, knot.crosses) depth 20
+
+pub view_send : (w : NamedLft) → IsSend (View.the_row w)
+view_send w = search (sendable, crosses, sentence_send, schema.the_sync, former.the_send, kept_search.the_send) depth 60
