@@ -11,6 +11,7 @@ ghost use Rattle.audit_engine.specs.declared.end.AuditEnd.{AuditEnd};
 
 use crate::end::{AuditEnd, end_of};
 use audit_print::{AuditError, audit};
+use censors::admit;
 use cqe_base::schema::Schema;
 use cqe_base::user::User;
 use desk_crew::Registry;
@@ -41,11 +42,15 @@ pub(crate) fn audit_disk<'w, D: Disk, K: Sink>(
     ensures shelf { result.1 ≡ AuditEnd.ShelfFault → ⊥ }
 {
     law_openings();
+    let Ok(admission) = admit(alloc, registry.schema, registry.world, user) else {
+        return (disk, AuditEnd::Memory);
+    };
     match open_desk(
         alloc,
         registry.schema,
         registry.world,
         user,
+        admission,
         registry.header,
         disk,
     ) {

@@ -19,6 +19,7 @@ use Rattle.desk_crew.specs.Crew.{seat_user, seat_journal, seat_disk, IsServed, A
 use Rattle.desk_crew.specs.Shelved.{journals, AreLater}
 use Rattle.outside.specs.Streams.{AppendsPart}
 use Rattle.batch_engine.specs.Steps.{Carries, Runs, nothing, more, RunsAll, RunsSome, RunsTo}
+use Rattle.desk_crew.proofs.Asking.{still_served}
 use Rattle.desk_crew.specs.Seats.{DeskSeat}
 use Rattle.batch_engine.specs.declared.batch.BatchItem as memory
 
@@ -79,15 +80,7 @@ module _ (schema : DatabaseSchema) (world : FactSet) (header : List ℕ) {D : Ty
       record {
         names = ap (λ j. j ∷ journals others) answer.journal_is;
         limits = λ l. (limit_at first next answer.user_is l.0, l.1);
-        served = λ s. (
-          record {
-            schema_is = ap (λ (f : Fixed D). f.schema) kept ∙ s.0.schema_is;
-            world_is = ap (λ (f : Fixed D). f.world) kept ∙ s.0.world_is;
-            header_is = ap (λ (f : Fixed D). f.header) kept ∙ s.0.header_is;
-            user_is = ap (λ (f : Fixed D). f.user) kept ∙ s.0.user_is ∙ ap profile_of (sym answer.user_is);
-          },
-          s.1,
-        );
+        served = λ s. (still_served schema world header first next text _ answer s.0, s.1);
         later = λ count l. (
           later_at count first next answer.journal_is
               (subst (λ d. faults (seat_disk first) ≤ faults d) (sym (ap (λ (f : Fixed D). f.disk) kept)) (omega arith)) l.0,

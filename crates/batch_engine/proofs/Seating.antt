@@ -30,6 +30,7 @@ use Rattle.batch_engine.specs.Lives.{is_ask}
 use Rattle.desk_crew.specs.Shelved.{IsSeatOf, AreSeatsOf}
 use Rattle.desk_crew.specs.Crew.{named_user, first_refusal, seat_user, seat_name, seat_journal, seat_kept, seat_standing, seat_history, seat_state, seat_disk}
 use Rattle.desk_crew.specs.Crew.{IsSeatIn, IsFresh, is_named, IsClosed, IsServed, IsToldAt, IsReopened, AreReopened, Tells, nobody, here, further}
+use Rattle.desk_crew.proofs.Asking.{still_served}
 use Rattle.desk_crew.specs.Seats.{DeskSeat}
 use Rattle.batch_engine.proofs.Courses.{any-push, Course, course_on, stays_on, IsRunning, IsLiving, live, closing, Asked, ask_step, Restarted, IsExclusive}
 use Rattle.batch_engine.proofs.Courses.{open_step}
@@ -122,12 +123,7 @@ module _ (schema : DatabaseSchema) (world : FactSet) (header directory : List �
           name_is = ap (λ (u : User). string_bytes u.name) answer.user_is ∙ seated.name_is;
           profile_is = ap profile_of answer.user_is ∙ profile;
           journal_is = answer.journal_is ∙ seated.journal_is;
-          served = record {
-            schema_is = ap (λ (f : Fixed D). f.schema) kept ∙ seated.served.schema_is;
-            world_is = ap (λ (f : Fixed D). f.world) kept ∙ seated.served.world_is;
-            header_is = ap (λ (f : Fixed D). f.header) kept ∙ seated.served.header_is;
-            user_is = ap (λ (f : Fixed D). f.user) kept ∙ seated.served.user_is ∙ ap profile_of (sym answer.user_is);
-          };
+          served = still_served schema world header old new text told answer seated.served;
           living = subst (λ r.
               IsLiving schema world user.profile header (bytes user.name) (before user.name) (images user.name) user.opened
               (events ++ ask text asked.ending ∷ []) (seat_standing new) (seat_state new) (image (seat_disk new)) (reads (seat_disk new))

@@ -12,15 +12,18 @@ use Rattle.cqe_base.proofs.Lists.{all_at}
 use Rattle.desk_counter.specs.Lives.{IsAskOf}
 use Rattle.desk_crew.specs.Crew.{seat_user, seat_journal, seat_kept, IsSeatIn, is_named, IsServed, IsToldAt, Tells, nobody, here, further}
 use Rattle.desk_crew.specs.Seats.{DeskSeat}
+use Rattle.desk_counter.specs.declared.item.Fixed.{Fixed}
+use Rattle.censors.specs.Admitting.{admission_of}
 
 module _ {D : Type 0} {g h : _} where
   -- what was settled at a desk was told at its seat
-  pub told_of : (old new : DeskSeat D g h) (text : Text) (reply : Run.Reply) → seat_user new ≡ seat_user old → seat_journal new ≡ seat_journal old
-      → new.refusal ≡ old.refusal → seat_kept new ≡ seat_kept old → (seat_kept old).user ≡ profile_of (seat_user old)
+  pub told_of : (old new : DeskSeat D g h) (text : Text) (reply : Run.Reply) → seat_user new ≡ seat_user old
+      → new.admission ≡ old.admission → seat_journal new ≡ seat_journal old → new.refusal ≡ old.refusal → seat_kept new ≡ seat_kept old → (seat_kept old).user ≡ profile_of (seat_user old)
       → ((state : UserState) → IsSeatIn old state → IsAskOf (seat_kept old).schema (seat_kept old).world (seat_kept old).user (IsSeatIn new) state text reply)
       → IsToldAt (seat_kept old).schema (seat_kept old).world text reply old new
-  told_of old new text reply user_is journal_is refusal_is kept_is is settled = record {
+  told_of old new text reply user_is admission_is journal_is refusal_is kept_is is settled = record {
     user_is = user_is;
+    admission_is = admission_is;
     journal_is = journal_is;
     refusal_is = refusal_is;
     kept_is = kept_is;
@@ -33,6 +36,17 @@ module _ {D : Type 0} {g h : _} where
       → IsToldAt (seat_kept old).schema (seat_kept old).world text reply old new → IsToldAt schema world text reply old new
   told_served schema world header old new text reply served is =
       subst (λ s. IsToldAt s world text reply old new) served.schema_is (subst (λ w. IsToldAt (seat_kept old).schema w text reply old new) served.world_is is)
+
+  -- and a seat that is told a reply is served as before
+  pub still_served : (schema : DatabaseSchema) (world : FactSet) (header : List ℕ) (old new : DeskSeat D g h) (text : Text) (reply : Run.Reply)
+      → IsToldAt schema world text reply old new → IsServed schema world header old → IsServed schema world header new
+  still_served schema world header old new text reply told served = record {
+    schema_is = ap (λ (f : Fixed D). f.schema) told.kept_is ∙ served.schema_is;
+    world_is = ap (λ (f : Fixed D). f.world) told.kept_is ∙ served.world_is;
+    header_is = ap (λ (f : Fixed D). f.header) told.kept_is ∙ served.header_is;
+    user_is = ap (λ (f : Fixed D). f.user) told.kept_is ∙ served.user_is ∙ ap profile_of (sym told.user_is);
+    admission_is = told.admission_is ∙ served.admission_is ∙ ap (λ u. admission_of schema world (profile_of u)) (sym told.user_is);
+  }
 
 -- ---- the user of a name
 

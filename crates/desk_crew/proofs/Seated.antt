@@ -21,6 +21,7 @@ use Rattle.desk_counter.specs.Items.{flying}
 use Rattle.turnstile.specs.Passes.{mine, turns}
 use Rattle.desk_counter.specs.Counters.{first_history}
 use Rattle.desk_counter.specs.Sole.{counter_in, pass_in, pairs_of_sole}
+use Rattle.censors.specs.Admitting.{admission_of}
 use Rattle.desk_crew.specs.Crew.{first_refusal, seat_user, seat_kept, seat_standing, seat_history, seat_state, seat_disk, IsOpenedFrom}
 use Rattle.desk_crew.specs.Seats.{DeskSeat}
 
@@ -40,7 +41,7 @@ module _ {D : Type 0} {g h : _} (schema : DatabaseSchema) (world : FactSet) (hea
 
   -- it is a seat that was opened from its disk
   pub opened_seat : (disk : D) (before : Option DeskError) → desk_schema desk ≡ schema → desk_world desk ≡ world → desk_user desk ≡ profile_of (seat_user seat)
-      → desk_header desk ≡ header
+      → desk_header desk ≡ header → seat.admission ≡ admission_of schema world (profile_of (seat_user seat))
       → IsStanding schema world (profile_of (seat_user seat)) told header (reads disk) (desk_history desk) (faults disk) (faults (desk_disk desk))
       (desk_standing desk)
       → (told → (state : UserState) → Holds schema world (profile_of (seat_user seat)) header state (reads disk)
@@ -51,7 +52,7 @@ module _ {D : Type 0} {g h : _} (schema : DatabaseSchema) (world : FactSet) (hea
       → Holds (desk_schema desk) (desk_world desk) (desk_user desk) (desk_header desk) (state_of desk) c)
       → IsLegal (desk_schema desk) (desk_world desk) (desk_user desk) (desk_history desk)
       → IsOpenedFrom schema world header told reads image faults disk before seat
-  opened_seat disk before schema_is world_is user_is header_is standing restarted whole opening opened refusal images legal =
+  opened_seat disk before schema_is world_is user_is header_is admission_is standing restarted whole opening opened refusal images legal =
       let disk_is : seat_disk seat ≡ desk_disk desk = ap (λ (f : Fixed D). f.disk) kept ∙ opened in
       record {
         served = record {
@@ -59,6 +60,7 @@ module _ {D : Type 0} {g h : _} (schema : DatabaseSchema) (world : FactSet) (hea
           world_is = ap (λ (f : Fixed D). f.world) kept ∙ world_is;
           header_is = ap (λ (f : Fixed D). f.header) kept ∙ header_is;
           user_is = ap (λ (f : Fixed D). f.user) kept ∙ user_is;
+          admission_is = admission_is;
         };
         standing = subst (λ (s : Standing).
             IsStanding schema world (profile_of (seat_user seat)) told header (reads disk) (seat_history seat) (faults disk) (faults (seat_disk seat)) s)

@@ -8,6 +8,7 @@ use Rattle.cqe_base.specs.History.{History, profile_of}
 use Rattle.cqe_base.specs.Run.{Reply, UserState}
 use Rattle.cqe_base.specs.Transcript.{NamedUser}
 use Rattle.cqe_base.specs.declared.user.User.{User}
+use Rattle.censors.specs.Admitting.{admission_of}
 use Rattle.user_desk.specs.Causes.{IsStanding}
 use Rattle.cqe_base.specs.Censor.{IsLegal}
 use Rattle.user_desk.specs.Standings.{is_open, is_sealed}
@@ -147,6 +148,7 @@ module _ (schema : DatabaseSchema) (world : FactSet) where
   pub record IsToldAt {D : Type 0} {g h : _} (text : Text) (told_reply : Reply)
       (old new : DeskSeat D g h) : Type 0 where
     pub user_is : seat_user new ≡ seat_user old
+    pub admission_is : new.admission ≡ old.admission
     pub journal_is : seat_journal new ≡ seat_journal old
     pub refusal_is : new.refusal ≡ old.refusal
     pub kept_is : seat_kept new ≡ seat_kept old
@@ -167,12 +169,14 @@ module _ (schema : DatabaseSchema) (world : FactSet) where
         → Tells name text (seat ∷ others) (seat ∷ after) told_reply
 
 module _ (schema : DatabaseSchema) (world : FactSet) (header : List ℕ) where
-  -- a seat's desk is of this schema, this world, this header, and of its user
+  -- a seat's desk is of this schema, this world, this header, and of its user, whose admission the
+  -- seat has
   pub record IsServed {D : Type 0} {g h : _} (seat : DeskSeat D g h) : Type 0 where
     pub schema_is : (seat_kept seat).schema ≡ schema
     pub world_is : (seat_kept seat).world ≡ world
     pub header_is : (seat_kept seat).header ≡ header
     pub user_is : (seat_kept seat).user ≡ profile_of (seat_user seat)
+    pub admission_is : seat.admission ≡ admission_of schema world (profile_of (seat_user seat))
 
   module _ {D : Type 0} (told : Type 0) (reads : D → List ℕ) (image : D → List ℕ → Type 0)
       (faults : D → ℕ) where

@@ -25,6 +25,7 @@ ghost use Rattle.desk_crew.specs.declared.crew.NotOpened.{NotOpened};
 
 use crate::registry::Registry;
 use crate::seat::{DeskSeat, close_desk, reopen, seat_at, settle_at};
+use censors::admit;
 use cqe_base::user::User;
 use log_journal::{journal_name, law_journals_differ};
 use outside::{Disk, Gate, Shelf, ShelfError};
@@ -89,6 +90,8 @@ pub fn reopen_all<'w, F: Shelf>(
 ) -> Option<Vec<DeskSeat<'w, F::D>>>
     requires limits { AllByRecursion (λ seat. KeepsLimits registry.now.schema.now
         (profile_of (seat_user seat))) seats.items }
+    requires served { AllByRecursion (IsServed registry.now.schema.now registry.now.world.now
+        (header_bytes registry.now.header.now)) seats.items }
     requires distinct { has_duplicate (journals seats.items) ≡ false }
     requires out { AllOut (journals seats.items) (F.is_out shelf.old) }
     requires later { AreLater F.D.faults (F.disk_faults shelf.old) seats.items }
@@ -174,6 +177,9 @@ fn open_seat<'w, F: Shelf>(
     ensures cause { IsErrOf result NotOpened.Shelf
         → Rose (F.faults shelf.old) (F.faults shelf.new) }
 {
+    let Ok(admission) = admit(alloc, registry.schema, registry.world, user) else {
+        return Err(NotOpened::Memory);
+    };
     let Ok(journal) = journal_name(alloc, registry.directory, user.name.as_str()) else {
         return Err(NotOpened::Memory);
     };
@@ -183,7 +189,7 @@ fn open_seat<'w, F: Shelf>(
         Err(ShelfError::Missing) => return Err(NotOpened::Shelf),
         Err(ShelfError::Failed) => return Err(NotOpened::Shelf),
     };
-    match seat_at(alloc, registry, user, journal, None, disk) {
+    match seat_at(alloc, registry, user, admission, journal, None, disk) {
         Ok(seat) => Ok(seat),
         Err(returned) => {
             let disk = returned.disk;

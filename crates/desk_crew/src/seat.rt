@@ -3,15 +3,17 @@
 ghost use Rattle.std.specs.Prelude.{◌≡◌, ◌≤◌, length, IfOk, string_bytes};
 ghost use Rattle.cqe_base.specs.History.{profile_of};
 ghost use Rattle.cqe_base.specs.Limits.{KeepsLimits};
+ghost use Rattle.censors.specs.Admitting.{admission_of};
 ghost use Rattle.log_journal.specs.Opening.{header_bytes};
 ghost use Rattle.user_log.specs.Replies.{reply_of};
 ghost use Rattle.desk_counter.specs.Items.{has_broke};
 ghost use Rattle.desk_counter.specs.Sole.{pairs_of_sole};
 ghost use Rattle.desk_crew.specs.Crew.{first_refusal, seat_user, seat_kept, seat_journal};
 ghost use Rattle.desk_crew.specs.Crew.{disk_seated, journal_seated, IsLeft, IsLeftBy, IsClosed};
-ghost use Rattle.desk_crew.specs.Crew.{IsToldAt, IsOpenedFrom, IsReopened};
+ghost use Rattle.desk_crew.specs.Crew.{IsServed, IsToldAt, IsOpenedFrom, IsReopened};
 
 use crate::registry::Registry;
+use censors::Admission;
 use cqe_base::user::User;
 use desk_counter::{Owned, SoleCounter, SoleOf, TicketedDesk};
 use outside::{Disk, Gate};
@@ -24,6 +26,8 @@ use user_log::Reply;
 #[derive(Drop)]
 pub struct Seat<'w, V: Owned> {
     pub user: &'w User,
+    /// Whether he is admitted, and else which test fails first.
+    pub admission: Admission,
     /// The name of his journal on the shelf.
     pub journal: String,
     /// His desk under a counter, from its opening to its close.
@@ -59,11 +63,14 @@ pub(crate) fn seat_at<'w, D: Disk>(
     alloc: Global,
     registry: &Registry<'w>,
     user: &'w User,
+    admission: Admission,
     journal: String,
     before: Option<DeskError>,
     disk: D,
 ) -> Result<DeskSeat<'w, D>, Returned<D>>
-    requires { KeepsLimits registry.now.schema.now (profile_of user.now) }
+    requires limits { KeepsLimits registry.now.schema.now (profile_of user.now) }
+    requires admission { admission
+        ≡ admission_of registry.now.schema.now registry.now.world.now (profile_of user.now) }
     ensures opened { IfOk result (IsOpenedFrom registry.now.schema.now registry.now.world.now
         (header_bytes registry.now.header.now) D.tells D.reads D.image D.faults disk before) }
     ensures user { IfOk result (λ seat. seat_user seat ≡ user.now) }
@@ -75,6 +82,7 @@ pub(crate) fn seat_at<'w, D: Disk>(
         registry.schema,
         registry.world,
         user,
+        admission,
         registry.header,
         disk,
     ) {
@@ -84,6 +92,7 @@ pub(crate) fn seat_at<'w, D: Disk>(
             match SoleCounter::new(alloc, desk) {
                 Ok(desk) => Ok(Seat {
                     user,
+                    admission,
                     journal,
                     desk,
                     refusal,
@@ -133,12 +142,22 @@ pub(crate) fn reopen<'w, D: Disk>(
     registry: &Registry<'w>,
     seat: DeskSeat<'w, D>,
 ) -> Result<DeskSeat<'w, D>, Returned<D>>
-    requires { KeepsLimits registry.now.schema.now (profile_of (seat_user seat)) }
+    requires limits { KeepsLimits registry.now.schema.now (profile_of (seat_user seat)) }
+    requires served { IsServed registry.now.schema.now registry.now.world.now
+        (header_bytes registry.now.header.now) seat }
     ensures reopened { IfOk result (IsReopened registry.now.schema.now registry.now.world.now
         (header_bytes registry.now.header.now) D.tells D.reads D.image D.faults seat.entry) }
     ensures journal { journal_seated result ≡ seat_journal seat.entry }
     ensures left { IsLeftBy D.tells D.reads D.image D.faults seat.entry.desk (disk_seated result) }
 {
     let (disk, _) = close_desk(seat.desk);
-    seat_at(alloc, registry, seat.user, seat.journal, seat.refusal, disk)
+    seat_at(
+        alloc,
+        registry,
+        seat.user,
+        seat.admission,
+        seat.journal,
+        seat.refusal,
+        disk,
+    )
 }

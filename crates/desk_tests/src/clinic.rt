@@ -8,6 +8,7 @@ ghost use Rattle.desk_counter.specs.Items.{history_of};
 ghost use Rattle.desk_counter.specs.Counters.{kept_by, IsPassOf};
 ghost use Rattle.session_core.specs.Members.{HasSeenLegal};
 
+use censors::admit;
 use cqe_base::laws::law_views_without_entries;
 use cqe_base::schema::Schema;
 use cqe_base::sentence::{Sentence, nodes};
@@ -133,7 +134,9 @@ pub fn counter_of<'w>(
 {
     let mut disk = MemoryDisk::new(alloc, Vec::new(alloc))?;
     format(&mut disk, &HEADER)?;
-    let opened = open_desk(alloc, &clinic.schema, &clinic.world, user, &HEADER, disk);
+    let (schema, world) = (&clinic.schema, &clinic.world);
+    let admission = admit(alloc, schema, world, user)?;
+    let opened = open_desk(alloc, schema, world, user, admission, &HEADER, disk);
     let Ok(desk) = opened else {
         panic!(rt; "no memory for a desk");
     };

@@ -4,7 +4,7 @@ ghost use Rattle.cqe_base.specs.History.{profile_of};
 ghost use Rattle.cqe_base.specs.Limits.{KeepsLimits};
 
 use crate::clinic::{Clinic, HEADER, RULE, make_clinic, make_user};
-use censors::Admission;
+use censors::{Admission, admit};
 use cqe_base::user::{Mark, Method, User};
 use log_journal::{OpenError, format};
 use outside::{MemoryDisk, Plan};
@@ -66,11 +66,13 @@ fn desk_on<'w>(
 ) -> Result<Desk<'w, MemoryDisk>, Fail>
     requires { KeepsLimits ward.now.clinic.schema (profile_of ward.now.user) }
 {
+    let admission = admit(alloc, &ward.clinic.schema, &ward.clinic.world, &ward.user)?;
     let opened = open_desk(
         alloc,
         &ward.clinic.schema,
         &ward.clinic.world,
         &ward.user,
+        admission,
         &HEADER,
         disk,
     );

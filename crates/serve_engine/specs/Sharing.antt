@@ -21,7 +21,12 @@ use Rattle.serve_engine.specs.Served.{Member, SessionMarks, Served}
 module _ {D : Type 0} {g h : _} where
   -- what is kept of a seat
   abbrev pub keeper_of : DeskSeat D g h → Keeper
-  keeper_of seat = record { user = seat.user; journal = seat.journal; refusal = seat.refusal }
+  keeper_of seat = record {
+    user = seat.user;
+    admission = seat.admission;
+    journal = seat.journal;
+    refusal = seat.refusal;
+  }
 
   -- its counter
   abbrev pub seat_counter : DeskSeat D g h → CounterOf (TicketedDesk D g) TurnItem (Fixed D) h

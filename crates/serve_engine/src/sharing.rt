@@ -12,6 +12,7 @@ ghost use Rattle.serve_engine.specs.Sharing.{keeper_of, seat_counter, seat_pass,
 ghost use Rattle.serve_engine.specs.Sharing.{IsServedAt};
 
 use crate::serving::{Outcome, serve_doors};
+use censors::Admission;
 use cqe_base::user::User;
 use desk_counter::{Counter, DeskPass, SoleCounter};
 use desk_crew::{DeskSeat, room_for};
@@ -26,6 +27,7 @@ use user_desk::DeskError;
 #[derive(Drop)]
 struct Keeper<'w> {
     user: &'w User,
+    admission: Admission,
     journal: String,
     refusal: Option<DeskError>,
 }
@@ -66,6 +68,7 @@ fn take_apart<'w, D: Disk + Drop>(rooms: Apart<'w, D>, seats: Vec<DeskSeat<'w, D
         passes.push_reserved(pass);
         keepers.push_reserved(Keeper {
             user: seat.user,
+            admission: seat.admission,
             journal: seat.journal,
             refusal: seat.refusal,
         });
@@ -95,6 +98,7 @@ fn put_together<'w, D: Disk + Drop>(
         let desk = SoleCounter::from_parts(counters.remove(0), passes.remove(0));
         seats.push_reserved(DeskSeat {
             user: keeper.user,
+            admission: keeper.admission,
             journal: keeper.journal,
             desk,
             refusal: keeper.refusal,

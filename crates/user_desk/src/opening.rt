@@ -5,6 +5,7 @@ ghost use Rattle.cqe_base.specs.History.{profile_of};
 ghost use Rattle.cqe_base.specs.Limits.{KeepsLimits};
 ghost use Rattle.cqe_base.specs.Run.{UserState};
 ghost use Rattle.log_journal.specs.Opening.{header_bytes};
+ghost use Rattle.censors.specs.Admitting.{admission_of};
 ghost use Rattle.log_journal.specs.Journal.{disk_of, is_broken};
 ghost use Rattle.user_log.specs.UserLogs.{kept_history};
 ghost use Rattle.user_desk.specs.Replays.{IsLogOf};
@@ -21,6 +22,7 @@ use crate::medium::Medium;
 use crate::replay::replay;
 use crate::standing::{DeskError, Standing};
 use crate::store::Store;
+use censors::Admission;
 use cqe_base::schema::Schema;
 use cqe_base::user::User;
 use cqe_base::world::World;
@@ -33,16 +35,19 @@ use user_log::UserLog;
 /// stay, and no crash at any moment leaves anything new. The desk is open with the entries of the
 /// journal where these are a legal history within the limits of a user who is admitted; it is
 /// closed where the user isn't admitted and there are none; and else it is sealed, for the first
-/// reason that the bytes show or for a fault of the disk. Want of memory hands the disk back.
+/// reason that the bytes show or for a fault of the disk. Want of memory hands the disk back. The
+/// user's admission is what `censors::admit` answers; it is the same at each opening.
 pub fn open_desk<'w, D: Disk>(
     alloc: Global,
     schema: &'w Schema,
     world: &'w World,
     user: &'w User,
+    admission: Admission,
     header: &Header,
     disk: D,
 ) -> Result<Desk<'w, D>, Refused<D, AllocError>>
-    requires { KeepsLimits schema.now (profile_of user.now) }
+    requires limits { KeepsLimits schema.now (profile_of user.now) }
+    requires admission { admission ≡ admission_of schema.now world.now (profile_of user.now) }
     ensures schema { IfOk result (λ desk. desk_schema desk ≡ schema.now) }
     ensures world { IfOk result (λ desk. desk_world desk ≡ world.now) }
     ensures user { IfOk result (λ desk. desk_user desk ≡ profile_of user.now) }
@@ -82,7 +87,7 @@ pub fn open_desk<'w, D: Disk>(
     ensures count { D.faults disk ≤ D.faults (disk_opened result) }
 {
     match open(alloc, disk, header) {
-        Ok((journal, records)) => match replay(alloc, schema, world, user, &records) {
+        Ok((journal, records)) => match replay(alloc, schema, world, user, admission, &records) {
             Ok((log, standing)) => {
                 log.known();
                 let opened = log.entries().len();

@@ -3,6 +3,7 @@ ghost use Rattle.std.specs.Prelude.{◌≡◌, ◌≤◌, true, IfOk, Some, All,
 ghost use Rattle.cqe_base.specs.History.{profile_of};
 ghost use Rattle.cqe_base.specs.Limits.{KeepsLimits};
 ghost use Rattle.cqe_base.specs.Censor.{admitted};
+ghost use Rattle.censors.specs.Admitting.{admission_of};
 ghost use Rattle.log_journal.specs.Opening.{recorded, IsRecord};
 ghost use Rattle.user_log.specs.UserLogs.{kept_schema, kept_world, kept_user, kept_history};
 ghost use Rattle.user_log.specs.UserLogs.{IsOfSame};
@@ -11,7 +12,7 @@ ghost use Rattle.user_desk.specs.Replays.{IsLogOf, IsTaken, refused_by};
 
 use crate::kinds::mark_of;
 use crate::standing::{DeskError, Standing};
-use censors::{Admission, admit};
+use censors::Admission;
 use cqe_base::schema::Schema;
 use cqe_base::user::{Mark, User};
 use cqe_base::world::World;
@@ -26,16 +27,17 @@ pub(crate) fn replay<'w>(
     schema: &'w Schema,
     world: &'w World,
     user: &'w User,
+    admission: Admission,
     records: &[Record],
 ) -> Result<(UserLog<'w>, Standing), AllocError>
     requires limits { KeepsLimits schema.now (profile_of user.now) }
+    requires admission { admission ≡ admission_of schema.now world.now (profile_of user.now) }
     requires each { All IsRecord records.now }
     ensures log { IfOk result (λ r. IsLogOf schema.now world.now (profile_of user.now) r.0) }
     ensures replay { IfOk result (λ r.
         IsReplay schema.now world.now (profile_of user.now) (map recorded records.now)
         (kept_history r.0) r.1) }
 {
-    let admission = admit(alloc, schema, world, user)?;
     if admission == Admission::Open {
         return replay_records(alloc, schema, world, user, records);
     }

@@ -6,6 +6,7 @@ ghost use Rattle.desk_counter.specs.Counters.{IsPassOf};
 
 use super::make_ward;
 use crate::clinic::{HEADER, counter_of};
+use censors::admit;
 use cqe_base::sentence::Sentence;
 use cqe_base::user::Mark;
 use desk_counter::{Counter, CounterOf, DeskPass, Owned, TicketedDesk};
@@ -204,11 +205,13 @@ fn two_threads_ask_one_desk(rt: HostRuntime) -> Result<(), Fail> {
     assert_eq!(rt; lies, 100);
     // Its journal is opened again only where each mark is that of the rule.
     let disk = desk.close();
+    let admission = admit(alloc, &ward.clinic.schema, &ward.clinic.world, &ward.eve)?;
     let opened = open_desk(
         alloc,
         &ward.clinic.schema,
         &ward.clinic.world,
         &ward.eve,
+        admission,
         &HEADER,
         disk,
     );
