@@ -109,11 +109,7 @@ impl LiteralSet {
             return false;
         }
         unmark_all(&mut self.marks, clause);
-        if has_marked(&self.marks, &self.touched) {
-            return false;
-        }
-        self.touched.clear();
-        true
+        !has_marked(&self.marks, &self.touched)
     }
 }
 
