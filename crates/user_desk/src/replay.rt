@@ -38,7 +38,7 @@ pub(crate) fn replay<'w>(
         IsReplay schema.now world.now (profile_of user.now) (map recorded records.now)
         (kept_history r.0) r.1) }
 {
-    if admission == Admission::Open {
+    if let Admission::Open = admission {
         return replay_records(alloc, schema, world, user, records);
     }
     let log = UserLog::new(alloc, schema, world, user)?;
