@@ -20,7 +20,7 @@ pub(crate) enum Part<'w> {
 
 /// What this command does.
 pub(crate) fn part_of<'w>(command: Command<'w>) -> Part<'w>
-    ensures { reading_of_part result ≡ reading_in command }
+    ensures { reading_of_part result ≡ reading_in command.entry }
 {
     match command {
         Command::Case => Part::Case,

@@ -40,6 +40,19 @@ returns-in-Err-clause-answered g c = λ told.
     part.2 (ap (λ t. t ++ codes "\n") c.line_reply.ensures)
     (told_there _ _ _ _ _ _ _ _ _ _ _ _ step.schema step.world step.user c.as_str.ensures.value c.told-reply.ensures.told)
 
+pub loop-text-init : goal.loop-text-init
+loop-text-init g c =
+    let parts = c.args.parts.now in
+    let log = c.in-Ok-new.ensures in
+    record {
+      so_far = λ told.
+          told_nothing parts.schema parts.facts (profile_of parts.user) c.in-Ok.is_open parts.asks.items _ _ c.in-Ok.ensures log.empty;
+      schema = log.schema;
+      world = log.world;
+      user = log.user;
+      later = omega arith;
+    }
+
 pub loop-text-preserved : goal.loop-text-preserved
 loop-text-preserved g c =
     let parts = c.args.parts.now in
