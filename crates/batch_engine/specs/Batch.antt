@@ -14,7 +14,7 @@ use Rattle.user_desk.specs.Causes.{Opens}
 use Rattle.user_desk.specs.Entries.{IsNoLonger}
 use Rattle.user_desk.specs.Lives.{Holds}
 use Rattle.user_desk.specs.declared.standing.DeskError.{DeskError}
-use Rattle.desk_crew.specs.Shelved.{Journals, IsKept, AreKept}
+use Rattle.desk_crew.specs.Shelved.{Journals, KeepsJournal, KeepsJournals}
 use Rattle.script_lines.specs.Read.{IsReadThrough}
 use Rattle.batch_engine.specs.BatchLines.{BatchItem, asked, restarted, batch_of}
 use Rattle.desk_crew.specs.Openings.{OpensNone, IsOpening}
@@ -92,7 +92,7 @@ module _ (schema : DatabaseSchema) (world : FactSet) (header : List ℕ) (journa
         (journals.reads user.name)
     -- and unless one held and he asked, his journal is as it was
     pub kept : (list_any is_opened (own_events user.name events)
-        && list_any is_ask (own_events user.name events)) ≡ false → IsKept journals user.name
+        && list_any is_ask (own_events user.name events)) ≡ false → KeepsJournal journals user.name
 
   -- what was written answers these items: it is the lines of the transcript of a script in which
   -- all journals are opened, each ask has some ending, and each restart finds and opens what it may
@@ -168,7 +168,7 @@ module _ (schema : DatabaseSchema) (world : FactSet) (header : List ℕ) (journa
 
     -- nothing was written, and all journals are as they were
     abbrev pub LeavesAll : List ℕ → List ℕ → Type 0
-    LeavesAll old new = (new ≡ old) × AreKept journals
+    LeavesAll old new = (new ≡ old) × KeepsJournals journals
 
     -- what each end of a batch says of the bytes that were left before and after, and of the output
     -- before and after
@@ -187,12 +187,12 @@ module _ (schema : DatabaseSchema) (world : FactSet) (header : List ℕ) (journa
     abbrev pub LeavesJournals : BatchEnd → Type 0
     LeavesJournals (Done refusals is_broken) = (items : List BatchItem) × (written : List ℕ)
         × AppendsAll items [] written refusals.items is_broken
-    LeavesJournals (Refused refusal) = AreKept journals
-    LeavesJournals ReadFault = AreKept journals
+    LeavesJournals (Refused refusal) = KeepsJournals journals
+    LeavesJournals ReadFault = KeepsJournals journals
     LeavesJournals WriteFault = (items : List BatchItem) × (written : List ℕ)
         × AppendsSome items [] written
-    LeavesJournals ShelfFault = AreKept journals
-    LeavesJournals Memory = AreKept journals ⊎ ((items : List BatchItem) × (written : List ℕ)
+    LeavesJournals ShelfFault = KeepsJournals journals
+    LeavesJournals Memory = KeepsJournals journals ⊎ ((items : List BatchItem) × (written : List ℕ)
         × AppendsTo items [] written)
 
 -- the end of a batch whose journals weren't opened

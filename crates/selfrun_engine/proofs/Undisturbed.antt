@@ -22,7 +22,7 @@ use Rattle.desk_crew.specs.Shelved.{Journals}
 use Rattle.batch_engine.specs.Batch.{Serves, AreEventsOf, AreRefusals, AppendsAll, is_broken_line, unopened, with_opening}
 use Rattle.desk_crew.specs.Openings.{IsOpening}
 use Rattle.batch_engine.specs.Lives.{is_refused, AreCaused}
-use Rattle.selfrun_engine.specs.Outputs.{IsKeptOrWant, IsOfUser, IsOutput}
+use Rattle.selfrun_engine.specs.Outputs.{IsNoFailedAsk, IsOfUser, IsOutput}
 
 -- ---- lists
 
@@ -80,7 +80,7 @@ module _ (schema : DatabaseSchema) (world : FactSet) where
         → find (λ u. bytes_eq u.name name) users ≡ Some user
         → AllByRecursion (IsCausedFrom earlier (script_ask name session text ending ∷ events)) users
         → is_broken_line (reply_line name session (told_after schema world earlier text ending (find (λ u. bytes_eq u.name name) users))) ≡ false
-        → IsKeptOrWant (script_ask name session text ending)
+        → IsNoFailedAsk (script_ask name session text ending)
     ask_kept earlier events name session text want user found all whole = tt
     ask_kept earlier events name session text kept user found all whole = tt
     ask_kept earlier events name session text failed user found all whole =
@@ -101,7 +101,7 @@ module _ (schema : DatabaseSchema) (world : FactSet) where
 
     pub kept_from : (earlier events : List ScriptEvent) (items : List BatchItem) → AreEventsOf items events → AllByRecursion (IsOfUser users) items
         → AllByRecursion (IsCausedFrom earlier events) users
-        → list_any is_broken_line (lines_after schema world users earlier events) ≡ false → AllByRecursion IsKeptOrWant events
+        → list_any is_broken_line (lines_after schema world users earlier events) ≡ false → AllByRecursion IsNoFailedAsk events
     kept_from earlier [] items of named all whole = tt
     kept_from earlier (event ∷ events) [] of named all whole = absurd of
     kept_from earlier (script_ask name session text ending ∷ events) (asked one ∷ items) of named all whole =
