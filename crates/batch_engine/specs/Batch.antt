@@ -56,7 +56,7 @@ with_opening found opened events = script_opening found opened ∷ events
 
 module _ (schema : DatabaseSchema) (world : FactSet) (header : List ℕ) (journals : Journals) where
   -- What a script means for one user.
-  pub record Serves (users : List NamedUser) (events : List ScriptEvent) (user : NamedUser) :
+  pub record ServesUser (users : List NamedUser) (events : List ScriptEvent) (user : NamedUser) :
       Type 0 where
     -- his opening history is the legal one that his journal's bytes stand for, and the empty one
     -- where they open no desk
@@ -106,7 +106,7 @@ module _ (schema : DatabaseSchema) (world : FactSet) (header : List ℕ) (journa
     pub of_items : AreEventsOf items events
     pub lines : written
         ≡ line_bytes (transcript schema world users (with_opening found opened events))
-    pub each_user : AllByRecursion (Serves users (with_opening found opened events)) users
+    pub each_user : AllByRecursion (ServesUser users (with_opening found opened events)) users
 
   -- the first refusal of each user's openings
   abbrev pub AreRefusals : List ScriptEvent → List NamedUser → List (Option DeskError) → Type 0

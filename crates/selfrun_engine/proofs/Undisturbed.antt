@@ -19,7 +19,7 @@ use Rattle.user_desk.specs.Entries.{entry_of}
 use Rattle.user_desk.specs.declared.standing.DeskError.{DeskError}
 use Rattle.batch_engine.specs.BatchLines.{BatchItem, asked, restarted, batch_of}
 use Rattle.desk_crew.specs.Shelved.{Journals}
-use Rattle.batch_engine.specs.Batch.{Serves, AreEventsOf, AreRefusals, AppendsAll, is_broken_line, unopened, with_opening}
+use Rattle.batch_engine.specs.Batch.{ServesUser, AreEventsOf, AreRefusals, AppendsAll, is_broken_line, unopened, with_opening}
 use Rattle.desk_crew.specs.Openings.{IsOpening}
 use Rattle.batch_engine.specs.Lives.{is_refused, AreCaused}
 use Rattle.selfrun_engine.specs.Outputs.{IsNoFailedAsk, IsOfUser, IsOutput}
@@ -139,13 +139,14 @@ module _ (schema : DatabaseSchema) (world : FactSet) (header : List ℕ) (journa
   no_entries user empty (inr none) = none.1
 
   module _ (users : List NamedUser) (events : List ScriptEvent) where
-    as_they_were : (some : List NamedUser) → AllByRecursion IsEmpty (map unopened some) → AllByRecursion (Serves schema world header journals users events) some
+    as_they_were : (some : List NamedUser) → AllByRecursion IsEmpty (map unopened some)
+        → AllByRecursion (ServesUser schema world header journals users events) some
         → some ≡ map unopened some
     as_they_were [] empty serve = refl
     as_they_were (user ∷ some) empty serve = λ i. record user { opened = no_entries user empty.0 serve.0.opening_is i } ∷ as_they_were some empty.1 serve.1 i
 
     causes : (found opened : Text → Bool) (more : List ScriptEvent) → events ≡ with_opening found opened more → (some : List NamedUser)
-        → AllByRecursion (Serves schema world header journals users events) some
+        → AllByRecursion (ServesUser schema world header journals users events) some
         → AllByRecursion (IsCausedFrom schema world (script_opening found opened ∷ []) more) some
     causes found opened more is [] serve = tt
     causes found opened more is (user ∷ some) serve = (
