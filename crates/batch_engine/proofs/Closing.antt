@@ -20,7 +20,7 @@ use Rattle.log_journal.specs.Names.{journal_name}
 use Rattle.batch_engine.specs.BatchLines.{BatchItem}
 use Rattle.desk_crew.specs.Openings.{OpensNone, IsOpening}
 use Rattle.batch_engine.specs.Lives.{RoseBy, is_opened, failures}
-use Rattle.batch_engine.specs.Batch.{ServesUser, Answers, AreRefusals, AppendsAll, AppendsSome, line_bytes, unopened, with_opening}
+use Rattle.batch_engine.specs.Batch.{ServesUser, AnswersBatch, AreRefusals, AppendsAll, AppendsSome, line_bytes, unopened, with_opening}
 use Rattle.desk_crew.specs.Crew.{named_user, seat_standing, seat_state, IsLeft, IsClosed}
 use Rattle.desk_crew.specs.Shelved.{journals_on, IsBack, AreBack}
 use Rattle.desk_crew.specs.Seats.{DeskSeat}
@@ -219,7 +219,7 @@ module _ (schema : DatabaseSchema) (world : FactSet) (users : List NamedUser) (h
           → SoFar schema world users header directory T reads image faults t read_is_image (bytes_of reads directory disk) (count_of directory count)
           (images_of image directory disk) found opened items output seats is_broken
           → AreBack S reads image faults disk' count' seats
-          → Answers schema world header (journals_on reads image directory disk disk' count count') policy items output
+          → AnswersBatch schema world header (journals_on reads image directory disk disk' count count') policy items output
       answers items output seats is_broken so_far is = record {
         users = users;
         of_policy = of_policy;

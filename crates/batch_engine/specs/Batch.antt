@@ -96,7 +96,7 @@ module _ (schema : DatabaseSchema) (world : FactSet) (header : List ℕ) (journa
 
   -- what was written answers these items: it is the lines of the transcript of a script in which
   -- all journals are opened, each ask has some ending, and each restart finds and opens what it may
-  pub record Answers (policy : List NamedUser) (items : List BatchItem) (written : List ℕ) :
+  pub record AnswersBatch (policy : List NamedUser) (items : List BatchItem) (written : List ℕ) :
       Type 0 where
     pub users : List NamedUser
     pub of_policy : map unopened users ≡ policy
@@ -124,7 +124,7 @@ module _ (schema : DatabaseSchema) (world : FactSet) (header : List ℕ) (journa
         (refusals : List (Option DeskError)) (is_broken : Bool) : Type 0 where
       pub written : List ℕ
       pub appended : new ≡ old ++ written
-      pub answers : Answers policy items written
+      pub answers : AnswersBatch policy items written
       pub refused : AreRefusals
           (with_opening answers.found answers.opened answers.events) answers.users refusals
       pub broken : is_broken
@@ -143,7 +143,7 @@ module _ (schema : DatabaseSchema) (world : FactSet) (header : List ℕ) (journa
       pub one : length last ≤ 1
       pub part : ℕ
       pub appended : new ≡ old ++ (line_bytes whole ++ take part (line_bytes last))
-      pub answers : Answers policy front (line_bytes (whole ++ last))
+      pub answers : AnswersBatch policy front (line_bytes (whole ++ last))
       pub lines : transcript schema world answers.users
           (with_opening answers.found answers.opened answers.events) ≡ whole ++ last
 
@@ -154,7 +154,7 @@ module _ (schema : DatabaseSchema) (world : FactSet) (header : List ℕ) (journa
       pub split : items ≡ front ++ restarted ∷ rest
       pub written : List ℕ
       pub appended : new ≡ old ++ written
-      pub answers : Answers policy front written
+      pub answers : AnswersBatch policy front written
 
     -- the bytes are a batch, and its first items were answered so, the last line maybe in part
     abbrev pub Breaks : List ℕ → List ℕ → List ℕ → Type 0

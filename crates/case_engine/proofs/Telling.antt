@@ -16,7 +16,7 @@ use Rattle.cqe_base.specs.Run.{Reply, opening, replies_from}
 use Rattle.cqe_base.specs.Transcript.{reply_text}
 use Rattle.case_engine.specs.Answering.{IsTold}
 use Rattle.case_engine.specs.Sound.{is_short}
-use Rattle.case_engine.specs.Case.{Answers, ask_events, reply_lines}
+use Rattle.case_engine.specs.Case.{AnswersCase, ask_events, reply_lines}
 use Rattle.case_engine.specs.Written.{AppendsAll, AppendsSome}
 use Rattle.case_engine.proofs.Replying.{SoFar, so_far_empty, one_line, replies_count, told_next, answers_asks}
 
@@ -81,8 +81,9 @@ module _ (schema : DatabaseSchema) (world : FactSet) (user : UserProfile) (is_op
           appended =
               appended ∙ ap (λ w. w ++ take n line) written ∙ append_assoc old output (take n line)
               ∙ ap (λ o. old ++ (o ++ take n line)) so_far.lines ∙ ap (λ l. old ++ (reply_lines whole ++ take n l)) is;
-          answers = subst (λ a. Answers schema world user a (reply_lines (whole ++ told ∷ []))) front
-              (subst (Answers schema world user (map string_bytes (take (i + 1) asks))) (ap (λ o. o ++ line) so_far.lines ∙ ap (λ l. reply_lines whole ++ l) is
+          answers = subst (λ a. AnswersCase schema world user a (reply_lines (whole ++ told ∷ []))) front
+              (subst (AnswersCase schema world user (map string_bytes (take (i + 1) asks)))
+              (ap (λ o. o ++ line) so_far.lines ∙ ap (λ l. reply_lines whole ++ l) is
               ∙ one_line whole told)
               (answers_asks schema world user is_open (map string_bytes (take (i + 1) asks)) (output ++ line) new
               (more asks i text output line history new told so_far next is here) empty runs hide valid is_user));

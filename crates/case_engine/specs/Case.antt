@@ -31,7 +31,7 @@ reply_lines told = flat_map (λ reply. reply_text reply ++ 10 ∷ []) told
 -- what was written answers these asks of a user in a world: one line for each, the replies of a run
 -- from the empty history in which each ask keeps its entry or finds no memory; the history is
 -- legal, and where the user is admitted it hides his secrets
-pub record Answers (schema : DatabaseSchema) (world : FactSet) (user : UserProfile)
+pub record AnswersCase (schema : DatabaseSchema) (world : FactSet) (user : UserProfile)
     (asks : List Text) (written : List ℕ) : Type 0 where
   pub endings : List Ending
   pub one_each : length endings ≡ length asks
@@ -45,7 +45,7 @@ pub record Answers (schema : DatabaseSchema) (world : FactSet) (user : UserProfi
 -- the same of asks of a script
 abbrev pub AnswersOf : Script → List Text → List ℕ → Type 0
 AnswersOf script asks written =
-    Answers (script_schema script) script.facts (script_user script) asks written
+    AnswersCase (script_schema script) script.facts (script_user script) asks written
 
 -- the lines of replies, and a part of one more
 abbrev pub lines_cut : List Reply → Reply → ℕ → List ℕ

@@ -4,7 +4,7 @@ use Rattle.cqe_base.specs.Schema.{Text, DatabaseSchema}
 use Rattle.cqe_base.specs.Facts.{FactSet}
 use Rattle.cqe_base.specs.History.{UserProfile}
 use Rattle.cqe_base.specs.Run.{Reply}
-use Rattle.case_engine.specs.Case.{Answers, reply_lines, lines_cut}
+use Rattle.case_engine.specs.Case.{AnswersCase, reply_lines, lines_cut}
 use Rattle.case_engine.specs.declared.case.CaseEnd.{CaseEnd}
 use Rattle.case_engine.specs.declared.case.CaseEnd.TheVariants.{Done, Script as Refused, ReadFault}
 use Rattle.case_engine.specs.declared.case.CaseEnd.TheVariants.{WriteFault, Memory}
@@ -15,7 +15,7 @@ module _ (schema : DatabaseSchema) (world : FactSet) (user : UserProfile) (asks 
   pub record AppendsAll : Type 0 where
     pub written : List ℕ
     pub appended : new ≡ old ++ written
-    pub answers : Answers schema world user asks written
+    pub answers : AnswersCase schema world user asks written
 
   -- what was appended are the lines that answer the first asks, and a part of the line of the next
   pub record AppendsSome : Type 0 where
@@ -28,7 +28,8 @@ module _ (schema : DatabaseSchema) (world : FactSet) (user : UserProfile) (asks 
     pub told : Reply
     pub part : ℕ
     pub appended : new ≡ old ++ lines_cut whole told part
-    pub answers : Answers schema world user (first ++ next ∷ []) (reply_lines (whole ++ told ∷ []))
+    pub answers : AnswersCase schema world user (first ++ next ∷ [])
+        (reply_lines (whole ++ told ∷ []))
 
   -- how answering asks ends
   abbrev pub IsAnswered : CaseEnd → Type 0

@@ -20,7 +20,7 @@ use Rattle.desk_counter.specs.declared.item.TurnItem.TheVariants.{Kept, Broke}
 use Rattle.desk_counter.specs.declared.item.Fixed.{Fixed}
 use Rattle.desk_counter.specs.Items.{history_of, kept_pair, kept_pairs, flying, has_broke}
 use Rattle.desk_counter.specs.Desks.{state_shown}
-use Rattle.desk_counter.specs.Asks.{entry_for, NoMark, Adds, answered, broke, coded, wanted, IsServed, Answers, Asked, all_but_last, pairs_behind, IsReply}
+use Rattle.desk_counter.specs.Asks.{entry_for, NoMark, Adds, answered, broke, coded, wanted, IsServed, AnswersWith, Asked, all_but_last, pairs_behind, IsReply}
 use Rattle.desk_counter.specs.Asks.{Tells, TellsMark, AddsNone}
 
 -- ---- pairs with one more
@@ -69,7 +69,7 @@ module _ {D : Type 0} (fixed : Fixed D) where
       (flying_broke found ticket entry served.1)
 
   pub served_replies : (found : Entries TurnItem) (text : Text) (query : Formula) (mark : base.Mark) → IsServed fixed found
-      → Answers fixed found text query mark
+      → AnswersWith fixed found text query mark
       → reply_at fixed.schema fixed.world fixed.user (state_shown fixed found) text ≡ marked mark
   served_replies found text query mark served answer =
       ap (λ s. reply_by fixed.schema fixed.world fixed.user (history_of found) s (has_broke found) text (reading fixed.schema text)) served.0

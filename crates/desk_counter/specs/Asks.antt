@@ -35,17 +35,19 @@ module _ {D : Type 0} (fixed : Fixed D) where
   IsServed pairs = (standing_of fixed.standing ≡ standing_open) × (flying pairs ≡ None)
 
   -- this query and this mark answer the text behind these pairs
-  abbrev pub Answers : Entries TurnItem → Text → Formula → base.Mark → Type 0
-  Answers pairs text query mark =
+  abbrev pub AnswersWith : Entries TurnItem → Text → Formula → base.Mark → Type 0
+  AnswersWith pairs text query mark =
       IsAnswer fixed.schema fixed.world fixed.user (history_of pairs) text query mark
 
   -- What an ask adds to the pairs that it found: a mark adds its entry, once; an append that fails
   -- adds that entry as one in flight; a code and want of memory add nothing.
   pub data Adds (ticket : ℕ) (text : Text) (found after : Entries TurnItem) : Reply → Type 0 where
-    answered : {query : Formula} {mark : base.Mark} → IsServed found → Answers found text query mark
+    answered : {query : Formula} {mark : base.Mark} → IsServed found
+        → AnswersWith found text query mark
         → after ≡ found ++ (ticket, Kept (entry_for query mark text)) ∷ []
         → Adds ticket text found after (Mark mark)
-    broke : {query : Formula} {mark : base.Mark} → IsServed found → Answers found text query mark
+    broke : {query : Formula} {mark : base.Mark} → IsServed found
+        → AnswersWith found text query mark
         → after ≡ found ++ (ticket, Broke (entry_for query mark text)) ∷ []
         → Adds ticket text found after Broken
     coded : {code : Reply} → NoMark code
