@@ -172,15 +172,16 @@ module _ (schema : DatabaseSchema) (world : FactSet) (header : List ℕ) (journa
 
     -- what each end of a batch says of the bytes that were left before and after, and of the output
     -- before and after
-    abbrev pub Ends : BatchEnd → List ℕ → List ℕ → List ℕ → List ℕ → Type 0
-    Ends (Done refusals is_broken) before after old new = (after ≡ []) × (items : List BatchItem)
+    abbrev pub EndsBatch : BatchEnd → List ℕ → List ℕ → List ℕ → List ℕ → Type 0
+    EndsBatch (Done refusals is_broken) before after old new =
+        (after ≡ []) × (items : List BatchItem)
         × (batch_of before ≡ Ok items) × AppendsAll items old new refusals.items is_broken
-    Ends (Refused refusal) before after old new =
+    EndsBatch (Refused refusal) before after old new =
         (batch_of before ≡ Err refusal) × LeavesAll old new × IsReadThrough 1 before after
-    Ends ReadFault before after old new = LeavesAll old new
-    Ends WriteFault before after old new = Breaks before old new
-    Ends ShelfFault before after old new = LeavesAll old new
-    Ends Memory before after old new = LeavesAll old new ⊎ Stops before old new
+    EndsBatch ReadFault before after old new = LeavesAll old new
+    EndsBatch WriteFault before after old new = Breaks before old new
+    EndsBatch ShelfFault before after old new = LeavesAll old new
+    EndsBatch Memory before after old new = LeavesAll old new ⊎ Stops before old new
 
     -- what each end says of the journals alone, where neither the script nor the output is told:
     -- they are as they were, or as the answers to some items leave them

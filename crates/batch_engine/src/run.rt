@@ -22,7 +22,7 @@ ghost use Rattle.desk_crew.specs.Shelved.{AreLater, AreBack};
 ghost use Rattle.batch_engine.specs.BatchOf.{items_of};
 ghost use Rattle.batch_engine.specs.AnswerTexts.{answer_text};
 ghost use Rattle.batch_engine.specs.Steps.{Carries, is_broken_reply, IsAnswered, HasSeats, IsCut};
-ghost use Rattle.batch_engine.specs.Batch.{Ends, LeavesJournals, IsUnopened, IsBroken};
+ghost use Rattle.batch_engine.specs.Batch.{EndsBatch, LeavesJournals, IsUnopened, IsBroken};
 ghost use Rattle.batch_engine.specs.declared.run.BatchEnd.{BatchEnd};
 
 use crate::batch::{Batch, BatchAsk, BatchItem};
@@ -232,7 +232,8 @@ pub fn run_batch<R: Wait, F: Shelf, S: Source, K: Sink, G: Gate>(
         ≡ false }
     requires inside { NoneOut (F.is_out shelf.old) }
     ensures ends { F.tells → S.tells → K.tells
-        → Ends registry.now.schema.now registry.now.world.now (header_bytes registry.now.header.now)
+        → EndsBatch registry.now.schema.now registry.now.world.now
+        (header_bytes registry.now.header.now)
         (journals_on F.D.reads F.D.image registry.now.directory.now (F.disk shelf.old)
         (F.disk shelf.new)
         (F.disk_faults shelf.old) (F.disk_faults shelf.new))

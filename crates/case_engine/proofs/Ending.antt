@@ -5,7 +5,7 @@ use Rattle.cqe_base.specs.Schema.{Text, DatabaseSchema}
 use Rattle.cqe_base.specs.Facts.{FactSet}
 use Rattle.cqe_base.specs.History.{UserProfile, profile_of}
 use Rattle.case_engine.specs.Script.{Script, script_of}
-use Rattle.case_engine.specs.Case.{AnswersCase, Completes, Breaks, Ends, reply_lines, lines_cut}
+use Rattle.case_engine.specs.Case.{AnswersCase, Completes, Breaks, EndsCase, reply_lines, lines_cut}
 use Rattle.case_engine.specs.declared.case.CaseEnd.{CaseEnd}
 use Rattle.case_engine.specs.declared.case.CaseEnd.TheVariants.{Done, Script as Refused, ReadFault, WriteFault, Memory}
 use Rattle.case_engine.specs.Written.{AppendsAll, AppendsSome, IsAnswered}
@@ -53,7 +53,7 @@ module _ (script : Script) (parts : Parts) (are : ArePartsOf script parts) (byte
   }
 
   pub case_ends : (after : List ℕ) → after ≡ [] → (old new : List ℕ) (end : CaseEnd)
-      → IsAnswered parts.schema parts.facts (profile_of parts.user) (map string_bytes parts.asks.items) old new end → Ends end bytes after old new
+      → IsAnswered parts.schema parts.facts (profile_of parts.user) (map string_bytes parts.asks.items) old new end → EndsCase end bytes after old new
   case_ends after over old new Done all = (over, completes old new all)
   case_ends after over old new WriteFault some = breaks old new some
   case_ends after over old new Memory same = same

@@ -83,10 +83,10 @@ pub record Breaks (bytes old new : List ℕ) : Type 0 where
 
 -- what each end of a case says of the bytes that were left before and after, and of the output
 -- before and after
-abbrev pub Ends : CaseEnd → List ℕ → List ℕ → List ℕ → List ℕ → Type 0
-Ends Done before after old new = (after ≡ []) × Completes before old new
-Ends (Refused refusal) before after old new =
+abbrev pub EndsCase : CaseEnd → List ℕ → List ℕ → List ℕ → List ℕ → Type 0
+EndsCase Done before after old new = (after ≡ []) × Completes before old new
+EndsCase (Refused refusal) before after old new =
     (script_of before ≡ Err refusal) × (new ≡ old) × IsReadThrough 1 before after
-Ends ReadFault before after old new = new ≡ old
-Ends WriteFault before after old new = Breaks before old new
-Ends Memory before after old new = new ≡ old
+EndsCase ReadFault before after old new = new ≡ old
+EndsCase WriteFault before after old new = Breaks before old new
+EndsCase Memory before after old new = new ≡ old

@@ -105,11 +105,11 @@ module _ {F D : Type 0} (Shelf : ShelfGhosts F D) (Disk : DiskGhosts D) (old mid
 -- the end of a batch over other journals that are the same, and over the users of the policy
 pub batch_over : (policy : Policy) (world : FactSet) (header : List ℕ) (users : List User) (journals journals' : Journals) (end : BatchEnd)
     (before after old new : List ℕ)
-    → journals ≡ journals' → users ≡ policy.users.items → batch.Ends policy.schema world header journals (map named_user users) end before after old new
-    → batch.Ends policy.schema world header journals' (new_users (policy_value_of policy)) end before after old new
+    → journals ≡ journals' → users ≡ policy.users.items → batch.EndsBatch policy.schema world header journals (map named_user users) end before after old new
+    → batch.EndsBatch policy.schema world header journals' (new_users (policy_value_of policy)) end before after old new
 batch_over policy world header users journals journals' end before after old new same are ended =
-    subst (λ (j : Journals). batch.Ends policy.schema world header j (new_users (policy_value_of policy)) end before after old new) same
-    (subst (λ us. batch.Ends policy.schema world header journals us end before after old new)
+    subst (λ (j : Journals). batch.EndsBatch policy.schema world header j (new_users (policy_value_of policy)) end before after old new) same
+    (subst (λ us. batch.EndsBatch policy.schema world header journals us end before after old new)
     (sym (new_users_are policy ∙ ap (map named_user) (sym are))) ended)
 
 -- so does what it leaves of them
@@ -123,11 +123,11 @@ batch_left policy world header users journals journals' end same are left =
 -- so does that of a serving
 pub serve_over : (policy : Policy) (world : FactSet) (header : List ℕ) (users : List User) (journals journals' : Journals) (end : ServeEnd) (given given' : ℕ)
     (back back' : List Visit)
-    → journals ≡ journals' → users ≡ policy.users.items → serving.Ends policy.schema world header journals users given given' back back' end
-    → serving.Ends policy.schema world header journals' policy.users.items given given' back back' end
+    → journals ≡ journals' → users ≡ policy.users.items → serving.EndsServing policy.schema world header journals users given given' back back' end
+    → serving.EndsServing policy.schema world header journals' policy.users.items given given' back back' end
 serve_over policy world header users journals journals' end given given' back back' same are ended =
-    subst (λ (j : Journals). serving.Ends policy.schema world header j policy.users.items given given' back back' end) same
-    (subst (λ us. serving.Ends policy.schema world header journals us given given' back back' end) are ended)
+    subst (λ (j : Journals). serving.EndsServing policy.schema world header j policy.users.items given given' back back' end) same
+    (subst (λ us. serving.EndsServing policy.schema world header journals us given given' back back' end) are ended)
 
 pub serve_left : (policy : Policy) (world : FactSet) (header : List ℕ) (users : List User) (journals journals' : Journals) (end : ServeEnd)
     → journals ≡ journals' → users ≡ policy.users.items → serving.LeavesJournals policy.schema world header journals users end

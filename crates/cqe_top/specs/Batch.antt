@@ -29,8 +29,8 @@ module _ (shelf : ShelfScene) (input : Input) (output : Output) (files : FileNam
     pub journals : batch.LeavesJournals policy.schema world header (journals_of shelf files)
         (new_users policy) end
     pub answers : input.tells → output.tells
-        → batch.Ends policy.schema world header (journals_of shelf files) (new_users policy) end
-        input.left input.left' output.written output.written'
+        → batch.EndsBatch policy.schema world header (journals_of shelf files) (new_users policy)
+        end input.left input.left' output.written output.written'
 
   -- it ran over files that were read; where the script wasn't, no disk was touched
   pub record RunsBatch (users : Vec User Global) (end : BatchEnd) : Type 0 where

@@ -51,7 +51,7 @@ module _ (shelf : ShelfScene) (links : LinksScene) (files : FileNames) (address 
     pub journals : serving.LeavesJournals policy.schema world header (journals_of shelf files)
         users.items end
     pub serves : links.tells
-        → serving.Ends policy.schema world header (journals_of shelf files) users.items
+        → serving.EndsServing policy.schema world header (journals_of shelf files) users.items
         links.given links.given' links.back links.back' end
 
   -- it ran over files that were read: it listens at the address alone, with a door for each worker,

@@ -53,12 +53,13 @@ pub record Breaks (bytes old new : List ℕ) : Type 0 where
 
 -- what an ending says of the bytes that were left before and after, and of the output before and
 -- after
-abbrev pub Ends : Ending → List ℕ → List ℕ → List ℕ → List ℕ → Type 0
-Ends (Answered verdict) before after old new = (after ≡ []) × AnswersDimacs before verdict old new
-Ends (Refused refusal) before after old new = (cnf_in before ≡ Err refusal) × (new ≡ old)
-Ends ReadFault before after old new = new ≡ old
-Ends WriteFault before after old new = Breaks before old new
-Ends Memory before after old new = new ≡ old
+abbrev pub EndsDimacs : Ending → List ℕ → List ℕ → List ℕ → List ℕ → Type 0
+EndsDimacs (Answered verdict) before after old new =
+    (after ≡ []) × AnswersDimacs before verdict old new
+EndsDimacs (Refused refusal) before after old new = (cnf_in before ≡ Err refusal) × (new ≡ old)
+EndsDimacs ReadFault before after old new = new ≡ old
+EndsDimacs WriteFault before after old new = Breaks before old new
+EndsDimacs Memory before after old new = new ≡ old
 
 -- the status with which the program ends
 abbrev pub status_of : Ending → ℕ

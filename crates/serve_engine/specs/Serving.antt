@@ -115,12 +115,12 @@ module _ (schema : DatabaseSchema) (world : FactSet) (header : List ℕ) (journa
         × (served : Serves refusals is_broken) × (served.count ≡ 0))
 
     -- what each end says
-    abbrev pub Ends : ServeEnd → Type 0
-    Ends (Done refusals is_broken) = Serves refusals.items is_broken
-    Ends LinksFault = ServesNobody journals given given' back back'
+    abbrev pub EndsServing : ServeEnd → Type 0
+    EndsServing (Done refusals is_broken) = Serves refusals.items is_broken
+    EndsServing LinksFault = ServesNobody journals given given' back back'
         ⊎ ((refusals : List (Option DeskError)) × (is_broken : Bool) × Serves refusals is_broken)
-    Ends ShelfFault = ServesNobody journals given given' back back'
-    Ends Memory = ServesNone
+    EndsServing ShelfFault = ServesNobody journals given given' back back'
+    EndsServing Memory = ServesNone
 
   -- the users' journals are as their histories say, with the refusal of each, if it was refused;
   -- and it is said whether an append failed
@@ -162,13 +162,13 @@ module _ (schema : DatabaseSchema) (world : FactSet) (header : List ℕ) (journa
       pub kept : KeepsJournals journals
 
     -- what each end says
-    abbrev pub EndsAt : ServeEnd → Type 0
-    EndsAt (Done refusals is_broken) = ServesDoors refusals.items is_broken
-    EndsAt LinksFault = ServesNoDoor
+    abbrev pub EndsDoors : ServeEnd → Type 0
+    EndsDoors (Done refusals is_broken) = ServesDoors refusals.items is_broken
+    EndsDoors LinksFault = ServesNoDoor
         ⊎ ((refusals : List (Option DeskError)) × (is_broken : Bool)
         × ServesDoors refusals is_broken)
-    EndsAt ShelfFault = ServesNoDoor
-    EndsAt Memory = ServesNoDoor
+    EndsDoors ShelfFault = ServesNoDoor
+    EndsDoors Memory = ServesNoDoor
         ⊎ ((refusals : List (Option DeskError)) × (is_broken : Bool)
         × (served : ServesDoors refusals is_broken) × (served.total ≡ 0))
 
