@@ -15,7 +15,7 @@ ghost use Rattle.user_log.specs.Replies.{reply_of};
 ghost use Rattle.batch_engine.specs.Said.{is_short_ask, is_short_item};
 ghost use Rattle.batch_engine.specs.Batches.{ask_in, item_in};
 ghost use Rattle.batch_engine.specs.BatchLines.{restarted};
-ghost use Rattle.desk_crew.specs.Crew.{named_user, seat_user, IsServed};
+ghost use Rattle.desk_crew.specs.Crew.{named_user, seat_user, IsSeatServed};
 ghost use Rattle.outside.specs.Shelf.{AllOut, AllIn, NoneOut, NoneFell, SomeRose, SameBeside};
 ghost use Rattle.desk_crew.specs.Shelved.{journals, journals_on};
 ghost use Rattle.desk_crew.specs.Shelved.{AreLater, AreBack};
@@ -120,7 +120,7 @@ fn carry_out<'w, R: Wait, G: Gate, F: Shelf>(
 ) -> Option<(Vec<DeskSeat<'w, F::D>>, LineText, bool)>
     requires limits { AllByRecursion (λ seat. KeepsLimits registry.now.schema.now
         (profile_of (seat_user seat))) seats.items }
-    requires served { AllByRecursion (IsServed registry.now.schema.now registry.now.world.now
+    requires served { AllByRecursion (IsSeatServed registry.now.schema.now registry.now.world.now
         (header_bytes registry.now.header.now)) seats.items }
     requires distinct { has_duplicate (journals seats.items) ≡ false }
     requires out { AllOut (journals seats.items) (F.is_out shelf.old) }
@@ -170,7 +170,7 @@ fn answer_all<'w, R: Wait, G: Gate, F: Shelf, K: Sink>(
 ) -> Answered<'w, TicketedDesk<'w, F::D>>
     requires limits { AllByRecursion (λ seat. KeepsLimits registry.now.schema.now
         (profile_of (seat_user seat))) seats.items }
-    requires served { AllByRecursion (IsServed registry.now.schema.now registry.now.world.now
+    requires served { AllByRecursion (IsSeatServed registry.now.schema.now registry.now.world.now
         (header_bytes registry.now.header.now)) seats.items }
     requires distinct { has_duplicate (journals seats.items) ≡ false }
     requires out { AllOut (journals seats.items) (F.is_out shelf.old) }

@@ -20,7 +20,7 @@ use Rattle.desk_counter.specs.declared.item.TurnItem.TheVariants.{Kept, Broke}
 use Rattle.desk_counter.specs.declared.item.Fixed.{Fixed}
 use Rattle.desk_counter.specs.Items.{history_of, kept_pair, kept_pairs, flying, has_broke}
 use Rattle.desk_counter.specs.Desks.{state_shown}
-use Rattle.desk_counter.specs.Asks.{entry_for, NoMark, Adds, answered, broke, coded, wanted, IsServed, AnswersWith, Asked, all_but_last, pairs_behind, IsReply}
+use Rattle.desk_counter.specs.Asks.{entry_for, NoMark, Adds, answered, broke, coded, wanted, IsServing, AnswersWith, Asked, all_but_last, pairs_behind, IsReply}
 use Rattle.desk_counter.specs.Asks.{Tells, TellsMark, AddsNone}
 
 -- ---- pairs with one more
@@ -59,7 +59,7 @@ module _ {D : Type 0} (fixed : Fixed D) where
   behind_code Memory pairs none = refl
 
   -- the reply of an open desk with an entry in flight
-  broke_replies : (found : Entries TurnItem) (text : Text) (ticket : ℕ) (entry : AnsweredQuery) → IsServed fixed found
+  broke_replies : (found : Entries TurnItem) (text : Text) (ticket : ℕ) (entry : AnsweredQuery) → IsServing fixed found
       → reply_at fixed.schema fixed.world fixed.user (state_shown fixed (found ++ (ticket, Broke entry) ∷ [])) text ≡ desk_broken
   broke_replies found text ticket entry served =
       let after = found ++ (ticket, Broke entry) ∷ [] in
@@ -68,7 +68,7 @@ module _ {D : Type 0} (fixed : Fixed D) where
       reply_by fixed.schema fixed.world fixed.user (history_of after) standing_open (is_some o) text (reading fixed.schema text))
       (flying_broke found ticket entry served.1)
 
-  pub served_replies : (found : Entries TurnItem) (text : Text) (query : Formula) (mark : base.Mark) → IsServed fixed found
+  pub served_replies : (found : Entries TurnItem) (text : Text) (query : Formula) (mark : base.Mark) → IsServing fixed found
       → AnswersWith fixed found text query mark
       → reply_at fixed.schema fixed.world fixed.user (state_shown fixed found) text ≡ marked mark
   served_replies found text query mark served answer =

@@ -31,8 +31,8 @@ NoMark _ = Unit {0}
 
 module _ {D : Type 0} (fixed : Fixed D) where
   -- the desk that has these pairs serves its user, and no append failed
-  abbrev pub IsServed : Entries TurnItem → Type 0
-  IsServed pairs = (standing_of fixed.standing ≡ standing_open) × (flying pairs ≡ None)
+  abbrev pub IsServing : Entries TurnItem → Type 0
+  IsServing pairs = (standing_of fixed.standing ≡ standing_open) × (flying pairs ≡ None)
 
   -- this query and this mark answer the text behind these pairs
   abbrev pub AnswersWith : Entries TurnItem → Text → Formula → base.Mark → Type 0
@@ -42,11 +42,11 @@ module _ {D : Type 0} (fixed : Fixed D) where
   -- What an ask adds to the pairs that it found: a mark adds its entry, once; an append that fails
   -- adds that entry as one in flight; a code and want of memory add nothing.
   pub data Adds (ticket : ℕ) (text : Text) (found after : Entries TurnItem) : Reply → Type 0 where
-    answered : {query : Formula} {mark : base.Mark} → IsServed found
+    answered : {query : Formula} {mark : base.Mark} → IsServing found
         → AnswersWith found text query mark
         → after ≡ found ++ (ticket, Kept (entry_for query mark text)) ∷ []
         → Adds ticket text found after (Mark mark)
-    broke : {query : Formula} {mark : base.Mark} → IsServed found
+    broke : {query : Formula} {mark : base.Mark} → IsServing found
         → AnswersWith found text query mark
         → after ≡ found ++ (ticket, Broke (entry_for query mark text)) ∷ []
         → Adds ticket text found after Broken
