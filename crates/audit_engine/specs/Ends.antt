@@ -48,11 +48,12 @@ module _ (schema : DatabaseSchema) (world : FactSet) (header : List ℕ) (name :
       (said : AuditSaid) × Says standing said × (new ≡ old ++ audit_text json said)
 
   -- what each end says of the output before and after
-  abbrev pub IsEnd : Bool → AuditEnd → List ℕ → List ℕ → Type 0
-  IsEnd json Done old new =
+  abbrev pub EndsAudit : Bool → AuditEnd → List ℕ → List ℕ → Type 0
+  EndsAudit json Done old new =
       (standing : Standing) × (is_sealed standing ≡ false) × AppendsAll json standing old new
-  IsEnd json (Refused why) old new = AppendsAll json (Sealed why) old new
-  IsEnd json WriteFault old new = (standing : Standing) × (said : AuditSaid) × Says standing said
+  EndsAudit json (Refused why) old new = AppendsAll json (Sealed why) old new
+  EndsAudit json WriteFault old new =
+      (standing : Standing) × (said : AuditSaid) × Says standing said
       × AppendsPart old new (audit_text json said)
-  IsEnd json ShelfFault old new = new ≡ old
-  IsEnd json Memory old new = new ≡ old
+  EndsAudit json ShelfFault old new = new ≡ old
+  EndsAudit json Memory old new = new ≡ old

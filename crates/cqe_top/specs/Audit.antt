@@ -2,7 +2,7 @@
 use Rattle.std.specs.Prelude.{◌≡◌, ℕ, Bool, List, find, bytes_eq, Option, Some, None}
 use Rattle.outside.specs.Faults.{Rose}
 use Rattle.outside.specs.Shelf.{SameOthers, SameBytes, NoNewImages}
-use Rattle.audit_engine.specs.Ends.{IsEnd}
+use Rattle.audit_engine.specs.Ends.{EndsAudit}
 use Rattle.audit_engine.specs.declared.end.AuditEnd.{AuditEnd}
 use Rattle.cqe_base.specs.Facts.{FactSet}
 use Rattle.cqe_base.specs.History.{History}
@@ -43,7 +43,7 @@ module _ (shelf : ShelfScene) (output : Output) (files : FileNames) (user : Text
     AuditsOverFiles end policy world header =
         (one : PolicyUser) × (user_named user policy.users ≡ Some one)
         × (output.tells → let journals = journals_of shelf files in
-        IsEnd policy.schema world header one.name one.profile (journals.bytes one.name)
+        EndsAudit policy.schema world header one.name one.profile (journals.bytes one.name)
         (journals.before one.name) (journals.now one.name) json end output.written output.written')
 
     -- It ran over files that were read. It looks at his journal alone: the other disks are

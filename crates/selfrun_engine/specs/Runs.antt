@@ -38,9 +38,9 @@ module _ (seed users asks : ℕ) where
         (with_opening found opened events))
 
   -- what each end says of the output before and after
-  abbrev pub IsEnd : SelfrunEnd → List ℕ → List ℕ → Type 0
-  IsEnd Done old new =
+  abbrev pub EndsSelfrun : SelfrunEnd → List ℕ → List ℕ → Type 0
+  EndsSelfrun Done old new =
       (tally : Tally) × IsTally tally × (new ≡ old ++ summary seed users asks tally)
-  IsEnd WriteFault old new =
+  EndsSelfrun WriteFault old new =
       (tally : Tally) × IsTally tally × AppendsPart old new (summary seed users asks tally)
-  IsEnd Memory old new = new ≡ old
+  EndsSelfrun Memory old new = new ≡ old
