@@ -21,7 +21,7 @@ use Rattle.desk_counter.specs.declared.item.Fixed.{Fixed}
 use Rattle.desk_counter.specs.Items.{history_of, kept_pair, kept_pairs, flying, has_broke}
 use Rattle.desk_counter.specs.Desks.{state_shown}
 use Rattle.desk_counter.specs.Asks.{entry_for, NoMark, Adds, answered, broke, coded, wanted, IsServing, AnswersWith, Asked, all_but_last, pairs_behind, IsReply}
-use Rattle.desk_counter.specs.Asks.{Tells, TellsMark, AddsNone}
+use Rattle.desk_counter.specs.Asks.{TellsEntry, TellsMark, AddsNoEntry}
 
 -- ---- pairs with one more
 
@@ -94,7 +94,7 @@ module _ {D : Type 0} (fixed : Fixed D) where
   pub asked_tells : {old new : Pass TurnItem (Fixed D)} {text : Text} (reply : Reply) → Asked fixed old new text reply → TellsMark fixed old new text reply
   asked_tells {old = old} {new = new} {text = text} (Mark mark) asked = of_adds asked.adds
     where
-      of_adds : Adds fixed asked.ticket text asked.found (seen new) (Mark mark) → Tells fixed old new text mark
+      of_adds : Adds fixed asked.ticket text asked.found (seen new) (Mark mark) → TellsEntry fixed old new text mark
       of_adds (answered {query = query} served answer added) = record {
         ticket = asked.ticket;
         entry = entry_for query mark text;
@@ -117,13 +117,13 @@ module _ {D : Type 0} (fixed : Fixed D) where
   asked_tells Memory asked = tt
 
   -- else no entry is added
-  pub asked_none : {old new : Pass TurnItem (Fixed D)} {text : Text} {reply : Reply} → Asked fixed old new text reply → NoMark reply → AddsNone fixed old new
+  pub asked_none : {old new : Pass TurnItem (Fixed D)} {text : Text} {reply : Reply} → Asked fixed old new text reply → NoMark reply → AddsNoEntry fixed old new
   asked_none {old = old} {new = new} {text = text} {reply = reply} asked none = of_adds asked.adds none
     where
-      stays : seen new ≡ asked.found → AddsNone fixed old new
+      stays : seen new ≡ asked.found → AddsNoEntry fixed old new
       stays same = record { own = ap (λ ps. kept_pairs ps) (asked.own.none same); whole = λ all. ap (λ ps. kept_pairs ps) (same ∙ asked.whole all) }
 
-      of_adds : {code : Reply} → Adds fixed asked.ticket text asked.found (seen new) code → NoMark code → AddsNone fixed old new
+      of_adds : {code : Reply} → Adds fixed asked.ticket text asked.found (seen new) code → NoMark code → AddsNoEntry fixed old new
       of_adds (answered served answer added) none = absurd none
       of_adds (broke {query = query} {mark = mark} served answer added) none =
           let entry = entry_for query mark text in

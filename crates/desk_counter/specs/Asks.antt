@@ -88,7 +88,7 @@ module _ {D : Type 0} (fixed : Fixed D) where
 
   -- A mark was told: its entry, with its text's query and length, is the last pair that was seen
   -- and the one that the pass has more of its own.
-  pub record Tells (old new : Pass TurnItem (Fixed D)) (text : Text) (mark : base.Mark) :
+  pub record TellsEntry (old new : Pass TurnItem (Fixed D)) (text : Text) (mark : base.Mark) :
       Type 0 where
     pub ticket : ℕ
     pub entry : AnsweredQuery
@@ -103,11 +103,11 @@ module _ {D : Type 0} (fixed : Fixed D) where
 
   -- a reply that is a mark tells it
   abbrev pub TellsMark : Pass TurnItem (Fixed D) → Pass TurnItem (Fixed D) → Text → Reply → Type 0
-  TellsMark old new text (Mark mark) = Tells old new text mark
+  TellsMark old new text (Mark mark) = TellsEntry old new text mark
   TellsMark old new text _ = Unit {0}
 
   -- No entry of the journal was added: the pass has no more of its own, and where it has all shares
   -- it has seen no more.
-  pub record AddsNone (old new : Pass TurnItem (Fixed D)) : Type 0 where
+  pub record AddsNoEntry (old new : Pass TurnItem (Fixed D)) : Type 0 where
     pub own : kept_pairs (mine new) ≡ kept_pairs (mine old)
     pub whole : shares old ≡ 65 → kept_pairs (seen new) ≡ kept_pairs (seen old)
