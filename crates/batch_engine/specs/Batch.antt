@@ -157,8 +157,8 @@ module _ (schema : DatabaseSchema) (world : FactSet) (header : List ℕ) (journa
       pub answers : AnswersBatch policy front written
 
     -- the bytes are a batch, and its first items were answered so, the last line maybe in part
-    abbrev pub Breaks : List ℕ → List ℕ → List ℕ → Type 0
-    Breaks bytes old new =
+    abbrev pub BreaksBatch : List ℕ → List ℕ → List ℕ → Type 0
+    BreaksBatch bytes old new =
         (items : List BatchItem) × (batch_of bytes ≡ Ok items) × AppendsSome items old new
 
     -- the bytes are a batch, and its items before a restart were answered so
@@ -179,7 +179,7 @@ module _ (schema : DatabaseSchema) (world : FactSet) (header : List ℕ) (journa
     EndsBatch (Refused refusal) before after old new =
         (batch_of before ≡ Err refusal) × LeavesAll old new × IsReadThrough 1 before after
     EndsBatch ReadFault before after old new = LeavesAll old new
-    EndsBatch WriteFault before after old new = Breaks before old new
+    EndsBatch WriteFault before after old new = BreaksBatch before old new
     EndsBatch ShelfFault before after old new = LeavesAll old new
     EndsBatch Memory before after old new = LeavesAll old new ⊎ Stops before old new
 

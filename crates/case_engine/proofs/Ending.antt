@@ -5,10 +5,10 @@ use Rattle.cqe_base.specs.Schema.{Text, DatabaseSchema}
 use Rattle.cqe_base.specs.Facts.{FactSet}
 use Rattle.cqe_base.specs.History.{UserProfile, profile_of}
 use Rattle.case_engine.specs.Script.{Script, script_of}
-use Rattle.case_engine.specs.Case.{AnswersCase, Completes, Breaks, EndsCase, reply_lines, lines_cut}
+use Rattle.case_engine.specs.Case.{AnswersCase, Completes, BreaksCase, EndsCase, reply_lines, lines_cut}
 use Rattle.case_engine.specs.declared.case.CaseEnd.{CaseEnd}
 use Rattle.case_engine.specs.declared.case.CaseEnd.TheVariants.{Done, Script as Refused, ReadFault, WriteFault, Memory}
-use Rattle.case_engine.specs.Written.{AppendsAll, AppendsSome, IsAnswered}
+use Rattle.case_engine.specs.Written.{AppendsReplies, AppendsFirstReplies, IsAnswered}
 use Rattle.case_engine.specs.Answering.{ArePartsOf}
 use Rattle.case_engine.specs.declared.parts.Parts.{Parts}
 
@@ -20,7 +20,7 @@ answers_moved schema schema' world world' user user' asks asks' written a b c d 
     (subst (λ u. AnswersCase schema world u asks' written) c (subst (λ q. AnswersCase schema world user q written) d answers)))
 
 module _ (script : Script) (parts : Parts) (are : ArePartsOf script parts) (bytes : List ℕ) (is : script_of bytes ≡ Ok script) where
-  pub completes : (old new : List ℕ) → AppendsAll parts.schema parts.facts (profile_of parts.user) (map string_bytes parts.asks.items) old new
+  pub completes : (old new : List ℕ) → AppendsReplies parts.schema parts.facts (profile_of parts.user) (map string_bytes parts.asks.items) old new
       → Completes bytes old new
   completes old new all = record {
     script = script;
@@ -30,8 +30,8 @@ module _ (script : Script) (parts : Parts) (are : ArePartsOf script parts) (byte
     answers = answers_moved _ _ _ _ _ _ _ _ all.written are.schema are.facts are.user are.asks all.answers;
   }
 
-  pub breaks : (old new : List ℕ) → AppendsSome parts.schema parts.facts (profile_of parts.user) (map string_bytes parts.asks.items) old new
-      → Breaks bytes old new
+  pub breaks : (old new : List ℕ) → AppendsFirstReplies parts.schema parts.facts (profile_of parts.user) (map string_bytes parts.asks.items) old new
+      → BreaksCase bytes old new
   breaks old new some = record {
     script = script;
     read = is;

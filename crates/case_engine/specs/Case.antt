@@ -74,7 +74,7 @@ pub record Completes (bytes old new : List ℕ) : Type 0 where
   pub answers : AnswersOf script script.asks written
 
 -- the bytes are a script, and what was appended answers its first asks so
-pub record Breaks (bytes old new : List ℕ) : Type 0 where
+pub record BreaksCase (bytes old new : List ℕ) : Type 0 where
   pub script : Script
   pub read : script_of bytes ≡ Ok script
   pub written : List ℕ
@@ -88,5 +88,5 @@ EndsCase Done before after old new = (after ≡ []) × Completes before old new
 EndsCase (Refused refusal) before after old new =
     (script_of before ≡ Err refusal) × (new ≡ old) × IsReadThrough 1 before after
 EndsCase ReadFault before after old new = new ≡ old
-EndsCase WriteFault before after old new = Breaks before old new
+EndsCase WriteFault before after old new = BreaksCase before old new
 EndsCase Memory before after old new = new ≡ old

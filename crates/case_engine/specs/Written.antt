@@ -12,13 +12,13 @@ use Rattle.case_engine.specs.declared.case.CaseEnd.TheVariants.{WriteFault, Memo
 module _ (schema : DatabaseSchema) (world : FactSet) (user : UserProfile) (asks : List Text)
     (old new : List ℕ) where
   -- what was appended answers all asks
-  pub record AppendsAll : Type 0 where
+  pub record AppendsReplies : Type 0 where
     pub written : List ℕ
     pub appended : new ≡ old ++ written
     pub answers : AnswersCase schema world user asks written
 
   -- what was appended are the lines that answer the first asks, and a part of the line of the next
-  pub record AppendsSome : Type 0 where
+  pub record AppendsFirstReplies : Type 0 where
     pub first : List Text
     pub next : Text
     pub back : List Text
@@ -33,8 +33,8 @@ module _ (schema : DatabaseSchema) (world : FactSet) (user : UserProfile) (asks 
 
   -- how answering asks ends
   abbrev pub IsAnswered : CaseEnd → Type 0
-  IsAnswered Done = AppendsAll
-  IsAnswered WriteFault = AppendsSome
+  IsAnswered Done = AppendsReplies
+  IsAnswered WriteFault = AppendsFirstReplies
   IsAnswered Memory = new ≡ old
   IsAnswered (Refused refusal) = ⊥
   IsAnswered ReadFault = ⊥

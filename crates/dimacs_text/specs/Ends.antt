@@ -46,7 +46,7 @@ pub record AnswersDimacs (bytes : List ℕ) (verdict : Verdict) (old new : List 
   pub appended : new ≡ old ++ answer_text cnf
 
 -- the bytes are clauses, and a part of their answer was appended
-pub record Breaks (bytes old new : List ℕ) : Type 0 where
+pub record BreaksDimacs (bytes old new : List ℕ) : Type 0 where
   pub cnf : Cnf
   pub read : cnf_in bytes ≡ Ok cnf
   pub appended : AppendsPart old new (answer_text cnf)
@@ -58,7 +58,7 @@ EndsDimacs (Answered verdict) before after old new =
     (after ≡ []) × AnswersDimacs before verdict old new
 EndsDimacs (Refused refusal) before after old new = (cnf_in before ≡ Err refusal) × (new ≡ old)
 EndsDimacs ReadFault before after old new = new ≡ old
-EndsDimacs WriteFault before after old new = Breaks before old new
+EndsDimacs WriteFault before after old new = BreaksDimacs before old new
 EndsDimacs Memory before after old new = new ≡ old
 
 -- the status with which the program ends
