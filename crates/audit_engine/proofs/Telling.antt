@@ -15,7 +15,7 @@ use Rattle.user_desk.specs.declared.standing.Standing.TheVariants.{Open, Closed,
 use Rattle.audit_text.specs.Said.{AuditSaid}
 use Rattle.audit_print.specs.Audits.{Audits}
 use Rattle.audit_engine.specs.Printed.{IsPrinted}
-use Rattle.audit_engine.specs.Ends.{Says, IsEnd}
+use Rattle.audit_engine.specs.Ends.{Says, EndsAudit}
 use Rattle.audit_engine.specs.declared.end.AuditEnd.{AuditEnd}
 use Rattle.audit_engine.specs.declared.end.AuditEnd.TheVariants as ends
 
@@ -85,7 +85,7 @@ module _ (schema : DatabaseSchema) (world : FactSet) (header : Header) (name : T
   module _ (told : Type 0) (is : told) (entries : History) (json : Bool) (old new : List ℕ) where
     done : (standing : Standing) → IsStanding schema world user told (header_bytes header) bytes entries before now standing
         → IsPrinted schema name user standing entries json ends.Done old new
-        → IsEnd schema world (header_bytes header) name user bytes before now json ends.Done old new
+        → EndsAudit schema world (header_bytes header) name user bytes before now json ends.Done old new
     done Open stands (same, (said, audits, whole)) = (Open, refl, (said, says told is entries Open said stands audits, whole))
     done (Closed admission) stands (same, (said, audits, whole)) =
         (Closed admission, refl, (said, says told is entries (Closed admission) said stands audits, whole))
@@ -93,7 +93,7 @@ module _ (schema : DatabaseSchema) (world : FactSet) (header : Header) (name : T
 
     refused : (why : DeskError) (standing : Standing) → IsStanding schema world user told (header_bytes header) bytes entries before now standing
         → IsPrinted schema name user standing entries json (ends.Refused why) old new
-        → IsEnd schema world (header_bytes header) name user bytes before now json (ends.Refused why) old new
+        → EndsAudit schema world (header_bytes header) name user bytes before now json (ends.Refused why) old new
     refused why Open stands (same, (said, audits, whole)) = absurd (cc)
     refused why (Closed admission) stands (same, (said, audits, whole)) = absurd (cc)
     refused why (Sealed why') stands (same, (said, audits, whole)) =
@@ -107,7 +107,7 @@ module _ (schema : DatabaseSchema) (world : FactSet) (header : Header) (name : T
     -- so is the end of the audit of a desk
     pub ends_so : (end : AuditEnd) (standing : Standing) → IsStanding schema world user told (header_bytes header) bytes entries before now standing
         → IsPrinted schema name user standing entries json end old new
-        → IsEnd schema world (header_bytes header) name user bytes before now json end old new
+        → EndsAudit schema world (header_bytes header) name user bytes before now json end old new
     ends_so ends.Done standing stands printed = done standing stands printed
     ends_so (ends.Refused why) standing stands printed = refused why standing stands printed
     ends_so ends.WriteFault standing stands (said, audits, part) = (standing, said, says told is entries standing said stands audits, part)

@@ -43,16 +43,17 @@ module _ (schema : DatabaseSchema) (world : FactSet) (header : List ℕ) (name :
     pub audits : Audits schema name user standing entries said
 
   -- all of it was appended
-  abbrev pub AppendsAll : Bool → Standing → List ℕ → List ℕ → Type 0
-  AppendsAll json standing old new =
+  abbrev pub AppendsSaid : Bool → Standing → List ℕ → List ℕ → Type 0
+  AppendsSaid json standing old new =
       (said : AuditSaid) × Says standing said × (new ≡ old ++ audit_text json said)
 
   -- what each end says of the output before and after
-  abbrev pub IsEnd : Bool → AuditEnd → List ℕ → List ℕ → Type 0
-  IsEnd json Done old new =
-      (standing : Standing) × (is_sealed standing ≡ false) × AppendsAll json standing old new
-  IsEnd json (Refused why) old new = AppendsAll json (Sealed why) old new
-  IsEnd json WriteFault old new = (standing : Standing) × (said : AuditSaid) × Says standing said
+  abbrev pub EndsAudit : Bool → AuditEnd → List ℕ → List ℕ → Type 0
+  EndsAudit json Done old new =
+      (standing : Standing) × (is_sealed standing ≡ false) × AppendsSaid json standing old new
+  EndsAudit json (Refused why) old new = AppendsSaid json (Sealed why) old new
+  EndsAudit json WriteFault old new =
+      (standing : Standing) × (said : AuditSaid) × Says standing said
       × AppendsPart old new (audit_text json said)
-  IsEnd json ShelfFault old new = new ≡ old
-  IsEnd json Memory old new = new ≡ old
+  EndsAudit json ShelfFault old new = new ≡ old
+  EndsAudit json Memory old new = new ≡ old

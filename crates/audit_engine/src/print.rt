@@ -6,7 +6,7 @@ ghost use Rattle.cqe_base.specs.Limits.{KeepsLimits};
 ghost use Rattle.log_journal.specs.Opening.{header_bytes};
 ghost use Rattle.user_desk.specs.Desks.{desk_schema, desk_user, desk_standing, desk_history};
 ghost use Rattle.audit_engine.specs.Printed.{IsPrinted};
-ghost use Rattle.audit_engine.specs.Ends.{IsEnd};
+ghost use Rattle.audit_engine.specs.Ends.{EndsAudit};
 ghost use Rattle.audit_engine.specs.declared.end.AuditEnd.{AuditEnd};
 
 use crate::end::{AuditEnd, end_of};
@@ -30,7 +30,7 @@ pub(crate) fn audit_disk<'w, D: Disk, K: Sink>(
     sink: &mut K,
 ) -> (D, AuditEnd)
     requires { KeepsLimits registry.now.schema.now (profile_of user.now) }
-    ensures ends { D.tells → K.tells → IsEnd registry.now.schema.now registry.now.world.now
+    ensures ends { D.tells → K.tells → EndsAudit registry.now.schema.now registry.now.world.now
         (header_bytes registry.now.header.now) (string_bytes user.now.name) (profile_of user.now)
         (D.reads disk) (D.faults disk) (D.faults result.0) json result.1 (K.written sink.old)
         (K.written sink.new) }

@@ -7,7 +7,7 @@ ghost use Rattle.cqe_base.specs.Limits.{KeepsLimits};
 ghost use Rattle.log_journal.specs.Names.{journal_name};
 ghost use Rattle.log_journal.specs.Opening.{header_bytes};
 ghost use Rattle.outside.specs.Shelf.{NoneOut, NoneFell, SameBytes, NoNewImages};
-ghost use Rattle.audit_engine.specs.Ends.{IsEnd};
+ghost use Rattle.audit_engine.specs.Ends.{EndsAudit};
 ghost use Rattle.audit_engine.specs.declared.end.AuditEnd.{AuditEnd};
 
 use crate::end::AuditEnd;
@@ -31,7 +31,7 @@ pub fn run_audit<'w, F: Shelf, K: Sink>(
 ) -> AuditEnd
     requires limits { KeepsLimits registry.now.schema.now (profile_of user.now) }
     requires inside { NoneOut (F.is_out shelf.old) }
-    ensures ends { F.tells → K.tells → IsEnd registry.now.schema.now registry.now.world.now
+    ensures ends { F.tells → K.tells → EndsAudit registry.now.schema.now registry.now.world.now
         (header_bytes registry.now.header.now) (string_bytes user.now.name) (profile_of user.now)
         (bytes_on F.D.reads
         (F.disk shelf.old
@@ -75,7 +75,7 @@ fn audit_journal<'w, F: Shelf, K: Sink>(
 ) -> AuditEnd
     requires limits { KeepsLimits registry.now.schema.now (profile_of user.now) }
     requires inside { NoneOut (F.is_out shelf.old) }
-    ensures ends { F.tells → K.tells → IsEnd registry.now.schema.now registry.now.world.now
+    ensures ends { F.tells → K.tells → EndsAudit registry.now.schema.now registry.now.world.now
         (header_bytes registry.now.header.now) (string_bytes user.now.name) (profile_of user.now)
         (bytes_on F.D.reads (F.disk shelf.old journal.now)) (F.disk_faults shelf.old journal.now)
         (F.disk_faults shelf.new journal.now)

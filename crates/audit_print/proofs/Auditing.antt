@@ -19,7 +19,7 @@ use Rattle.audit_print.specs.Others.{AreOthers}
 use Rattle.audit_print.specs.Found.{place_at, worlds_for}
 use Rattle.audit_print.specs.Listed.{ListsAll}
 use Rattle.audit_print.specs.Said.{entry_said, method_word, refused_said, secret_said, secrets_said, secrecies_in, if_any}
-use Rattle.audit_print.specs.Audits.{Audits, Serves}
+use Rattle.audit_print.specs.Audits.{Audits, AuditsServed}
 
 pub somewhere : (schema schema' : DatabaseSchema) (world : FactSet) (user user' : UserProfile) (entries entries' : History) → schema ≡ schema' → user ≡ user'
     → entries ≡ entries'
@@ -44,7 +44,7 @@ of_sealed schema name user standing entries said why is whole =
     (record { worlds = λ _. None; listings = λ _. None; listed = λ served. absurd (cc); others = λ served. absurd (cc); whole = whole })
 
 pub of_served : (schema : DatabaseSchema) (name : Text) (user : UserProfile) (standing : Standing) (entries : History) (said : AuditSaid) → standing ≡ Open
-    → Serves schema name user entries said → Audits schema name user standing entries said
+    → AuditsServed schema name user entries said → Audits schema name user standing entries said
 of_served schema name user standing entries said is serves =
     subst (λ s. Audits schema name user s entries said) (sym is)
     (record { worlds = serves.worlds; listings = serves.listings; listed = λ _. serves.listed; others = λ _. serves.others; whole = serves.whole })
@@ -55,7 +55,7 @@ pub serves : (schema : DatabaseSchema) (name : Text) (user : UserProfile) (entri
     → AreOthers schema user entries' worlds → ListsAll schema user worlds n secrets → said.secrecies ≡ if_any user (secrecies_in user.pairs secrets)
     → said.secrets ≡ drop (2 * user.pairs) secrets
     → said.name ≡ name → said.method ≡ method_word user.method → said.standing ≡ codes "open" → said.entries ≡ map (entry_said schema) entries'
-    → Serves schema name user entries said
+    → AuditsServed schema name user entries said
 serves schema name user entries entries' worlds n said secrets same size others all pairs rest named by stands told = record {
   worlds = worlds;
   listings = all.listings;

@@ -12,8 +12,8 @@ use Rattle.audit_print.specs.Said.{IsListing, audit_said, served_said}
 
 -- this is said of a user who is served, with some other world for each secret, and its facts in
 -- their order
-pub record Serves (schema : DatabaseSchema) (name : Text) (user : UserProfile) (entries : History)
-    (said : AuditSaid) : Type 0 where
+pub record AuditsServed (schema : DatabaseSchema) (name : Text) (user : UserProfile)
+    (entries : History) (said : AuditSaid) : Type 0 where
   pub worlds : ℕ → Option FactSet
   pub listings : ℕ → Option (List Fact)
   pub listed : (k : ℕ) → k < length user.secrets → IsListing (listings k) (worlds k)

@@ -15,7 +15,7 @@ ghost use Rattle.user_desk.specs.Desks.{desk_schema, desk_user, desk_standing, d
 ghost use Rattle.user_desk.specs.Standings.{is_open};
 ghost use Rattle.audit_print.specs.Said.{method_word, atom_of, constants_in, fact_text, world_said};
 ghost use Rattle.audit_print.specs.Said.{entry_said, secrecies_in, if_any, refused_said, IsListing};
-ghost use Rattle.audit_print.specs.Audits.{Audits, Serves};
+ghost use Rattle.audit_print.specs.Audits.{Audits, AuditsServed};
 ghost use Rattle.audit_print.specs.Found.{place_at, found_at};
 ghost use Rattle.audit_text.specs.Rows.{entry_in, secrecy_in, secret_in, said_in};
 
@@ -60,7 +60,7 @@ fn served<'u, D: Disk>(
     requires user { profile_of user.now ≡ desk_user desk.now }
     requires open { is_open (desk_standing desk.now) ≡ true }
     ensures { IfOk result (λ report.
-        Serves schema.now (string_bytes user.now.name) (profile_of user.now)
+        AuditsServed schema.now (string_bytes user.now.name) (profile_of user.now)
         (desk_history desk.now) (said_in report)) }
 {
     desk.known();

@@ -20,7 +20,7 @@ use Rattle.log_journal.specs.Names.{journal_name}
 use Rattle.batch_engine.specs.BatchLines.{BatchItem}
 use Rattle.desk_crew.specs.Openings.{OpensNone, IsOpening}
 use Rattle.batch_engine.specs.Lives.{RoseBy, is_opened, failures}
-use Rattle.batch_engine.specs.Batch.{Serves, Answers, AreRefusals, AppendsAll, AppendsSome, line_bytes, unopened, with_opening}
+use Rattle.batch_engine.specs.Batch.{ServesUser, AnswersBatch, AreRefusals, AppendsAll, AppendsSome, line_bytes, unopened, with_opening}
 use Rattle.desk_crew.specs.Crew.{named_user, seat_standing, seat_state, IsLeft, IsClosed}
 use Rattle.desk_crew.specs.Shelved.{journals_on, IsBack, AreBack}
 use Rattle.desk_crew.specs.Seats.{DeskSeat}
@@ -152,7 +152,7 @@ module _ (schema : DatabaseSchema) (world : FactSet) (users : List NamedUser) (h
     serves : (user : NamedUser) (script : List ScriptEvent) (seat : DeskSeat D g h) → Finds users user → KeepsLimits schema user.profile
         → IsOpening schema world user.profile header (bytes_of reads directory disk user.name) user.opened
         → Seated user script seat → IsBack S reads image faults disk' count' seat
-        → Serves schema world header (journals_on reads image directory disk disk' count count') users script user
+        → ServesUser schema world header (journals_on reads image directory disk disk' count count') users script user
     serves user script seat found limits opening_is seated is =
         let at : Back user script seat = back user script seat seated is in
         let legal = legal_opening schema world header (bytes_of reads directory disk user.name) user empty opening_is in
@@ -190,7 +190,7 @@ module _ (schema : DatabaseSchema) (world : FactSet) (users : List NamedUser) (h
         → AllByRecursion (λ (u : NamedUser). KeepsLimits schema u.profile) us
         → AllByRecursion (λ (u : NamedUser). IsOpening schema world u.profile header (bytes_of reads directory disk u.name) u.opened) us
         → AllSeated script us seats → AreBack S reads image faults disk' count' seats
-        → AllByRecursion (Serves schema world header (journals_on reads image directory disk disk' count count') users script) us
+        → AllByRecursion (ServesUser schema world header (journals_on reads image directory disk disk' count count') users script) us
     serves_all [] script [] found limits openings seated is = tt
     serves_all [] script (seat ∷ seats) found limits openings seated is = tt
     serves_all (user ∷ us) script [] found limits openings seated is = absurd seated
@@ -219,7 +219,7 @@ module _ (schema : DatabaseSchema) (world : FactSet) (users : List NamedUser) (h
           → SoFar schema world users header directory T reads image faults t read_is_image (bytes_of reads directory disk) (count_of directory count)
           (images_of image directory disk) found opened items output seats is_broken
           → AreBack S reads image faults disk' count' seats
-          → Answers schema world header (journals_on reads image directory disk disk' count count') policy items output
+          → AnswersBatch schema world header (journals_on reads image directory disk disk' count count') policy items output
       answers items output seats is_broken so_far is = record {
         users = users;
         of_policy = of_policy;

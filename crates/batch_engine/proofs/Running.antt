@@ -15,7 +15,7 @@ use Rattle.batch_engine.specs.BatchLines.{BatchItem, asked, restarted}
 use Rattle.batch_engine.specs.Said.{is_short_item}
 use Rattle.batch_engine.specs.Batches.{item_in}
 use Rattle.desk_counter.specs.declared.item.Fixed.{Fixed}
-use Rattle.desk_crew.specs.Crew.{seat_user, seat_journal, seat_disk, IsServed, AreReopened, Tells, nobody, here, further}
+use Rattle.desk_crew.specs.Crew.{seat_user, seat_journal, seat_disk, IsSeatServed, AreReopened, Tells, nobody, here, further}
 use Rattle.desk_crew.specs.Shelved.{journals, AreLater}
 use Rattle.outside.specs.Streams.{AppendsPart}
 use Rattle.batch_engine.specs.Steps.{Carries, Runs, nothing, more, RunsAll, RunsSome, RunsTo}
@@ -51,7 +51,7 @@ module _ (schema : DatabaseSchema) (world : FactSet) (header : List ℕ) {D : Ty
   pub record Stay (old new : List (DeskSeat D g h)) : Type 0 where
     pub names : journals new ≡ journals old
     pub limits : Limits old → Limits new
-    pub served : AllByRecursion (IsServed schema world header) old → AllByRecursion (IsServed schema world header) new
+    pub served : AllByRecursion (IsSeatServed schema world header) old → AllByRecursion (IsSeatServed schema world header) new
     pub later : (count : Text → ℕ) → AreLater faults count old → AreLater faults count new
 
   stay : (seats : List (DeskSeat D g h)) → Stay seats seats

@@ -29,7 +29,7 @@ use Rattle.batch_engine.specs.Batch.{unopened}
 use Rattle.batch_engine.specs.Lives.{is_ask}
 use Rattle.desk_crew.specs.Shelved.{IsSeatOf, AreSeatsOf}
 use Rattle.desk_crew.specs.Crew.{named_user, first_refusal, seat_user, seat_name, seat_journal, seat_kept, seat_standing, seat_history, seat_state, seat_disk}
-use Rattle.desk_crew.specs.Crew.{IsSeatIn, IsFresh, is_named, IsClosed, IsServed, IsToldAt, IsReopened, AreReopened, Tells, nobody, here, further}
+use Rattle.desk_crew.specs.Crew.{IsSeatIn, IsFresh, is_named, IsClosed, IsSeatServed, IsToldAt, IsReopened, AreReopened, Tells, nobody, here, further}
 use Rattle.desk_crew.proofs.Asking.{still_served}
 use Rattle.desk_crew.specs.Seats.{DeskSeat}
 use Rattle.batch_engine.proofs.Courses.{any-push, Course, course_on, stays_on, IsRunning, IsLiving, live, closing, Asked, ask_step, Restarted, IsExclusive}
@@ -86,7 +86,7 @@ module _ (schema : DatabaseSchema) (world : FactSet) (header directory : List �
     pub name_is : seat_name seat ≡ user.name
     pub profile_is : profile_of (seat_user seat) ≡ user.profile
     pub journal_is : seat_journal seat ≡ journal_name directory user.name
-    pub served : IsServed schema world header seat
+    pub served : IsSeatServed schema world header seat
     pub living : IsLiving schema world user.profile header (bytes user.name) (before user.name) (images user.name) user.opened events (seat_standing seat)
         (seat_state seat) (image (seat_disk seat)) (reads (seat_disk seat)) (faults (seat_disk seat)) seat.refusal
     pub fresh : list_any is_ask events ≡ false → IsFresh seat

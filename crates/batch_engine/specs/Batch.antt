@@ -14,7 +14,7 @@ use Rattle.user_desk.specs.Causes.{Opens}
 use Rattle.user_desk.specs.Entries.{IsNoLonger}
 use Rattle.user_desk.specs.Lives.{Holds}
 use Rattle.user_desk.specs.declared.standing.DeskError.{DeskError}
-use Rattle.desk_crew.specs.Shelved.{Journals, IsKept, AreKept}
+use Rattle.desk_crew.specs.Shelved.{Journals, KeepsJournal, KeepsJournals}
 use Rattle.script_lines.specs.Read.{IsReadThrough}
 use Rattle.batch_engine.specs.BatchLines.{BatchItem, asked, restarted, batch_of}
 use Rattle.desk_crew.specs.Openings.{OpensNone, IsOpening}
@@ -56,7 +56,7 @@ with_opening found opened events = script_opening found opened ∷ events
 
 module _ (schema : DatabaseSchema) (world : FactSet) (header : List ℕ) (journals : Journals) where
   -- What a script means for one user.
-  pub record Serves (users : List NamedUser) (events : List ScriptEvent) (user : NamedUser) :
+  pub record ServesUser (users : List NamedUser) (events : List ScriptEvent) (user : NamedUser) :
       Type 0 where
     -- his opening history is the legal one that his journal's bytes stand for, and the empty one
     -- where they open no desk
@@ -92,11 +92,11 @@ module _ (schema : DatabaseSchema) (world : FactSet) (header : List ℕ) (journa
         (journals.reads user.name)
     -- and unless one held and he asked, his journal is as it was
     pub kept : (list_any is_opened (own_events user.name events)
-        && list_any is_ask (own_events user.name events)) ≡ false → IsKept journals user.name
+        && list_any is_ask (own_events user.name events)) ≡ false → KeepsJournal journals user.name
 
   -- what was written answers these items: it is the lines of the transcript of a script in which
   -- all journals are opened, each ask has some ending, and each restart finds and opens what it may
-  pub record Answers (policy : List NamedUser) (items : List BatchItem) (written : List ℕ) :
+  pub record AnswersBatch (policy : List NamedUser) (items : List BatchItem) (written : List ℕ) :
       Type 0 where
     pub users : List NamedUser
     pub of_policy : map unopened users ≡ policy
@@ -106,7 +106,7 @@ module _ (schema : DatabaseSchema) (world : FactSet) (header : List ℕ) (journa
     pub of_items : AreEventsOf items events
     pub lines : written
         ≡ line_bytes (transcript schema world users (with_opening found opened events))
-    pub each_user : AllByRecursion (Serves users (with_opening found opened events)) users
+    pub each_user : AllByRecursion (ServesUser users (with_opening found opened events)) users
 
   -- the first refusal of each user's openings
   abbrev pub AreRefusals : List ScriptEvent → List NamedUser → List (Option DeskError) → Type 0
@@ -124,7 +124,7 @@ module _ (schema : DatabaseSchema) (world : FactSet) (header : List ℕ) (journa
         (refusals : List (Option DeskError)) (is_broken : Bool) : Type 0 where
       pub written : List ℕ
       pub appended : new ≡ old ++ written
-      pub answers : Answers policy items written
+      pub answers : AnswersBatch policy items written
       pub refused : AreRefusals
           (with_opening answers.found answers.opened answers.events) answers.users refusals
       pub broken : is_broken
@@ -143,7 +143,7 @@ module _ (schema : DatabaseSchema) (world : FactSet) (header : List ℕ) (journa
       pub one : length last ≤ 1
       pub part : ℕ
       pub appended : new ≡ old ++ (line_bytes whole ++ take part (line_bytes last))
-      pub answers : Answers policy front (line_bytes (whole ++ last))
+      pub answers : AnswersBatch policy front (line_bytes (whole ++ last))
       pub lines : transcript schema world answers.users
           (with_opening answers.found answers.opened answers.events) ≡ whole ++ last
 
@@ -154,11 +154,11 @@ module _ (schema : DatabaseSchema) (world : FactSet) (header : List ℕ) (journa
       pub split : items ≡ front ++ restarted ∷ rest
       pub written : List ℕ
       pub appended : new ≡ old ++ written
-      pub answers : Answers policy front written
+      pub answers : AnswersBatch policy front written
 
     -- the bytes are a batch, and its first items were answered so, the last line maybe in part
-    abbrev pub Breaks : List ℕ → List ℕ → List ℕ → Type 0
-    Breaks bytes old new =
+    abbrev pub BreaksBatch : List ℕ → List ℕ → List ℕ → Type 0
+    BreaksBatch bytes old new =
         (items : List BatchItem) × (batch_of bytes ≡ Ok items) × AppendsSome items old new
 
     -- the bytes are a batch, and its items before a restart were answered so
@@ -168,31 +168,32 @@ module _ (schema : DatabaseSchema) (world : FactSet) (header : List ℕ) (journa
 
     -- nothing was written, and all journals are as they were
     abbrev pub LeavesAll : List ℕ → List ℕ → Type 0
-    LeavesAll old new = (new ≡ old) × AreKept journals
+    LeavesAll old new = (new ≡ old) × KeepsJournals journals
 
     -- what each end of a batch says of the bytes that were left before and after, and of the output
     -- before and after
-    abbrev pub Ends : BatchEnd → List ℕ → List ℕ → List ℕ → List ℕ → Type 0
-    Ends (Done refusals is_broken) before after old new = (after ≡ []) × (items : List BatchItem)
+    abbrev pub EndsBatch : BatchEnd → List ℕ → List ℕ → List ℕ → List ℕ → Type 0
+    EndsBatch (Done refusals is_broken) before after old new =
+        (after ≡ []) × (items : List BatchItem)
         × (batch_of before ≡ Ok items) × AppendsAll items old new refusals.items is_broken
-    Ends (Refused refusal) before after old new =
+    EndsBatch (Refused refusal) before after old new =
         (batch_of before ≡ Err refusal) × LeavesAll old new × IsReadThrough 1 before after
-    Ends ReadFault before after old new = LeavesAll old new
-    Ends WriteFault before after old new = Breaks before old new
-    Ends ShelfFault before after old new = LeavesAll old new
-    Ends Memory before after old new = LeavesAll old new ⊎ Stops before old new
+    EndsBatch ReadFault before after old new = LeavesAll old new
+    EndsBatch WriteFault before after old new = BreaksBatch before old new
+    EndsBatch ShelfFault before after old new = LeavesAll old new
+    EndsBatch Memory before after old new = LeavesAll old new ⊎ Stops before old new
 
     -- what each end says of the journals alone, where neither the script nor the output is told:
     -- they are as they were, or as the answers to some items leave them
     abbrev pub LeavesJournals : BatchEnd → Type 0
     LeavesJournals (Done refusals is_broken) = (items : List BatchItem) × (written : List ℕ)
         × AppendsAll items [] written refusals.items is_broken
-    LeavesJournals (Refused refusal) = AreKept journals
-    LeavesJournals ReadFault = AreKept journals
+    LeavesJournals (Refused refusal) = KeepsJournals journals
+    LeavesJournals ReadFault = KeepsJournals journals
     LeavesJournals WriteFault = (items : List BatchItem) × (written : List ℕ)
         × AppendsSome items [] written
-    LeavesJournals ShelfFault = AreKept journals
-    LeavesJournals Memory = AreKept journals ⊎ ((items : List BatchItem) × (written : List ℕ)
+    LeavesJournals ShelfFault = KeepsJournals journals
+    LeavesJournals Memory = KeepsJournals journals ⊎ ((items : List BatchItem) × (written : List ℕ)
         × AppendsTo items [] written)
 
 -- the end of a batch whose journals weren't opened

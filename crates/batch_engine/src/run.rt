@@ -15,14 +15,14 @@ ghost use Rattle.user_log.specs.Replies.{reply_of};
 ghost use Rattle.batch_engine.specs.Said.{is_short_ask, is_short_item};
 ghost use Rattle.batch_engine.specs.Batches.{ask_in, item_in};
 ghost use Rattle.batch_engine.specs.BatchLines.{restarted};
-ghost use Rattle.desk_crew.specs.Crew.{named_user, seat_user, IsServed};
+ghost use Rattle.desk_crew.specs.Crew.{named_user, seat_user, IsSeatServed};
 ghost use Rattle.outside.specs.Shelf.{AllOut, AllIn, NoneOut, NoneFell, SomeRose, SameBeside};
 ghost use Rattle.desk_crew.specs.Shelved.{journals, journals_on};
 ghost use Rattle.desk_crew.specs.Shelved.{AreLater, AreBack};
 ghost use Rattle.batch_engine.specs.BatchOf.{items_of};
 ghost use Rattle.batch_engine.specs.AnswerTexts.{answer_text};
 ghost use Rattle.batch_engine.specs.Steps.{Carries, is_broken_reply, IsAnswered, HasSeats, IsCut};
-ghost use Rattle.batch_engine.specs.Batch.{Ends, LeavesJournals, IsUnopened, IsBroken};
+ghost use Rattle.batch_engine.specs.Batch.{EndsBatch, LeavesJournals, IsUnopened, IsBroken};
 ghost use Rattle.batch_engine.specs.declared.run.BatchEnd.{BatchEnd};
 
 use crate::batch::{Batch, BatchAsk, BatchItem};
@@ -120,7 +120,7 @@ fn carry_out<'w, R: Wait, G: Gate, F: Shelf>(
 ) -> Option<(Vec<DeskSeat<'w, F::D>>, LineText, bool)>
     requires limits { AllByRecursion (λ seat. KeepsLimits registry.now.schema.now
         (profile_of (seat_user seat))) seats.items }
-    requires served { AllByRecursion (IsServed registry.now.schema.now registry.now.world.now
+    requires served { AllByRecursion (IsSeatServed registry.now.schema.now registry.now.world.now
         (header_bytes registry.now.header.now)) seats.items }
     requires distinct { has_duplicate (journals seats.items) ≡ false }
     requires out { AllOut (journals seats.items) (F.is_out shelf.old) }
@@ -170,7 +170,7 @@ fn answer_all<'w, R: Wait, G: Gate, F: Shelf, K: Sink>(
 ) -> Answered<'w, TicketedDesk<'w, F::D>>
     requires limits { AllByRecursion (λ seat. KeepsLimits registry.now.schema.now
         (profile_of (seat_user seat))) seats.items }
-    requires served { AllByRecursion (IsServed registry.now.schema.now registry.now.world.now
+    requires served { AllByRecursion (IsSeatServed registry.now.schema.now registry.now.world.now
         (header_bytes registry.now.header.now)) seats.items }
     requires distinct { has_duplicate (journals seats.items) ≡ false }
     requires out { AllOut (journals seats.items) (F.is_out shelf.old) }
@@ -232,7 +232,8 @@ pub fn run_batch<R: Wait, F: Shelf, S: Source, K: Sink, G: Gate>(
         ≡ false }
     requires inside { NoneOut (F.is_out shelf.old) }
     ensures ends { F.tells → S.tells → K.tells
-        → Ends registry.now.schema.now registry.now.world.now (header_bytes registry.now.header.now)
+        → EndsBatch registry.now.schema.now registry.now.world.now
+        (header_bytes registry.now.header.now)
         (journals_on F.D.reads F.D.image registry.now.directory.now (F.disk shelf.old)
         (F.disk shelf.new)
         (F.disk_faults shelf.old) (F.disk_faults shelf.new))

@@ -17,7 +17,7 @@ use Rattle.cqe_base.specs.Transcript.{reply_text}
 use Rattle.cqe_base.proofs.Runs.{after_events-push}
 use Rattle.user_log.specs.Asked.{IsAsked, wanted, answered}
 use Rattle.case_engine.specs.Answering.{IsTold}
-use Rattle.case_engine.specs.Case.{ask_events, IsKeptOrWant, reply_lines, Answers}
+use Rattle.case_engine.specs.Case.{ask_events, IsKeptOrWant, reply_lines, AnswersCase}
 
 -- ---- lists
 
@@ -160,7 +160,7 @@ module _ (schema : DatabaseSchema) (world : FactSet) (user : UserProfile) where
   -- ---- the end of the run
 
   pub answers_asks : (is_open : Bool) (asks : List Text) (output : List ℕ) (history : History) → SoFar is_open asks output history → EmptyHistoryIsLegal
-      → RunsStayLegal → LegalHistoriesHide → is_valid_schema schema ≡ true → is_user_of schema user ≡ true → Answers schema world user asks output
+      → RunsStayLegal → LegalHistoriesHide → is_valid_schema schema ≡ true → is_user_of schema user ≡ true → AnswersCase schema world user asks output
   unfolding replies
   answers_asks is_open asks output history so_far empty runs hide valid is_user =
       let legal = runs schema world user [] (ask_events asks so_far.endings) (empty schema world user) in

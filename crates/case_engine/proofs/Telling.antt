@@ -16,8 +16,8 @@ use Rattle.cqe_base.specs.Run.{Reply, opening, replies_from}
 use Rattle.cqe_base.specs.Transcript.{reply_text}
 use Rattle.case_engine.specs.Answering.{IsTold}
 use Rattle.case_engine.specs.Sound.{is_short}
-use Rattle.case_engine.specs.Case.{Answers, ask_events, reply_lines}
-use Rattle.case_engine.specs.Written.{AppendsAll, AppendsSome}
+use Rattle.case_engine.specs.Case.{AnswersCase, ask_events, reply_lines}
+use Rattle.case_engine.specs.Written.{AppendsReplies, AppendsFirstReplies}
 use Rattle.case_engine.proofs.Replying.{SoFar, so_far_empty, one_line, replies_count, told_next, answers_asks}
 
 module _ (schema : DatabaseSchema) (world : FactSet) (user : UserProfile) (is_open : Bool) where
@@ -50,7 +50,7 @@ module _ (schema : DatabaseSchema) (world : FactSet) (user : UserProfile) (is_op
   module _ (empty : EmptyHistoryIsLegal) (runs : RunsStayLegal) (hide : LegalHistoriesHide) (valid : is_valid_schema schema ≡ true)
       (is_user : is_user_of schema user ≡ true) where
     -- at the end
-    pub told_all : (asks : List Text) (old new : List ℕ) (history : History) → Told asks old new history → AppendsAll schema world user asks old new
+    pub told_all : (asks : List Text) (old new : List ℕ) (history : History) → Told asks old new history → AppendsReplies schema world user asks old new
     told_all asks old new history (output, written, so_far) = record {
       written = output;
       appended = written;
@@ -61,7 +61,7 @@ module _ (schema : DatabaseSchema) (world : FactSet) (user : UserProfile) (is_op
     pub told_some : (asks : List (String Global)) (i n : ℕ) (text : String Global) (old before after line : List ℕ) (history new : History) (told : Reply)
         → Told (map string_bytes (take i asks)) old before history → take (i + 1) asks ≡ take i asks ++ text ∷ [] → after ≡ before ++ take n line
         → line ≡ reply_text told ++ 10 ∷ [] → IsTold is_open schema world user history new (string_bytes text) told
-        → AppendsSome schema world user (map string_bytes asks) old after
+        → AppendsFirstReplies schema world user (map string_bytes asks) old after
     told_some asks i n text old before after line history new told (output, written, so_far) next appended is here =
         let front : map string_bytes (take (i + 1) asks) ≡ map string_bytes (take i asks) ++ string_bytes text ∷ [] =
         ap (map string_bytes) next ∙ map-append string_bytes (take i asks) (text ∷ []) in
@@ -81,8 +81,9 @@ module _ (schema : DatabaseSchema) (world : FactSet) (user : UserProfile) (is_op
           appended =
               appended ∙ ap (λ w. w ++ take n line) written ∙ append_assoc old output (take n line)
               ∙ ap (λ o. old ++ (o ++ take n line)) so_far.lines ∙ ap (λ l. old ++ (reply_lines whole ++ take n l)) is;
-          answers = subst (λ a. Answers schema world user a (reply_lines (whole ++ told ∷ []))) front
-              (subst (Answers schema world user (map string_bytes (take (i + 1) asks))) (ap (λ o. o ++ line) so_far.lines ∙ ap (λ l. reply_lines whole ++ l) is
+          answers = subst (λ a. AnswersCase schema world user a (reply_lines (whole ++ told ∷ []))) front
+              (subst (AnswersCase schema world user (map string_bytes (take (i + 1) asks)))
+              (ap (λ o. o ++ line) so_far.lines ∙ ap (λ l. reply_lines whole ++ l) is
               ∙ one_line whole told)
               (answers_asks schema world user is_open (map string_bytes (take (i + 1) asks)) (output ++ line) new
               (more asks i text output line history new told so_far next is here) empty runs hide valid is_user));

@@ -31,7 +31,7 @@ reply_lines told = flat_map (λ reply. reply_text reply ++ 10 ∷ []) told
 -- what was written answers these asks of a user in a world: one line for each, the replies of a run
 -- from the empty history in which each ask keeps its entry or finds no memory; the history is
 -- legal, and where the user is admitted it hides his secrets
-pub record Answers (schema : DatabaseSchema) (world : FactSet) (user : UserProfile)
+pub record AnswersCase (schema : DatabaseSchema) (world : FactSet) (user : UserProfile)
     (asks : List Text) (written : List ℕ) : Type 0 where
   pub endings : List Ending
   pub one_each : length endings ≡ length asks
@@ -45,7 +45,7 @@ pub record Answers (schema : DatabaseSchema) (world : FactSet) (user : UserProfi
 -- the same of asks of a script
 abbrev pub AnswersOf : Script → List Text → List ℕ → Type 0
 AnswersOf script asks written =
-    Answers (script_schema script) script.facts (script_user script) asks written
+    AnswersCase (script_schema script) script.facts (script_user script) asks written
 
 -- the lines of replies, and a part of one more
 abbrev pub lines_cut : List Reply → Reply → ℕ → List ℕ
@@ -74,7 +74,7 @@ pub record Completes (bytes old new : List ℕ) : Type 0 where
   pub answers : AnswersOf script script.asks written
 
 -- the bytes are a script, and what was appended answers its first asks so
-pub record Breaks (bytes old new : List ℕ) : Type 0 where
+pub record BreaksCase (bytes old new : List ℕ) : Type 0 where
   pub script : Script
   pub read : script_of bytes ≡ Ok script
   pub written : List ℕ
@@ -83,10 +83,10 @@ pub record Breaks (bytes old new : List ℕ) : Type 0 where
 
 -- what each end of a case says of the bytes that were left before and after, and of the output
 -- before and after
-abbrev pub Ends : CaseEnd → List ℕ → List ℕ → List ℕ → List ℕ → Type 0
-Ends Done before after old new = (after ≡ []) × Completes before old new
-Ends (Refused refusal) before after old new =
+abbrev pub EndsCase : CaseEnd → List ℕ → List ℕ → List ℕ → List ℕ → Type 0
+EndsCase Done before after old new = (after ≡ []) × Completes before old new
+EndsCase (Refused refusal) before after old new =
     (script_of before ≡ Err refusal) × (new ≡ old) × IsReadThrough 1 before after
-Ends ReadFault before after old new = new ≡ old
-Ends WriteFault before after old new = Breaks before old new
-Ends Memory before after old new = new ≡ old
+EndsCase ReadFault before after old new = new ≡ old
+EndsCase WriteFault before after old new = BreaksCase before old new
+EndsCase Memory before after old new = new ≡ old

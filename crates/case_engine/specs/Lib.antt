@@ -3,6 +3,7 @@ pub mod Memory
 pub mod Said
 pub mod Script
 pub mod Case
+-- definitions, and a proof, which a ghost field names: IsSound-prop
 pub mod Sound
 pub mod Scripts
 pub mod ScriptsRead

@@ -2,7 +2,7 @@
 
 ghost use Rattle.std.specs.Prelude.{◌≡◌, ◌≤◌};
 ghost use Rattle.outside.specs.Faults.{Rose};
-ghost use Rattle.case_engine.specs.Case.{Ends};
+ghost use Rattle.case_engine.specs.Case.{EndsCase};
 
 use crate::answering::answer_all;
 use crate::script::Script;
@@ -30,7 +30,7 @@ pub enum CaseEnd {
 /// its asks with one line each, which is written before the next is answered.
 pub fn run_case<S: Source, K: Sink>(alloc: Global, source: &mut S, sink: &mut K) -> CaseEnd
     ensures ends { S.tells → K.tells
-        → Ends result (S.left source.old) (S.left source.new) (K.written sink.old)
+        → EndsCase result (S.left source.old) (S.left source.new) (K.written sink.old)
         (K.written sink.new) }
     ensures held { S.held source.new ≡ S.held source.old }
     ensures source_later { S.faults source.old ≤ S.faults source.new }

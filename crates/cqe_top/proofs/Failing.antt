@@ -24,7 +24,7 @@ use Rattle.user_desk.specs.declared.standing.DeskError.{DeskError}
 use Rattle.desk_crew.specs.Openings.{IsOpening}
 use Rattle.batch_engine.specs.Lives.{RoseBy, is_refused, failures, failures_in, AreCaused}
 use Rattle.desk_crew.specs.Shelved.{Journals}
-use Rattle.batch_engine.specs.Batch.{Serves, AreRefusals, is_broken_line}
+use Rattle.batch_engine.specs.Batch.{ServesUser, AreRefusals, is_broken_line}
 use Rattle.cqe_top.specs.Reports.{has_refusal}
 
 -- ---- tests of lists
@@ -163,7 +163,7 @@ module _ (schema : DatabaseSchema) (world : FactSet) (header : List ℕ) (journa
       × (Rose (journals.before user.name) (journals.now user.name) → ⊥)
 
   module _ (users : List NamedUser) (events : List ScriptEvent) where
-    none_failed : (user : NamedUser) → Serves schema world header journals users events user → CanOpen user → 1 ≤ failures (own_events user.name events) → ⊥
+    none_failed : (user : NamedUser) → ServesUser schema world header journals users events user → CanOpen user → 1 ≤ failures (own_events user.name events) → ⊥
     none_failed user serves can some = by serves.opening_is
       where
         rose : RoseBy (failures (own_events user.name events)) (journals.before user.name) (journals.now user.name)
@@ -175,7 +175,7 @@ module _ (schema : DatabaseSchema) (world : FactSet) (header : List ℕ) (journa
         by (inl opens) = can.1 (rose (serves.counted opens))
         by (inr none) = none.0 can.0.0 can.0.1
 
-    pub none_refused : (some : List NamedUser) (refusals : List (Option DeskError)) → AllByRecursion (Serves schema world header journals users events) some
+    pub none_refused : (some : List NamedUser) (refusals : List (Option DeskError)) → AllByRecursion (ServesUser schema world header journals users events) some
         → AllByRecursion CanOpen some
         → AreRefusals schema world header journals events some refusals → has_refusal refusals ≡ true → ⊥
     none_refused [] [] serve can refused says = let clash : false ≡ true = says in cc
@@ -185,12 +185,12 @@ module _ (schema : DatabaseSchema) (world : FactSet) (header : List ℕ) (journa
     none_refused [] (refusal ∷ refusals) serve can refused says = refused
     none_refused (user ∷ some) [] serve can refused says = refused
 
-    pub none_broken : AllByRecursion (Serves schema world header journals users events) users → AllByRecursion CanOpen users
+    pub none_broken : AllByRecursion (ServesUser schema world header journals users events) users → AllByRecursion CanOpen users
         → list_any is_broken_line (transcript schema world users events) ≡ true → ⊥
     unfolding replies
     none_broken serve can says =
         let one = whole_script schema world users events says in
-        let serves = one_found (Serves schema world header journals users events) (λ u. bytes_eq u.name one.name) users one.user serve one.is in
+        let serves = one_found (ServesUser schema world header journals users events) (λ u. bytes_eq u.name one.name) users one.user serve one.is in
         let opens = one_found CanOpen (λ u. bytes_eq u.name one.name) users one.user can one.is in
         let named : one.user.name ≡ one.name = (bytes_eq-Decides one.user.name one.name).0 opens.1 in
         let told : list_any is_broken (own_replies one.user.name (transcript schema world users events)) ≡ true =

@@ -36,8 +36,8 @@ use Rattle.cqe_top.specs.declared.end.CommandEnd.TheVariants as ends
 use Rattle.cqe_top.specs.declared.end.FilesEnd.{FilesEnd}
 use Rattle.cqe_top.specs.declared.end.FilesEnd.TheVariants as files_end
 use Rattle.cqe_top.specs.declared.report.Report.TheVariants as report
-use Rattle.cqe_top.specs.Audit.{NamesNobody, CanBeAudited, Audits, RunsAudit, FindsNobody, AuditSucceeds}
-use Rattle.cqe_top.specs.Batch.{Answers, RunsBatch, BatchSucceeds}
+use Rattle.cqe_top.specs.Audit.{NamesNobody, CanBeAudited, AuditsOverFiles, RunsAudit, FindsNobody, AuditSucceeds}
+use Rattle.cqe_top.specs.Batch.{AnswersOverFiles, RunsBatch, BatchSucceeds}
 use Rattle.cqe_top.specs.Case.{RunsCase}
 use Rattle.cqe_top.specs.Files.{FilesSay, both, Say, SayOn, said_on, IsUnread, Refuses as RefusesBoth, journals_of, new_user}
 use Rattle.cqe_top.specs.Init.{Makes, RunsInit, InitSucceeds}
@@ -124,10 +124,11 @@ module _ (s : Scene) (files : FileNames) where
   pub batch_succeeds : (users : Vec User Global) (end : BatchEnd) → RunsBatch s.shelf s.input s.output files users end → HasCause s (ends.Batch users end)
       → BatchSucceeds s.shelf s.input s.output files (ends.Batch users end)
   batch_succeeds users (batch_end.Done refusals is_broken) ran cause told in_told out_told script says shelf read write =
-      by (agree (Answers s.shelf s.input s.output files users (batch_end.Done refusals is_broken)) (CanBeOpened (journals_of s.shelf files))
-      (said_on s.shelf files) (ran.over_files told) says)
+      by (agree (AnswersOverFiles s.shelf s.input s.output files users (batch_end.Done refusals is_broken))
+      (CanBeOpened (journals_of s.shelf files)) (said_on s.shelf files) (ran.over_files told) says)
     where
-      by : SayOn s.shelf files (λ policy world header. Answers s.shelf s.input s.output files users (batch_end.Done refusals is_broken) policy world header
+      by : SayOn s.shelf files (λ policy world header.
+          AnswersOverFiles s.shelf s.input s.output files users (batch_end.Done refusals is_broken) policy world header
           × CanBeOpened (journals_of s.shelf files) policy world header) → IsDoneUnlessMemory (ends.Batch users (batch_end.Done refusals is_broken))
       by (policy, world, header, said, (over, can)) =
           let journals = journals_of s.shelf files in
@@ -216,10 +217,10 @@ module _ (s : Scene) (files : FileNames) (user : Text) (json : Bool) where
       → AuditSucceeds s.shelf s.output files user json (ends.Audit name end)
   audit_succeeds name audit_end.Done ran cause told out_told says shelf write = inl refl
   audit_succeeds name (audit_end.Refused why) ran cause told out_told says shelf write =
-      by (agree (Audits s.shelf s.output files user json (audit_end.Refused why)) (CanBeAudited (journals_of s.shelf files) user) (said_on s.shelf files)
-      (ran.over_files told) says)
+      by (agree (AuditsOverFiles s.shelf s.output files user json (audit_end.Refused why)) (CanBeAudited (journals_of s.shelf files) user)
+      (said_on s.shelf files) (ran.over_files told) says)
     where
-      by : SayOn s.shelf files (λ policy world header. Audits s.shelf s.output files user json (audit_end.Refused why) policy world header
+      by : SayOn s.shelf files (λ policy world header. AuditsOverFiles s.shelf s.output files user json (audit_end.Refused why) policy world header
           × CanBeAudited (journals_of s.shelf files) user policy world header) → IsDoneUnlessMemory (ends.Audit name (audit_end.Refused why))
       by (policy, world, header, said, ((one, found, ended), (other, found', opened, whole))) =
           let journals = journals_of s.shelf files in

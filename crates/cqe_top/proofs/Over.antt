@@ -16,7 +16,7 @@ use Rattle.command_words.specs.Readings.{FileNames}
 use Rattle.desk_crew.specs.Crew.{named_user}
 use Rattle.desk_crew.specs.Shelved.{Journals, journals_on}
 use Rattle.init_engine.specs.Disks as init
-use Rattle.init_engine.specs.Ends.{Change, IsEnd}
+use Rattle.init_engine.specs.Ends.{Change, EndsInit}
 use Rattle.init_engine.specs.declared.end.InitEnd.{InitEnd}
 use Rattle.init_engine.specs.declared.end.InitEnd.TheVariants as init_end
 use Rattle.log_journal.specs.Names.{journal_name}
@@ -57,11 +57,12 @@ module _ {F D : Type 0} (Shelf : ShelfGhosts F D) (Disk : DiskGhosts D) (old mid
 
     -- the making of journals ended so, by the disks and the counts of a change
     abbrev Ended : List ℕ → Policy → Change D → InitEnd → Type 0
-    Ended header policy change made = IsEnd Shelf.tells Disk.reads Disk.image header files.journals (names_of (policy_value_of policy).users) change made
+    Ended header policy change made = EndsInit Shelf.tells Disk.reads Disk.image header files.journals (names_of (policy_value_of policy).users) change made
 
     pub init_over : (header : List ℕ) (policy : Policy) (users : List User) (made : InitEnd) → users ≡ policy.users.items → Shelf.faults old ≤ Shelf.faults mid
-        → IsEnd Shelf.tells Disk.reads Disk.image header files.journals (init.user_names users) (change_on (shelf_of Shelf Disk mid new)) made
-        → IsEnd Shelf.tells Disk.reads Disk.image header files.journals (names_of (policy_value_of policy).users) (change_on (shelf_of Shelf Disk old new)) made
+        → EndsInit Shelf.tells Disk.reads Disk.image header files.journals (init.user_names users) (change_on (shelf_of Shelf Disk mid new)) made
+        → EndsInit Shelf.tells Disk.reads Disk.image header files.journals (names_of (policy_value_of policy).users)
+        (change_on (shelf_of Shelf Disk old new)) made
     init_over header policy users made are later ended =
         earlier made (subst (λ c. Ended header policy c made) (λ i. record {
           old = λ name. disks name i;
@@ -70,7 +71,7 @@ module _ {F D : Type 0} (Shelf : ShelfGhosts F D) (Disk : DiskGhosts D) (old mid
           now = Shelf.disk_faults new;
           shelf_before = Shelf.faults mid;
           shelf_now = Shelf.faults new;
-        }) (subst (λ names. IsEnd Shelf.tells Disk.reads Disk.image header files.journals names (change_on (shelf_of Shelf Disk mid new)) made)
+        }) (subst (λ names. EndsInit Shelf.tells Disk.reads Disk.image header files.journals names (change_on (shelf_of Shelf Disk mid new)) made)
         (ap init.user_names are ∙ names_are policy.users.items) ended))
       where
         rose : Rose (Shelf.faults mid) (Shelf.faults new) → Rose (Shelf.faults old) (Shelf.faults new)
@@ -105,11 +106,11 @@ module _ {F D : Type 0} (Shelf : ShelfGhosts F D) (Disk : DiskGhosts D) (old mid
 -- the end of a batch over other journals that are the same, and over the users of the policy
 pub batch_over : (policy : Policy) (world : FactSet) (header : List ℕ) (users : List User) (journals journals' : Journals) (end : BatchEnd)
     (before after old new : List ℕ)
-    → journals ≡ journals' → users ≡ policy.users.items → batch.Ends policy.schema world header journals (map named_user users) end before after old new
-    → batch.Ends policy.schema world header journals' (new_users (policy_value_of policy)) end before after old new
+    → journals ≡ journals' → users ≡ policy.users.items → batch.EndsBatch policy.schema world header journals (map named_user users) end before after old new
+    → batch.EndsBatch policy.schema world header journals' (new_users (policy_value_of policy)) end before after old new
 batch_over policy world header users journals journals' end before after old new same are ended =
-    subst (λ (j : Journals). batch.Ends policy.schema world header j (new_users (policy_value_of policy)) end before after old new) same
-    (subst (λ us. batch.Ends policy.schema world header journals us end before after old new)
+    subst (λ (j : Journals). batch.EndsBatch policy.schema world header j (new_users (policy_value_of policy)) end before after old new) same
+    (subst (λ us. batch.EndsBatch policy.schema world header journals us end before after old new)
     (sym (new_users_are policy ∙ ap (map named_user) (sym are))) ended)
 
 -- so does what it leaves of them
@@ -123,11 +124,11 @@ batch_left policy world header users journals journals' end same are left =
 -- so does that of a serving
 pub serve_over : (policy : Policy) (world : FactSet) (header : List ℕ) (users : List User) (journals journals' : Journals) (end : ServeEnd) (given given' : ℕ)
     (back back' : List Visit)
-    → journals ≡ journals' → users ≡ policy.users.items → serving.Ends policy.schema world header journals users given given' back back' end
-    → serving.Ends policy.schema world header journals' policy.users.items given given' back back' end
+    → journals ≡ journals' → users ≡ policy.users.items → serving.EndsServing policy.schema world header journals users given given' back back' end
+    → serving.EndsServing policy.schema world header journals' policy.users.items given given' back back' end
 serve_over policy world header users journals journals' end given given' back back' same are ended =
-    subst (λ (j : Journals). serving.Ends policy.schema world header j policy.users.items given given' back back' end) same
-    (subst (λ us. serving.Ends policy.schema world header journals us given given' back back' end) are ended)
+    subst (λ (j : Journals). serving.EndsServing policy.schema world header j policy.users.items given given' back back' end) same
+    (subst (λ us. serving.EndsServing policy.schema world header journals us given given' back back' end) are ended)
 
 pub serve_left : (policy : Policy) (world : FactSet) (header : List ℕ) (users : List User) (journals journals' : Journals) (end : ServeEnd)
     → journals ≡ journals' → users ≡ policy.users.items → serving.LeavesJournals policy.schema world header journals users end
@@ -144,7 +145,7 @@ is_within (user ∷ users) (suc number) name at = let less : number < length use
 
 pub one_of : {D : Type 0} (told : Type 0) (reads : D → List ℕ) (image : D → List ℕ → Type 0) (header directory : List ℕ) (users others : List User)
     (change : Change D) (made : InitEnd)
-    → users ≡ others → IsEnd told reads image header directory (init.user_names users) change made → IsOneOf others made
+    → users ≡ others → EndsInit told reads image header directory (init.user_names users) change made → IsOneOf others made
 one_of told reads image header directory users others change (init_end.Refused user why) are ended =
     subst (λ us. user < length us) are (is_within users user ended.name ended.is)
 one_of told reads image header directory users others change init_end.Done are ended = tt
@@ -155,9 +156,9 @@ one_of told reads image header directory users others change init_end.Memory are
 -- the making of journals stops for a fault only where the count rose
 pub init_caused : {D : Type 0} (told : Type 0) (reads : D → List ℕ) (image : D → List ℕ → Type 0) (header directory : List ℕ) (names : List Text)
     (change : Change D) (made : InitEnd)
-    → IsEnd told reads image header directory names change made
+    → EndsInit told reads image header directory names change made
     → (made ≡ init_end.ShelfFault → Rose change.shelf_before change.shelf_now) × (made ≡ init_end.DiskFault → SomeRose change.before change.now)
 init_caused told reads image header directory names change made ended = (
-  λ is. (subst (λ m. IsEnd told reads image header directory names change m) is ended).1.reason,
-  λ is. let stops = subst (λ m. IsEnd told reads image header directory names change m) is ended in (journal_name directory stops.1.name, stops.1.reason),
+  λ is. (subst (λ m. EndsInit told reads image header directory names change m) is ended).1.reason,
+  λ is. let stops = subst (λ m. EndsInit told reads image header directory names change m) is ended in (journal_name directory stops.1.name, stops.1.reason),
 )

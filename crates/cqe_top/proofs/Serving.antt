@@ -39,7 +39,7 @@ use Rattle.cqe_top.specs.Files.{journals_of}
 use Rattle.cqe_top.specs.Ready.{CanBeOpened}
 use Rattle.cqe_top.specs.Reports.{has_refusal, HasCause, IsDoneUnlessMemory}
 use Rattle.cqe_top.specs.Scene.{Scene, LinksScene}
-use Rattle.cqe_top.specs.Serve.{Serves, RunsServe, ServeSucceeds, IsServedOut}
+use Rattle.cqe_top.specs.Serve.{ServesOverFiles, RunsServe, ServeSucceeds, IsServedOut}
 use Rattle.cqe_top.proofs.Good.{agree, answers_done}
 
 -- where none is at hand none is left; or the limit is reached
@@ -146,11 +146,11 @@ module _ (law : OpensUnrefused) (s : Scene) (files : FileNames) (address : Text)
       → HasCause s (ends.Serve users end)
       → ServeSucceeds s.shelf s.links files address workers sessions (ends.Serve users end)
   serve_succeeds users (serve_end.Done refusals is_broken) ran cause told links_told says shelf links =
-      by (agree (Serves s.shelf s.links files address workers sessions users (serve_end.Done refusals is_broken)) (CanBeOpened (journals_of s.shelf files))
-      (said_on s.shelf files) (ran.over_files told) says)
+      by (agree (ServesOverFiles s.shelf s.links files address workers sessions users (serve_end.Done refusals is_broken))
+      (CanBeOpened (journals_of s.shelf files)) (said_on s.shelf files) (ran.over_files told) says)
     where
       by : SayOn s.shelf files (λ policy world header.
-          Serves s.shelf s.links files address workers sessions users (serve_end.Done refusals is_broken) policy world header
+          ServesOverFiles s.shelf s.links files address workers sessions users (serve_end.Done refusals is_broken) policy world header
           × CanBeOpened (journals_of s.shelf files) policy world header) → IsDoneUnlessMemory (ends.Serve users (serve_end.Done refusals is_broken))
       by (policy, world, header, say, (over, can)) =
           let served = over.serves links_told in

@@ -2,7 +2,7 @@
 use Rattle.std.specs.Prelude.{◌≡◌, ℕ, Bool, List, find, bytes_eq, Option, Some, None}
 use Rattle.outside.specs.Faults.{Rose}
 use Rattle.outside.specs.Shelf.{SameOthers, SameBytes, NoNewImages}
-use Rattle.audit_engine.specs.Ends.{IsEnd}
+use Rattle.audit_engine.specs.Ends.{EndsAudit}
 use Rattle.audit_engine.specs.declared.end.AuditEnd.{AuditEnd}
 use Rattle.cqe_base.specs.Facts.{FactSet}
 use Rattle.cqe_base.specs.History.{History}
@@ -39,18 +39,18 @@ CanBeAudited journals name policy world header =
 module _ (shelf : ShelfScene) (output : Output) (files : FileNames) (user : Text) (json : Bool)
   where
     -- the policy has a user of the name, and his audit ended so
-    abbrev pub Audits : AuditEnd → PolicyValue → FactSet → List ℕ → Type 0
-    Audits end policy world header =
+    abbrev pub AuditsOverFiles : AuditEnd → PolicyValue → FactSet → List ℕ → Type 0
+    AuditsOverFiles end policy world header =
         (one : PolicyUser) × (user_named user policy.users ≡ Some one)
         × (output.tells → let journals = journals_of shelf files in
-        IsEnd policy.schema world header one.name one.profile (journals.bytes one.name)
+        EndsAudit policy.schema world header one.name one.profile (journals.bytes one.name)
         (journals.before one.name) (journals.now one.name) json end output.written output.written')
 
     -- It ran over files that were read. It looks at his journal alone: the other disks are
     -- untouched, and all have the bytes that they had and may be left by a crash only as before.
     pub record RunsAudit (name : Text) (end : AuditEnd) : Type 0 where
       pub name_is : name ≡ user
-      pub over_files : shelf.tells → SayOn shelf files (Audits end)
+      pub over_files : shelf.tells → SayOn shelf files (AuditsOverFiles end)
       pub looks : shelf.tells → LooksAtBoth shelf files
       pub others : shelf.tells
           → SameOthers (journal_name files.journals user) shelf.disk shelf.disk'

@@ -21,7 +21,7 @@ use Rattle.cqe_top.specs.Scene.{SameDisks, SameShelf, SameInput, SameOutput, Sam
 module _ (shelf : ShelfScene) (input : Input) (output : Output) (files : FileNames) where
   -- the script was read and answered over the journals of these users of the policy, or not to its
   -- end
-  pub record Answers (users : Vec User Global) (end : BatchEnd) (policy : PolicyValue)
+  pub record AnswersOverFiles (users : Vec User Global) (end : BatchEnd) (policy : PolicyValue)
       (world : FactSet) (header : List ℕ) : Type 0 where
     pub of_policy : map policy_user_of users.items ≡ policy.users
     pub touches : TouchesJournals shelf files policy
@@ -29,12 +29,12 @@ module _ (shelf : ShelfScene) (input : Input) (output : Output) (files : FileNam
     pub journals : batch.LeavesJournals policy.schema world header (journals_of shelf files)
         (new_users policy) end
     pub answers : input.tells → output.tells
-        → batch.Ends policy.schema world header (journals_of shelf files) (new_users policy) end
-        input.left input.left' output.written output.written'
+        → batch.EndsBatch policy.schema world header (journals_of shelf files) (new_users policy)
+        end input.left input.left' output.written output.written'
 
   -- it ran over files that were read; where the script wasn't, no disk was touched
   pub record RunsBatch (users : Vec User Global) (end : BatchEnd) : Type 0 where
-    pub over_files : shelf.tells → SayOn shelf files (Answers users end)
+    pub over_files : shelf.tells → SayOn shelf files (AnswersOverFiles users end)
     pub looks : shelf.tells → LooksAtBoth shelf files
     pub unopened : batch.IsUnopened end → SameDisks shelf
 

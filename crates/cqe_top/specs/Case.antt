@@ -12,7 +12,7 @@ module _ (s : Scene) where
   -- it ran: what its end says of the script that is read and of what is written
   pub record RunsCase (end : CaseEnd) : Type 0 where
     pub answers : s.input.tells → s.output.tells
-        → case.Ends end s.input.left s.input.left' s.output.written s.output.written'
+        → case.EndsCase end s.input.left s.input.left' s.output.written s.output.written'
     pub takes_nothing : SameShelf s.shelf
     pub listens_nowhere : SameLinks s.links
 

@@ -4,7 +4,7 @@ use Rattle.std.specs.declared.alloc.Global.{Global}
 use Rattle.cqe_base.specs.Facts.{FactSet}
 use Rattle.cqe_base.specs.declared.user.User.{User}
 use Rattle.command_words.specs.Readings.{FileNames}
-use Rattle.init_engine.specs.Ends.{Change, IsEnd}
+use Rattle.init_engine.specs.Ends.{Change, EndsInit}
 use Rattle.init_engine.specs.declared.end.InitEnd.{InitEnd}
 use Rattle.init_engine.specs.declared.end.InitEnd.TheVariants as init_end
 use Rattle.policy_files.specs.Memory.{policy_user_of}
@@ -40,7 +40,7 @@ module _ (shelf : ShelfScene) (files : FileNames) where
   pub record Makes (users : Vec User Global) (end : InitEnd) (policy : PolicyValue)
       (world : FactSet) (header : List ℕ) : Type 0 where
     pub of_policy : map policy_user_of users.items ≡ policy.users
-    pub makes : IsEnd shelf.tells shelf.Disk.reads shelf.Disk.image header files.journals
+    pub makes : EndsInit shelf.tells shelf.Disk.reads shelf.Disk.image header files.journals
         (names_of policy.users) (change_on shelf) end
 
   -- it ran over files that were read

@@ -1,6 +1,6 @@
 -- The command `selfrun`: a workload, run over nothing but memory, and its summary to the output.
 use Rattle.std.specs.Prelude.{ℕ}
-use Rattle.selfrun_engine.specs.Runs.{IsEnd}
+use Rattle.selfrun_engine.specs.Runs.{EndsSelfrun}
 use Rattle.selfrun_engine.specs.declared.end.SelfrunEnd.{SelfrunEnd}
 use Rattle.cqe_top.specs.declared.end.CommandEnd.{CommandEnd}
 use Rattle.cqe_top.specs.declared.end.CommandEnd.TheVariants as end
@@ -11,7 +11,8 @@ module _ (s : Scene) (seed users asks : ℕ) where
   -- it ran: the summary counts the replies of the run of the workload of this seed, with so many
   -- users and asks, in which every journal was opened and no append failed
   pub record RunsSelfrun (end : SelfrunEnd) : Type 0 where
-    pub sums_up : s.output.tells → IsEnd seed users asks end s.output.written s.output.written'
+    pub sums_up : s.output.tells
+        → EndsSelfrun seed users asks end s.output.written s.output.written'
     pub takes_nothing : SameShelf s.shelf
     pub reads_nothing : SameInput s.input
     pub listens_nowhere : SameLinks s.links

@@ -43,7 +43,7 @@ IsServedOut links workers sessions = IsNoneLeft links ⊎ IsLimitReached links w
 module _ (shelf : ShelfScene) (links : LinksScene) (files : FileNames) (address : Text)
     (workers sessions : ℕ) where
   -- connections were served to these users of the policy, by the one history of each
-  pub record Serves (users : Vec User Global) (end : ServeEnd) (policy : PolicyValue)
+  pub record ServesOverFiles (users : Vec User Global) (end : ServeEnd) (policy : PolicyValue)
       (world : FactSet) (header : List ℕ) : Type 0 where
     pub of_policy : map policy_user_of users.items ≡ policy.users
     pub touches : TouchesJournals shelf files policy
@@ -51,13 +51,13 @@ module _ (shelf : ShelfScene) (links : LinksScene) (files : FileNames) (address 
     pub journals : serving.LeavesJournals policy.schema world header (journals_of shelf files)
         users.items end
     pub serves : links.tells
-        → serving.Ends policy.schema world header (journals_of shelf files) users.items
+        → serving.EndsServing policy.schema world header (journals_of shelf files) users.items
         links.given links.given' links.back links.back' end
 
   -- it ran over files that were read: it listens at the address alone, with a door for each worker,
   -- and gives at most so many connections
   pub record RunsServe (users : Vec User Global) (end : ServeEnd) : Type 0 where
-    pub over_files : shelf.tells → SayOn shelf files (Serves users end)
+    pub over_files : shelf.tells → SayOn shelf files (ServesOverFiles users end)
     pub looks : shelf.tells → LooksAtBoth shelf files
     pub listens : links.tells
         → (links.listened' ≡ links.listened) ⊎ ListensAt links address workers

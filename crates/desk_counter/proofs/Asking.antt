@@ -20,8 +20,8 @@ use Rattle.desk_counter.specs.declared.item.TurnItem.TheVariants.{Kept, Broke}
 use Rattle.desk_counter.specs.declared.item.Fixed.{Fixed}
 use Rattle.desk_counter.specs.Items.{history_of, kept_pair, kept_pairs, flying, has_broke}
 use Rattle.desk_counter.specs.Desks.{state_shown}
-use Rattle.desk_counter.specs.Asks.{entry_for, NoMark, Adds, answered, broke, coded, wanted, IsServed, Answers, Asked, all_but_last, pairs_behind, IsReply}
-use Rattle.desk_counter.specs.Asks.{Tells, TellsMark, AddsNone}
+use Rattle.desk_counter.specs.Asks.{entry_for, NoMark, Adds, answered, broke, coded, wanted, IsServing, AnswersWith, Asked, all_but_last, pairs_behind, IsReply}
+use Rattle.desk_counter.specs.Asks.{TellsEntry, TellsMark, AddsNoEntry}
 
 -- ---- pairs with one more
 
@@ -59,7 +59,7 @@ module _ {D : Type 0} (fixed : Fixed D) where
   behind_code Memory pairs none = refl
 
   -- the reply of an open desk with an entry in flight
-  broke_replies : (found : Entries TurnItem) (text : Text) (ticket : ℕ) (entry : AnsweredQuery) → IsServed fixed found
+  broke_replies : (found : Entries TurnItem) (text : Text) (ticket : ℕ) (entry : AnsweredQuery) → IsServing fixed found
       → reply_at fixed.schema fixed.world fixed.user (state_shown fixed (found ++ (ticket, Broke entry) ∷ [])) text ≡ desk_broken
   broke_replies found text ticket entry served =
       let after = found ++ (ticket, Broke entry) ∷ [] in
@@ -68,8 +68,8 @@ module _ {D : Type 0} (fixed : Fixed D) where
       reply_by fixed.schema fixed.world fixed.user (history_of after) standing_open (is_some o) text (reading fixed.schema text))
       (flying_broke found ticket entry served.1)
 
-  pub served_replies : (found : Entries TurnItem) (text : Text) (query : Formula) (mark : base.Mark) → IsServed fixed found
-      → Answers fixed found text query mark
+  pub served_replies : (found : Entries TurnItem) (text : Text) (query : Formula) (mark : base.Mark) → IsServing fixed found
+      → AnswersWith fixed found text query mark
       → reply_at fixed.schema fixed.world fixed.user (state_shown fixed found) text ≡ marked mark
   served_replies found text query mark served answer =
       ap (λ s. reply_by fixed.schema fixed.world fixed.user (history_of found) s (has_broke found) text (reading fixed.schema text)) served.0
@@ -94,7 +94,7 @@ module _ {D : Type 0} (fixed : Fixed D) where
   pub asked_tells : {old new : Pass TurnItem (Fixed D)} {text : Text} (reply : Reply) → Asked fixed old new text reply → TellsMark fixed old new text reply
   asked_tells {old = old} {new = new} {text = text} (Mark mark) asked = of_adds asked.adds
     where
-      of_adds : Adds fixed asked.ticket text asked.found (seen new) (Mark mark) → Tells fixed old new text mark
+      of_adds : Adds fixed asked.ticket text asked.found (seen new) (Mark mark) → TellsEntry fixed old new text mark
       of_adds (answered {query = query} served answer added) = record {
         ticket = asked.ticket;
         entry = entry_for query mark text;
@@ -117,13 +117,13 @@ module _ {D : Type 0} (fixed : Fixed D) where
   asked_tells Memory asked = tt
 
   -- else no entry is added
-  pub asked_none : {old new : Pass TurnItem (Fixed D)} {text : Text} {reply : Reply} → Asked fixed old new text reply → NoMark reply → AddsNone fixed old new
+  pub asked_none : {old new : Pass TurnItem (Fixed D)} {text : Text} {reply : Reply} → Asked fixed old new text reply → NoMark reply → AddsNoEntry fixed old new
   asked_none {old = old} {new = new} {text = text} {reply = reply} asked none = of_adds asked.adds none
     where
-      stays : seen new ≡ asked.found → AddsNone fixed old new
+      stays : seen new ≡ asked.found → AddsNoEntry fixed old new
       stays same = record { own = ap (λ ps. kept_pairs ps) (asked.own.none same); whole = λ all. ap (λ ps. kept_pairs ps) (same ∙ asked.whole all) }
 
-      of_adds : {code : Reply} → Adds fixed asked.ticket text asked.found (seen new) code → NoMark code → AddsNone fixed old new
+      of_adds : {code : Reply} → Adds fixed asked.ticket text asked.found (seen new) code → NoMark code → AddsNoEntry fixed old new
       of_adds (answered served answer added) none = absurd none
       of_adds (broke {query = query} {mark = mark} served answer added) none =
           let entry = entry_for query mark text in

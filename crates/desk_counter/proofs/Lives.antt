@@ -24,7 +24,7 @@ use Rattle.desk_counter.specs.declared.item.Fixed.{Fixed}
 use Rattle.desk_counter.specs.Items.{history_of, kept_pairs, flying}
 use Rattle.desk_counter.specs.Desks.{state_shown}
 use Rattle.desk_counter.specs.Lives.{IsAskOf}
-use Rattle.desk_counter.specs.Asks.{entry_for, NoMark, Adds, answered, broke, coded, wanted, IsServed, Answers}
+use Rattle.desk_counter.specs.Asks.{entry_for, NoMark, Adds, answered, broke, coded, wanted, IsServing, AnswersWith}
 use Rattle.desk_counter.proofs.Asking.{kept_more, kept_broke, flying_broke, served_replies}
 
 -- one entry more
@@ -83,7 +83,7 @@ module _ {D : Type 0} (fixed : Fixed D) (text : Text) where
     still : after ≡ found → IsNow state
     still same = subst (λ ps. IsState fixed.standing (state_shown fixed ps) state) (sym same) is
 
-    module _ (query : Formula) (mark : base.Mark) (served : IsServed fixed found) (answer : Answers fixed found text query mark) where
+    module _ (query : Formula) (mark : base.Mark) (served : IsServing fixed found) (answer : AnswersWith fixed found text query mark) where
       shows : state ≡ state_shown fixed found
       shows = from_open fixed.standing (state_shown fixed found) state served.0 is
 

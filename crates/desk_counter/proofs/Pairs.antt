@@ -18,7 +18,7 @@ use Rattle.desk_counter.specs.declared.item.TurnItem.TheVariants.{Kept, Broke}
 use Rattle.desk_counter.specs.declared.item.Fixed.{Fixed}
 use Rattle.desk_counter.specs.Items.{history_of, kept_pair, kept_pairs, flying, pairs_of, BrokeIsLast}
 use Rattle.desk_counter.specs.Desks.{state_shown}
-use Rattle.desk_counter.specs.Asks.{entry_for, NoMark, Adds, answered, broke, coded, wanted, IsServed, Answers}
+use Rattle.desk_counter.specs.Asks.{entry_for, NoMark, Adds, answered, broke, coded, wanted, IsServing, AnswersWith}
 use Rattle.desk_counter.proofs.Settling.{Changes}
 use Rattle.desk_counter.proofs.Settling as settling
 
@@ -98,10 +98,10 @@ module _ {D : Type 0} (fixed : Fixed D) (text : Text) (tickets : List ℕ) (old 
   abbrev Changed : History → Option AnsweredQuery → Reply → Type 0
   Changed new new_flying reply = Changes fixed.schema fixed.world fixed.user (standing_of fixed.standing) text old None new new_flying reply
 
-  served : standing_of fixed.standing ≡ standing_open → IsServed fixed found
+  served : standing_of fixed.standing ≡ standing_open → IsServing fixed found
   served is = (is, flying_pairs tickets old mark_of_broke None)
 
-  answers : {query : Formula} {mark : base.Mark} → IsAnswer fixed.schema fixed.world fixed.user old text query mark → Answers fixed found text query mark
+  answers : {query : Formula} {mark : base.Mark} → IsAnswer fixed.schema fixed.world fixed.user old text query mark → AnswersWith fixed found text query mark
   answers {query = query} {mark = mark} is =
       subst (λ h. IsAnswer fixed.schema fixed.world fixed.user h text query mark) (sym (history_pairs tickets old mark_of_broke None counted)) is
 

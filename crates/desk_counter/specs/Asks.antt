@@ -31,21 +31,23 @@ NoMark _ = Unit {0}
 
 module _ {D : Type 0} (fixed : Fixed D) where
   -- the desk that has these pairs serves its user, and no append failed
-  abbrev pub IsServed : Entries TurnItem → Type 0
-  IsServed pairs = (standing_of fixed.standing ≡ standing_open) × (flying pairs ≡ None)
+  abbrev pub IsServing : Entries TurnItem → Type 0
+  IsServing pairs = (standing_of fixed.standing ≡ standing_open) × (flying pairs ≡ None)
 
   -- this query and this mark answer the text behind these pairs
-  abbrev pub Answers : Entries TurnItem → Text → Formula → base.Mark → Type 0
-  Answers pairs text query mark =
+  abbrev pub AnswersWith : Entries TurnItem → Text → Formula → base.Mark → Type 0
+  AnswersWith pairs text query mark =
       IsAnswer fixed.schema fixed.world fixed.user (history_of pairs) text query mark
 
   -- What an ask adds to the pairs that it found: a mark adds its entry, once; an append that fails
   -- adds that entry as one in flight; a code and want of memory add nothing.
   pub data Adds (ticket : ℕ) (text : Text) (found after : Entries TurnItem) : Reply → Type 0 where
-    answered : {query : Formula} {mark : base.Mark} → IsServed found → Answers found text query mark
+    answered : {query : Formula} {mark : base.Mark} → IsServing found
+        → AnswersWith found text query mark
         → after ≡ found ++ (ticket, Kept (entry_for query mark text)) ∷ []
         → Adds ticket text found after (Mark mark)
-    broke : {query : Formula} {mark : base.Mark} → IsServed found → Answers found text query mark
+    broke : {query : Formula} {mark : base.Mark} → IsServing found
+        → AnswersWith found text query mark
         → after ≡ found ++ (ticket, Broke (entry_for query mark text)) ∷ []
         → Adds ticket text found after Broken
     coded : {code : Reply} → NoMark code
@@ -86,7 +88,7 @@ module _ {D : Type 0} (fixed : Fixed D) where
 
   -- A mark was told: its entry, with its text's query and length, is the last pair that was seen
   -- and the one that the pass has more of its own.
-  pub record Tells (old new : Pass TurnItem (Fixed D)) (text : Text) (mark : base.Mark) :
+  pub record TellsEntry (old new : Pass TurnItem (Fixed D)) (text : Text) (mark : base.Mark) :
       Type 0 where
     pub ticket : ℕ
     pub entry : AnsweredQuery
@@ -101,11 +103,11 @@ module _ {D : Type 0} (fixed : Fixed D) where
 
   -- a reply that is a mark tells it
   abbrev pub TellsMark : Pass TurnItem (Fixed D) → Pass TurnItem (Fixed D) → Text → Reply → Type 0
-  TellsMark old new text (Mark mark) = Tells old new text mark
+  TellsMark old new text (Mark mark) = TellsEntry old new text mark
   TellsMark old new text _ = Unit {0}
 
   -- No entry of the journal was added: the pass has no more of its own, and where it has all shares
   -- it has seen no more.
-  pub record AddsNone (old new : Pass TurnItem (Fixed D)) : Type 0 where
+  pub record AddsNoEntry (old new : Pass TurnItem (Fixed D)) : Type 0 where
     pub own : kept_pairs (mine new) ≡ kept_pairs (mine old)
     pub whole : shares old ≡ 65 → kept_pairs (seen new) ≡ kept_pairs (seen old)

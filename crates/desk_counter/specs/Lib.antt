@@ -1,3 +1,5 @@
+-- codes, and proofs, by which equal entries and equal users are known: mark_found-stored and
+-- method_found-stored
 pub mod Codes
 pub mod Items
 pub mod Desks

@@ -51,7 +51,7 @@ impl<'w, D: Disk> CounterOf<'w, TicketedDesk<'w, D>> {
     ghost use Rattle.user_desk.specs.Desks.{desk_history, desk_disk, entry_in_flight};
     ghost use Rattle.desk_counter.specs.Items.{history_of, flying, has_broke, BrokeIsLast};
     ghost use Rattle.desk_counter.specs.Desks.{fixed_of, state_shown};
-    ghost use Rattle.desk_counter.specs.Asks.{NoMark, Asked, IsReply, TellsMark, AddsNone};
+    ghost use Rattle.desk_counter.specs.Asks.{NoMark, Asked, IsReply, TellsMark, AddsNoEntry};
     ghost use Rattle.desk_counter.specs.Counters.{kept_by, first_history, IsPassOf};
 
     /// Puts a desk under a counter. The pass has all 65 shares and 65 * 2^57 turns, and has seen
@@ -152,7 +152,7 @@ impl<'w, D: Disk> CounterOf<'w, TicketedDesk<'w, D>> {
         // A mark's entry is the last that was seen and the one that the pass has more of its own;
         // without a mark there is none.
         ensures mark { TellsMark (kept_by self.now) pass.old pass.new text.now result }
-        ensures none { NoMark result → AddsNone (kept_by self.now) pass.old pass.new }
+        ensures none { NoMark result → AddsNoEntry (kept_by self.now) pass.old pass.new }
         ensures later { IsPrefix (seen pass.old) (seen pass.new) }
 
         // The history is legal and within the limits, and an entry in flight stands last.

@@ -10,7 +10,7 @@ use Rattle.cqe_base.specs.Run
 use Rattle.cqe_base.specs.Run.{UserState}
 use Rattle.cqe_base.proofs.Lists.{all_at}
 use Rattle.desk_counter.specs.Lives.{IsAskOf}
-use Rattle.desk_crew.specs.Crew.{seat_user, seat_journal, seat_kept, IsSeatIn, is_named, IsServed, IsToldAt, Tells, nobody, here, further}
+use Rattle.desk_crew.specs.Crew.{seat_user, seat_journal, seat_kept, IsSeatIn, is_named, IsSeatServed, IsToldAt, Tells, nobody, here, further}
 use Rattle.desk_crew.specs.Seats.{DeskSeat}
 use Rattle.desk_counter.specs.declared.item.Fixed.{Fixed}
 use Rattle.censors.specs.Admitting.{admission_of}
@@ -33,14 +33,14 @@ module _ {D : Type 0} {g h : _} where
 
   -- the same of the schema and the world of a seat that is served
   pub told_served : (schema : DatabaseSchema) (world : FactSet) (header : List ℕ) (old new : DeskSeat D g h) (text : Text) (reply : Run.Reply)
-      → IsServed schema world header old
+      → IsSeatServed schema world header old
       → IsToldAt (seat_kept old).schema (seat_kept old).world text reply old new → IsToldAt schema world text reply old new
   told_served schema world header old new text reply served is =
       subst (λ s. IsToldAt s world text reply old new) served.schema_is (subst (λ w. IsToldAt (seat_kept old).schema w text reply old new) served.world_is is)
 
   -- and a seat that is told a reply is served as before
   pub still_served : (schema : DatabaseSchema) (world : FactSet) (header : List ℕ) (old new : DeskSeat D g h) (text : Text) (reply : Run.Reply)
-      → IsToldAt schema world text reply old new → IsServed schema world header old → IsServed schema world header new
+      → IsToldAt schema world text reply old new → IsSeatServed schema world header old → IsSeatServed schema world header new
   still_served schema world header old new text reply told served = record {
     schema_is = ap (λ (f : Fixed D). f.schema) told.kept_is ∙ served.schema_is;
     world_is = ap (λ (f : Fixed D). f.world) told.kept_is ∙ served.world_is;
@@ -107,13 +107,13 @@ module _ {D : Type 0} {g h : _} (schema : DatabaseSchema) (world : FactSet) (nam
 
   -- the seat at the place of the name is told
   pub told_seat : (header : List ℕ) (seats : List (DeskSeat D g h)) (place : ℕ) (seat new : DeskSeat D g h) (reply : Run.Reply)
-      → position (is_named name) seats ≡ Some place → seat ≡ get_or seats place seat → AllByRecursion (IsServed schema world header) seats
+      → position (is_named name) seats ≡ Some place → seat ≡ get_or seats place seat → AllByRecursion (IsSeatServed schema world header) seats
       → IsToldAt (seat_kept seat).schema (seat_kept seat).world text reply seat new
       → Tells schema world name text seats (slice_set seats place new) (Some reply)
   told_seat header seats place seat new reply found at served answer =
       let is = position-Some (is_named name) seats place seat found in
-      let here_served : IsServed schema world header seat =
-      subst (IsServed schema world header) (sym at) (all_at (IsServed schema world header) seats place seat is.0 served) in
+      let here_served : IsSeatServed schema world header seat =
+      subst (IsSeatServed schema world header) (sym at) (all_at (IsSeatServed schema world header) seats place seat is.0 served) in
       told_place seats place seat new reply is.0 is.1 is.2
       (subst (λ s. IsToldAt schema world text reply s new) at (told_served schema world header seat new text reply here_served answer))
 
@@ -125,7 +125,7 @@ module _ {D : Type 0} {g h : _} (schema : DatabaseSchema) (world : FactSet) (nam
 
 -- the desks of seats that are served are of their users
 pub served_users : {D : Type 0} {g h : _} (schema : DatabaseSchema) (world : FactSet) (header : List ℕ) (seats : List (DeskSeat D g h))
-    → AllByRecursion (IsServed schema world header) seats
+    → AllByRecursion (IsSeatServed schema world header) seats
     → AllByRecursion (λ (s : DeskSeat D g h). (seat_kept s).user ≡ profile_of (seat_user s)) seats
 served_users schema world header [] served = tt
 served_users schema world header (s ∷ seats) served = (served.0.user_is, served_users schema world header seats served.1)

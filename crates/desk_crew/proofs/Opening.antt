@@ -14,7 +14,7 @@ use Rattle.cqe_base.specs.Limits.{KeepsLimits}
 use Rattle.cqe_base.specs.declared.user.User.{User}
 use Rattle.cqe_base.proofs.Truths.{or_first, or_second}
 use Rattle.log_journal.specs.Names.{journal_name, JournalsDiffer}
-use Rattle.desk_crew.specs.Crew.{named_user, seat_user, seat_journal, seat_disk, IsServed}
+use Rattle.desk_crew.specs.Crew.{named_user, seat_user, seat_journal, seat_disk, IsSeatServed}
 use Rattle.desk_crew.specs.Shelved.{journals, IsBack, AreBack, AreLater, IsSeatOf, AreSeatsOf}
 use Rattle.desk_crew.specs.Seats.{DeskSeat}
 use Rattle.cqe_base.proofs.Lists.{text_is}
@@ -101,7 +101,7 @@ module _ (directory : Text) where
         let now = same (seat_journal s) in
         (omega (arith, on, counted, now), seats_later count users seats same are.1)
 
-    pub seats_served : (users : List User) (seats : List (DeskSeat D g h)) → Seats users seats → AllByRecursion (IsServed schema world header) seats
+    pub seats_served : (users : List User) (seats : List (DeskSeat D g h)) → Seats users seats → AllByRecursion (IsSeatServed schema world header) seats
     seats_served [] [] are = tt
     seats_served [] (s ∷ seats) are = absurd are
     seats_served (u ∷ users) [] are = absurd are

@@ -171,7 +171,7 @@ module _ (schema : DatabaseSchema) (world : FactSet) where
 module _ (schema : DatabaseSchema) (world : FactSet) (header : List ℕ) where
   -- a seat's desk is of this schema, this world, this header, and of its user, whose admission the
   -- seat has
-  pub record IsServed {D : Type 0} {g h : _} (seat : DeskSeat D g h) : Type 0 where
+  pub record IsSeatServed {D : Type 0} {g h : _} (seat : DeskSeat D g h) : Type 0 where
     pub schema_is : (seat_kept seat).schema ≡ schema
     pub world_is : (seat_kept seat).world ≡ world
     pub header_is : (seat_kept seat).header ≡ header
@@ -184,7 +184,7 @@ module _ (schema : DatabaseSchema) (world : FactSet) (header : List ℕ) where
     -- has its cause, and it is a restart of each state that the disk holds
     pub record IsOpenedFrom {g h : _} (disk : D) (before : Option DeskError)
         (seat : DeskSeat D g h) : Type 0 where
-      pub served : IsServed seat
+      pub served : IsSeatServed seat
       pub standing : IsStanding schema world (profile_of (seat_user seat)) told header (reads disk)
           (seat_history seat) (faults disk) (faults (seat_disk seat)) (seat_standing seat)
       pub restarted : told → (state : UserState)

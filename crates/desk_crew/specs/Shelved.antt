@@ -33,17 +33,18 @@ journals_on reads image directory disk disk' count count' = record {
 }
 
 -- the journal of this name reads as it did, and no crash leaves anything new of it
-abbrev pub IsKept : Journals → Text → Type 0
-IsKept journals name = (journals.reads name ≡ journals.bytes name)
+abbrev pub KeepsJournal : Journals → Text → Type 0
+KeepsJournal journals name = (journals.reads name ≡ journals.bytes name)
     × ((c : List ℕ) → journals.image name c → journals.image_before name c)
 
 -- all do
-abbrev pub AreKept : Journals → Type 0
-AreKept journals = (name : Text) → IsKept journals name
+abbrev pub KeepsJournals : Journals → Type 0
+KeepsJournals journals = (name : Text) → KeepsJournal journals name
 
 -- all but those of these names do
-abbrev pub AreKeptBut : List Text → Journals → Type 0
-AreKeptBut names journals = (name : Text) → is_among names name ≡ false → IsKept journals name
+abbrev pub KeepsJournalsBut : List Text → Journals → Type 0
+KeepsJournalsBut names journals =
+    (name : Text) → is_among names name ≡ false → KeepsJournal journals name
 
 -- the names of the seats' journals
 abbrev pub journals : {D : Type 0} {g h : _} → List (DeskSeat D g h) → List Text

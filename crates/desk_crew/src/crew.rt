@@ -16,7 +16,7 @@ ghost use Rattle.log_journal.specs.Opening.{header_bytes};
 ghost use Rattle.log_journal.specs.Names.{journal_name};
 ghost use Rattle.user_log.specs.Replies.{reply_of};
 ghost use Rattle.desk_crew.specs.Crew.{named_user, seat_user, seat_kept, seat_broke, is_named};
-ghost use Rattle.desk_crew.specs.Crew.{IsServed, Tells, AreReopened};
+ghost use Rattle.desk_crew.specs.Crew.{IsSeatServed, Tells, AreReopened};
 ghost use Rattle.outside.specs.Shelf.{SameBeside, AllOut, AllIn, NoneOut, NoneFell, AreOut};
 ghost use Rattle.outside.specs.Shelf.{SameBytes, NoNewImages};
 ghost use Rattle.desk_crew.specs.Shelved.{journals};
@@ -90,7 +90,7 @@ pub fn reopen_all<'w, F: Shelf>(
 ) -> Option<Vec<DeskSeat<'w, F::D>>>
     requires limits { AllByRecursion (λ seat. KeepsLimits registry.now.schema.now
         (profile_of (seat_user seat))) seats.items }
-    requires served { AllByRecursion (IsServed registry.now.schema.now registry.now.world.now
+    requires served { AllByRecursion (IsSeatServed registry.now.schema.now registry.now.world.now
         (header_bytes registry.now.header.now)) seats.items }
     requires distinct { has_duplicate (journals seats.items) ≡ false }
     requires out { AllOut (journals seats.items) (F.is_out shelf.old) }
@@ -272,7 +272,7 @@ pub fn answer<R: Wait, G: Gate, D: Disk>(
     requires users { AllByRecursion
         (λ seat. (seat_kept seat).user ≡ profile_of (seat_user seat)) seats.old.items }
     ensures replied { (schema : DatabaseSchema) (world : FactSet) (header : List ℕ)
-        → AllByRecursion (IsServed schema world header) seats.old.items
+        → AllByRecursion (IsSeatServed schema world header) seats.old.items
         → Tells schema world name.now text.now seats.old.items seats.new.items
         (option_map reply_of result) }
 {

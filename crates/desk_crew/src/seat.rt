@@ -10,7 +10,7 @@ ghost use Rattle.desk_counter.specs.Items.{has_broke};
 ghost use Rattle.desk_counter.specs.Sole.{pairs_of_sole};
 ghost use Rattle.desk_crew.specs.Crew.{first_refusal, seat_user, seat_kept, seat_journal};
 ghost use Rattle.desk_crew.specs.Crew.{disk_seated, journal_seated, IsLeft, IsLeftBy, IsClosed};
-ghost use Rattle.desk_crew.specs.Crew.{IsServed, IsToldAt, IsOpenedFrom, IsReopened};
+ghost use Rattle.desk_crew.specs.Crew.{IsSeatServed, IsToldAt, IsOpenedFrom, IsReopened};
 
 use crate::registry::Registry;
 use censors::Admission;
@@ -143,7 +143,7 @@ pub(crate) fn reopen<'w, D: Disk>(
     seat: DeskSeat<'w, D>,
 ) -> Result<DeskSeat<'w, D>, Returned<D>>
     requires limits { KeepsLimits registry.now.schema.now (profile_of (seat_user seat)) }
-    requires served { IsServed registry.now.schema.now registry.now.world.now
+    requires served { IsSeatServed registry.now.schema.now registry.now.world.now
         (header_bytes registry.now.header.now) seat }
     ensures reopened { IfOk result (IsReopened registry.now.schema.now registry.now.world.now
         (header_bytes registry.now.header.now) D.tells D.reads D.image D.faults seat.entry) }

@@ -39,26 +39,27 @@ verdict_of (Some (MachineRefuted lines)) = Unsatisfiable
 
 -- the bytes are clauses, the verdict is that of the machine's end on them, and their answer was
 -- appended
-pub record Answers (bytes : List ℕ) (verdict : Verdict) (old new : List ℕ) : Type 0 where
+pub record AnswersDimacs (bytes : List ℕ) (verdict : Verdict) (old new : List ℕ) : Type 0 where
   pub cnf : Cnf
   pub read : cnf_in bytes ≡ Ok cnf
   pub verdict_is : verdict ≡ verdict_of (end_of cnf)
   pub appended : new ≡ old ++ answer_text cnf
 
 -- the bytes are clauses, and a part of their answer was appended
-pub record Breaks (bytes old new : List ℕ) : Type 0 where
+pub record BreaksDimacs (bytes old new : List ℕ) : Type 0 where
   pub cnf : Cnf
   pub read : cnf_in bytes ≡ Ok cnf
   pub appended : AppendsPart old new (answer_text cnf)
 
 -- what an ending says of the bytes that were left before and after, and of the output before and
 -- after
-abbrev pub Ends : Ending → List ℕ → List ℕ → List ℕ → List ℕ → Type 0
-Ends (Answered verdict) before after old new = (after ≡ []) × Answers before verdict old new
-Ends (Refused refusal) before after old new = (cnf_in before ≡ Err refusal) × (new ≡ old)
-Ends ReadFault before after old new = new ≡ old
-Ends WriteFault before after old new = Breaks before old new
-Ends Memory before after old new = new ≡ old
+abbrev pub EndsDimacs : Ending → List ℕ → List ℕ → List ℕ → List ℕ → Type 0
+EndsDimacs (Answered verdict) before after old new =
+    (after ≡ []) × AnswersDimacs before verdict old new
+EndsDimacs (Refused refusal) before after old new = (cnf_in before ≡ Err refusal) × (new ≡ old)
+EndsDimacs ReadFault before after old new = new ≡ old
+EndsDimacs WriteFault before after old new = BreaksDimacs before old new
+EndsDimacs Memory before after old new = new ≡ old
 
 -- the status with which the program ends
 abbrev pub status_of : Ending → ℕ

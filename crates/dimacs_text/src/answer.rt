@@ -3,7 +3,7 @@ ghost use Rattle.std.specs.Prelude.{◌≡◌, ◌≤◌, IfOk, string_bytes};
 ghost use Rattle.outside.specs.Streams.{AppendsUnless};
 ghost use Rattle.outside.specs.Faults.{Rose};
 ghost use Rattle.clause_solver.specs.PlainStates.{found_of};
-ghost use Rattle.dimacs_text.specs.Ends.{end_of, answer_text, verdict_of, Ends, complaint_of};
+ghost use Rattle.dimacs_text.specs.Ends.{end_of, answer_text, verdict_of, EndsDimacs, complaint_of};
 
 use crate::cnf::Cnf;
 use crate::ending::{Ending, Verdict, complain};
@@ -23,7 +23,7 @@ pub fn answer_input<S: Source, K: Sink, E: Sink>(
     complaints: &mut E,
 ) -> Ending
     ensures ends { S.tells → K.tells →
-        Ends result (S.left source.old) (S.left source.new) (K.written sink.old)
+        EndsDimacs result (S.left source.old) (S.left source.new) (K.written sink.old)
         (K.written sink.new) }
     ensures complaint { E.tells → AppendsUnless (complaint_of result)
         (E.written complaints.old) (E.written complaints.new)
@@ -45,7 +45,7 @@ pub fn answer_input<S: Source, K: Sink, E: Sink>(
 // The same without the complaint.
 fn answer<S: Source, K: Sink>(alloc: Global, source: &mut S, sink: &mut K) -> Ending
     ensures ends { S.tells → K.tells →
-        Ends result (S.left source.old) (S.left source.new) (K.written sink.old)
+        EndsDimacs result (S.left source.old) (S.left source.new) (K.written sink.old)
         (K.written sink.new) }
     ensures read_cause { result ≡ Ending.ReadFault
         → Rose (S.faults source.old) (S.faults source.new) }

@@ -9,7 +9,7 @@ use Rattle.cqe_base.specs.Schema.{has_duplicate}
 use Rattle.log_journal.specs.Names.{journal_name, JournalsDiffer}
 use Rattle.init_engine.specs.Disks.{user_names, IsReady, Readies}
 use Rattle.init_engine.specs.Stops.{HasReason, StaysAt}
-use Rattle.init_engine.specs.Ends.{Change, StopsAt, IsEnd, end_of}
+use Rattle.init_engine.specs.Ends.{Change, StopsAt, EndsInit, end_of}
 use Rattle.init_engine.specs.declared.end.Stop.{Stop}
 use Rattle.init_engine.specs.declared.end.Stop.TheVariants as stop
 use Rattle.init_engine.proofs.Reasons.{reason_of}
@@ -92,7 +92,7 @@ module _ {D : Type 0} (told : Type 0) (reads : D → List ℕ) (image : D → Li
   }
 
   pub ends : (why : Stop) → HasReason told header (bytes_on reads (mid journal)) (middle journal) (now journal) shelf_middle shelf_now why
-      → (told → StaysAt reads image (mid journal) (new journal) why) → IsEnd told reads image header directory names change (end_of k why)
+      → (told → StaysAt reads image (mid journal) (new journal) why) → EndsInit told reads image header directory names change (end_of k why)
   ends (stop.Refused why) reason kept = stops (stop.Refused why) reason kept
   ends stop.DiskFault reason kept = (k, stops stop.DiskFault reason kept)
   ends stop.ShelfFault reason kept = (k, stops stop.ShelfFault reason kept)

@@ -37,14 +37,14 @@ module _ {D : Type 0} (told : Type 0) (reads : D → List ℕ) (image : D → Li
 
   -- All users are ready and no other disk is touched, or it stopped at the first user who can't be
   -- served.
-  abbrev pub IsEnd : InitEnd → Type 0
-  IsEnd Done = told
+  abbrev pub EndsInit : InitEnd → Type 0
+  EndsInit Done = told
       → Readies reads image header directory names change.old change.new (length names)
       (length names)
-  IsEnd (Refused user why) = StopsAt user (stop.Refused why)
-  IsEnd DiskFault = (user : ℕ) × StopsAt user stop.DiskFault
-  IsEnd ShelfFault = (user : ℕ) × StopsAt user stop.ShelfFault
-  IsEnd Memory = (user : ℕ) × StopsAt user stop.Memory
+  EndsInit (Refused user why) = StopsAt user (stop.Refused why)
+  EndsInit DiskFault = (user : ℕ) × StopsAt user stop.DiskFault
+  EndsInit ShelfFault = (user : ℕ) × StopsAt user stop.ShelfFault
+  EndsInit Memory = (user : ℕ) × StopsAt user stop.Memory
 
 -- how it ends at the user of this number
 abbrev pub end_of : ℕ → Stop → InitEnd

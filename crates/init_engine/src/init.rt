@@ -4,7 +4,7 @@ ghost use Rattle.outside.specs.Shelf.{SameNames, NoneOut, NoneFell};
 ghost use Rattle.cqe_base.specs.Schema.{has_duplicate};
 ghost use Rattle.log_journal.specs.Opening.{header_bytes};
 ghost use Rattle.init_engine.specs.Disks.{user_names};
-ghost use Rattle.init_engine.specs.Ends.{IsEnd, end_of};
+ghost use Rattle.init_engine.specs.Ends.{EndsInit, end_of};
 
 use crate::InitEnd;
 use crate::end::Stop;
@@ -28,7 +28,7 @@ pub fn run_init<F: Shelf>(
 ) -> InitEnd
     requires names { has_duplicate (user_names users.now) ≡ false }
     requires out { NoneOut (F.is_out shelf.old) }
-    ensures ends { IsEnd F.tells F.D.reads F.D.image (header_bytes header.now) directory.now
+    ensures ends { EndsInit F.tells F.D.reads F.D.image (header_bytes header.now) directory.now
         (user_names users.now)
         (record {
           old = F.disk shelf.old;

@@ -19,10 +19,10 @@ use Rattle.user_desk.specs.Entries.{entry_of}
 use Rattle.user_desk.specs.declared.standing.DeskError.{DeskError}
 use Rattle.batch_engine.specs.BatchLines.{BatchItem, asked, restarted, batch_of}
 use Rattle.desk_crew.specs.Shelved.{Journals}
-use Rattle.batch_engine.specs.Batch.{Serves, AreEventsOf, AreRefusals, AppendsAll, is_broken_line, unopened, with_opening}
+use Rattle.batch_engine.specs.Batch.{ServesUser, AreEventsOf, AreRefusals, AppendsAll, is_broken_line, unopened, with_opening}
 use Rattle.desk_crew.specs.Openings.{IsOpening}
 use Rattle.batch_engine.specs.Lives.{is_refused, AreCaused}
-use Rattle.selfrun_engine.specs.Outputs.{IsKeptOrWant, IsOfUser, IsOutput}
+use Rattle.selfrun_engine.specs.Outputs.{IsNoFailedAsk, IsOfUser, IsOutput}
 
 -- ---- lists
 
@@ -80,7 +80,7 @@ module _ (schema : DatabaseSchema) (world : FactSet) where
         → find (λ u. bytes_eq u.name name) users ≡ Some user
         → AllByRecursion (IsCausedFrom earlier (script_ask name session text ending ∷ events)) users
         → is_broken_line (reply_line name session (told_after schema world earlier text ending (find (λ u. bytes_eq u.name name) users))) ≡ false
-        → IsKeptOrWant (script_ask name session text ending)
+        → IsNoFailedAsk (script_ask name session text ending)
     ask_kept earlier events name session text want user found all whole = tt
     ask_kept earlier events name session text kept user found all whole = tt
     ask_kept earlier events name session text failed user found all whole =
@@ -101,7 +101,7 @@ module _ (schema : DatabaseSchema) (world : FactSet) where
 
     pub kept_from : (earlier events : List ScriptEvent) (items : List BatchItem) → AreEventsOf items events → AllByRecursion (IsOfUser users) items
         → AllByRecursion (IsCausedFrom earlier events) users
-        → list_any is_broken_line (lines_after schema world users earlier events) ≡ false → AllByRecursion IsKeptOrWant events
+        → list_any is_broken_line (lines_after schema world users earlier events) ≡ false → AllByRecursion IsNoFailedAsk events
     kept_from earlier [] items of named all whole = tt
     kept_from earlier (event ∷ events) [] of named all whole = absurd of
     kept_from earlier (script_ask name session text ending ∷ events) (asked one ∷ items) of named all whole =
@@ -139,13 +139,14 @@ module _ (schema : DatabaseSchema) (world : FactSet) (header : List ℕ) (journa
   no_entries user empty (inr none) = none.1
 
   module _ (users : List NamedUser) (events : List ScriptEvent) where
-    as_they_were : (some : List NamedUser) → AllByRecursion IsEmpty (map unopened some) → AllByRecursion (Serves schema world header journals users events) some
+    as_they_were : (some : List NamedUser) → AllByRecursion IsEmpty (map unopened some)
+        → AllByRecursion (ServesUser schema world header journals users events) some
         → some ≡ map unopened some
     as_they_were [] empty serve = refl
     as_they_were (user ∷ some) empty serve = λ i. record user { opened = no_entries user empty.0 serve.0.opening_is i } ∷ as_they_were some empty.1 serve.1 i
 
     causes : (found opened : Text → Bool) (more : List ScriptEvent) → events ≡ with_opening found opened more → (some : List NamedUser)
-        → AllByRecursion (Serves schema world header journals users events) some
+        → AllByRecursion (ServesUser schema world header journals users events) some
         → AllByRecursion (IsCausedFrom schema world (script_opening found opened ∷ []) more) some
     causes found opened more is [] serve = tt
     causes found opened more is (user ∷ some) serve = (

@@ -10,13 +10,13 @@ use Rattle.batch_engine.specs.BatchLines.{BatchItem, asked, restarted}
 use Rattle.batch_engine.specs.Batch.{AreEventsOf, line_bytes, with_opening}
 
 -- an ask whose entry was kept, or for which memory was wanting; no append failed
-abbrev pub IsKeptOrWant : ScriptEvent → Type 0
-IsKeptOrWant (script_ask name session text want) = Unit {0}
-IsKeptOrWant (script_ask name session text kept) = Unit {0}
-IsKeptOrWant (script_ask name session text failed) = ⊥
-IsKeptOrWant (script_stop name text) = Unit {0}
-IsKeptOrWant (script_restart found opened) = Unit {0}
-IsKeptOrWant (script_opening found opened) = Unit {0}
+abbrev pub IsNoFailedAsk : ScriptEvent → Type 0
+IsNoFailedAsk (script_ask name session text want) = Unit {0}
+IsNoFailedAsk (script_ask name session text kept) = Unit {0}
+IsNoFailedAsk (script_ask name session text failed) = ⊥
+IsNoFailedAsk (script_stop name text) = Unit {0}
+IsNoFailedAsk (script_restart found opened) = Unit {0}
+IsNoFailedAsk (script_opening found opened) = Unit {0}
 
 -- an ask is of one of these users
 abbrev pub IsOfUser : List NamedUser → BatchItem → Type 0
@@ -32,7 +32,7 @@ pub record IsOutput (schema : DatabaseSchema) (world : FactSet) (users : List Na
   pub opened : Text → Bool
   pub events : List ScriptEvent
   pub of_items : AreEventsOf items events
-  pub all_kept : AllByRecursion IsKeptOrWant events
+  pub all_kept : AllByRecursion IsNoFailedAsk events
   pub all_opened : AllByRecursion (λ user. opened user.name ≡ true) users
   pub lines : written
       ≡ line_bytes (transcript schema world users (with_opening found opened events))

@@ -9,7 +9,7 @@ use Rattle.batch_engine.specs.Batch.{AreEventsOf, with_opening}
 use Rattle.workload.specs.Stated.{workload_schema, workload_world}
 use Rattle.workload.specs.Policies.{workload_policy}
 use Rattle.workload.specs.Scripts.{workload_script}
-use Rattle.selfrun_engine.specs.Outputs.{IsKeptOrWant}
+use Rattle.selfrun_engine.specs.Outputs.{IsNoFailedAsk}
 use Rattle.selfrun_engine.specs.Tallies.{tally_of, summary}
 use Rattle.selfrun_engine.specs.declared.tally.Tally.{Tally}
 use Rattle.selfrun_engine.specs.declared.end.SelfrunEnd.{SelfrunEnd}
@@ -31,16 +31,16 @@ module _ (seed users asks : ℕ) where
     pub opened : Text → Bool
     pub events : List ScriptEvent
     pub of_script : AreEventsOf (workload_script seed users asks) events
-    pub all_kept : AllByRecursion IsKeptOrWant events
+    pub all_kept : AllByRecursion IsNoFailedAsk events
     pub all_opened : AllByRecursion (λ user. opened user.name ≡ true) (workload_users seed users)
     pub counts : tally
         ≡ tally_of (transcript workload_schema (workload_world seed) (workload_users seed users)
         (with_opening found opened events))
 
   -- what each end says of the output before and after
-  abbrev pub IsEnd : SelfrunEnd → List ℕ → List ℕ → Type 0
-  IsEnd Done old new =
+  abbrev pub EndsSelfrun : SelfrunEnd → List ℕ → List ℕ → Type 0
+  EndsSelfrun Done old new =
       (tally : Tally) × IsTally tally × (new ≡ old ++ summary seed users asks tally)
-  IsEnd WriteFault old new =
+  EndsSelfrun WriteFault old new =
       (tally : Tally) × IsTally tally × AppendsPart old new (summary seed users asks tally)
-  IsEnd Memory old new = new ≡ old
+  EndsSelfrun Memory old new = new ≡ old

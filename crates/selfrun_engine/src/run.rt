@@ -16,7 +16,7 @@ ghost use Rattle.workload.specs.Policies.{workload_policy};
 ghost use Rattle.workload.specs.Scripts.{workload_script};
 ghost use Rattle.selfrun_engine.specs.Counting.{tally_in};
 ghost use Rattle.selfrun_engine.specs.Outputs.{IsOfUser, IsOutput};
-ghost use Rattle.selfrun_engine.specs.Runs.{IsTally, IsEnd};
+ghost use Rattle.selfrun_engine.specs.Runs.{IsTally, EndsSelfrun};
 ghost use Rattle.selfrun_engine.specs.declared.end.SelfrunEnd.{SelfrunEnd};
 
 use crate::end::SelfrunEnd;
@@ -52,7 +52,7 @@ pub fn run_selfrun<R: Wait, K: Sink>(
     requires some_ask { 1 ≤ asks }
     requires few_asks { asks ≤ 10000 }
     ensures ends { K.tells
-        → IsEnd seed users asks result (K.written sink.old) (K.written sink.new) }
+        → EndsSelfrun seed users asks result (K.written sink.old) (K.written sink.new) }
     ensures later { K.faults sink.old ≤ K.faults sink.new }
     ensures cause { result ≡ SelfrunEnd.WriteFault → Rose (K.faults sink.old) (K.faults sink.new) }
 {

@@ -13,7 +13,7 @@ use Rattle.user_desk.specs.declared.standing.DeskError.{DeskError}
 use Rattle.desk_crew.specs.Shelved.{Journals}
 use Rattle.serve_engine.specs.Doors.{AreServedDoors}
 use Rattle.serve_engine.specs.Served.{SessionMarks, Served}
-use Rattle.serve_engine.specs.Serving.{Serves, ServesNobody, ServesNone, ServesDoors, ServesNoDoor, Ends, EndsAt, LeavesHistories, LeavesJournals}
+use Rattle.serve_engine.specs.Serving.{Serves, ServesNobody, ServesNone, ServesDoors, ServesNoDoor, EndsServing, EndsDoors, LeavesHistories, LeavesJournals}
 use Rattle.serve_engine.proofs.Standing.{zip_both}
 use Rattle.serve_engine.specs.declared.run.ServeEnd.{ServeEnd}
 use Rattle.serve_engine.specs.declared.run.ServeEnd.TheVariants.{Done, LinksFault, ShelfFault, Memory}
@@ -155,8 +155,8 @@ module _ (schema : DatabaseSchema) (world : FactSet) (header : List ℕ) (journa
   none (inr (refusals, is_broken, served, zero)) = inr (refusals, is_broken, serves_all refusals is_broken served, zero)
 
   -- each end, of the doors and so of the links
-  pub ends_of : (end : ServeEnd) → EndsAt schema world header journals users told given_of left_of faults_of back_of doors others end
-      → Ends schema world header journals users given given' back back' end
+  pub ends_of : (end : ServeEnd) → EndsDoors schema world header journals users told given_of left_of faults_of back_of doors others end
+      → EndsServing schema world header journals users given given' back back' end
   ends_of (Done refusals is_broken) is = serves_all refusals.items is_broken is
   ends_of LinksFault is = either is
   ends_of ShelfFault is = serves_nobody is
@@ -170,7 +170,7 @@ module _ (schema : DatabaseSchema) (world : FactSet) (header : List ℕ) (journa
       → LeavesHistories schema world header journals users refusals is_broken
   leaves_histories refusals is_broken serves = record { members = serves.members; each_user = serves.each_user; broken_is = serves.broken_is }
 
-  pub leaves_journals : (end : ServeEnd) → EndsAt schema world header journals users told given_of left_of faults_of back_of doors others end
+  pub leaves_journals : (end : ServeEnd) → EndsDoors schema world header journals users told given_of left_of faults_of back_of doors others end
       → LeavesJournals schema world header journals users end
   leaves_journals (Done refusals is_broken) serves = leaves_histories refusals.items is_broken serves
   leaves_journals LinksFault (inl none) = inl none.kept

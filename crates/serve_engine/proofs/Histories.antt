@@ -40,7 +40,7 @@ use Rattle.session_core.specs.Members.{AreDesksOf, HasSeenLegal, HaveSeenLegal}
 use Rattle.serve_engine.specs.Served.{Member, SessionMarks, entries_told}
 use Rattle.serve_engine.specs.Members.{OwnMore, own_at}
 use Rattle.serve_engine.specs.Doors.{AreServedDoors, SomeFailed, HasOutcome}
-use Rattle.serve_engine.specs.Serving.{HasServed, HaveServed, AreAllTold, ServesDoors, EndsAt, IsDone, IsBroken, end_of}
+use Rattle.serve_engine.specs.Serving.{HasServed, HaveServed, AreAllTold, ServesDoors, EndsDoors, IsDone, IsBroken, end_of}
 use Rattle.serve_engine.specs.declared.serving.Outcome.{Outcome}
 use Rattle.serve_engine.specs.declared.serving.Outcome.TheVariants as outcome
 use Rattle.serve_engine.specs.declared.run.ServeEnd.TheVariants.{LinksFault}
@@ -360,7 +360,7 @@ module _ (schema : DatabaseSchema) (world : FactSet) (header : List ℕ) (journa
   pub ends_at : (ends_of : O → ℕ) (went : Outcome) (refusals : Vec (Option DeskError) Global) (is_broken : Bool)
       (serves : ServesDoors schema world header journals users told given_of left_of faults_of back_of doors doors' refusals.items is_broken) (limit : ℕ)
       → HasOutcome told left_of ends_of faults_of limit went serves.total doors'
-      → EndsAt schema world header journals users told given_of left_of faults_of back_of doors doors' (end_of went refusals is_broken)
+      → EndsDoors schema world header journals users told given_of left_of faults_of back_of doors doors' (end_of went refusals is_broken)
   ends_at ends_of outcome.Served refusals is_broken serves limit has = serves
   ends_at ends_of outcome.LinksFailed refusals is_broken serves limit has = inr (refusals.items, is_broken, serves)
   ends_at ends_of outcome.Memory refusals is_broken serves limit has = inr (refusals.items, is_broken, serves, has)

@@ -1,5 +1,6 @@
 pub mod Served
 pub mod Members
+-- definitions, and a proof, which a ghost field names: SeesLegally-prop
 pub mod Held
 pub mod Jobs
 pub mod Passing

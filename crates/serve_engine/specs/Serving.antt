@@ -18,7 +18,7 @@ use Rattle.user_desk.specs.Standings.{standing_of, is_open, is_sealed}
 use Rattle.user_desk.specs.declared.standing.DeskError.{DeskError}
 use Rattle.user_desk.specs.declared.standing.Standing.{Standing}
 use Rattle.desk_crew.specs.Crew.{refusal_of}
-use Rattle.desk_crew.specs.Shelved.{Journals, IsKept, AreKept}
+use Rattle.desk_crew.specs.Shelved.{Journals, KeepsJournal, KeepsJournals}
 use Rattle.worker_pool.specs.Workers.{HasVisits}
 use Rattle.serve_engine.specs.Doors.{AreServedDoors}
 use Rattle.serve_engine.specs.Served.{Member, SessionMarks, entries_told, SameEntries, Served}
@@ -33,7 +33,7 @@ pub record ServesNobody (journals : Journals) (given given' : ℕ) (back back' :
     Type 0 where
   pub given_same : given' ≡ given
   pub back_same : back' ≡ back
-  pub kept : AreKept journals
+  pub kept : KeepsJournals journals
 
 -- Of each user, from this place on: his history has the entries of the opening, and those of the
 -- marks that connections told him. So behind the opening each of these stands once, and no other.
@@ -81,7 +81,7 @@ module _ (schema : DatabaseSchema) (world : FactSet) (header : List ℕ) (journa
     -- where it was refused, or nothing was appended, it is as it was
     pub kept : (is_sealed standing ≡ true)
         ⊎ ((member.history ≡ member.opening) × (member.broke ≡ false))
-        → IsKept journals (string_bytes user.name)
+        → KeepsJournal journals (string_bytes user.name)
     -- an append failed only where the count of his disk's faults rose
     pub failed : member.broke ≡ true
         → Rose (journals.before (string_bytes user.name)) (journals.now (string_bytes user.name))
@@ -115,12 +115,12 @@ module _ (schema : DatabaseSchema) (world : FactSet) (header : List ℕ) (journa
         × (served : Serves refusals is_broken) × (served.count ≡ 0))
 
     -- what each end says
-    abbrev pub Ends : ServeEnd → Type 0
-    Ends (Done refusals is_broken) = Serves refusals.items is_broken
-    Ends LinksFault = ServesNobody journals given given' back back'
+    abbrev pub EndsServing : ServeEnd → Type 0
+    EndsServing (Done refusals is_broken) = Serves refusals.items is_broken
+    EndsServing LinksFault = ServesNobody journals given given' back back'
         ⊎ ((refusals : List (Option DeskError)) × (is_broken : Bool) × Serves refusals is_broken)
-    Ends ShelfFault = ServesNobody journals given given' back back'
-    Ends Memory = ServesNone
+    EndsServing ShelfFault = ServesNobody journals given given' back back'
+    EndsServing Memory = ServesNone
 
   -- the users' journals are as their histories say, with the refusal of each, if it was refused;
   -- and it is said whether an append failed
@@ -138,9 +138,9 @@ module _ (schema : DatabaseSchema) (world : FactSet) (header : List ℕ) (journa
   -- what each end says of the journals alone
   abbrev pub LeavesJournals : List User → ServeEnd → Type 0
   LeavesJournals users (Done refusals is_broken) = LeavesHistories users refusals.items is_broken
-  LeavesJournals users LinksFault = AreKept journals ⊎ LeavesSome users
-  LeavesJournals users ShelfFault = AreKept journals
-  LeavesJournals users Memory = AreKept journals ⊎ LeavesSome users
+  LeavesJournals users LinksFault = KeepsJournals journals ⊎ LeavesSome users
+  LeavesJournals users ShelfFault = KeepsJournals journals
+  LeavesJournals users Memory = KeepsJournals journals ⊎ LeavesSome users
 
   -- The same of the doors through which they came.
   module _ (users : List User) {O : Type 0} (told : Type 0) (given_of left_of faults_of : O → ℕ)
@@ -159,16 +159,16 @@ module _ (schema : DatabaseSchema) (world : FactSet) (header : List ℕ) (journa
     -- the doors are as they were, and so are all journals
     pub record ServesNoDoor : Type 0 where
       pub doors_same : doors' ≡ doors
-      pub kept : AreKept journals
+      pub kept : KeepsJournals journals
 
     -- what each end says
-    abbrev pub EndsAt : ServeEnd → Type 0
-    EndsAt (Done refusals is_broken) = ServesDoors refusals.items is_broken
-    EndsAt LinksFault = ServesNoDoor
+    abbrev pub EndsDoors : ServeEnd → Type 0
+    EndsDoors (Done refusals is_broken) = ServesDoors refusals.items is_broken
+    EndsDoors LinksFault = ServesNoDoor
         ⊎ ((refusals : List (Option DeskError)) × (is_broken : Bool)
         × ServesDoors refusals is_broken)
-    EndsAt ShelfFault = ServesNoDoor
-    EndsAt Memory = ServesNoDoor
+    EndsDoors ShelfFault = ServesNoDoor
+    EndsDoors Memory = ServesNoDoor
         ⊎ ((refusals : List (Option DeskError)) × (is_broken : Bool)
         × (served : ServesDoors refusals is_broken) × (served.total ≡ 0))
 

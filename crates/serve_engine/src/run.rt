@@ -13,7 +13,8 @@ ghost use Rattle.log_journal.specs.Names.{journal_name};
 ghost use Rattle.desk_crew.specs.Crew.{named_user};
 ghost use Rattle.desk_crew.specs.Shelved.{journals_on};
 ghost use Rattle.serve_engine.specs.Doors.{SomeFailed};
-ghost use Rattle.serve_engine.specs.Serving.{Ends, EndsAt, LeavesJournals, IsDone, IsBroken};
+ghost use Rattle.serve_engine.specs.Serving.{EndsServing, EndsDoors, LeavesJournals, IsDone};
+ghost use Rattle.serve_engine.specs.Serving.{IsBroken};
 ghost use Rattle.serve_engine.specs.Serving.{end_of};
 ghost use Rattle.serve_engine.specs.declared.run.ServeEnd.{ServeEnd};
 
@@ -79,7 +80,7 @@ where
     requires most { listening.sessions ≤ 2 ^ 30 }
 
     // Each connection that was given is served, and each journal is as its user's one history says.
-    ensures ends { F.tells → L.tells → Ends registry.now.schema.now registry.now.world.now
+    ensures ends { F.tells → L.tells → EndsServing registry.now.schema.now registry.now.world.now
         (header_bytes registry.now.header.now)
         (journals_on F.D.reads F.D.image registry.now.directory.now (F.disk shelf.old)
         (F.disk shelf.new)
@@ -176,7 +177,7 @@ where
     requires limit { limit ≤ 2 ^ 30 }
     requires whole { All (λ door. O.faults door ≡ 0) doors.items }
     requires unended { All (λ door. O.ends door ≡ 0) doors.items }
-    ensures ends { F.tells → EndsAt registry.now.schema.now registry.now.world.now
+    ensures ends { F.tells → EndsDoors registry.now.schema.now registry.now.world.now
         (header_bytes registry.now.header.now)
         (journals_on F.D.reads F.D.image registry.now.directory.now (F.disk shelf.old)
         (F.disk shelf.new)

@@ -1,5 +1,5 @@
 //! Audits as text and as JSON, with texts that were worked out by hand.
-use audit_text::{EntryRow, Report, SecretRow, lines_of};
+use audit_text::{EntryRow, Report, SecrecyRow, SecretRow, lines_of};
 use cqe_base::user::Mark;
 use std::alloc::{AllocError, Global};
 use std::test::Fail;
@@ -30,6 +30,19 @@ fn spent(alloc: Global, secret: &str) -> Result<SecretRow, AllocError> {
     Ok(SecretRow {
         secret: String::from_str(alloc, secret)?,
         world: None,
+    })
+}
+
+fn secrecy(
+    alloc: Global,
+    secrecy: &str,
+    where_true: Option<Vec<String>>,
+    where_false: Option<Vec<String>>,
+) -> Result<SecrecyRow, AllocError> {
+    Ok(SecrecyRow {
+        secrecy: String::from_str(alloc, secrecy)?,
+        where_true,
+        where_false,
     })
 }
 
@@ -122,6 +135,64 @@ fn a_user_who_is_refused_has_one_line(rt: HostRuntime) -> Result<(), Fail> {
     assert_eq!(rt;
         printed(alloc, &report, true)?.as_str(),
         "{\"entries\":[],\"method\":\"lying\",\"name\":\"lou\",\"secrets\":[],\"standing\":\"closed\"}\n"
+    );
+    Ok(())
+}
+
+// A secrecy with a world of two facts and one of none, one that is spent and one of one fact, and a
+// secret behind them.
+#[test]
+fn a_secrecy_has_two_worlds(rt: HostRuntime) -> Result<(), Fail> {
+    let alloc = rt.alloc();
+    let secrecies = [
+        secrecy(
+            alloc,
+            "a()",
+            Some(texts(alloc, &["a()", "c(d, e)"])?),
+            Some(texts(alloc, &[])?),
+        )?,
+        secrecy(alloc, "b()", None, Some(texts(alloc, &["a()"])?))?,
+    ];
+    let entries = [entry(alloc, Mark::Refused, "a()")?];
+    let secrets = [spent(alloc, "c()")?];
+    let report = Report {
+        name: "kim",
+        method: "combined",
+        standing: "open",
+        entries: Vec::from_array(alloc, entries)?,
+        secrecies: Some(Vec::from_array(alloc, secrecies)?),
+        secrets: Vec::from_array(alloc, secrets)?,
+    };
+    assert_eq!(rt;
+        printed(alloc, &report, false)?.as_str(),
+        "user kim combined open\n1 refused a()\nsecrecy a() true a() c(d, e)\nsecrecy a() false -\nsecrecy b() true spent\nsecrecy b() false a()\nsecret c() world spent\n"
+    );
+    assert_eq!(rt;
+        printed(alloc, &report, true)?.as_str(),
+        "{\"entries\":[{\"mark\":\"refused\",\"query\":\"a()\"}],\"method\":\"combined\",\"name\":\"kim\",\"secrecies\":[{\"false\":[],\"secrecy\":\"a()\",\"true\":[\"a()\",\"c(d, e)\"]},{\"false\":[\"a()\"],\"secrecy\":\"b()\",\"true\":null}],\"secrets\":[{\"secret\":\"c()\",\"world\":null}],\"standing\":\"open\"}\n"
+    );
+    Ok(())
+}
+
+// His list of secrecies is there, and empty.
+#[test]
+fn a_refused_user_with_secrecies_has_one_line(rt: HostRuntime) -> Result<(), Fail> {
+    let alloc = rt.alloc();
+    let report = Report {
+        name: "kim",
+        method: "combined",
+        standing: "sealed",
+        entries: Vec::new(alloc),
+        secrecies: Some(Vec::new(alloc)),
+        secrets: Vec::new(alloc),
+    };
+    assert_eq!(rt;
+        printed(alloc, &report, false)?.as_str(),
+        "user kim combined sealed\n"
+    );
+    assert_eq!(rt;
+        printed(alloc, &report, true)?.as_str(),
+        "{\"entries\":[],\"method\":\"combined\",\"name\":\"kim\",\"secrecies\":[],\"secrets\":[],\"standing\":\"sealed\"}\n"
     );
     Ok(())
 }

@@ -10,7 +10,7 @@ use Rattle.cqe_base.specs.Limits.{KeepsSizes}
 use Rattle.user_desk.specs.Entries.{StandsWithin}
 use Rattle.user_desk.specs.Causes.{IsStanding}
 use Rattle.user_desk.specs.Standings.{is_open, is_sealed}
-use Rattle.user_desk.specs.Kept.{IsKept}
+use Rattle.user_desk.specs.Kept.{IsConsistentDesk}
 use Rattle.user_desk.specs.declared.standing.Standing.{Standing}
 use Rattle.user_desk.specs.declared.standing.Standing.TheVariants.{Open, Closed, Sealed}
 use Rattle.log_journal.specs.Opening.{IsRefused}
@@ -46,7 +46,7 @@ module _ (schema : DatabaseSchema) (world : FactSet) (user : UserProfile) where
       (has_journal has_failed : Bool)
       → IsStanding schema world user told header bytes entries before now standing → IsLegal schema world user entries → KeepsSizes schema user entries
       → (is_sealed standing ≡ false → (c : List ℕ) → image c → c ≡ bytes) → (is_open standing ≡ true → has_journal ≡ true) → has_failed ≡ false
-      → IsKept told image schema world user header standing entries None has_journal has_failed
+      → IsConsistentDesk told image schema world user header standing entries None has_journal has_failed
   kept_opening told image header bytes entries before now standing has_journal has_failed is legal sizes only journal whole = record {
     images = λ told_is served c here. subst (λ b. StandsWithin schema header (length entries) (entries ++ []) b) (sym (only served c here))
         (within_more schema header entries [] bytes (opens_served schema world user told header bytes entries before now standing is told_is served).stands);
@@ -62,16 +62,16 @@ module _ (schema : DatabaseSchema) (world : FactSet) (user : UserProfile) where
 pub kept_still : (told : Type 0) (image image' : List ℕ → Type 0) (schema schema' : DatabaseSchema) (world world' : FactSet) (user user' : UserProfile)
     (header : List ℕ) (standing : Standing) (entries entries' : History) (in_flight : Option AnsweredQuery)
     (has_journal has_journal' has_failed has_failed' : Bool)
-    → IsKept told image schema world user header standing entries in_flight has_journal has_failed
+    → IsConsistentDesk told image schema world user header standing entries in_flight has_journal has_failed
     → schema' ≡ schema → world' ≡ world → user' ≡ user → entries' ≡ entries → ((c : List ℕ) → image' c → image c) → has_journal' ≡ has_journal
     → has_failed' ≡ has_failed
-    → IsKept told image' schema' world' user' header standing entries' in_flight has_journal' has_failed'
+    → IsConsistentDesk told image' schema' world' user' header standing entries' in_flight has_journal' has_failed'
 kept_still told image image' schema schema' world world' user user' header standing entries entries' in_flight has_journal has_journal' has_failed has_failed'
     kept same_schema same_world same_user same_entries images same_journal same_failed =
-    subst (λ s. IsKept told image' s world' user' header standing entries' in_flight has_journal' has_failed') (sym same_schema)
-    (subst (λ w. IsKept told image' schema w user' header standing entries' in_flight has_journal' has_failed') (sym same_world)
-    (subst (λ u. IsKept told image' schema world u header standing entries' in_flight has_journal' has_failed') (sym same_user)
-    (subst (λ h. IsKept told image' schema world user header standing h in_flight has_journal' has_failed') (sym same_entries) record {
+    subst (λ s. IsConsistentDesk told image' s world' user' header standing entries' in_flight has_journal' has_failed') (sym same_schema)
+    (subst (λ w. IsConsistentDesk told image' schema w user' header standing entries' in_flight has_journal' has_failed') (sym same_world)
+    (subst (λ u. IsConsistentDesk told image' schema world u header standing entries' in_flight has_journal' has_failed') (sym same_user)
+    (subst (λ h. IsConsistentDesk told image' schema world user header standing h in_flight has_journal' has_failed') (sym same_entries) record {
       images = λ told_is served c here. kept.images told_is served c (images c here);
       legal = kept.legal;
       sizes = kept.sizes;
@@ -87,7 +87,7 @@ pub kept_open : (told : Type 0) (image : List ℕ → Type 0) (schema : Database
     → standing ≡ Open → admitted schema world user ≡ true → IsLegal schema world user (entries ++ option_to_list in_flight)
     → KeepsSizes schema user (entries ++ option_to_list in_flight) → has_journal ≡ true → has_failed ≡ is_some in_flight
     → (told → (c : List ℕ) → image c → StandsWithin schema header (length entries) (entries ++ option_to_list in_flight) c)
-    → IsKept told image schema world user header standing entries in_flight has_journal has_failed
+    → IsConsistentDesk told image schema world user header standing entries in_flight has_journal has_failed
 kept_open told image schema world user header standing entries in_flight has_journal has_failed opened admits legal sizes journal broken images = record {
   images = λ told_is served. images told_is;
   legal = legal;
@@ -126,7 +126,7 @@ pub kept_first : (schema schema' : DatabaseSchema) (world world' : FactSet) (use
     → schema' ≡ schema → world' ≡ world → user' ≡ user → IsStanding schema world user told header bytes entries before now standing
     → IsLegal schema' world' user' entries → KeepsSizes schema' user' entries
     → (is_sealed standing ≡ false → (c : List ℕ) → image c → c ≡ bytes) → (is_open standing ≡ true → has_journal ≡ true) → has_failed ≡ false
-    → IsKept told image schema' world' user' header standing entries None has_journal has_failed
+    → IsConsistentDesk told image schema' world' user' header standing entries None has_journal has_failed
 kept_first schema schema' world world' user user' told image header bytes entries before now standing has_journal has_failed s w u is legal sizes only journal
     whole =
     kept_still told image image schema schema' world world' user user' header standing entries entries None has_journal has_journal has_failed has_failed

@@ -15,7 +15,7 @@ use Rattle.log_journal.specs.Records.{Recorded, Adds, KeepsOrAdds}
 use Rattle.user_log.specs.Asked.{IsAnswer}
 use Rattle.user_desk.specs.Entries.{mark_of, entry_of, StandsFor}
 use Rattle.user_desk.specs.Standings.{standing_of, is_open, is_sealed}
-use Rattle.user_desk.specs.Kept.{IsKept}
+use Rattle.user_desk.specs.Kept.{IsConsistentDesk}
 use Rattle.user_desk.specs.Lives.{shown, Holds, AddsNone}
 use Rattle.user_desk.specs.declared.standing.Standing.{Standing}
 use Rattle.user_desk.specs.declared.standing.Standing.TheVariants.{Open}
@@ -53,7 +53,7 @@ sizes_back schema schema' user user' entries entries' entry entry' s u h e sizes
 -- of an ask where nothing was written
 pub still_holds : (told : Type 0) (image : List ℕ → Type 0) (schema : DatabaseSchema) (world : FactSet) (user : UserProfile) (header : List ℕ)
     (standing : Standing) (entries : History) (in_flight : Option AnsweredQuery) (has_journal has_failed : Bool)
-    → IsKept told image schema world user header standing entries in_flight has_journal has_failed → IsLegal schema world user entries
+    → IsConsistentDesk told image schema world user header standing entries in_flight has_journal has_failed → IsLegal schema world user entries
     → KeepsSizes schema user entries → (text : Text) → is_sealed standing ≡ false → in_flight ≡ None
     → told → (c : List ℕ) → image c
     → Holds schema world user header (after_event schema world user (shown entries (standing_of standing) in_flight) (stop text)) c
@@ -64,7 +64,7 @@ still_holds told image schema world user header standing entries in_flight has_j
 -- the same where the text adds no entry
 pub code_holds : (told : Type 0) (image : List ℕ → Type 0) (schema : DatabaseSchema) (world : FactSet) (user : UserProfile) (header : List ℕ)
     (standing : Standing) (entries : History) (in_flight : Option AnsweredQuery) (has_journal has_failed : Bool)
-    → IsKept told image schema world user header standing entries in_flight has_journal has_failed → IsLegal schema world user entries
+    → IsConsistentDesk told image schema world user header standing entries in_flight has_journal has_failed → IsLegal schema world user entries
     → KeepsSizes schema user entries → (text : Text) → is_sealed standing ≡ false
     → AddsNone schema world user (shown entries (standing_of standing) in_flight)
     → told → (c : List ℕ) → image c
@@ -89,7 +89,8 @@ pub record IsGrowing (told : Type 0) (image : List ℕ → Type 0) (schema : Dat
 
 pub growing : (told : Type 0) (image : List ℕ → Type 0) (schema : DatabaseSchema) (world : FactSet) (user : UserProfile) (header : List ℕ) (standing : Standing)
     (entries : History) (in_flight : Option AnsweredQuery) (has_journal has_failed : Bool)
-    (entry : AnsweredQuery) (next : Recorded) (bytes : List ℕ) → IsKept told image schema world user header standing entries in_flight has_journal has_failed
+    (entry : AnsweredQuery) (next : Recorded) (bytes : List ℕ)
+    → IsConsistentDesk told image schema world user header standing entries in_flight has_journal has_failed
     → standing ≡ Open → in_flight ≡ None
     → IsLegal schema world user entries → KeepsSizes schema user entries → IsLegal schema world user (entries ++ entry ∷ [])
     → KeepsSizes schema user (entries ++ entry ∷ []) → (told → image bytes) → entry_of schema next ≡ Some entry
@@ -117,13 +118,13 @@ module _ (told : Type 0) (image : List ℕ → Type 0) (schema : DatabaseSchema)
   pub kept_added : (image' : List ℕ → Type 0) (schema' : DatabaseSchema) (world' : FactSet) (user' : UserProfile) (entries' : History)
       (has_journal has_failed : Bool) → schema' ≡ schema → world' ≡ world → user' ≡ user → entries' ≡ entries ++ entry ∷ []
       → has_journal ≡ true → has_failed ≡ false → (told → (c : List ℕ) → image' c → Adds bytes next c)
-      → IsKept told image' schema' world' user' header standing entries' in_flight has_journal has_failed
+      → IsConsistentDesk told image' schema' world' user' header standing entries' in_flight has_journal has_failed
   kept_added image' schema' world' user' entries' has_journal has_failed s w u h journal whole adds =
-      subst (λ x. IsKept told image' x world' user' header standing entries' in_flight has_journal has_failed) (sym s)
-      (subst (λ x. IsKept told image' schema x user' header standing entries' in_flight has_journal has_failed) (sym w)
-      (subst (λ x. IsKept told image' schema world x header standing entries' in_flight has_journal has_failed) (sym u)
-      (subst (λ x. IsKept told image' schema world user header standing x in_flight has_journal has_failed) (sym h)
-      (subst (λ x. IsKept told image' schema world user header standing (entries ++ entry ∷ []) x has_journal has_failed) (sym grows.idle)
+      subst (λ x. IsConsistentDesk told image' x world' user' header standing entries' in_flight has_journal has_failed) (sym s)
+      (subst (λ x. IsConsistentDesk told image' schema x user' header standing entries' in_flight has_journal has_failed) (sym w)
+      (subst (λ x. IsConsistentDesk told image' schema world x header standing entries' in_flight has_journal has_failed) (sym u)
+      (subst (λ x. IsConsistentDesk told image' schema world user header standing x in_flight has_journal has_failed) (sym h)
+      (subst (λ x. IsConsistentDesk told image' schema world user header standing (entries ++ entry ∷ []) x has_journal has_failed) (sym grows.idle)
       (kept_open told image' schema world user header standing (entries ++ entry ∷ []) None has_journal has_failed grows.opened grows.admits
       (subst (λ x. IsLegal schema world user x) (sym (append-nil (entries ++ entry ∷ []))) grows.legal_more)
       (subst (λ x. KeepsSizes schema user x) (sym (append-nil (entries ++ entry ∷ []))) grows.sizes_more)
@@ -136,13 +137,13 @@ module _ (told : Type 0) (image : List ℕ → Type 0) (schema : DatabaseSchema)
   pub kept_flying : (image' : List ℕ → Type 0) (schema' : DatabaseSchema) (world' : FactSet) (user' : UserProfile) (entries' : History) (entry' : AnsweredQuery)
       (has_journal has_failed : Bool) → schema' ≡ schema → world' ≡ world → user' ≡ user → entries' ≡ entries → entry' ≡ entry
       → has_journal ≡ true → has_failed ≡ true → (told → (c : List ℕ) → image' c → KeepsOrAdds bytes next c)
-      → IsKept told image' schema' world' user' header standing entries' (Some entry') has_journal has_failed
+      → IsConsistentDesk told image' schema' world' user' header standing entries' (Some entry') has_journal has_failed
   kept_flying image' schema' world' user' entries' entry' has_journal has_failed s w u h e journal broken either =
-      subst (λ x. IsKept told image' x world' user' header standing entries' (Some entry') has_journal has_failed) (sym s)
-      (subst (λ x. IsKept told image' schema x user' header standing entries' (Some entry') has_journal has_failed) (sym w)
-      (subst (λ x. IsKept told image' schema world x header standing entries' (Some entry') has_journal has_failed) (sym u)
-      (subst (λ x. IsKept told image' schema world user header standing x (Some entry') has_journal has_failed) (sym h)
-      (subst (λ x. IsKept told image' schema world user header standing entries (Some x) has_journal has_failed) (sym e)
+      subst (λ x. IsConsistentDesk told image' x world' user' header standing entries' (Some entry') has_journal has_failed) (sym s)
+      (subst (λ x. IsConsistentDesk told image' schema x user' header standing entries' (Some entry') has_journal has_failed) (sym w)
+      (subst (λ x. IsConsistentDesk told image' schema world x header standing entries' (Some entry') has_journal has_failed) (sym u)
+      (subst (λ x. IsConsistentDesk told image' schema world user header standing x (Some entry') has_journal has_failed) (sym h)
+      (subst (λ x. IsConsistentDesk told image' schema world user header standing entries (Some x) has_journal has_failed) (sym e)
       (kept_open told image' schema world user header standing entries
       (Some entry) has_journal has_failed grows.opened grows.admits grows.legal_more grows.sizes_more journal broken
       (λ told_is c here. ⊎_elim

@@ -14,7 +14,7 @@ use Rattle.log_journal.specs.declared.header.Header.{Header}
 use Rattle.user_desk.specs.Entries.{StandsFor, StandsWithin}
 use Rattle.user_desk.specs.Causes.{Opens, IsStanding}
 use Rattle.user_desk.specs.Standings.{standing_of, is_open, is_sealed}
-use Rattle.user_desk.specs.Kept.{IsKept}
+use Rattle.user_desk.specs.Kept.{IsConsistentDesk}
 use Rattle.user_desk.specs.Lives.{shown, IsState, Holds, Restarts}
 use Rattle.user_desk.specs.declared.standing.Standing.{Standing}
 use Rattle.user_desk.specs.declared.standing.Standing.TheVariants.{Open, Closed, Sealed}
@@ -84,7 +84,7 @@ module _ (schema : DatabaseSchema) (world : FactSet) (user : UserProfile) where
 
   module _ {told : Type 0} {image : List ℕ → Type 0} {header : List ℕ} {standing : Standing} {entries : History} {in_flight : Option AnsweredQuery}
       {has_journal is_broken : Bool}
-      (kept : IsKept told image schema world user header standing entries in_flight has_journal is_broken) (legal : IsLegal schema world user entries)
+      (kept : IsConsistentDesk told image schema world user header standing entries in_flight has_journal is_broken) (legal : IsLegal schema world user entries)
       (sizes : KeepsSizes schema user entries) where
     no_entry : admitted schema world user ≡ false → entries ≡ []
     no_entry isnt = first_none entries (option_to_list in_flight) (only_open standing entries in_flight kept.admits kept.idle isnt)
@@ -99,7 +99,7 @@ module _ (schema : DatabaseSchema) (world : FactSet) (user : UserProfile) where
   -- each image holds the state
   pub holds_image : (told : Type 0) (image : List ℕ → Type 0) (header : List ℕ) (standing : Standing) (entries : History) (in_flight : Option AnsweredQuery)
       (has_journal is_broken : Bool)
-      → IsKept told image schema world user header standing entries in_flight has_journal is_broken → IsLegal schema world user entries
+      → IsConsistentDesk told image schema world user header standing entries in_flight has_journal is_broken → IsLegal schema world user entries
       → KeepsSizes schema user entries → told → is_sealed standing ≡ false
       → (c : List ℕ) → image c → Holds schema world user header (shown entries (standing_of standing) in_flight) c
   holds_image told image header standing entries None has_journal is_broken kept legal sizes is served c here =
@@ -123,7 +123,7 @@ module _ (schema : DatabaseSchema) (world : FactSet) (user : UserProfile) where
   -- where no append failed each image stands for the entries
   pub stands_image : (told : Type 0) (image : List ℕ → Type 0) (header : List ℕ) (standing : Standing) (entries : History) (in_flight : Option AnsweredQuery)
       (has_journal is_broken : Bool)
-      → IsKept told image schema world user header standing entries in_flight has_journal is_broken → told → is_sealed standing ≡ false
+      → IsConsistentDesk told image schema world user header standing entries in_flight has_journal is_broken → told → is_sealed standing ≡ false
       → is_some in_flight ≡ false → (c : List ℕ) → image c → StandsFor schema header entries c
   stands_image told image header standing entries None has_journal is_broken kept is served whole c here =
       within_exact schema header entries c (subst (λ h. StandsWithin schema header (length entries) h c) (append-nil entries) (kept.images is served c here))

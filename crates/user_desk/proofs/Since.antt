@@ -12,7 +12,7 @@ use Rattle.cqe_base.specs.History.{UserProfile, AnsweredQuery, History}
 use Rattle.log_journal.specs.Records.{Recorded, KeepsOrAdds}
 use Rattle.user_desk.specs.Entries.{StandsWithin}
 use Rattle.user_desk.specs.Standings.{is_sealed}
-use Rattle.user_desk.specs.Kept.{IsKept, StandsSince}
+use Rattle.user_desk.specs.Kept.{IsConsistentDesk, StandsSince}
 use Rattle.user_desk.specs.Stored.{Stored, GoesOn}
 use Rattle.user_desk.specs.declared.standing.Standing.{Standing}
 use Rattle.user_desk.proofs.Bytes.{stands_either, within_more, within_all, within_longer, within_least}
@@ -100,8 +100,8 @@ module _ {D : Type 0} (moment : D → ℕ) (since : D → ℕ → List ℕ → T
 -- at the opening
 pub since_first : (told : Type 0) (image since : List ℕ → Type 0) (schema : DatabaseSchema) (world : FactSet) (user : UserProfile) (header : List ℕ)
     (standing : Standing) (opened : ℕ) (entries : History) (has_journal has_failed : Bool)
-    → IsKept told image schema world user header standing entries None has_journal has_failed → opened ≡ length entries → ((c : List ℕ) → since c → image c)
-    → (is_sealed standing ≡ true → has_journal ≡ false)
+    → IsConsistentDesk told image schema world user header standing entries None has_journal has_failed → opened ≡ length entries
+    → ((c : List ℕ) → since c → image c) → (is_sealed standing ≡ true → has_journal ≡ false)
     → StandsSince told since schema header standing opened entries None has_journal
 since_first told image since schema world user header standing opened entries has_journal has_failed kept count only refused = record {
   begins = omega (arith, count);

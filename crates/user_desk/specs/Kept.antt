@@ -16,7 +16,7 @@ use Rattle.user_desk.specs.declared.standing.Standing.{Standing}
 -- Unless the journal was refused, each image stands for the entries, or for these and the one in
 -- flight; with the one in flight too the entries are a legal history within the limits; and only an
 -- open desk has any.
-pub record IsKept (told : Type 0) (image : List ℕ → Type 0) (schema : DatabaseSchema)
+pub record IsConsistentDesk (told : Type 0) (image : List ℕ → Type 0) (schema : DatabaseSchema)
     (world : FactSet) (user : UserProfile) (header : List ℕ) (standing : Standing)
     (entries : History)
     (in_flight : Option AnsweredQuery) (has_journal is_broken : Bool) : Type 0 where
@@ -42,13 +42,13 @@ pub record StandsSince (told : Type 0) (image : List ℕ → Type 0) (schema : D
   pub refused : is_sealed standing ≡ true → has_journal ≡ false
 
 -- facts that hold in one way
-pub IsKept-prop : (told : Type 0) (image : List ℕ → Type 0) (schema : DatabaseSchema)
+pub IsConsistentDesk-prop : (told : Type 0) (image : List ℕ → Type 0) (schema : DatabaseSchema)
     (world : FactSet) (user : UserProfile) (header : List ℕ) (standing : Standing)
     (entries : History)
     (in_flight : Option AnsweredQuery) (has_journal is_broken : Bool)
-    → IsProp (IsKept told image schema world user header standing entries in_flight has_journal
-    is_broken)
-IsKept-prop told image schema world user header standing entries in_flight has_journal is_broken =
+    → IsProp (IsConsistentDesk told image schema world user header standing entries in_flight
+    has_journal is_broken)
+IsConsistentDesk-prop told image schema world user header standing entries flying journal broken =
     hlevel (props, formula_set, IsJournal-prop)
 
 pub StandsSince-prop : (told : Type 0) (image : List ℕ → Type 0) (schema : DatabaseSchema)

@@ -1,6 +1,7 @@
 pub mod Entries
 pub mod Causes
 pub mod Standings
+-- definitions, and proofs, which ghost fields name: IsConsistentDesk-prop and StandsSince-prop
 pub mod Kept
 pub mod Stored
 pub mod Mediums

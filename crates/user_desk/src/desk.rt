@@ -12,7 +12,8 @@ ghost use Rattle.cqe_base.specs.Run.{UserState, after_event, stop};
 ghost use Rattle.log_journal.specs.Opening.{header_bytes};
 ghost use Rattle.user_log.specs.UserLogs.{kept_schema, kept_world, kept_user, kept_history};
 ghost use Rattle.user_desk.specs.Entries.{IsNoLonger};
-ghost use Rattle.user_desk.specs.Kept.{IsKept, IsKept-prop, StandsSince, StandsSince-prop};
+ghost use Rattle.user_desk.specs.Kept.{IsConsistentDesk, IsConsistentDesk-prop, StandsSince};
+ghost use Rattle.user_desk.specs.Kept.{StandsSince-prop};
 ghost use Rattle.user_desk.specs.Stored.{stored_disk, opened_disk, has_journal, has_failed};
 ghost use Rattle.user_desk.specs.Standings.{is_open, is_sealed};
 
@@ -37,11 +38,11 @@ pub struct Desk<'w, D: Disk> {
     pub(crate) in_flight: Option<Entry>,
     /// How many entries there were at the opening.
     pub(crate) opened: usize,
-    ghost kept: { IsKept D.tells (D.image (stored_disk store)) (kept_schema log) (kept_world log)
-        (kept_user log)
+    ghost kept: { IsConsistentDesk D.tells (D.image (stored_disk store)) (kept_schema log)
+        (kept_world log) (kept_user log)
         (header_bytes header) standing (kept_history log) (option_map answered_query_of in_flight)
         (has_journal store)
-        (has_failed store) } by { IsKept-prop _ _ _ _ _ _ _ _ _ _ _ },
+        (has_failed store) } by { IsConsistentDesk-prop _ _ _ _ _ _ _ _ _ _ _ },
     ghost since: { StandsSince D.tells
         (D.image_since (stored_disk store) (D.moment (opened_disk store)))
         (kept_schema log) (header_bytes header) standing opened (kept_history log)

@@ -15,7 +15,7 @@ use Rattle.cqe_base.specs.Entailment.{Signed}
 use Rattle.cqe_base.specs.History.{UserProfile, AnsweredQuery, History, EmptyLogIsKnown, LogsGrow, told_by, log, view_size, known}
 use Rattle.cqe_base.specs.Censor.{AreFindings, FindingsDecide, EmptyHistoryIsLegal, LegalHistoriesGrow, mark_by, rule}
 use Rattle.cqe_base.specs.Limits.{KeepsLimits, KeepsSizes, KeepsSizesAt}
-use Rattle.user_log.specs.Kept.{IsKept}
+use Rattle.user_log.specs.Kept.{IsConsistentLog}
 use Rattle.user_log.specs.Nodes.{told_nodes}
 use Rattle.user_log.proofs.Sizes.{view_size-push}
 
@@ -33,10 +33,10 @@ decided schema view_schema world user log_is view_log query spent implied yes_ha
 pub kept_same : (schema : DatabaseSchema) (world : FactSet) (user : UserProfile) (entries entries' : History)
     (view_schema view_schema' : DatabaseSchema) (view_log view_log' : List Signed) (text_bytes view_nodes : ℕ)
     → entries' ≡ entries → view_schema' ≡ view_schema → view_log' ≡ view_log
-    → IsKept schema world user entries view_schema view_log text_bytes view_nodes
-    → IsKept schema world user entries' view_schema' view_log' text_bytes view_nodes
+    → IsConsistentLog schema world user entries view_schema view_log text_bytes view_nodes
+    → IsConsistentLog schema world user entries' view_schema' view_log' text_bytes view_nodes
 kept_same schema world user entries entries' view_schema view_schema' view_log view_log' text_bytes view_nodes same_entries same_schema same_log kept =
-    subst (λ h. IsKept schema world user h view_schema' view_log' text_bytes view_nodes) (sym same_entries) record {
+    subst (λ h. IsConsistentLog schema world user h view_schema' view_log' text_bytes view_nodes) (sym same_entries) record {
       limits = kept.limits;
       schema_is = same_schema ∙ kept.schema_is;
       log_is = same_log ∙ kept.log_is;
@@ -53,9 +53,9 @@ no_entry (x ∷ before) entry after e = cc
 -- before the first ask
 pub kept_empty : (schema : DatabaseSchema) (world : FactSet) (user : UserProfile) (entries : History) (view_schema : DatabaseSchema) (view_log : List Signed)
     (view_nodes : ℕ) → entries ≡ [] → KeepsLimits schema user → EmptyHistoryIsLegal → EmptyLogIsKnown → view_schema ≡ schema → view_log ≡ known user
-    → view_nodes ≡ view_size schema user [] → IsKept schema world user entries view_schema view_log 0 view_nodes
+    → view_nodes ≡ view_size schema user [] → IsConsistentLog schema world user entries view_schema view_log 0 view_nodes
 kept_empty schema world user entries view_schema view_log view_nodes none limits legal logs same_schema same_log same_nodes =
-    subst (λ h. IsKept schema world user h view_schema view_log 0 view_nodes) (sym none) record {
+    subst (λ h. IsConsistentLog schema world user h view_schema view_log 0 view_nodes) (sym none) record {
       limits = limits;
       schema_is = same_schema;
       log_is = same_log ∙ sym (logs user);
@@ -101,13 +101,14 @@ sizes_push schema user entries last sizes here before entry after e = at (split_
 -- what is kept, with one more entry
 pub kept_push : (schema : DatabaseSchema) (world : FactSet) (user : UserProfile) (entries entries' : History) (last : AnsweredQuery)
     (view_schema view_schema' : DatabaseSchema) (view_log view_log' : List Signed) (text_bytes view_nodes more_text more_nodes : ℕ)
-    → IsKept schema world user entries view_schema view_log text_bytes view_nodes → LegalHistoriesGrow → LogsGrow → KeepsSizesAt schema user entries last
-    → last.mark ≡ rule schema world user (log user entries) last.query → entries' ≡ entries ++ last ∷ [] → view_schema' ≡ view_schema
+    → IsConsistentLog schema world user entries view_schema view_log text_bytes view_nodes → LegalHistoriesGrow → LogsGrow
+    → KeepsSizesAt schema user entries last → last.mark ≡ rule schema world user (log user entries) last.query
+    → entries' ≡ entries ++ last ∷ [] → view_schema' ≡ view_schema
     → view_log' ≡ view_log ++ told_by last.mark last.query → more_text ≡ last.length → more_nodes ≡ told_nodes schema last.mark last.query
-    → IsKept schema world user entries' view_schema' view_log' (text_bytes + more_text) (view_nodes + more_nodes)
+    → IsConsistentLog schema world user entries' view_schema' view_log' (text_bytes + more_text) (view_nodes + more_nodes)
 kept_push schema world user entries entries' last view_schema view_schema' view_log view_log' text_bytes view_nodes more_text more_nodes kept grow logs here
     marks pushed same_schema told same_text same_nodes =
-    subst (λ h. IsKept schema world user h view_schema' view_log' (text_bytes + more_text) (view_nodes + more_nodes)) (sym pushed) record {
+    subst (λ h. IsConsistentLog schema world user h view_schema' view_log' (text_bytes + more_text) (view_nodes + more_nodes)) (sym pushed) record {
       limits = kept.limits;
       schema_is = same_schema ∙ kept.schema_is;
       log_is = told ∙ ap (λ l. l ++ told_by last.mark last.query) kept.log_is ∙ sym (logs user entries last);

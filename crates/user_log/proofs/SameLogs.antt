@@ -3,14 +3,14 @@ use Rattle.std.proofs.Common.{◌≡◌, map, sym, subst}
 use mathlib.Core.HLevel.{is_prop→PathP}
 use Rattle.cqe_base.specs.History.{profile_of, answered_query_of}
 use Rattle.entailment.specs.Views.{LogView, schema_of, log_of}
-use Rattle.user_log.specs.Kept.{IsKept, IsKept-prop}
+use Rattle.user_log.specs.Kept.{IsConsistentLog, IsConsistentLog-prop}
 use Rattle.user_log.specs.declared.log.UserLog.{UserLog}
 
 module _ (log : UserLog) where
   -- what the log keeps, of a view
   abbrev pub KeptWith : LogView → Type 0
   KeptWith view =
-      IsKept log.schema.now log.world.now (profile_of log.user.now) (map answered_query_of log.entries.items)
+      IsConsistentLog log.schema.now log.world.now (profile_of log.user.now) (map answered_query_of log.entries.items)
       (schema_of view) (log_of view) log.text_bytes log.view_nodes
 
   pub kept_with : (view : LogView) → view ≡ log.view → KeptWith view
@@ -19,5 +19,5 @@ module _ (log : UserLog) where
   pub same_log : (view : LogView) → view ≡ log.view → (kept : KeptWith view) → record log { view = view; kept = kept } ≡ log
   same_log view same kept = λ i. record log {
     view = same i;
-    kept = is_prop→PathP (λ j. KeptWith (same j)) (λ j. IsKept-prop _ _ _ _ _ _ _ _) kept log.kept i;
+    kept = is_prop→PathP (λ j. KeptWith (same j)) (λ j. IsConsistentLog-prop _ _ _ _ _ _ _ _) kept log.kept i;
   }

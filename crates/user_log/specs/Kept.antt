@@ -10,7 +10,7 @@ use Rattle.std.proofs.Props.{props}
 use Rattle.cqe_base.specs.Limits.{KeepsLimits, KeepsSizes}
 
 -- the log and the sizes are those of the entries, which are legal and were added within the limits
-pub record IsKept (schema : DatabaseSchema) (world : FactSet) (user : UserProfile)
+pub record IsConsistentLog (schema : DatabaseSchema) (world : FactSet) (user : UserProfile)
     (entries : History) (log_schema : DatabaseSchema) (log_kept : List Signed)
     (text_bytes view_nodes : ℕ) : Type 0 where
   pub limits : KeepsLimits schema user
@@ -22,9 +22,9 @@ pub record IsKept (schema : DatabaseSchema) (world : FactSet) (user : UserProfil
   pub sizes : KeepsSizes schema user entries
 
 -- a fact that holds in one way
-pub IsKept-prop : (schema : DatabaseSchema) (world : FactSet) (user : UserProfile)
+pub IsConsistentLog-prop : (schema : DatabaseSchema) (world : FactSet) (user : UserProfile)
     (entries : History) (log_schema : DatabaseSchema) (log_kept : List Signed)
     (text_bytes view_nodes : ℕ)
-    → IsProp (IsKept schema world user entries log_schema log_kept text_bytes view_nodes)
-IsKept-prop schema world user entries log_schema log_kept text_bytes view_nodes =
+    → IsProp (IsConsistentLog schema world user entries log_schema log_kept text_bytes view_nodes)
+IsConsistentLog-prop schema world user entries log_schema log_kept text_bytes view_nodes =
     hlevel (props, formula_set)

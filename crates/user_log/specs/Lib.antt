@@ -1,4 +1,5 @@
 pub mod Replies
+-- a definition, and a proof, which a ghost field names: IsConsistentLog-prop
 pub mod Kept
 pub mod Asked
 pub mod UserLogs

@@ -11,7 +11,7 @@ ghost use Rattle.cqe_base.specs.Limits.{KeepsLimits, KeepsSizes};
 ghost use Rattle.entailment.specs.Views.{schema_of, log_of, room_of};
 ghost use Rattle.entailment.specs.Logs.{log_nodes};
 ghost use Rattle.user_log.specs.Nodes.{told_nodes};
-ghost use Rattle.user_log.specs.Kept.{IsKept, IsKept-prop};
+ghost use Rattle.user_log.specs.Kept.{IsConsistentLog, IsConsistentLog-prop};
 
 use crate::{Prepared, Reply, Weighed};
 use censors::{decide, examine, law_undecided_is_cost};
@@ -47,9 +47,9 @@ pub struct UserLog<'w> {
     entries: Vec<Entry>,
     text_bytes: u64,
     view_nodes: u64,
-    ghost kept: { IsKept schema.now world.now (profile_of user.now)
+    ghost kept: { IsConsistentLog schema.now world.now (profile_of user.now)
         (map answered_query_of entries.items) (schema_of view) (log_of view)
-        text_bytes view_nodes } by { IsKept-prop _ _ _ _ _ _ _ _ },
+        text_bytes view_nodes } by { IsConsistentLog-prop _ _ _ _ _ _ _ _ },
 }
 
 impl<'w> UserLog<'w> {

@@ -5,7 +5,7 @@ use Rattle.std.proofs.lemmas.Grind.{common_steps}
 use Rattle.std.proofs.lemmas.List.{take_all}
 use Rattle.cqe_base.specs.History.{profile_of}
 use Rattle.cqe_base.specs.Censor.{admitted}
-use Rattle.case_engine.specs.Written.{AppendsAll}
+use Rattle.case_engine.specs.Written.{AppendsReplies}
 use Rattle.case_engine.proofs.Telling.{Told, told_nothing, told_all, told_some, told_more, told_there, short_item, next_item}
 use Rattle.case_engine.proofs.answering.answer_all.Goals as goal
 
@@ -15,7 +15,7 @@ returns-then-is_empty-clause-answered g c = λ told.
     let user = profile_of parts.user in
     let written = g.K.Sink.written c.args.sink.now in
     let none : parts.asks.items ≡ [] = grind (arith, common_steps) in
-    subst (λ a. AppendsAll parts.schema parts.facts user (map string_bytes a) written written) (sym none)
+    subst (λ a. AppendsReplies parts.schema parts.facts user (map string_bytes a) written written) (sym none)
     (told_all parts.schema parts.facts user
     (admitted parts.schema parts.facts user) c.law_legal_grows.ensures.empty c.law_runs_legal.ensures c.law_hides.ensures c.known.ensures
     c.requires.sentences

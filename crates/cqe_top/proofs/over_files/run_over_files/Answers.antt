@@ -1,7 +1,7 @@
 use Rattle.std.proofs.Common.{◌≡◌, ◌<◌, refl, sym, ap, subst, ◌∙◌, map, length, string_bytes}
 use Rattle.std.specs.Prelude.{position, Some}
 use Rattle.outside.proofs.Rises.{rose_since}
-use Rattle.audit_engine.specs.Ends.{IsEnd}
+use Rattle.audit_engine.specs.Ends.{EndsAudit}
 use Rattle.cqe_base.specs.History.{profile_of}
 use Rattle.cqe_base.specs.Schema.{has_duplicate}
 use Rattle.command_words.specs.Readings.{names_of_files}
@@ -242,7 +242,7 @@ returns-in-Audit-clause-command g c =
           policy_user_of user,
           one_named name inputs.policy.users.items c.in-Some.place user user found c.index-user.ensures within,
           λ out_told. subst (λ (journals : Journals).
-              IsEnd inputs.policy.schema inputs.world (header_bytes inputs.header) (string_bytes user.name) (profile_of user)
+              EndsAudit inputs.policy.schema inputs.world (header_bytes inputs.header) (string_bytes user.name) (profile_of user)
               (journals.bytes (string_bytes user.name))
               (journals.before (string_bytes user.name)) (journals.now (string_bytes user.name)) c.in-Audit.json c.run_audit.result
               (g.K.Sink.written c.args.sink.now) (g.K.Sink.written c.run_audit.new.sink))

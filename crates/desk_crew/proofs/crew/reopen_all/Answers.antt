@@ -3,7 +3,7 @@ use Rattle.std.specs.Prelude.{◌==◌}
 use Rattle.cqe_base.specs.History.{profile_of}
 use Rattle.cqe_base.specs.Limits.{KeepsLimits}
 use Rattle.log_journal.specs.Opening.{header_bytes}
-use Rattle.desk_crew.specs.Crew.{seat_user, seat_journal, seat_disk, IsServed}
+use Rattle.desk_crew.specs.Crew.{seat_user, seat_journal, seat_disk, IsSeatServed}
 use Rattle.outside.specs.Shelf.{SameBeside, AllOut}
 use Rattle.desk_crew.specs.Shelved.{journals, AreLater}
 use Rattle.desk_crew.specs.Seats.{DeskSeat}
@@ -27,7 +27,7 @@ reopen-requires-clause-served g c =
     let half = c.loop-alloc.invariant.half in
     let first = first_removed c.loop-alloc.seats.items c.remove-seat.result c.remove-seat.new.self.items c.remove-seat.ensures.value c.remove-seat.ensures.items
     (ap (λ n. n == 0) (sym c.loop-alloc.seats.ok.0) ∙ sym c.loop-alloc-test.ensures) in
-    all_second (IsServed c.args.registry.now.schema.now c.args.registry.now.world.now (header_bytes c.args.registry.now.header.now)) half.done
+    all_second (IsSeatServed c.args.registry.now.schema.now c.args.registry.now.world.now (header_bytes c.args.registry.now.header.now)) half.done
     c.remove-seat.result c.remove-seat.new.self.items c.args.seats.items (half.split ∙ ap (λ l. half.done ++ l) first) c.requires.served
 
 pub loop-alloc-preserved : goal.loop-alloc-preserved

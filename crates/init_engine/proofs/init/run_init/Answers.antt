@@ -1,7 +1,7 @@
 use Rattle.std.proofs.Common.{◌∙◌, sym, subst, arith}
 use Rattle.log_journal.specs.Opening.{header_bytes}
 use Rattle.init_engine.specs.Disks.{user_names}
-use Rattle.init_engine.specs.Ends.{IsEnd}
+use Rattle.init_engine.specs.Ends.{EndsInit}
 use Rattle.init_engine.proofs.Running.{name_at, one_more, ends}
 use Rattle.init_engine.proofs.init.run_init.Goals as goal
 
@@ -16,7 +16,7 @@ returns-in-Err-clause-ends g c =
     let user = c.index-users-number.result in
     let named = name_at c.args.users.now c.loop-number.number user c.as_str.result.now
     (omega (arith, c.loop-number-test.true)) c.index-users-number.is c.as_str.ensures.value in
-    subst (λ end. IsEnd shelf.tells disk.reads disk.image (header_bytes c.args.header.now) c.args.directory.now (user_names c.args.users.now)
+    subst (λ end. EndsInit shelf.tells disk.reads disk.image (header_bytes c.args.header.now) c.args.directory.now (user_names c.args.users.now)
     (record {
       old = shelf.disk first;
       new = shelf.disk last;

@@ -5,7 +5,7 @@ use Rattle.outside.specs.Shelf.{is_among, AllOut, AreOut}
 use Rattle.desk_crew.specs.Shelved.{journals_on}
 use Rattle.desk_crew.proofs.Rising.{some_rose, any_failed}
 use Rattle.desk_crew.proofs.Opening.{seat_journals, seats_distinct, seats_later, same_length, all_out, none_out, none_fell}
-use Rattle.serve_engine.specs.Serving.{HaveServed, EndsAt, IsDone, IsBroken}
+use Rattle.serve_engine.specs.Serving.{HaveServed, EndsDoors, IsDone, IsBroken}
 use Rattle.serve_engine.specs.Served.{Served}
 use Rattle.serve_engine.specs.Sharing.{seat_member, IsServedAt}
 use Rattle.serve_engine.proofs.Apart.{served_still, apart_own}
@@ -89,7 +89,7 @@ returns-clause-ends g c shelf_told =
     (g.F.Shelf.disk_faults c.give_back-is_broken.new.shelf) c.known.ensures c.law_hides.ensures c.args.registry.now.users.now
     c.in-Ok-open_all.seats.items c.serve_seats-outcome.result.1.items c.requires.limits c.in-Ok-open_all.ensures.opened
     c.serve_seats-outcome.ensures.on c.give_back-is_broken.ensures.back in
-    subst (EndsAt c.args.registry.now.schema.now c.args.registry.now.world.now (header_bytes c.args.registry.now.header.now)
+    subst (EndsDoors c.args.registry.now.schema.now c.args.registry.now.world.now (header_bytes c.args.registry.now.header.now)
     (journals_on g.F.D.Disk.reads g.F.D.Disk.image c.args.registry.now.directory.now (g.F.Shelf.disk c.args.shelf.now)
     (g.F.Shelf.disk c.give_back-is_broken.new.shelf) (g.F.Shelf.disk_faults c.args.shelf.now) (g.F.Shelf.disk_faults c.give_back-is_broken.new.shelf))
     c.args.registry.now.users.now g.O.Door.tells g.O.Door.given g.O.Door.left g.O.Door.faults g.O.Door.back c.args.doors.items
