@@ -9,7 +9,7 @@ use Rattle.clause_solver.specs.IndexedStates.{plain_of}
 use Rattle.clause_solver.proofs.Bases.{base_of, stands_on_all, drop_to_oldest}
 use Rattle.clause_solver.proofs.StateMoves.{found_from, cost_from, moved_settled, each_first, take_first}
 use Rattle.clause_solver.proofs.kept_search.search_from.Goals as goal
-use Rattle.clause_solver.proofs.kept_search.search_from.Goals.{After-go_back, In_ok-searched}
+use Rattle.clause_solver.proofs.kept_search.search_from.Goals.{In_ok-searched}
 
 size : (c : In_ok-searched) → length c.entries-entries.result.now ≡ length c.args.state.now.assignment.trail
 size c = sym (length-reverse c.entries-entries.result.now) ∙ ap length c.entries-entries.ensures
