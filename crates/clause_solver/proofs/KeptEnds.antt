@@ -1,21 +1,20 @@
 -- Where a kept trail leads a search to.
 use Rattle.std.proofs.Common.{◌≡◌, ℕ, ◌+◌, ◌-◌, ◌<◌, ◌≤◌, min, leb, Bool, true, false, cond, List, [], ◌∷◌, ◌++◌, length, get_or, Option, Some, None, refl}
-use Rattle.std.proofs.Common.{sym, ap, ◌∙◌, subst, inl, inr, ⊎_elim, ◌⊎◌, arith}
+use Rattle.std.proofs.Common.{sym, ap, ◌∙◌, subst, inl, inr, arith}
 use Rattle.std.specs.Prelude.{nat_le}
-use Rattle.std.specs.List.{list_all, position_from, AllByRecursion}
 use Rattle.std.proofs.Common.{append-nil}
-use Rattle.std.proofs.lemmas.Bool.{both_ways, cases_lt, leb-true, le-leb, lt-leb}
+use Rattle.std.proofs.lemmas.Bool.{cases_lt, leb-true, le-leb, lt-leb}
 use Rattle.cqe_base.specs.Literal.{Literal, ClausesBelow, HaveNoRepeat}
 use Rattle.cqe_base.specs.Refutation.{RefutationLine}
-use Rattle.cqe_base.specs.Machine.{Assigned, State, start, is_false, level, conflict_line, Refuted, Ended, End, with_cost, end_within, MachineEnds}
+use Rattle.cqe_base.specs.Machine.{Assigned, State, start, conflict_line, Refuted, Ended, with_cost, end_within, MachineEnds}
 use Rattle.cqe_base.specs.Machine.{end_within_cost}
 use Rattle.cqe_base.specs.Machine.{end_within_budget}
 use Rattle.cqe_base.specs.MachineStates.{IsReached}
-use Rattle.cqe_base.specs.KeptTrail.{has_conflict, IsKeptTrail, IsFirstFalsified, state_with, probed, end_from_within_budget}
+use Rattle.cqe_base.specs.KeptTrail.{has_conflict, IsKeptTrail, IsFirstFalsified, state_with, probed}
 use Rattle.cqe_base.proofs.Reached.{all_false}
 use Rattle.cqe_base.proofs.Conflicts.{Begins, conflict_begins}
 use Rattle.cqe_base.proofs.MachineRuns.{machine_has_one_end}
-use Rattle.cqe_base.proofs.KeptTrails.{begins_at_zero, kept_is_reached, search_goes_on_from_kept, budget_goes_on, no_end_before}
+use Rattle.cqe_base.proofs.KeptTrails.{begins_at_zero, kept_is_reached, search_goes_on_from_kept, no_end_before}
 use Rattle.cqe_base.proofs.KeptTrails.{probe_is_refuted_at_its_place}
 use Rattle.clause_solver.specs.Costs.{cost_within, cost_within_budget}
 use Rattle.clause_solver.specs.Lines.{IsAnalysable, state_at}

@@ -1,13 +1,13 @@
 -- A kept state in another place, over another number of variables, and with more clauses.
-use Rattle.std.proofs.Common.{◌≡◌, ℕ, zero, suc, ◌+◌, ◌-◌, ◌*◌, min, ◌<◌, ◌≤◌, ◌^◌, Bool, true, false, cond, ◌||◌, List, [], ◌∷◌, ◌++◌, length, get_or, take}
+use Rattle.std.proofs.Common.{◌≡◌, ℕ, zero, suc, ◌+◌, ◌-◌, ◌*◌, min, ◌<◌, ◌^◌, Bool, true, false, cond, ◌||◌, List, [], ◌∷◌, ◌++◌, length, get_or, take}
 use Rattle.std.proofs.Common.{map, Option}
 use Rattle.std.proofs.Common.{Some, None, refl, sym}
-use Rattle.std.proofs.Common.{ap, ◌∙◌, subst, inl, inr, ⊎_elim, ◌⊎◌, arith}
+use Rattle.std.proofs.Common.{ap, ◌∙◌, subst, inl, inr, ⊎_elim, arith}
 use Rattle.std.specs.List.{list_all, position_from, AllByRecursion}
 use Rattle.std.proofs.lemmas.Bool.{both_ways, cases_lt, or_left, or_right}
 use Rattle.std.proofs.lemmas.List.{get_or_past}
-use Rattle.cqe_base.specs.Literal.{Literal, Positive, variable_of, has_literal, ClauseBelow, ClausesBelow, HaveNoRepeat}
-use Rattle.cqe_base.specs.Machine.{Assigned, Because, State, is_false, first_unit, level, end_within, end_within_budget}
+use Rattle.cqe_base.specs.Literal.{Literal, variable_of, has_literal, ClauseBelow, ClausesBelow, HaveNoRepeat}
+use Rattle.cqe_base.specs.Machine.{Assigned, Because, State, is_false, first_unit, end_within, end_within_budget}
 use Rattle.cqe_base.specs.MachineStates.{IsDistinct, IsReached}
 use Rattle.cqe_base.specs.KeptTrail.{has_conflict, IsKeptTrail, state_with, end_from_within_budget}
 use Rattle.cqe_base.proofs.ClauseTruth.{same_literal-same}
@@ -22,9 +22,9 @@ use Rattle.clause_solver.specs.declared.watches.Watch.{Watch}
 use Rattle.clause_store.specs.Codes.{code_of}
 use Rattle.clause_store.proofs.Marking.{code_of-below}
 use Rattle.clause_solver.specs.Watching.{IsWatching, IsWatchOf, HaveSameLiterals, has_clause, no_pair}
-use Rattle.clause_solver.specs.WatchesInside.{AreWatches}
+use Rattle.clause_solver.specs.WatchesInside.{AreWatches, units_of}
 use Rattle.clause_solver.specs.IndexedStates.{plain_of, IsLookedAt, IsIndexed}
-use Rattle.clause_solver.specs.KeptStates.{IsKeptState}
+use Rattle.clause_solver.specs.KeptStates.{IsKeptState, IsSettled}
 use Rattle.clause_solver.proofs.KeptEnds.{kept_reached, same_reached, kept_cost}
 use Rattle.clause_solver.specs.Costs.{cost_within, cost_within_budget}
 
@@ -76,8 +76,8 @@ module _ (n m : ℕ) (t : List Assigned) (cs : List (List Literal)) (lists lists
 
 pub moved : (s x : Indexed) (n : ℕ) → IsKeptState s → x.assignment.variables ≡ n → x.assignment.trail ≡ s.assignment.trail → x.clauses ≡ s.clauses
     → (plain_of x).lines ≡ [] → n < 2 ^ 31 → ClausesBelow n s.clauses → AreWatches n s.assignment.trail x.watches
-    → x.watches.sorted ≡ s.watches.sorted → x.resolvent ≡ record { variables = n; clause = [] } → IsKeptState x
-moved s x n old variables trail clauses lines fits below watches sorted idle =
+    → HaveSameLiterals s.clauses x.watches.sorted → x.resolvent ≡ record { variables = n; clause = [] } → IsKeptState x
+moved s x n old variables trail clauses lines fits below watches same idle =
     let reached : IsReached n (plain_of x) = same_reached n (state_with s.clauses s.assignment.trail) (plain_of x) clauses trail
     (kept_reached n s.clauses s.assignment.trail below old.indexed.reached.no_repeat old.kept) in
     record {
@@ -86,8 +86,7 @@ moved s x n old variables trail clauses lines fits below watches sorted idle =
         looked = record {
           watches = subst (λ m. AreWatches m x.assignment.trail x.watches) (sym variables)
               (subst (λ t. AreWatches n t x.watches) (sym trail) watches);
-          same = subst (λ cs. HaveSameLiterals cs x.watches.sorted) (sym clauses)
-              (subst (HaveSameLiterals s.clauses) (sym sorted) old.indexed.looked.same);
+          same = subst (λ cs. HaveSameLiterals cs x.watches.sorted) (sym clauses) same;
           distinct = subst (λ m. IsDistinct m x.assignment.trail) (sym variables) reached.distinct;
           idle = idle ∙ ap (λ m. record { variables = m; clause = [] }) (sym variables);
         };
@@ -96,6 +95,19 @@ moved s x n old variables trail clauses lines fits below watches sorted idle =
       kept = subst (λ cs. IsKeptTrail cs x.assignment.trail) (sym clauses) (subst (IsKeptTrail s.clauses) (sym trail) old.kept);
       no_lines = lines;
     }
+
+-- a settled state that has moved, with all watches looked at
+pub moved_settled : (s x : Indexed) (n : ℕ) → IsSettled s → IsLookedAt x → x.assignment.variables ≡ n → x.assignment.trail ≡ s.assignment.trail
+    → x.clauses ≡ s.clauses → (plain_of x).lines ≡ [] → n < 2 ^ 31 → ClausesBelow n s.clauses → units_of x.watches ≡ [] → x.watches.falsified ≡ None
+    → IsSettled x
+moved_settled s x n old looked variables trail clauses lines fits below units falsified = record {
+  state = moved s x n old.state variables trail clauses lines fits below
+      (subst (λ m. AreWatches m s.assignment.trail x.watches) variables (subst (λ t. AreWatches x.assignment.variables t x.watches) trail looked.watches))
+      (subst (λ cs. HaveSameLiterals cs x.watches.sorted) clauses looked.same) (looked.idle ∙ ap (λ m. record { variables = m; clause = [] }) variables);
+  calm = (λ i. has_conflict (trail i) (clauses i)) ∙ old.calm;
+  no_units = units;
+  no_falsified = falsified;
+}
 
 -- the trail of a kept state is one over each number of variables that its clauses allow
 pub distinct_over : (n : ℕ) (s : Indexed) → IsKeptState s → ClausesBelow n s.clauses → IsDistinct n s.assignment.trail

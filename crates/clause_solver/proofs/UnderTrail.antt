@@ -1,14 +1,14 @@
 -- What a clause watches that joins others under a trail of level 0.
-use Rattle.std.proofs.Common.{◌≡◌, ℕ, ◌<◌, ◌≤◌, Bool, true, false, cond, not, ◌&&◌, ◌||◌, eqb, List, [], ◌∷◌, length, Option, Some, None, refl, sym, ap, ◌∙◌}
-use Rattle.std.proofs.Common.{subst, inl, inr, ⊎_elim, ◌⊎◌, arith}
+use Rattle.std.proofs.Common.{◌≡◌, ℕ, ◌≤◌, Bool, true, false, cond, not, ◌&&◌, eqb, List, [], ◌∷◌, length, Option, Some, None, refl, sym, ap, ◌∙◌}
+use Rattle.std.proofs.Common.{subst, ⊎_elim, arith}
 use Rattle.std.specs.Prelude.{unwrap_or}
 use Rattle.std.specs.List.{find, list_all}
-use Rattle.std.proofs.lemmas.Bool.{both_ways, or_cases, or_left, or_right, not-true, and_from, false_from_ne_true, eqb-true}
+use Rattle.std.proofs.lemmas.Bool.{both_ways, or_cases, or_left, or_right, not-true}
 use Rattle.cqe_base.specs.Literal.{Literal, same_literal, has_literal, HasNoRepeat}
 use Rattle.cqe_base.specs.Machine.{Assigned, is_true, is_false, level, level_of}
 use Rattle.cqe_base.proofs.ClauseTruth.{same_literal-true, same_literal-same}
 use Rattle.cqe_base.proofs.Trails.{level_of-le}
-use Rattle.clause_solver.specs.Watching.{IsAnswered, satisfied, is_unit, IsWatched, AllFalseBut}
+use Rattle.clause_solver.specs.Watching.{IsAnswered, satisfied, is_unit, IsWatched}
 use Rattle.clause_solver.proofs.Visits.{IsNext, not_empty}
 use Rattle.clause_solver.proofs.Learnt.{all_one}
 

@@ -9,5 +9,6 @@ pub mod Costs
 pub mod Lines
 pub mod RightEnds
 pub mod Beginnings
+pub mod Bases
 pub mod KeptStates
 pub mod KeptClauses

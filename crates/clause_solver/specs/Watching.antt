@@ -1,8 +1,9 @@
 -- Two watched literals of each clause under a trail.
-use Rattle.std.specs.Prelude.{◌≡◌, ◌⊎◌, ◌&&◌, ◌||◌, not, ℕ, ◌<◌, ◌≤◌, ◌*◌, ◌==◌, nat_le, min, Bool}
+use Rattle.std.specs.Prelude.{◌≡◌, ◌⊎◌, ◌&&◌, ◌||◌, not, ℕ, ◌<◌, ◌≤◌, ◌*◌, ◌==◌, nat_le, nat_lt}
+use Rattle.std.specs.Prelude.{min, Bool}
 use Rattle.std.specs.Prelude.{true, false, List, [], ◌∷◌, ◌++◌, length, Option, Some, None, IfSome}
 use Rattle.std.specs.Prelude.{slice_index_or}
-use Rattle.std.specs.List.{list_any, list_all, AllByRecursion}
+use Rattle.std.specs.List.{list_any, list_all, filter, AllByRecursion}
 use Rattle.cqe_base.specs.Literal.{Literal, Positive, has_literal, ClausesBelow}
 use Rattle.cqe_base.specs.Machine.{Assigned, is_true, is_false, level, level_of}
 use Rattle.clause_store.specs.Codes.{code_of}
@@ -88,6 +89,10 @@ DropsLeast old new = (k : ℕ) → IsLeast old k → IsWithout k old new
 -- whether a clause is in a list of watches
 abbrev pub has_clause : List Watch → ℕ → Bool
 has_clause watches i = list_any (λ w. w.clause == i) watches
+
+-- the watches of the first clauses, so many
+abbrev pub watches_below : ℕ → List Watch → List Watch
+watches_below count watches = filter (λ w. nat_lt w.clause count) watches
 
 -- whether a clause is known as falsified that is this one or stands before it
 abbrev pub is_caught : Option ℕ → ℕ → Bool

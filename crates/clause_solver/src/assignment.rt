@@ -72,21 +72,6 @@ impl Assignment {
         self.variables
     }
 
-    /// The same once more.
-    pub fn copy(&self, alloc: Global) -> Result<Assignment, AllocError>
-        ensures { IfOk result (λ copy. copy ≡ self.now) }
-    {
-        Ok(Assignment {
-            variables: self.variables,
-            trail: Vec::from_slice(alloc, self.trail.as_slice())?,
-            truths: Vec::from_slice(alloc, self.truths.as_slice())?,
-            levels: Vec::from_slice(alloc, self.levels.as_slice())?,
-            places: Vec::from_slice(alloc, self.places.as_slice())?,
-            decisions: self.decisions,
-            next: self.next,
-        })
-    }
-
     /// So many variables, below which those on the trail have to be.
     pub fn set_variables(&mut self, variables: u32) -> Result<(), AllocError>
         requires fits { variables < 2 ^ 31 }

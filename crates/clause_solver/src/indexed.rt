@@ -2,7 +2,7 @@
 
 ghost use Rattle.std.specs.Prelude.{◌≡◌, ◌⊎◌, ◌<◌, ◌≤◌, ◌^◌, ◌+◌, ◌==◌, ℕ, true, false, [], ◌∷◌};
 ghost use Rattle.std.specs.Prelude.{◌++◌, length, map, Some, None, IfOk, IfSome, IfNone, not};
-ghost use Rattle.std.specs.Prelude.{if◌then◌else◌};
+ghost use Rattle.std.specs.Prelude.{if◌then◌else◌, take, drop, ◌-◌};
 ghost use Rattle.std.specs.List.{position_from, list_all, find};
 ghost use Rattle.std.specs.Option.{option_map};
 ghost use Rattle.cqe_base.specs.Literal.{Literal, variable_of, ClauseBelow, ClausesBelow};
@@ -12,7 +12,8 @@ ghost use Rattle.cqe_base.specs.MachineStates.{is_assigned};
 ghost use Rattle.clause_solver.specs.Watching.{IsWatched, AllFalseBut};
 ghost use Rattle.clause_solver.specs.WatchesInside.{units_of};
 ghost use Rattle.clause_solver.specs.IndexedStates.{plain_of, IsLookedAt, IsIndexed};
-ghost use Rattle.clause_solver.specs.KeptStates.{IsKeptState, IsSettled};
+ghost use Rattle.clause_solver.specs.KeptStates.{IsKeptState};
+ghost use Rattle.clause_solver.specs.Bases.{Base, StandsOn, KeepsBases};
 
 use crate::assignment::Assignment;
 use crate::entry::TrailEntry;
@@ -35,22 +36,6 @@ pub struct Indexed {
 }
 
 impl Indexed {
-    /// The same once more, where no rule applies at level 0.
-    pub fn copy(&self, alloc: Global) -> Result<Indexed, AllocError>
-        requires settled { IsSettled self.now }
-        ensures assignment { IfOk result (λ copy. copy.assignment ≡ self.now.assignment) }
-        ensures clauses { IfOk result (λ copy. copy.clauses ≡ self.now.clauses) }
-        ensures kept { IfOk result IsKeptState }
-    {
-        Ok(Indexed {
-            assignment: self.assignment.copy(alloc)?,
-            clauses: self.clauses.copy(alloc)?,
-            watches: self.watches.copy(alloc)?,
-            lines: Vec::new(alloc),
-            resolvent: MarkedClause::new(alloc, self.assignment.variables())?,
-        })
-    }
-
     /// So many variables, below which those of the clauses have to be.
     pub fn set_variables(&mut self, alloc: Global, variables: u32) -> Result<(), AllocError>
         requires variables { variables < 2 ^ 31 }
@@ -61,7 +46,11 @@ impl Indexed {
         ensures clauses { IfOk result (λ _. self.new.clauses ≡ self.old.clauses) }
         ensures variables { IfOk result (λ _. self.new.assignment.variables ≡ variables) }
         ensures kept { IfOk result (λ _. IsKeptState self.new) }
+        ensures bases { IfOk result (λ _. KeepsBases self.old self.new) }
     {
+        if self.assignment.variables() == variables {
+            return Ok(());
+        }
         self.assignment.set_variables(variables)?;
         self.watches.set_variables(alloc, variables)?;
         self.resolvent = MarkedClause::new(alloc, variables)?;
@@ -92,6 +81,7 @@ impl Indexed {
         }) }
         ensures variables { self.new.assignment.variables ≡ self.old.assignment.variables }
         ensures looked { IfOk result (λ _. IsLookedAt self.new) }
+        ensures bases { IfOk result (λ _. KeepsBases self.old self.new) }
     {
         self.clauses.push(clause)?;
         self.watches.enter(clause, first, second, unit)?;
@@ -114,6 +104,7 @@ impl Indexed {
         ensures variables { IfOk result
             (λ _. self.new.assignment.variables ≡ self.old.assignment.variables) }
         ensures looked { IfOk result (λ _. IsLookedAt self.new) }
+        ensures bases { IfOk result (λ _. KeepsBases self.old self.new) }
     {
         let literal = entry.literal();
         self.assignment.push(entry)?;
@@ -132,11 +123,35 @@ impl Indexed {
         } }
         ensures variables { self.new.assignment.variables ≡ self.old.assignment.variables }
         ensures looked { IsLookedAt self.new }
+        ensures bases { KeepsBases self.old self.new }
     {
         while self.assignment.level() > k {
             let _entry = self.assignment.pop();
         }
         self.watches.clear();
+    }
+
+    /// Goes back to the first clauses and the oldest entries of the trail, so many of each, on
+    /// which the state has to stand. No memory is taken.
+    pub fn go_back(&mut self, clauses: usize, entries: usize)
+        requires clauses { clauses ≤ length self.old.clauses }
+        requires looked { IsLookedAt self.old }
+        ensures clauses { self.new.clauses ≡ take clauses self.old.clauses }
+        ensures trail { self.new.assignment.trail
+            ≡ drop (length self.old.assignment.trail - entries) self.old.assignment.trail }
+        ensures variables { self.new.assignment.variables ≡ self.old.assignment.variables }
+        ensures lines { self.new.lines.items ≡ [] }
+        ensures looked { (b : Base) → length b.clauses ≡ clauses → length b.trail ≡ entries
+            → StandsOn b self.old → IsLookedAt self.new }
+        ensures units { units_of self.new.watches ≡ [] }
+        ensures falsified { self.new.watches.falsified ≡ None }
+    {
+        while self.assignment.entries().len() > entries {
+            let _entry = self.assignment.pop();
+        }
+        self.clauses.truncate(clauses);
+        self.watches.go_back(clauses);
+        self.lines.clear();
     }
 
     /// The first clause with only false literals.
@@ -172,6 +187,7 @@ impl Indexed {
         ensures indexed { IsIndexed self.new }
         ensures falsified { self.new.watches.falsified ≡ None }
         ensures none { IfNone result (units_of self.new.watches ≡ []) }
+        ensures bases { KeepsBases self.old self.new }
     {
         while let Some(least) = self.watches.least_unit() {
             let number = least as usize;

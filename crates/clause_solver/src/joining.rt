@@ -10,6 +10,7 @@ ghost use Rattle.clause_solver.specs.Beginnings.{IsBeginning};
 ghost use Rattle.clause_solver.specs.Watching.{IsWatched, AllFalseBut};
 ghost use Rattle.clause_solver.specs.IndexedStates.{plain_of, IsLookedAt};
 ghost use Rattle.clause_solver.specs.KeptStates.{IsKeptState, IsFirstOfFalsified};
+ghost use Rattle.clause_solver.specs.Bases.{KeepsBases};
 
 use crate::assignment::Assignment;
 use crate::indexed::Indexed;
@@ -69,6 +70,7 @@ fn enter_under(state: &mut Indexed, clause: &[Lit]) -> Result<(), AllocError>
     }) }
     ensures variables { state.new.assignment.variables ≡ state.old.assignment.variables }
     ensures looked { IfOk result (λ _. IsLookedAt state.new) }
+    ensures bases { IfOk result (λ _. KeepsBases state.old state.new) }
 {
     let Some(first) = first_open(&state.assignment, clause) else {
         return Ok(());
@@ -94,6 +96,7 @@ pub fn enter_all(state: &mut Indexed, clauses: &Clauses) -> Result<(), AllocErro
     ensures variables { IfOk result
         (λ _. state.new.assignment.variables ≡ state.old.assignment.variables) }
     ensures kept { IfOk result (λ _. IsKeptState state.new) }
+    ensures bases { IfOk result (λ _. KeepsBases state.old state.new) }
 {
     for number in state.clauses.len()..clauses.len() {
         enter_under(state, clauses.clause(number))?;

@@ -138,33 +138,37 @@ fn refuted_at(
     })
 }
 
-/// The search from the kept trail, where that falsifies none of the clauses.
+/// The search from the kept trail, where that falsifies none of the clauses. They join the kept
+/// ones for the search, and leave them again.
 fn search_from(
     alloc: Global,
-    state: &Indexed,
+    state: &mut Indexed,
     clauses: &Clauses,
     variables: u32,
     budget: u64,
 ) -> Result<Searched, AllocError>
-    requires begins { IsBeginning state.now.clauses clauses.now }
+    requires begins { IsBeginning state.old.clauses clauses.now }
     requires variables { variables < 2 ^ 31 }
     requires below { ClausesBelow variables clauses.now }
     requires no_repeat { HaveNoRepeat clauses.now }
     requires room { length clauses.now + budget < 2 ^ 32 }
-    requires none_falsified { IsFirstOfFalsified clauses.now state.now.assignment.trail
-        (length state.now.clauses) (length clauses.now) None }
-    requires settled { IsSettled state.now }
+    requires none_falsified { IsFirstOfFalsified clauses.now state.old.assignment.trail
+        (length state.old.clauses) (length clauses.now) None }
+    requires settled { IsSettled state.old }
     ensures found { IfOk result (λ searched. found_of searched.found
         ≡ end_within_budget clauses.now variables budget) }
     ensures cost { IfOk result (λ searched. searched.cost
         ≡ cost_within_budget clauses.now variables budget) }
+    ensures clauses { IfOk result (λ _. state.new.clauses ≡ state.old.clauses) }
+    ensures settled { IfOk result (λ _. IsSettled state.new) }
 {
-    let mut from = state.copy(alloc)?;
-    from.set_variables(alloc, variables)?;
-    enter_all(&mut from, clauses)?;
-    let steps = state.assignment.entries().len() as u64;
-    let left = budget.saturating_sub(steps);
-    let searched = run(alloc, from, variables, left)?;
+    let count = state.clauses.len();
+    let entries = state.assignment.entries().len();
+    state.set_variables(alloc, variables)?;
+    enter_all(state, clauses)?;
+    let steps = entries as u64;
+    let searched = run(alloc, state, variables, budget.saturating_sub(steps))?;
+    state.go_back(count, entries);
     Ok(Searched {
         found: searched.found,
         cost: budget.min(steps.saturating_add(searched.cost)),
@@ -174,21 +178,23 @@ fn search_from(
 /// The search of a list that begins with the clauses of a settled state.
 fn search_behind(
     alloc: Global,
-    state: &Indexed,
+    state: &mut Indexed,
     clauses: &Clauses,
     variables: u32,
     budget: u64,
 ) -> Result<Searched, AllocError>
-    requires begins { IsBeginning state.now.clauses clauses.now }
+    requires begins { IsBeginning state.old.clauses clauses.now }
     requires variables { variables < 2 ^ 31 }
     requires below { ClausesBelow variables clauses.now }
     requires no_repeat { HaveNoRepeat clauses.now }
     requires room { length clauses.now + budget < 2 ^ 32 }
-    requires settled { IsSettled state.now }
+    requires settled { IsSettled state.old }
     ensures found { IfOk result (λ searched. found_of searched.found
         ≡ end_within_budget clauses.now variables budget) }
     ensures cost { IfOk result (λ searched. searched.cost
         ≡ cost_within_budget clauses.now variables budget) }
+    ensures clauses { IfOk result (λ _. state.new.clauses ≡ state.old.clauses) }
+    ensures settled { IfOk result (λ _. IsSettled state.new) }
 {
     match first_falsified(&state.assignment, clauses, state.clauses.len()) {
         Some(first) => refuted_at(alloc, state, first, clauses, variables, budget),
@@ -199,21 +205,23 @@ fn search_behind(
 /// The search of a list that begins with the kept clauses.
 fn searched(
     alloc: Global,
-    kept: &Kept,
+    kept: &mut Kept,
     clauses: &Clauses,
     variables: u32,
     budget: u64,
 ) -> Result<Searched, AllocError>
-    requires begins { IsBeginning (kept_clauses kept.now) clauses.now }
+    requires begins { IsBeginning (kept_clauses kept.old) clauses.now }
     requires variables { variables < 2 ^ 31 }
     requires below { ClausesBelow variables clauses.now }
     requires no_repeat { HaveNoRepeat clauses.now }
     requires room { length clauses.now + budget < 2 ^ 32 }
-    requires right { IsKeptRight kept.now }
+    requires right { IsKeptRight kept.old }
     ensures found { IfOk result (λ searched. found_of searched.found
         ≡ end_within_budget clauses.now variables budget) }
     ensures cost { IfOk result (λ searched. searched.cost
         ≡ cost_within_budget clauses.now variables budget) }
+    ensures clauses { IfOk result (λ _. kept_clauses kept.new ≡ kept_clauses kept.old) }
+    ensures right { IfOk result (λ _. IsKeptRight kept.new) }
 {
     match kept {
         Kept::Settled(state) => search_behind(alloc, state, clauses, variables, budget),
@@ -257,13 +265,6 @@ impl KeptSearch {
         }
     }
 
-    /// No clause is kept any more. It takes no memory.
-    fn forget(&mut self, alloc: Global)
-        ensures { self.new ≡ [] }
-    {
-        self.kept = Kept::Plain(Clauses::new(alloc));
-    }
-
     /// What `clause_solver::search_with_cost` answers of clauses that begin with those that are
     /// kept. Where memory is wanting, no clause is kept any more.
     pub fn search_with_cost(
@@ -285,12 +286,13 @@ impl KeptSearch {
         ensures kept { OnOk result (self.new ≡ self.old) }
         ensures refused { OnErr result (self.new ≡ []) }
     {
-        match searched(alloc, &self.kept, clauses, variables, budget) {
-            Ok(searched) => Ok(searched),
-            Err(error) => {
-                self.forget(alloc);
-                Err(error)
+        let mut kept = mem::replace(&mut self.kept, Kept::Plain(Clauses::new(alloc)));
+        match searched(alloc, &mut kept, clauses, variables, budget) {
+            Ok(searched) => {
+                self.kept = kept;
+                Ok(searched)
             }
+            Err(error) => Err(error),
         }
     }
 

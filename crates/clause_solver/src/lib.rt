@@ -14,7 +14,8 @@
 //! (`clause_store::marked_clause`), so a resolution looks at each literal once.
 //!
 //! `KeptSearch` keeps a list of clauses with the steps that it leads to without a decision, and
-//! searches longer lists from there (cqe_base, specs/KeptTrail.antt).
+//! searches longer lists from there (cqe_base, specs/KeptTrail.antt). Their other clauses join the
+//! kept ones, and the state goes back when the search has ended (specs/Bases.antt).
 //!
 //! Read `entry` and `ends`, then `assignment`, `min_heap` and `watches`, then `indexed`,
 //! `analysis`, `rules` and `run`, then `falsified`, `joining`, `propagation` and `kept_search`.

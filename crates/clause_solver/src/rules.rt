@@ -12,6 +12,7 @@ ghost use Rattle.clause_store.specs.PlainLines.{line_of};
 ghost use Rattle.clause_solver.specs.PlainStates.{StepIs};
 ghost use Rattle.clause_solver.specs.WatchesInside.{units_of};
 ghost use Rattle.clause_solver.specs.IndexedStates.{plain_of, IsIndexed, IsHighestBeside};
+ghost use Rattle.clause_solver.specs.Bases.{KeepsBases};
 
 use crate::analysis::{back_level, conflict_line, first_current};
 use crate::assignment::Assignment;
@@ -71,6 +72,7 @@ fn learn(state: &mut Indexed, line: Line) -> Result<(), AllocError>
     ensures variables { IfOk result
         (λ _. state.new.assignment.variables ≡ state.old.assignment.variables) }
     ensures indexed { IfOk result (λ _. IsIndexed state.new) }
+    ensures bases { IfOk result (λ _. KeepsBases state.old state.new) }
 {
     let number = state.clauses.len() as u32;
     let Some(asserting) = first_current(&state.assignment, &line.clause) else {
@@ -99,6 +101,7 @@ fn conflict_step(alloc: Global, state: &mut Indexed, number: usize) -> Result<Ad
     ensures variables { IfOk result
         (λ _. state.new.assignment.variables ≡ state.old.assignment.variables) }
     ensures indexed { IfOk result (λ _. IsIndexed state.new) }
+    ensures bases { IfOk result (λ _. KeepsBases state.old state.new) }
 {
     let line = conflict_line(
         alloc,
@@ -145,6 +148,7 @@ fn decide_step(alloc: Global, state: &mut Indexed, variables: u32) -> Result<Adv
     ensures variables { IfOk result
         (λ _. state.new.assignment.variables ≡ state.old.assignment.variables) }
     ensures indexed { IfOk result (λ _. IsIndexed state.new) }
+    ensures bases { IfOk result (λ _. KeepsBases state.old state.new) }
 {
     match state.assignment.first_unassigned() {
         Some(v) => {
@@ -174,6 +178,7 @@ fn unit_step(alloc: Global, state: &mut Indexed, variables: u32) -> Result<Advan
     ensures variables { IfOk result
         (λ _. state.new.assignment.variables ≡ state.old.assignment.variables) }
     ensures indexed { IfOk result (λ _. IsIndexed state.new) }
+    ensures bases { IfOk result (λ _. KeepsBases state.old state.new) }
 {
     match state.first_unit() {
         Some(unit) => {
@@ -196,6 +201,7 @@ pub fn step(alloc: Global, state: &mut Indexed, variables: u32) -> Result<Advanc
     ensures variables { IfOk result
         (λ _. state.new.assignment.variables ≡ state.old.assignment.variables) }
     ensures indexed { IfOk result (λ _. IsIndexed state.new) }
+    ensures bases { IfOk result (λ _. KeepsBases state.old state.new) }
 {
     match state.first_conflict() {
         Some(number) => Ok(conflict_step(alloc, state, number)?),

@@ -9,7 +9,8 @@ ghost use Rattle.clause_solver.specs.RightEnds.{IsRightFound};
 ghost use Rattle.clause_solver.specs.Costs.{cost_within, cost_within_budget};
 ghost use Rattle.clause_solver.specs.Watching.{HaveSameLiterals};
 ghost use Rattle.clause_solver.specs.WatchesInside.{AreWatches};
-ghost use Rattle.clause_solver.specs.IndexedStates.{plain_of, IsIndexed, first_two};
+ghost use Rattle.clause_solver.specs.IndexedStates.{plain_of, IsLookedAt, IsIndexed, first_two};
+ghost use Rattle.clause_solver.specs.Bases.{KeepsBases};
 
 use crate::assignment::Assignment;
 use crate::ends::{Advance, Found, Searched};
@@ -22,6 +23,7 @@ use clause_store::marked_clause::MarkedClause;
 use clause_store::refutation::Refutation;
 use cqe_base::machine_laws::{law_budget_is_whole_cost, law_machine_ends_are_right};
 use std::alloc::{AllocError, Global};
+use std::mem;
 
 /// What is kept of these clauses where nothing is assigned.
 fn watched(alloc: Global, clauses: &Clauses, variables: u32) -> Result<Watches, AllocError>
@@ -87,23 +89,25 @@ pub fn spent(budget: u64) -> Searched
 /// Runs the machine from a state, within a budget.
 pub fn run(
     alloc: Global,
-    from: Indexed,
+    state: &mut Indexed,
     variables: u32,
     budget: u64,
 ) -> Result<Searched, AllocError>
     requires variables { variables < 2 ^ 31 }
-    requires same { from.assignment.variables ≡ variables }
-    requires room { length from.clauses + budget < 2 ^ 32 }
-    requires indexed { IsIndexed from }
+    requires same { state.old.assignment.variables ≡ variables }
+    requires room { length state.old.clauses + budget < 2 ^ 32 }
+    requires indexed { IsIndexed state.old }
     ensures found { IfOk result (λ searched. found_of searched.found
-        ≡ end_from_within_budget (plain_of from) variables budget) }
+        ≡ end_from_within_budget (plain_of state.old) variables budget) }
     ensures cost { IfOk result (λ searched. searched.cost
-        ≡ cost_within budget (end_within variables budget (plain_of from))) }
+        ≡ cost_within budget (end_within variables budget (plain_of state.old))) }
+    ensures variables { IfOk result (λ _. state.new.assignment.variables ≡ variables) }
+    ensures looked { IfOk result (λ _. IsLookedAt state.new) }
+    ensures bases { IfOk result (λ _. KeepsBases state.old state.new) }
 {
-    let mut state = from;
     let mut left = budget;
     for steps in 0..budget {
-        match step(alloc, &mut state, variables)? {
+        match step(alloc, state, variables)? {
             Advance::Went(cost) => {
                 if left < cost {
                     return Ok(spent(budget));
@@ -114,8 +118,9 @@ pub fn run(
                 if left < cost {
                     return Ok(spent(budget));
                 }
+                let lines = mem::replace(&mut state.lines, Vec::new(alloc));
                 return Ok(Searched {
-                    found: Found::Refuted(Refutation { lines: state.lines }),
+                    found: Found::Refuted(Refutation { lines }),
                     cost: budget - left + cost,
                 });
             }
@@ -150,8 +155,8 @@ pub fn search_with_cost(
     ensures cost { IfOk result (λ searched. searched.cost
         ≡ cost_within_budget clauses.now variables budget) }
 {
-    let state = begin(alloc, clauses, variables)?;
-    run(alloc, state, variables, budget)
+    let mut state = begin(alloc, clauses, variables)?;
+    run(alloc, &mut state, variables, budget)
 }
 
 /// Runs the machine of `cqe_base` (specs/Machine.antt), for callers that don't ask what it cost.

@@ -10,8 +10,9 @@ ghost use Rattle.clause_store.specs.Codes.{code_of};
 ghost use Rattle.clause_solver.specs.Watching.{IsWatching, IsWatched, HaveSameLiterals};
 ghost use Rattle.clause_solver.specs.Watching.{WatchesBeside, kept_with, no_pair, lowest};
 ghost use Rattle.clause_solver.specs.Watching.{is_caught, has_number, IsLeast, DropsLeast};
-ghost use Rattle.clause_solver.specs.Watching.{IsOpenOf, AreClosed, AllFalseBut};
+ghost use Rattle.clause_solver.specs.Watching.{IsOpenOf, AreClosed, AllFalseBut, watches_below};
 ghost use Rattle.clause_solver.specs.WatchesInside.{AreWatches, lists_of, units_of};
+ghost use Rattle.clause_solver.specs.WatchesInside.{AreWatchedUnder, KeepsWatched};
 ghost use Rattle.std.specs.Prelude.{true, false, not, ◌&&◌, ◌||◌, ◌==◌, List, None, map, replicate};
 ghost use Rattle.std.specs.Prelude.{take, drop, slice_set, slice_index_or, ◌≡◌, ℕ, ◌<◌, ◌≤◌, ◌+◌};
 ghost use Rattle.std.specs.Prelude.{◌*◌, ◌^◌, [], ◌∷◌, ◌++◌, length, IfOk, IfSome, IfNone};
@@ -88,29 +89,12 @@ impl Watches {
         })
     }
 
-    /// The same once more, where no clause may be unit or falsified.
-    pub fn copy(&self, alloc: Global) -> Result<Watches, AllocError>
-        requires units { units_of self.now ≡ [] }
-        requires falsified { self.now.falsified ≡ None }
-        ensures watches { IfOk result (λ copy. (n : ℕ) (t : List Assigned)
-            → AreWatches n t self.now → AreWatches n t copy) }
-        ensures sorted { IfOk result (λ copy. copy.sorted ≡ self.now.sorted) }
-    {
-        Ok(Watches {
-            lists: copy_lists(alloc, &self.lists)?,
-            pairs: Vec::from_slice(alloc, self.pairs.as_slice())?,
-            sorted: self.sorted.copy(alloc)?,
-            sorting: Vec::new(alloc),
-            units: MinHeap::new(alloc),
-            falsified: None,
-        })
-    }
-
     /// So many variables, below which those of the clauses have to be.
     pub fn set_variables(&mut self, alloc: Global, variables: u32) -> Result<(), AllocError>
         requires { variables < 2 ^ 31 }
         ensures watches { IfOk result (λ _. (n : ℕ) (t : List Assigned) → AreWatches n t self.old
             → ClausesBelow variables self.old.sorted → AreWatches variables t self.new) }
+        ensures pairs { self.new.pairs ≡ self.old.pairs }
         ensures sorted { self.new.sorted ≡ self.old.sorted }
         ensures units { self.new.units ≡ self.old.units }
         ensures falsified { self.new.falsified ≡ self.old.falsified }
@@ -138,6 +122,9 @@ impl Watches {
         ensures sorted { IfOk result (λ _. (cs : List (List Literal))
             → HaveSameLiterals cs self.old.sorted
             → HaveSameLiterals (cs ++ clause.now ∷ []) self.new.sorted) }
+        ensures kept { IfOk result (λ _. (t : List Assigned) (count : ℕ)
+            → length self.old.pairs.items ≡ length self.old.sorted
+            → AreWatchedUnder t count self.old → AreWatchedUnder t count self.new) }
     {
         let number = self.pairs.len() as u32;
         sort_clause(&mut self.sorting, clause)?;
@@ -197,6 +184,7 @@ impl Watches {
             (slice_index_or (lists_of self.old) (code_of literal) []) }
         ensures watches { IfOk result (λ _.
             AreWatches assignment.now.variables assignment.now.trail self.new) }
+        ensures kept { IfOk result (λ _. KeepsWatched assignment.now.trail self.old self.new) }
         ensures sorted { self.new.sorted ≡ self.old.sorted }
     {
         let mut list = mem::try_take(&mut self.lists[code(literal)])?;
@@ -238,6 +226,7 @@ impl Watches {
             self.new.sorted (slice_set (lists_of self.new) (code_of literal)
             (kept_with kept clause o ++ rest)) self.new.pairs.items
             (units_of self.new) self.new.falsified literal rest) }
+        ensures kept { IfOk result (λ _. KeepsWatched assignment.now.trail self.old self.new) }
         ensures sorted { self.new.sorted ≡ self.old.sorted }
         ensures lists_room { length self.new.lists.items ≡ length self.old.lists.items }
         ensures pairs_room { length self.new.pairs.items ≡ length self.old.pairs.items }
@@ -279,6 +268,7 @@ impl Watches {
             self.new.sorted (slice_set (lists_of self.new) (code_of literal)
             (kept_with kept clause o ++ rest)) self.new.pairs.items
             (units_of self.new) self.new.falsified literal rest) }
+        ensures kept { IfOk result (λ _. KeepsWatched assignment.now.trail self.old self.new) }
         ensures sorted { self.new.sorted ≡ self.old.sorted }
         ensures lists_room { length self.new.lists.items ≡ length self.old.lists.items }
         ensures pairs_room { length self.new.pairs.items ≡ length self.old.pairs.items }
@@ -353,6 +343,21 @@ impl Watches {
         self.units.clear();
         self.falsified = None;
     }
+
+    /// The first clauses stay, so many, and none of them is unit or falsified. No memory is taken.
+    pub fn go_back(&mut self, clauses: usize)
+        requires { clauses ≤ length self.old.sorted }
+        ensures watches { (n : ℕ) (oldest t : List Assigned) → AreWatches n t self.old
+            → AreWatchedUnder oldest clauses self.old → AreWatches n oldest self.new }
+        ensures sorted { self.new.sorted ≡ take clauses self.old.sorted }
+        ensures units { units_of self.new ≡ [] }
+        ensures falsified { self.new.falsified ≡ None }
+    {
+        self.clear();
+        self.pairs.truncate(clauses);
+        self.sorted.truncate(clauses);
+        keep_below(&mut self.lists, clauses);
+    }
 }
 
 /// The watched literal beside this one, where that is watched.
@@ -422,15 +427,22 @@ fn sort_clause(sorted: &mut Vec<Lit>, clause: &[Lit]) -> Result<(), AllocError>
     Ok(())
 }
 
-/// The same lists once more.
-fn copy_lists(alloc: Global, lists: &[Vec<Watch>]) -> Result<Vec<Vec<Watch>>, AllocError>
-    ensures { IfOk result (λ r. map (λ v. v.items) r.items ≡ map (λ v. v.items) lists.now) }
+/// Of the watches in each list those of the first clauses, so many, stay.
+fn keep_below(lists: &mut Vec<Vec<Watch>>, clauses: usize)
+    ensures kept { (k : ℕ) → slice_index_or (map (λ v. v.items) lists.new.items) k []
+        ≡ watches_below clauses (slice_index_or (map (λ v. v.items) lists.old.items) k []) }
+    ensures length { length lists.new.items ≡ length lists.old.items }
 {
-    let mut copies = Vec::with_capacity(alloc, lists.len())?;
-    for list in lists {
-        copies.push(Vec::from_slice(alloc, list.as_slice())?)?;
+    for literal in 0..lists.len() {
+        keep_list_below(&mut lists[literal], clauses);
     }
-    Ok(copies)
+}
+
+/// The same in one list.
+fn keep_list_below(list: &mut Vec<Watch>, clauses: usize)
+    ensures { list.new.items ≡ watches_below clauses list.old.items }
+{
+    list.retain(|w| (w.clause as usize) < clauses);
 }
 
 /// So many lists: those at the end go, or empty ones are put there.

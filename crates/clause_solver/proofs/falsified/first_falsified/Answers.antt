@@ -1,4 +1,4 @@
-use Rattle.std.proofs.Common.{◌≡◌, ◌<◌, [], length, sym, arith}
+use Rattle.std.proofs.Common.{◌<◌, [], length, sym, arith}
 use Rattle.std.proofs.lemmas.List.{get_or_read}
 use Rattle.clause_solver.proofs.falsified.first_falsified.Goals as goal
 

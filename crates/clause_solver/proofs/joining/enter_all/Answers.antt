@@ -1,9 +1,9 @@
-use Rattle.std.proofs.Common.{◌≡◌, ◌<◌, ◌≤◌, [], None, length, sym, ap, ◌∙◌, subst, arith}
+use Rattle.std.proofs.Common.{◌<◌, ◌≤◌, [], ◌∷◌, ◌++◌, None, length, sym, ap, ◌∙◌, subst, arith}
 use Rattle.std.specs.List.{list_all}
 use Rattle.std.proofs.lemmas.Bool.{false_from_ne_true}
-use Rattle.std.proofs.lemmas.List.{get_or_read, take_all}
+use Rattle.std.proofs.lemmas.List.{get_or_read, take_all, take_more}
 use Rattle.cqe_base.specs.Literal.{ClausesBelow, HaveNoRepeat}
-use Rattle.cqe_base.specs.Machine.{level, is_false}
+use Rattle.cqe_base.specs.Machine.{State, level, is_false}
 use Rattle.cqe_base.proofs.KeptTrails.{level_kept}
 use Rattle.clause_solver.specs.KeptStates.{IsFirstOfFalsified}
 use Rattle.clause_solver.proofs.FirstFalsified.{none_of_more}
@@ -25,6 +25,23 @@ enter_under-requires-clause-free c =
     let at = get_or_read cs k c.clause.result.now within c.clause.ensures [] in
     false_from_ne_true _ (λ h. c.requires.none_falsified k low within
     (ap (list_all (is_false s.assignment.trail)) (sym at) ∙ ap (λ t. list_all (is_false t) c.clause.result.now) (sym c.loop-number.invariant.trail) ∙ h))
+
+pub loop-number-preserved : goal.loop-number-preserved
+loop-number-preserved c =
+    let v = c.loop-number.invariant in
+    let e = c.in_ok-enter_under.ensures in
+    let cs = c.args.clauses.now in
+    let k = c.loop-number.number in
+    let within : k < length cs = (let h = c.loop-number-test.true in let e = c.len-number-end.ensures in omega arith) in
+    let at = get_or_read cs k c.clause.result.now within c.clause.ensures [] in
+    record {
+      clauses = ap (λ (p : State). p.clauses) e.plain ∙ (λ i. v.clauses i ++ at i ∷ []) ∙ sym (take_more cs k [] within);
+      trail = ap (λ (p : State). p.trail) e.plain ∙ v.trail;
+      variables = e.variables ∙ v.variables;
+      lines = ap (λ (p : State). p.lines) e.plain ∙ v.lines;
+      looked = e.looked;
+      bases = λ b h. e.bases b (v.bases b h);
+    }
 
 pub returns-clause-kept : goal.returns-clause-kept
 returns-clause-kept c =

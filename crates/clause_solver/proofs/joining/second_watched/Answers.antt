@@ -1,4 +1,4 @@
-use Rattle.std.proofs.Common.{◌≡◌, eqb, length, sym, ap, ◌∙◌, subst}
+use Rattle.std.proofs.Common.{eqb, length, sym, ap, ◌∙◌, subst}
 use Rattle.std.specs.Prelude.{not}
 use Rattle.clause_solver.specs.Watching.{IsWatched}
 use Rattle.clause_solver.proofs.Visits.{found_next, none_next}

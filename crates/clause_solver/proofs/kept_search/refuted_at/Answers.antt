@@ -1,4 +1,4 @@
-use Rattle.std.proofs.Common.{◌≡◌, ◌+◌, ◌<◌, ◌≤◌, [], ◌∷◌, ◌++◌, length, map, Some, inr, sym, ap, ◌∙◌, subst, arith}
+use Rattle.std.proofs.Common.{◌≡◌, ◌+◌, [], ◌∷◌, ◌++◌, length, map, Some, inr, sym, ap, ◌∙◌, subst, arith}
 use Rattle.cqe_base.specs.MachineStates.{IsReached}
 use Rattle.cqe_base.specs.Machine.{Refuted}
 use Rattle.cqe_base.proofs.KeptTrails.{level_kept}

@@ -1,4 +1,4 @@
-use Rattle.std.proofs.Common.{◌≡◌, ◌∷◌, map, sym, ap, ◌∙◌}
+use Rattle.std.proofs.Common.{◌∷◌, map, sym, ap, ◌∙◌}
 use Rattle.clause_store.specs.PlainLines.{line_of}
 use Rattle.clause_solver.specs.Assigning.{Assigning}
 use Rattle.clause_solver.proofs.StateMoves.{kept_unit}

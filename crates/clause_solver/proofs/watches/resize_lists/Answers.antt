@@ -1,4 +1,4 @@
-use Rattle.std.proofs.Common.{◌≡◌, [], map, get_or, ap, ◌∙◌}
+use Rattle.std.proofs.Common.{[], map, get_or, ap, ◌∙◌}
 use Rattle.clause_solver.proofs.StateMoves.{take_map_at}
 use Rattle.clause_solver.proofs.watches.resize_lists.Goals as goal
 

@@ -1,9 +1,10 @@
-use Rattle.std.proofs.Common.{◌≡◌, ◌∷◌, [], get_or, sym, ap, ◌∙◌, subst}
+use Rattle.std.proofs.Common.{◌≡◌, ◌∷◌, [], length, get_or, sym, ap, ◌∙◌, subst}
 use Rattle.cqe_base.specs.Literal.{Positive, opposite}
 use Rattle.cqe_base.specs.Machine.{assigned_literal}
 use Rattle.cqe_base.specs.MachineStates.{IsDistinct}
 use Rattle.clause_store.specs.Codes.{code_of}
 use Rattle.clause_solver.specs.Assigning.{Assigning}
+use Rattle.clause_solver.specs.Beginnings.{EndsWith}
 use Rattle.clause_solver.specs.Watching.{IsWatching, HaveSameLiterals}
 use Rattle.clause_solver.specs.WatchesInside.{lists_of, units_of}
 use Rattle.clause_solver.proofs.Looks.{looks_begin}
@@ -36,3 +37,9 @@ returns-clause-looked c =
       distinct = subst (λ (a : Assigning). IsDistinct a.variables a.trail) (sym c.in_ok-push.ensures) (distinct d);
       idle = c.requires.looked.idle ∙ ap (λ (a : Assigning). record { variables = a.variables; clause = [] }) (sym c.in_ok-push.ensures);
     }
+
+pub returns-clause-bases : goal.returns-clause-bases
+returns-clause-bases c = λ b h.
+    let ends : EndsWith b.trail c.push.new.self.trail =
+    (c.args.entry ∷ h.1.0, ap (λ (a : Assigning). a.trail) c.in_ok-push.ensures ∙ ap (λ t. c.args.entry ∷ t) h.1.1) in
+    (h.0, ends, h.2, c.in_ok-visit_all.ensures.kept b.trail (length b.clauses) ends h.3)

@@ -1,4 +1,4 @@
-use Rattle.std.proofs.Common.{◌≡◌, ◌≤◌, List, [], None, map, sym, ap, ◌∙◌, subst, arith}
+use Rattle.std.proofs.Common.{◌≡◌, ◌≤◌, List, [], None, length, map, sym, ap, ◌∙◌, subst, arith}
 use Rattle.cqe_base.specs.Literal.{Positive}
 use Rattle.cqe_base.specs.Machine.{Assigned, level, cut}
 use Rattle.cqe_base.specs.MachineStates.{IsDistinct}
@@ -8,6 +8,7 @@ use Rattle.clause_solver.specs.Watching.{IsWatching, HaveSameLiterals}
 use Rattle.clause_solver.specs.WatchesInside.{lists_of, units_of}
 use Rattle.clause_solver.proofs.Trails.{cut-low}
 use Rattle.clause_solver.proofs.Looks.{watching_cut, same_watching}
+use Rattle.clause_solver.proofs.Bases.{cut_ends, same_under}
 use Rattle.clause_solver.proofs.indexed.Indexed.cut.Goals as goal
 use Rattle.clause_solver.proofs.indexed.Indexed.cut.Goals.{After-clear}
 
@@ -46,3 +47,14 @@ returns-clause-looked c =
           (subst (IsDistinct n) (sym (trail c)) (cut_distinct n c.args.k s.assignment.trail k.distinct));
       idle = v.resolvent ∙ k.idle ∙ ap (λ m. record { variables = m; clause = [] }) (sym v.variables);
     }
+
+pub returns-clause-bases : goal.returns-clause-bases
+returns-clause-bases c = λ b h.
+    let v = c.loop-self.invariant in
+    let ends = cut_ends c.args.k b.trail h.1.0 h.2 in (
+      (h.0.0, v.clauses ∙ h.0.1),
+      (ends.0, trail c ∙ ap (cut c.args.k) h.1.1 ∙ ends.1),
+      h.2,
+      same_under b.trail (length b.clauses) _ _ _ _ (c.clear.ensures.sorted ∙ ap (λ w. w.sorted) v.watches)
+          (ap (λ ps. ps.items) (c.clear.ensures.pairs ∙ ap (λ w. w.pairs) v.watches)) h.3,
+    )

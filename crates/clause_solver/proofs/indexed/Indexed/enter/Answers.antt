@@ -1,4 +1,4 @@
-use Rattle.std.proofs.Common.{sym, subst}
+use Rattle.std.proofs.Common.{[], ◌∷◌, ◌++◌, length, append_assoc, sym, ap, ◌∙◌, subst}
 use Rattle.clause_solver.specs.Watching.{HaveSameLiterals}
 use Rattle.clause_solver.proofs.Entering.{code_listed}
 use Rattle.clause_solver.proofs.indexed.Indexed.enter.Goals as goal
@@ -25,3 +25,14 @@ returns-clause-looked c =
       distinct = c.requires.looked.distinct;
       idle = c.requires.looked.idle;
     }
+
+pub returns-clause-bases : goal.returns-clause-bases
+returns-clause-bases c = λ b h. (
+  (
+    h.0.0 ++ c.args.clause.now ∷ [],
+    c.in_ok-push.ensures.pushed ∙ ap (λ cs. cs ++ c.args.clause.now ∷ []) h.0.1 ∙ append_assoc b.clauses h.0.0 (c.args.clause.now ∷ []),
+  ),
+  h.1,
+  h.2,
+  c.in_ok-enter.ensures.kept b.trail (length b.clauses) c.requires.looked.watches.pairs_room h.3,
+)

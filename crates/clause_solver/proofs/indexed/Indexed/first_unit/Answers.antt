@@ -10,6 +10,7 @@ use Rattle.clause_solver.specs.Watching.{no_pair, IsOpenOf, AreClosed, HaveSameL
 use Rattle.clause_solver.specs.WatchesInside.{lists_of, units_of}
 use Rattle.clause_solver.proofs.Looks.{same_watching}
 use Rattle.clause_solver.proofs.States.{unit_within, unit_listed, is_first_unit, is_unit_literal, open_in, no_open, no_unit_clause, unit_dropped}
+use Rattle.clause_solver.proofs.Bases.{same_under}
 use Rattle.clause_solver.proofs.indexed.Indexed.first_unit.Goals as goal
 use Rattle.clause_solver.proofs.indexed.Indexed.first_unit.Goals.{In-Some, In-Some-open_watched}
 
@@ -116,6 +117,12 @@ loop-least-preserved c =
         };
         reached = v.indexed.reached;
       };
+      bases = λ b h. (let r = v.bases b h in (
+        r.0,
+        r.1,
+        r.2,
+        same_under b.trail (length b.clauses) _ _ _ _ c.drop_unit.ensures.sorted (ap (λ ps. ps.items) c.drop_unit.ensures.pairs) r.3,
+      ));
     }
 
 pub returns-clause-first : goal.returns-clause-first

@@ -1,6 +1,7 @@
 use Rattle.std.proofs.Common.{◌≡◌, None, length}
 use Rattle.clause_solver.specs.WatchesInside.{units_of}
 use Rattle.clause_solver.specs.IndexedStates.{IsIndexed}
+use Rattle.clause_solver.specs.Bases.{KeepsBases}
 use Rattle.clause_solver.proofs.indexed.Indexed.first_unit.Given as goal
 
 abbrev pub invariant-loop-least : goal.invariant-loop-least
@@ -10,6 +11,7 @@ invariant-loop-least l = record {
   lines : l.self.lines ≡ l.initial.self.lines;
   falsified : l.self.watches.falsified ≡ None;
   indexed : IsIndexed l.self;
+  bases : KeepsBases l.initial.self l.self;
 }
 
 abbrev pub decreases-loop-least : goal.decreases-loop-least

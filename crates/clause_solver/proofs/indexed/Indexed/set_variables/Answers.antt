@@ -1,6 +1,8 @@
-use Rattle.std.proofs.Common.{◌≡◌, refl, ap, subst}
+use Rattle.std.proofs.Common.{length, refl, sym, ap, ◌∙◌, subst}
+use Rattle.clause_solver.specs.Watching.{HaveSameLiterals}
 use Rattle.clause_solver.specs.Assigning.{Assigning}
 use Rattle.clause_solver.proofs.StateMoves.{moved, distinct_over, below_same}
+use Rattle.clause_solver.proofs.Bases.{same_under}
 use Rattle.clause_solver.proofs.indexed.Indexed.set_variables.Goals as goal
 
 pub set_variables-requires-clause-below : goal.set_variables-requires-clause-below
@@ -13,4 +15,15 @@ returns-clause-kept c =
     moved s _ c.args.variables k (ap (λ (a : Assigning). a.variables) c.in_ok-set_variables.ensures)
     (ap (λ (a : Assigning). a.trail) c.in_ok-set_variables.ensures) refl k.no_lines c.requires.variables c.requires.below
     (c.in_ok-set_variables-2.ensures.watches s.assignment.variables s.assignment.trail k.indexed.looked.watches
-    (below_same c.args.variables s.clauses s.watches.sorted k.indexed.looked.same c.requires.below)) c.set_variables-2.ensures.sorted c.in_ok-self.ensures
+    (below_same c.args.variables s.clauses s.watches.sorted k.indexed.looked.same c.requires.below))
+    (subst (HaveSameLiterals s.clauses) (sym c.set_variables-2.ensures.sorted) k.indexed.looked.same) c.in_ok-self.ensures
+
+pub returns-clause-bases : goal.returns-clause-bases
+returns-clause-bases c =
+    let e = c.set_variables-2.ensures in
+    λ b h. (
+      h.0,
+      (h.1.0, ap (λ (a : Assigning). a.trail) c.in_ok-set_variables.ensures ∙ h.1.1),
+      h.2,
+      same_under b.trail (length b.clauses) _ _ _ _ e.sorted (ap (λ ps. ps.items) e.pairs) h.3,
+    )

@@ -10,6 +10,7 @@ use Rattle.clause_solver.specs.Watching.{IsWatched, HaveSameLiterals, AllFalseBu
 use Rattle.clause_solver.specs.WatchesInside.{AreWatches, lists_of, units_of}
 use Rattle.clause_solver.proofs.Looks.{watch_of, same_watching, low_listed}
 use Rattle.clause_solver.proofs.Entering.{watched_same, entered_watched, entered_empty, same_more}
+use Rattle.clause_solver.proofs.Bases.{same_under, more_under}
 use Rattle.clause_solver.proofs.watches.Watches.enter.Goals as goal
 use Rattle.clause_solver.proofs.watches.Watches.enter.Goals.{In_ok-push}
 
@@ -103,3 +104,22 @@ returns-clause-sorted c =
     λ cs h. subst (λ x. HaveSameLiterals (cs ++ c.args.clause.now ∷ []) x)
     (sym (c.in_ok-watch-2.ensures.sorted ∙ c.in_ok-watch.ensures.sorted ∙ c.in_ok-add_unit.ensures.sorted ∙ pushed d))
     (same_more cs c.args.self.now.sorted c.args.clause.now (sorted d) h (same_has d) (same_size d))
+
+pub returns-then-is_empty-clause-kept : goal.returns-then-is_empty-clause-kept
+returns-then-is_empty-clause-kept c =
+    let d = (goal.at.returns-then-is_empty-clause-kept c).In_ok-push in
+    let s = c.args.self.now in
+    λ t count room under.
+    same_under t count _ _ _ _ (pushed d) c.in_ok-push.ensures.items (more_under t count s.sorted s.pairs.items (sorted d) (pair d) room under)
+
+pub returns-clause-kept : goal.returns-clause-kept
+returns-clause-kept c =
+    let d = (goal.at.returns-clause-kept c).In_ok-push in
+    let s = c.args.self.now in
+    let m = c.in_ok-add_unit.ensures in
+    let w1 = c.in_ok-watch.ensures in
+    let w2 = c.in_ok-watch-2.ensures in
+    λ t count room under.
+    same_under t count _ _ _ _ (w2.sorted ∙ w1.sorted ∙ m.sorted ∙ pushed d)
+    (ap (λ v. v.items) (w2.pairs ∙ w1.pairs ∙ m.pairs) ∙ c.in_ok-push.ensures.items)
+    (more_under t count s.sorted s.pairs.items (sorted d) (pair d) room under)

@@ -1,4 +1,4 @@
-use Rattle.std.proofs.Common.{◌≡◌, length, map, ◌∙◌}
+use Rattle.std.proofs.Common.{map, ◌∙◌}
 use Rattle.std.proofs.lemmas.List.{length-map}
 use Rattle.cqe_base.specs.Literal.{Positive}
 use Rattle.clause_solver.specs.WatchesInside.{lists_of, units_of}

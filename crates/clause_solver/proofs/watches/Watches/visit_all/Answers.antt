@@ -33,6 +33,7 @@ loop-i-init c =
       most = omega arith;
       size = refl;
       sorted = refl;
+      kept = λ oldest count ends under. under;
       watching =
           subst (λ ls. IsWatching c.args.assignment.now.variables c.args.assignment.now.trail s.sorted
           (set (map (λ v. v.items) (set s.lists.items c.code.result c.try_take.new.dest)) k ls) s.pairs.items (units_of s) s.falsified c.args.literal ls)
@@ -105,6 +106,7 @@ loop-i-preserved c =
       most = let m = c.loop-i.invariant.most in let r = c.keep-kept.ensures.most in omega arith;
       size = c.keep-kept.ensures.length ∙ c.loop-i.invariant.size;
       sorted = c.visit.ensures.sorted ∙ c.loop-i.invariant.sorted;
+      kept = λ oldest count ends under. c.in_ok-blocker.ensures.kept oldest count ends (c.loop-i.invariant.kept oldest count ends under);
       watching =
           subst (λ ks. IsWatching c.args.assignment.now.variables c.args.assignment.now.trail c.visit.new.self.sorted
           (set (lists_of c.visit.new.self) k (ks ++ drop (i + 1) c.keep-kept.new.list.items)) c.visit.new.self.pairs.items

@@ -12,6 +12,7 @@ use Rattle.clause_solver.specs.WatchesInside.{lists_of, units_of}
 use Rattle.clause_store.proofs.Marking.{code_of-below}
 use Rattle.clause_solver.proofs.Looks.{same_watching, low_listed}
 use Rattle.clause_solver.proofs.Visits.{next_test, IsNext, found_next, none_next, visited_other, visited_unit, visited_falsified, visited_next}
+use Rattle.clause_solver.proofs.Bases.{next_under, same_under}
 use Rattle.clause_solver.proofs.watches.Watches.visit_beside.Goals as goal
 use Rattle.clause_solver.proofs.watches.Watches.visit_beside.Goals.{In-Some, In-None}
 
@@ -102,3 +103,18 @@ returns-in_ok-note-in-None-clause-watching c = step (is_false c.args.assignment.
         (units_of s) s.falsified c.args.literal c.requires.current c.args.clause c.args.blocker
         (low_listed s (code_of c.args.literal) c.requires.listed) kept rest h c.args.other c.requires.beside (only d) e (units_of c.note.new.self)
         (f.unit e).1)
+
+pub returns-in_ok-watch-in-Some-clause-kept : goal.returns-in_ok-watch-in-Some-clause-kept
+returns-in_ok-watch-in-Some-clause-kept c =
+    let s = c.args.self.now in
+    let d = (goal.at.returns-in_ok-watch-in-Some-clause-kept c).In-Some in
+    let e = c.in_ok-watch-in-Some.ensures in
+    λ oldest count ends under.
+    same_under oldest count _ _ _ _ e.sorted (ap (λ v. v.items) e.pairs)
+    (next_under oldest c.args.assignment.now.trail count c.args.clause s.sorted s.pairs.items c.args.literal c.args.other c.in-Some.next ends
+    c.requires.beside (found d) (let a = c.requires.within in let r = c.requires.pairs_room in omega arith) under)
+
+pub returns-in_ok-note-in-None-clause-kept : goal.returns-in_ok-note-in-None-clause-kept
+returns-in_ok-note-in-None-clause-kept c =
+    let e = c.in_ok-note-in-None.ensures in
+    λ oldest count ends under. same_under oldest count _ _ _ _ e.sorted (ap (λ v. v.items) e.pairs) under
