@@ -6,10 +6,10 @@ use Rattle.user_desk.specs.Causes.{IsStanding}
 use Rattle.audit_engine.proofs.Telling.{ends_so}
 use Rattle.audit_engine.proofs.print.audit_disk.Goals as goal
 
-pub returns-in-Ok-clause-ends : goal.returns-in-Ok-clause-ends
-returns-in-Ok-clause-ends g c = λ told sink_told.
+pub returns-in-Ok-open_desk-clause-ends : goal.returns-in-Ok-open_desk-clause-ends
+returns-in-Ok-open_desk-clause-ends g c = λ told sink_told.
     let registry = c.args.registry.now in
-    let desk = c.in-Ok.desk in
+    let desk = c.in-Ok-open_desk.desk in
     ends_so registry.schema.now registry.world.now registry.header.now (string_bytes c.args.user.now.name) (profile_of c.args.user.now)
     (g.D.Disk.reads c.args.disk) (g.D.Disk.faults c.args.disk) (g.D.Disk.faults c.close.result)
     c.law_openings.ensures.decided c.law_openings.ensures.unrefused g.D.Disk.tells told (desk_history desk) c.args.json (g.K.Sink.written c.args.sink.now)
@@ -17,5 +17,5 @@ returns-in-Ok-clause-ends g c = λ told sink_told.
     c.print_desk-end.result (desk_standing desk)
     (subst (λ d. IsStanding registry.schema.now registry.world.now (profile_of c.args.user.now) g.D.Disk.tells (header_bytes registry.header.now)
     (g.D.Disk.reads c.args.disk) (desk_history desk)
-    (g.D.Disk.faults c.args.disk) (g.D.Disk.faults d) (desk_standing desk)) (sym c.close.ensures) c.in-Ok.ensures.standing)
+    (g.D.Disk.faults c.args.disk) (g.D.Disk.faults d) (desk_standing desk)) (sym c.close.ensures) c.in-Ok-open_desk.ensures.standing)
     (c.print_desk-end.ensures.printed sink_told)

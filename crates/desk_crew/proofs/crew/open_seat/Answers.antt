@@ -5,7 +5,7 @@ use Rattle.desk_crew.proofs.crew.open_seat.Goals as goal
 
 pub returns-in-Ok-seat_at-clause-opened : goal.returns-in-Ok-seat_at-clause-opened
 returns-in-Ok-seat_at-clause-opened g c =
-    let named = c.in-Ok.ensures ∙ ap (journal_name c.args.registry.now.directory.now) c.as_str.ensures.value in
+    let named = c.in-Ok-journal_name.ensures ∙ ap (journal_name c.args.registry.now.directory.now) c.as_str.ensures.value in
     let at = c.in-Ok-seat_at.ensures.journal in
     record {
       user_is = c.in-Ok-seat_at.ensures.user;
