@@ -1,10 +1,9 @@
 //! Probes: the clause form of what is asked, the search, and the check of what it found.
-ghost use Rattle.std.specs.Prelude.{◌≡◌, ◌≤◌, ◌+◌, true, nat_le, ◌++◌, Some, IfOk};
-ghost use Rattle.std.specs.List.{list_all};
+ghost use Rattle.std.specs.Prelude.{◌≡◌, ◌≤◌, ◌+◌, true, ◌++◌, map, Some, IfOk};
 ghost use Rattle.cqe_base.specs.Formula.{nodes, is_sentence_of};
 ghost use Rattle.cqe_base.specs.Entailment.{are_sentences_of};
 ghost use Rattle.cqe_base.specs.Machine.{Model, Refuted};
-ghost use Rattle.cqe_base.specs.Outcome.{outcome};
+ghost use Rattle.cqe_base.specs.Outcome.{outcome, grounded_signed};
 ghost use Rattle.clause_store.specs.PlainLines.{lines_of};
 ghost use Rattle.clause_solver.specs.Beginnings.{IsBeginning};
 ghost use Rattle.entailment.specs.Logs.{log_nodes, sentence_nodes};
@@ -15,10 +14,13 @@ ghost use Rattle.entailment.specs.Budgets.{IsSpentByCost};
 ghost use Rattle.entailment.specs.Models.{HaveModelsInWorlds};
 ghost use Rattle.entailment.specs.Verdicts.{verdict_of_probe, checked_verdict, searched_verdict};
 ghost use Rattle.entailment.specs.Verdicts.{IsCheckedOf};
+ghost use Rattle.entailment.specs.GroundSentences.{IsGroundOver};
 ghost use Rattle.entailment.specs.Probes.{premise_of, goal_of, outcome_of, IsTrueVerdict};
+ghost use Rattle.entailment.specs.Probes.{IsGroundPremise, added_by};
 
 use crate::forms::{add_probe, form_rest};
 use crate::laws::law_models_are_worlds_of_schema;
+use crate::sentences::GroundSentence;
 use crate::view::View;
 use clause_form::former::Former;
 use clause_solver::{Found, KeptSearch};
@@ -31,7 +33,6 @@ use cqe_base::machine_laws::{
     law_spent_is_cost, law_variables_are_few,
 };
 use cqe_base::schema::Schema;
-use cqe_base::sentence::Sentence;
 use cqe_base::world::World;
 use proof_check::model::check_model;
 use proof_check::refutation::check_refutation;
@@ -41,8 +42,8 @@ use std::alloc::{AllocError, Global};
 /// negation.
 #[derive(Clone, Copy)]
 pub struct Probe<'a> {
-    pub premise: Option<(&'a Sentence, bool)>,
-    pub goal: (&'a Sentence, bool),
+    pub premise: Option<(&'a GroundSentence, bool)>,
+    pub goal: (&'a GroundSentence, bool),
 }
 
 /// What a probe found.
@@ -67,12 +68,11 @@ pub fn test(
 ) -> Result<Verdict, AllocError>
     requires premise { are_sentences_of (schema_of view.old) (premise_of probe.now) ≡ true }
     requires goal { is_sentence_of (schema_of view.old) (goal_of probe.now).0 ≡ true }
-    requires premise_nodes { list_all (λ signed. nat_le (nodes (schema_of view.old) signed.0) 20000)
-        (premise_of probe.now) ≡ true }
-    requires goal_nodes { nodes (schema_of view.old) (goal_of probe.now).0 ≤ 40000 }
     requires all_nodes { log_nodes (schema_of view.old) (log_of view.old)
         + sentence_nodes (schema_of view.old) (premise_of probe.now)
         + nodes (schema_of view.old) (goal_of probe.now).0 ≤ 100000 }
+    requires grounded_premise { IsGroundPremise (schema_of view.old) probe.now.premise }
+    requires grounded_goal { IsGroundOver (schema_of view.old) probe.now.goal.0.now }
     requires budget { budget ≤ 4000000 }
     ensures outcome { IfOk result (λ verdict. outcome_of verdict
         ≡ outcome (schema_of view.old) (log_of view.old ++ premise_of probe.now)
@@ -130,11 +130,13 @@ fn probed(
     budget: u64,
 ) -> Result<Verdict, AllocError>
     requires form { IsForProbe schema.now (premise_of probe.now) (goal_of probe.now) former.old }
+    requires added { added_by probe.now ≡ map (grounded_signed schema.now)
+        (with_negated (premise_of probe.now) (goal_of probe.now)) }
     requires kept { IsBeginning kept.old former.old.clauses }
     requires budget { budget ≤ 4000000 }
     ensures verdict { IfOk result
         (IsCheckedOf schema.now (premise_of probe.now) (goal_of probe.now) budget former.old) }
-    ensures more { GoesOn schema.now former.old former.new }
+    ensures more { GoesOn former.old former.new }
     ensures kept { IsBeginning kept.new former.old.clauses }
 {
     law_clause_form_is_prefix();
@@ -146,7 +148,7 @@ fn probed(
     law_numbered_facts_are_of_schema();
     schema.known();
     kept.keep(alloc, former.clauses(), former.variables())?;
-    add_probe(alloc, schema, former, probe)?;
+    add_probe(alloc, former, probe)?;
     verdict_of(alloc, schema, former, kept, budget)
 }
 
