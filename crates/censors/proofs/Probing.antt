@@ -1,8 +1,8 @@
 -- What a loop over probes, and the probes of both answers, have found.
-use Rattle.std.proofs.Common.{◌≡◌, ℕ, ◌+◌, ◌<◌, Bool, true, ◌||◌, List, All, length, get_or, map, take, sym, ap, ◌∙◌, subst}
+use Rattle.std.proofs.Common.{◌≡◌, ℕ, ◌+◌, ◌<◌, Bool, true, ◌||◌, List, [], ◌∷◌, ◌++◌, All, length, get_or, map, take, sym, ap, ◌∙◌, subst}
 use Rattle.std.specs.List.{list_any, list_all}
 use Rattle.std.proofs.lemmas.Bool.{or_parts}
-use Rattle.std.proofs.lemmas.List.{get_or-map, length-map}
+use Rattle.std.proofs.lemmas.List.{get_or-map, length-map, take_more}
 use Rattle.std.proofs.lemmas.List.Elements.{All-get_or}
 use Rattle.std.proofs.lemmas.List.Folds.{list_any_more, list_all-map}
 use Rattle.std.proofs.lemmas.List.Sums.{AllPass-from_list_all}
@@ -18,6 +18,13 @@ module _ {X : Type 0} (f : X → Formula) where
       → list_all p (map f sentences) ≡ true → p (f s) ≡ true
   each_passes p sentences i s is low all =
       ap (λ t. p (f t)) is ∙ AllPass-from_list_all (λ t. p (f t)) sentences (sym (list_all-map p f sentences) ∙ all) i s low
+
+  -- the sentences up to this one are those before it, and it
+  pub taken_more : (sentences : List X) (i : ℕ) (s : X) → s ≡ get_or sentences i s → i < length sentences
+      → take (i + 1) (map f sentences) ≡ take i (map f sentences) ++ f s ∷ []
+  taken_more sentences i s is low =
+      take_more (map f sentences) i (f s) (subst (λ n. i < n) (sym (length-map sentences f)) low)
+      ∙ ap (λ g. take i (map f sentences) ++ g ∷ []) (get_or-map f sentences i s (f s) low ∙ ap f (sym is))
 
   -- some of the sentences up to this one passes where it does or some before it
   any_more : (p : Formula → Bool) (sentences : List X) (i : ℕ) (s : X) → s ≡ get_or sentences i s → i < length sentences

@@ -1,9 +1,9 @@
 //! What is guarded from a user, made once for all of his queries.
 
-ghost use Rattle.std.specs.Prelude.{◌≡◌, true, nat_le, All, map, IfOk};
+ghost use Rattle.std.specs.Prelude.{◌≡◌, ◌≤◌, true, nat_le, [], ◌∷◌, All, map, IfOk};
 ghost use Rattle.std.specs.List.{list_all};
 ghost use Rattle.cqe_base.specs.Formula.{formula_of, nodes, is_sentence_of};
-ghost use Rattle.cqe_base.specs.History.{profile_of};
+ghost use Rattle.cqe_base.specs.History.{profile_of, disjunction_of};
 ghost use Rattle.cqe_base.specs.Limits.{KeepsLimits};
 ghost use Rattle.cqe_base.specs.Censor.{guarded};
 ghost use Rattle.entailment.specs.GroundSentences.{sentence_of, IsGroundOver};
@@ -48,10 +48,7 @@ impl<'s> Guards<'s> {
             guards.sentences ≡ guarded (profile_of user.now)) }
     {
         let sentences = guarded_sentences(alloc, schema, user)?;
-        Ok(Guards {
-            schema,
-            sentences,
-        })
+        Ok(Guards { schema, sentences })
     }
 
     /// The guarded sentences.
@@ -77,14 +74,28 @@ fn guarded_sentences(
     law_limits();
     let secrets = user.secrets.as_slice();
     match user.method {
-        Method::Lying => {
-            let all = disjunction(alloc, secrets)?;
-            let mut made = Vec::new(alloc);
-            made.push(GroundSentence::new(alloc, schema, all)?)?;
-            Ok(made)
-        }
+        Method::Lying => joined_sentence(alloc, schema, secrets),
         Method::Refusal | Method::Combined => each_sentence(alloc, schema, secrets),
     }
+}
+
+/// The disjunction of these sentences, alone.
+fn joined_sentence(
+    alloc: Global,
+    schema: &Schema,
+    sentences: &[Sentence],
+) -> Result<Vec<GroundSentence>, AllocError>
+    requires sentence { is_sentence_of schema.now (disjunction_of (map formula_of sentences.now))
+        ≡ true }
+    requires small { nodes schema.now (disjunction_of (map formula_of sentences.now)) ≤ 40000 }
+    ensures same { IfOk result (λ made. map sentence_of made.items
+        ≡ disjunction_of (map formula_of sentences.now) ∷ []) }
+    ensures grounded { IfOk result (λ made. All (IsGroundOver schema.now) made.items) }
+{
+    let all = disjunction(alloc, sentences)?;
+    let mut made = Vec::new(alloc);
+    made.push(GroundSentence::new(alloc, schema, all)?)?;
+    Ok(made)
 }
 
 /// Each of these sentences.

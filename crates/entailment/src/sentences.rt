@@ -31,10 +31,7 @@ impl GroundSentence {
         ensures same { IfOk result (λ made. made.sentence ≡ sentence) }
     {
         let prop = ground_formula(alloc, schema, &sentence)?;
-        Ok(GroundSentence {
-            sentence,
-            prop,
-        })
+        Ok(GroundSentence { sentence, prop })
     }
 }
 

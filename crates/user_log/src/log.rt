@@ -52,8 +52,8 @@ pub struct UserLog<'w> {
     ghost kept: { IsKept schema.now world.now (profile_of user.now)
         (map answered_query_of entries.items) (schema_of view) (log_of view)
         text_bytes view_nodes } by { IsKept-prop _ _ _ _ _ _ _ _ },
-    ghost guarding: { AreGuardsOf schema.now (profile_of user.now) guards }
-        by { AreGuardsOf-prop _ _ _ },
+    ghost guarding: { AreGuardsOf schema.now
+        (profile_of user.now) guards } by { AreGuardsOf-prop _ _ _ },
 }
 
 impl<'w> UserLog<'w> {
