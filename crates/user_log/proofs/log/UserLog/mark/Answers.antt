@@ -31,10 +31,10 @@ pub invariant_of-self : goal.invariant_of-self
 invariant_of-self c = record { kept = kept_with c.args.self.now c.examine.new.view c.examine.ensures.same; guarding = c.args.self.now.guarding }
 
 pub returns-in_err-findings-clause-same : goal.returns-in_err-findings-clause-same
-returns-in_err-findings-clause-same c = same_log c.args.self.now c.examine.new.view c.examine.ensures.same _
+returns-in_err-findings-clause-same c = same_log c.args.self.now c.examine.new.view c.examine.ensures.same _ _
 
 pub returns-clause-same : goal.returns-clause-same
-returns-clause-same c = same_log c.args.self.now c.examine.new.view c.examine.ensures.same _
+returns-clause-same c = same_log c.args.self.now c.examine.new.view c.examine.ensures.same _ _
 
 pub returns-clause-rule : goal.returns-clause-rule
 returns-clause-rule c =
