@@ -9,6 +9,8 @@ use Rattle.cqe_base.specs.Outcome.{Outcome, Follows, Open, Spent, probe_list}
 use Rattle.entailment.specs.GroundSentences.{sentence_of, IsGroundOver}
 use Rattle.entailment.specs.declared.sentences.GroundSentence.{GroundSentence}
 use Rattle.entailment.specs.declared.probes.Probe.{Probe}
+use Rattle.entailment.specs.declared.probes.ProbeOutcome.{ProbeOutcome}
+use Rattle.entailment.specs.declared.probes.ProbeOutcome.TheVariants as found
 use Rattle.entailment.specs.declared.probes.Verdict.{Verdict}
 use Rattle.entailment.specs.declared.probes.Verdict.TheVariants as verdict
 
@@ -52,6 +54,12 @@ abbrev pub outcome_of : Verdict → Outcome
 outcome_of verdict.Follows = Follows
 outcome_of (verdict.Open world) = Open
 outcome_of verdict.Spent = Spent
+
+-- the outcome that was found
+abbrev pub outcome_found : ProbeOutcome → Outcome
+outcome_found found.Follows = Follows
+outcome_found found.Open = Open
+outcome_found found.Spent = Spent
 
 -- a verdict is true: the premises entail the goal, or the world that it carries is one in which
 -- they are true and the goal false

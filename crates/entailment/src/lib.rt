@@ -6,7 +6,8 @@
 //! Both are given as a `GroundSentence`, which is made once for all of its probes.
 //! Its verdict is that of the machine's end. `Follows` comes only where the premises entail the
 //! goal over all worlds of the schema, `Open` only with a world in which they are true and the goal
-//! is false, that of the machine's model, and the view is afterwards as it was.
+//! is false, that of the machine's model, and the view is afterwards as it was. `probe_outcome`
+//! makes no world.
 //!
 //! `law_models_are_worlds_of_schema` is the law beneath: the clauses have a model exactly where
 //! some world of the schema makes the sentences true. Read `view`, then
@@ -22,6 +23,6 @@ mod view;
 
 pub use budgets::enough;
 pub use laws::law_models_are_worlds_of_schema;
-pub use probes::{Probe, Verdict, test};
+pub use probes::{Probe, ProbeOutcome, Verdict, probe_outcome, test};
 pub use sentences::GroundSentence;
 pub use view::View;

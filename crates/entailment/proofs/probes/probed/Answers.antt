@@ -3,7 +3,7 @@ use Rattle.std.proofs.lemmas.Result.{IfOk-weaker}
 use Rattle.cqe_base.specs.Outcome.{grounded_signed}
 use Rattle.entailment.specs.Forms.{IsSearchable}
 use Rattle.entailment.specs.Probes.{premise_of, goal_of, added_by}
-use Rattle.entailment.specs.Verdicts.{searched_verdict}
+use Rattle.entailment.specs.Verdicts.{as_wanted, searched_verdict}
 use Rattle.entailment.proofs.LogForms.{probe-searchable, own-searchable, probe-room, probe-added}
 use Rattle.entailment.proofs.KeptClauses.{none-begins, all-begin, stays-begins, begins-more, form-begins}
 use Rattle.entailment.proofs.probes.probed.Goals as goal
@@ -60,7 +60,7 @@ verdict_of-requires-clause-searchable c =
 pub returns-clause-verdict : goal.returns-clause-verdict
 returns-clause-verdict c =
     IfOk-weaker c.verdict_of.result _ _
-    (λ verdict is log at. is ∙ ap (λ form. searched_verdict form c.args.budget)
+    (λ verdict is log at. is ∙ ap (λ form. as_wanted c.args.wanted (searched_verdict form c.args.budget))
     (probe-added c.args.schema.now log (premise_of c.args.probe.now) (goal_of c.args.probe.now) (added_by c.args.probe.now) c.args.former.now
     c.add_probe.new.former c.requires.added c.in_ok-add_probe.ensures.added at))
     c.verdict_of.ensures.verdict

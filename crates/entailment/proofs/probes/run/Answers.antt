@@ -12,9 +12,10 @@ use Rattle.entailment.specs.Probes.{premise_of, goal_of, outcome_of, IsGroundPre
 use Rattle.entailment.proofs.LogForms.{premises-sentences, probe-sentences, added-is}
 use Rattle.entailment.proofs.KeptClauses.{taken-begins}
 use Rattle.entailment.proofs.OpenViews.{schema-is, own-small, own-form, own-verdict}
-use Rattle.entailment.proofs.Verdicts.{outcome-is, verdict-is, true-verdict}
+use Rattle.entailment.specs.Verdicts.{as_wanted, searched_verdict}
+use Rattle.entailment.proofs.Verdicts.{wanted-outcome, outcome-is, verdict-is, true-verdict}
 use Rattle.entailment.proofs.CostBounds.{spent-by-cost}
-use Rattle.entailment.proofs.probes.test.Goals as goal
+use Rattle.entailment.proofs.probes.run.Goals as goal
 
 pub probed-verdict-requires-clause-form : goal.probed-verdict-requires-clause-form
 probed-verdict-requires-clause-form c =
@@ -89,11 +90,15 @@ returns-clause-outcome c =
     let probe = c.args.probe.now in
     let premises = log_of view ++ premise_of probe in
     IfOk-weaker c.probed-verdict.result _ _
-    (λ verdict checked. outcome-is (schema_of view) premises (goal_of probe) c.args.budget
-    (form_of_log (schema_of view) (with_negated premises (goal_of probe))) refl verdict
+    (λ verdict checked.
+    let searched = searched_verdict (form_of_log (schema_of view) (with_negated premises (goal_of probe))) c.args.budget in
+    ap outcome_of
     (own-verdict c.view.inside _ c.view.view_is c.view.invariant c.as_slice.result.now c.as_slice.ensures.value
     c.form_rest.new.former c.in_ok-form_rest.ensures.whole
-    (premise_of probe) (goal_of probe) c.args.budget verdict checked))
+    (premise_of probe) (goal_of probe) c.args.budget c.args.wanted verdict checked)
+    ∙ wanted-outcome c.args.wanted searched
+    ∙ outcome-is (schema_of view) premises (goal_of probe) c.args.budget
+    (form_of_log (schema_of view) (with_negated premises (goal_of probe))) refl searched refl)
     c.probed-verdict.ensures.verdict
 
 pub returns-clause-end : goal.returns-clause-end
@@ -102,13 +107,16 @@ returns-clause-end c =
     let probe = c.args.probe.now in
     let premises = log_of view ++ premise_of probe in
     IfOk-weaker c.probed-verdict.result _ _
-    (λ verdict checked. verdict-is (schema_of view) premises (goal_of probe) c.args.budget
-    (form_of_log (schema_of view) (with_negated premises (goal_of probe))) refl verdict
-    (own-verdict c.view.inside _ c.view.view_is c.view.invariant c.as_slice.result.now c.as_slice.ensures.value
+    (λ verdict checked.
+    own-verdict c.view.inside _ c.view.view_is c.view.invariant c.as_slice.result.now c.as_slice.ensures.value
     c.form_rest.new.former c.in_ok-form_rest.ensures.whole
-    (premise_of probe) (goal_of probe) c.args.budget verdict checked)
+    (premise_of probe) (goal_of probe) c.args.budget c.args.wanted verdict checked
+    ∙ ap (as_wanted c.args.wanted)
+    (verdict-is (schema_of view) premises (goal_of probe) c.args.budget
+    (form_of_log (schema_of view) (with_negated premises (goal_of probe))) refl
+    (searched_verdict (form_of_log (schema_of view) (with_negated premises (goal_of probe))) c.args.budget) refl
     c.law_clause_form_uses_its_variables.ensures c.law_clause_form_has_no_repeat.ensures
-    c.law_budget_is_whole_cost.ensures c.law_machine_ends_are_right.ensures)
+    c.law_budget_is_whole_cost.ensures c.law_machine_ends_are_right.ensures))
     c.probed-verdict.ensures.verdict
 
 pub returns-clause-sound : goal.returns-clause-sound
@@ -119,11 +127,14 @@ returns-clause-sound c =
     let small = own-small c.view.inside _ c.view.view_is c.view.invariant in
     let same = schema-is c.view.inside _ c.view.view_is c.view.invariant in
     IfOk-weaker c.probed-verdict.result _ _
-    (λ verdict checked. true-verdict (schema_of view) premises (goal_of probe) c.args.budget
+    (λ verdict checked is.
+    let searched = searched_verdict (form_of_log (schema_of view) (with_negated premises (goal_of probe))) c.args.budget in
+    true-verdict (schema_of view) premises (goal_of probe) c.args.budget
     (form_of_log (schema_of view) (with_negated premises (goal_of probe))) refl verdict
     (own-verdict c.view.inside _ c.view.view_is c.view.invariant c.as_slice.result.now c.as_slice.ensures.value
     c.form_rest.new.former c.in_ok-form_rest.ensures.whole
-    (premise_of probe) (goal_of probe) c.args.budget verdict checked)
+    (premise_of probe) (goal_of probe) c.args.budget c.args.wanted verdict checked
+    ∙ ap (λ w. as_wanted w searched) is)
     c.law_refutation_entails.ensures c.law_model_is_countermodel.ensures
     (subst (λ s. is_valid_schema s ≡ true) same c.known.ensures)
     (premises-sentences (schema_of view) (log_of view) (premise_of probe) small.sentences c.requires.premise)
