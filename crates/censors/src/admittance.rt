@@ -17,7 +17,7 @@ use cqe_base::schema::Schema;
 use cqe_base::sentence::Sentence;
 use cqe_base::user::{Method, User};
 use cqe_base::world::World;
-use entailment::{GroundSentence, Probe, Verdict, View, test};
+use entailment::{GroundSentence, Probe, ProbeOutcome, View, probe_outcome};
 use std::alloc::{AllocError, Global};
 use truth_eval::holds;
 
@@ -164,9 +164,9 @@ fn probe_objection(
         premise: None,
         goal: (&goal, true),
     };
-    match test(alloc, view, &probe, ADMISSION_BUDGET)? {
-        Verdict::Follows => Ok(Some(Admission::Implied(number))),
-        Verdict::Open(_) => Ok(None),
-        Verdict::Spent => Ok(Some(Admission::Spent(number))),
+    match probe_outcome(alloc, view, &probe, ADMISSION_BUDGET)? {
+        ProbeOutcome::Follows => Ok(Some(Admission::Implied(number))),
+        ProbeOutcome::Open => Ok(None),
+        ProbeOutcome::Spent => Ok(Some(Admission::Spent(number))),
     }
 }

@@ -21,7 +21,7 @@ use crate::{Guards, law_undecided_is_cost};
 use cqe_base::laws::{law_entailment, law_limits};
 use cqe_base::machine_laws::law_spent_is_cost;
 use cqe_base::user::{Method, User};
-use entailment::{GroundSentence, Probe, Verdict, View, test};
+use entailment::{GroundSentence, Probe, ProbeOutcome, View, probe_outcome};
 use std::alloc::{AllocError, Global};
 
 /// What the probes of a query found. Where `spent` is true the other fields say nothing.
@@ -294,16 +294,16 @@ fn ask(
     ensures same { view.new ≡ view.old }
 {
     law_entailment();
-    match test(alloc, view, probe, budget)? {
-        Verdict::Follows => Ok(Answer {
+    match probe_outcome(alloc, view, probe, budget)? {
+        ProbeOutcome::Follows => Ok(Answer {
             spent: false,
             entailed: true,
         }),
-        Verdict::Open(_) => Ok(Answer {
+        ProbeOutcome::Open => Ok(Answer {
             spent: false,
             entailed: false,
         }),
-        Verdict::Spent => Ok(Answer {
+        ProbeOutcome::Spent => Ok(Answer {
             spent: true,
             entailed: false,
         }),

@@ -2,6 +2,7 @@
 use Rattle.std.specs.Prelude.{Bool, List, [], ◌∷◌, Option, Some, None}
 use Rattle.std.specs.Borrow.{Bor}
 use Rattle.cqe_base.specs.Schema.{DatabaseSchema}
+use Rattle.cqe_base.specs.Facts.{FactSet}
 use Rattle.cqe_base.specs.Ground.{ground_of}
 use Rattle.cqe_base.specs.SignedGround.{SignedGround}
 use Rattle.cqe_base.specs.Entailment.{Signed, Entails, IsCountermodel}
@@ -60,6 +61,14 @@ abbrev pub outcome_found : ProbeOutcome → Outcome
 outcome_found found.Follows = Follows
 outcome_found found.Open = Open
 outcome_found found.Spent = Spent
+
+-- an outcome is true: the premises entail the goal, or there is a world in which they are true and
+-- the goal false
+abbrev pub IsTrueOutcome : DatabaseSchema → List Signed → Signed → Outcome → Type 0
+IsTrueOutcome schema premises goal Follows = Entails schema premises goal
+IsTrueOutcome schema premises goal Open =
+    (world : FactSet) × IsCountermodel schema premises goal world
+IsTrueOutcome schema premises goal Spent = Unit {0}
 
 -- a verdict is true: the premises entail the goal, or the world that it carries is one in which
 -- they are true and the goal false

@@ -16,7 +16,8 @@ ghost use Rattle.entailment.specs.Verdicts.{verdict_of_probe, checked_verdict, s
 ghost use Rattle.entailment.specs.Verdicts.{as_wanted, IsCheckedOf};
 ghost use Rattle.entailment.specs.GroundSentences.{IsGroundOver};
 ghost use Rattle.entailment.specs.Probes.{premise_of, goal_of, outcome_of, outcome_found};
-ghost use Rattle.entailment.specs.Probes.{IsTrueVerdict, IsGroundPremise, added_by};
+ghost use Rattle.entailment.specs.Probes.{IsTrueOutcome, IsTrueVerdict, IsGroundPremise};
+ghost use Rattle.entailment.specs.Probes.{added_by};
 
 use crate::forms::{add_probe, form_rest};
 use crate::laws::law_models_are_worlds_of_schema;
@@ -131,6 +132,9 @@ pub fn probe_outcome(
     ensures outcome { IfOk result (λ found. outcome_found found
         ≡ outcome (schema_of view.old) (log_of view.old ++ premise_of probe.now)
         (goal_of probe.now) budget) }
+    ensures sound { IfOk result (λ found.
+        IsTrueOutcome (schema_of view.old) (log_of view.old ++ premise_of probe.now)
+        (goal_of probe.now) (outcome_found found)) }
     ensures same { view.new ≡ view.old }
 {
     match run(alloc, view, probe, budget, Wanted::Outcome)? {
@@ -162,7 +166,10 @@ fn run(
     ensures end { IfOk result (λ verdict. verdict
         ≡ as_wanted wanted (verdict_of_probe (schema_of view.old)
         (log_of view.old ++ premise_of probe.now) (goal_of probe.now) budget)) }
-    ensures sound { IfOk result (λ verdict. wanted ≡ Wanted.World
+    ensures sound { IfOk result (λ verdict.
+        IsTrueOutcome (schema_of view.old) (log_of view.old ++ premise_of probe.now)
+        (goal_of probe.now) (outcome_of verdict)) }
+    ensures world { IfOk result (λ verdict. wanted ≡ Wanted.World
         → IsTrueVerdict (schema_of view.old) (log_of view.old ++ premise_of probe.now)
         (goal_of probe.now) verdict) }
     ensures spent { IfOk result

@@ -8,12 +8,12 @@ use Rattle.entailment.specs.Logs.{told_log}
 use Rattle.entailment.specs.Views.{schema_of, log_of}
 use Rattle.entailment.specs.Forms.{form_of_log, with_negated, IsForProbe}
 use Rattle.entailment.specs.GroundSentences.{IsGroundOver}
-use Rattle.entailment.specs.Probes.{premise_of, goal_of, outcome_of, IsGroundPremise}
+use Rattle.entailment.specs.Probes.{premise_of, goal_of, outcome_of, IsTrueOutcome, IsGroundPremise}
 use Rattle.entailment.proofs.LogForms.{premises-sentences, probe-sentences, added-is}
 use Rattle.entailment.proofs.KeptClauses.{taken-begins}
 use Rattle.entailment.proofs.OpenViews.{schema-is, own-small, own-form, own-verdict}
 use Rattle.entailment.specs.Verdicts.{as_wanted, searched_verdict}
-use Rattle.entailment.proofs.Verdicts.{wanted-outcome, outcome-is, verdict-is, true-verdict}
+use Rattle.entailment.proofs.Verdicts.{wanted-outcome, outcome-is, verdict-is, true-outcome, true-verdict}
 use Rattle.entailment.proofs.CostBounds.{spent-by-cost}
 use Rattle.entailment.proofs.probes.run.Goals as goal
 
@@ -121,6 +121,31 @@ returns-clause-end c =
 
 pub returns-clause-sound : goal.returns-clause-sound
 returns-clause-sound c =
+    let view = c.args.view.now in
+    let probe = c.args.probe.now in
+    let premises = log_of view ++ premise_of probe in
+    let small = own-small c.view.inside _ c.view.view_is c.view.invariant in
+    let same = schema-is c.view.inside _ c.view.view_is c.view.invariant in
+    let searched = searched_verdict (form_of_log (schema_of view) (with_negated premises (goal_of probe))) c.args.budget in
+    IfOk-weaker c.probed-verdict.result _ _
+    (λ verdict checked.
+    subst (IsTrueOutcome (schema_of view) premises (goal_of probe))
+    (sym (ap outcome_of
+    (own-verdict c.view.inside _ c.view.view_is c.view.invariant c.as_slice.result.now c.as_slice.ensures.value
+    c.form_rest.new.former c.in_ok-form_rest.ensures.whole
+    (premise_of probe) (goal_of probe) c.args.budget c.args.wanted verdict checked)
+    ∙ wanted-outcome c.args.wanted searched))
+    (true-outcome (schema_of view) premises (goal_of probe) searched
+    (true-verdict (schema_of view) premises (goal_of probe) c.args.budget
+    (form_of_log (schema_of view) (with_negated premises (goal_of probe))) refl searched refl
+    c.law_refutation_entails.ensures c.law_model_is_countermodel.ensures
+    (subst (λ s. is_valid_schema s ≡ true) same c.known.ensures)
+    (premises-sentences (schema_of view) (log_of view) (premise_of probe) small.sentences c.requires.premise)
+    c.requires.goal)))
+    c.probed-verdict.ensures.verdict
+
+pub returns-clause-world : goal.returns-clause-world
+returns-clause-world c =
     let view = c.args.view.now in
     let probe = c.args.probe.now in
     let premises = log_of view ++ premise_of probe in
