@@ -1,21 +1,22 @@
 -- The findings of each method from what its probes found.
 use Rattle.std.proofs.Common.{◌≡◌, ℕ, Bool, true, false, ◌||◌, List, [], ◌∷◌, ◌++◌, refl, sym, ap, subst, ◌∙◌}
-use Rattle.std.specs.Prelude.{Some, None}
+use Rattle.std.specs.Prelude.{Option, Some, None}
 use Rattle.std.specs.List.{list_any}
 use Rattle.std.proofs.lemmas.Bool.{or_parts}
 use Rattle.std.proofs.lemmas.List.Folds.{list_any-append}
+use Rattle.cqe_base.specs.declared.user.Method.{Method}
 use Rattle.cqe_base.specs.declared.user.Method.TheVariants.{Lying, Refusal, Combined}
 use Rattle.cqe_base.specs.Schema.{DatabaseSchema}
 use Rattle.cqe_base.specs.Formula.{Formula}
 use Rattle.cqe_base.specs.Entailment.{Signed}
 use Rattle.cqe_base.specs.Outcome.{outcome, is_spent}
-use Rattle.cqe_base.specs.History.{UserProfile, disjunction_of}
-use Rattle.cqe_base.specs.Censor.{Probe, probes_against, probes_by, guarded, guarded_by, with_query, with_negation, implied_by, spent, yes_harm, no_harm}
+use Rattle.cqe_base.specs.History.{UserProfile}
+use Rattle.cqe_base.specs.Censor.{Probe, probes_against, probes_by, guarded, with_query, with_negation, implied_by, spent, yes_harm, no_harm}
 use Rattle.cqe_base.specs.Censor.{implied}
 use Rattle.cqe_base.proofs.Lists.{or_assoc}
 use Rattle.censors.specs.declared.examination.Harms.{Harms}
 use Rattle.censors.specs.declared.examination.Implied.{Implied}
-use Rattle.censors.specs.Asked.{is_spent_at, some_spent, AreHarms, IsImplied, findings_of}
+use Rattle.censors.specs.Asked.{is_spent_at, some_spent, AreHarms, IsImplied, IsImpliedBy, findings_of}
 use Rattle.censors.specs.Found.{HasFindings}
 
 module _ (schema : DatabaseSchema) (user : UserProfile) (log : List Signed) (query : Formula) where
@@ -48,18 +49,6 @@ module _ (schema : DatabaseSchema) (user : UserProfile) (log : List Signed) (que
     is_no_harm = are.no;
   }
 
-  pub found_lying : user.method ≡ Lying → (harms : Harms) → AreHarms schema user.budget log query (disjunction_of user.secrets ∷ []) harms
-      → HasFindings schema user log query (findings_of harms None)
-  found_lying is harms are =
-      found_plain (ap (λ m. probes_by m (guarded user) log query) is) (ap (λ m. implied_by m schema log query) is) harms
-      (subst (λ goals. AreHarms schema user.budget log query goals harms) (sym (ap (λ m. guarded_by m user.secrets) is)) are)
-
-  pub found_combined : user.method ≡ Combined → (harms : Harms) → AreHarms schema user.budget log query user.secrets harms
-      → HasFindings schema user log query (findings_of harms None)
-  found_combined is harms are =
-      found_plain (ap (λ m. probes_by m (guarded user) log query) is) (ap (λ m. implied_by m schema log query) is) harms
-      (subst (λ goals. AreHarms schema user.budget log query goals harms) (sym (ap (λ m. guarded_by m user.secrets) is)) are)
-
   -- refusal also probes the log against both answers
   refusal-spent : user.method ≡ Refusal → list_any probe_spent (probes_by user.method (guarded user) log query)
       ≡ ((is_spent_at schema user.budget log (query, true) || is_spent_at schema user.budget log (query, false))
@@ -79,11 +68,25 @@ module _ (schema : DatabaseSchema) (user : UserProfile) (log : List Signed) (que
     is_no_harm = λ none. are.no (or_parts log_found.spent harms.spent none).1;
   }
 
-  pub found_refusal : user.method ≡ Refusal → (log_found : Implied) → IsImplied schema user.budget log query log_found
-      → (harms : Harms) → AreHarms schema user.budget log query user.secrets harms → HasFindings schema user log query (findings_of harms (Some log_found))
-  found_refusal is log_found implies harms are =
-      refusal_found is log_found implies harms
-      (subst (λ goals. AreHarms schema user.budget log query goals harms) (sym (ap (λ m. guarded_by m user.secrets) is)) are)
+  -- the findings, by the user's method
+  pub found_by : (implied_found : Option Implied) → IsImpliedBy user.method schema user.budget log query implied_found
+      → (harms : Harms) → AreHarms schema user.budget log query (guarded user) harms → HasFindings schema user log query (findings_of harms implied_found)
+  found_by implied_found implies harms are = by user.method refl implied_found implies
+    where
+      plain : (m : Method) → user.method ≡ m → probes_by m (guarded user) log query
+          ≡ probes_against (with_query log query) (guarded user) ++ probes_against (with_negation log query) (guarded user)
+          → implied_by m schema log query ≡ None
+          → (o : Option Implied) → o ≡ None → HasFindings schema user log query (findings_of harms o)
+      plain m is probes none o is_none =
+          subst (λ o. HasFindings schema user log query (findings_of harms o)) (sym is_none)
+          (found_plain (ap (λ m. probes_by m (guarded user) log query) is ∙ probes) (ap (λ m. implied_by m schema log query) is ∙ none) harms are)
+
+      by : (m : Method) → user.method ≡ m → (o : Option Implied) → IsImpliedBy m schema user.budget log query o
+          → HasFindings schema user log query (findings_of harms o)
+      by Lying is o none = plain Lying is refl refl o none
+      by Refusal is None none = absurd none
+      by Refusal is (Some log_found) implies = refusal_found is log_found implies harms are
+      by Combined is o none = plain Combined is refl refl o none
 
 -- what the probes of the same schema, log and goals found
 pub same_harms : (schema schema' : DatabaseSchema) (log log' : List Signed) (goals goals' : List Formula) → schema ≡ schema' → log ≡ log' → goals ≡ goals'
@@ -91,8 +94,3 @@ pub same_harms : (schema schema' : DatabaseSchema) (log log' : List Signed) (goa
 same_harms schema schema' log log' goals goals' s l g budget query harms are =
     subst (λ goals. AreHarms schema' budget log' query goals harms) g
     (subst (λ log. AreHarms schema' budget log query goals harms) l (subst (λ schema. AreHarms schema budget log query goals harms) s are))
-
-pub same_implied : (schema schema' : DatabaseSchema) (log log' : List Signed) → schema ≡ schema' → log ≡ log'
-    → (budget : ℕ) (query : Formula) (found : Implied) → IsImplied schema budget log query found → IsImplied schema' budget log' query found
-same_implied schema schema' log log' s l budget query found is =
-    subst (λ log. IsImplied schema' budget log query found) l (subst (λ schema. IsImplied schema budget log query found) s is)

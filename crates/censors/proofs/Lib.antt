@@ -2,3 +2,4 @@ pub mod Probing
 pub mod Found
 pub mod Objections
 pub mod Costs
+pub mod Crossing

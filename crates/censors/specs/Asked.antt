@@ -2,6 +2,8 @@
 use Rattle.std.specs.Prelude.{◌≡◌, ℕ, Bool, true, false, ◌||◌, List, Option, Some, None}
 use Rattle.std.specs.Prelude.{if◌then◌else◌}
 use Rattle.std.specs.List.{list_any}
+use Rattle.cqe_base.specs.declared.user.Method.{Method}
+use Rattle.cqe_base.specs.declared.user.Method.TheVariants.{Lying, Refusal, Combined}
 use Rattle.cqe_base.specs.Schema.{DatabaseSchema}
 use Rattle.cqe_base.specs.Formula.{Formula}
 use Rattle.cqe_base.specs.Entailment.{Signed, entails}
@@ -56,6 +58,15 @@ pub record IsImplied (schema : DatabaseSchema) (budget : ℕ) (log : List Signed
   pub answer : found.spent ≡ false → found.answer
       ≡ (if entails schema log (query, true) then Some true
       else if entails schema log (query, false) then Some false else None)
+
+-- what was found of it by a method: refusal alone asks for it
+abbrev pub IsImpliedBy : Method → DatabaseSchema → (budget : ℕ) (log : List Signed)
+    (query : Formula) → Option Implied → Type 0
+IsImpliedBy Lying schema budget log query found = found ≡ None
+IsImpliedBy Refusal schema budget log query None = ⊥
+IsImpliedBy Refusal schema budget log query (Some found) =
+    IsImplied schema budget log query found
+IsImpliedBy Combined schema budget log query found = found ≡ None
 
 -- the findings of both answers' harms and, for refusal, of the answer that the log implies
 abbrev pub findings_of : Harms → Option Implied → Findings

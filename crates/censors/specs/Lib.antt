@@ -1,3 +1,5 @@
+pub mod Guards
+pub mod GuardsInside
 pub mod Found
 pub mod Asked
 pub mod Admitting

@@ -17,7 +17,7 @@ use cqe_base::schema::Schema;
 use cqe_base::sentence::Sentence;
 use cqe_base::user::{Method, User};
 use cqe_base::world::World;
-use entailment::{Probe, Verdict, View, test};
+use entailment::{GroundSentence, Probe, ProbeOutcome, View, probe_outcome};
 use std::alloc::{AllocError, Global};
 use truth_eval::holds;
 
@@ -116,7 +116,7 @@ fn disjunction_objection(
     law_limits();
     let mut view = View::new(alloc, schema, user)?;
     let goal = disjunction(alloc, user.secrets.as_slice())?;
-    let found = probe_objection(alloc, &mut view, &goal, None)?;
+    let found = probe_objection(alloc, schema, &mut view, goal, None)?;
     Ok(found)
 }
 
@@ -134,7 +134,8 @@ fn secrets_objection(
     law_limits();
     let mut view = View::new(alloc, schema, user)?;
     for (number, secret) in user.secrets.iter().enumerate() {
-        let found = probe_objection(alloc, &mut view, secret, Some(number as u32))?;
+        let goal = secret.copy(alloc)?;
+        let found = probe_objection(alloc, schema, &mut view, goal, Some(number as u32))?;
         if found.is_some() {
             return Ok(found);
         }
@@ -145,24 +146,27 @@ fn secrets_objection(
 /// What the probe of the log against a goal says against an admission, at the admission budget.
 fn probe_objection(
     alloc: Global,
+    schema: &Schema,
     view: &mut View<'_>,
-    goal: &Sentence,
+    goal: Sentence,
     number: Option<u32>,
 ) -> Result<Option<Admission>, AllocError>
-    requires sentence { is_sentence_of (schema_of view.old) (formula_of goal.now) ≡ true }
-    requires goal_nodes { nodes (schema_of view.old) (formula_of goal.now) ≤ 40000 }
-    requires log_nodes { log_nodes (schema_of view.old) (log_of view.old) ≤ 40000 }
+    requires schema { schema_of view.old ≡ schema.now }
+    requires sentence { is_sentence_of schema.now (formula_of goal) ≡ true }
+    requires goal_nodes { nodes schema.now (formula_of goal) ≤ 40000 }
+    requires log_nodes { log_nodes schema.now (log_of view.old) ≤ 40000 }
     ensures found { IfOk result (λ found. found
-        ≡ probe_objection (schema_of view.old) (log_of view.old) (formula_of goal.now) number) }
+        ≡ probe_objection schema.now (log_of view.old) (formula_of goal) number) }
     ensures same { view.new ≡ view.old }
 {
+    let goal = GroundSentence::new(alloc, schema, goal)?;
     let probe = Probe {
         premise: None,
-        goal: (goal, true),
+        goal: (&goal, true),
     };
-    match test(alloc, view, &probe, ADMISSION_BUDGET)? {
-        Verdict::Follows => Ok(Some(Admission::Implied(number))),
-        Verdict::Open(_) => Ok(None),
-        Verdict::Spent => Ok(Some(Admission::Spent(number))),
+    match probe_outcome(alloc, view, &probe, ADMISSION_BUDGET)? {
+        ProbeOutcome::Follows => Ok(Some(Admission::Implied(number))),
+        ProbeOutcome::Open => Ok(None),
+        ProbeOutcome::Spent => Ok(Some(Admission::Spent(number))),
     }
 }

@@ -1,26 +1,27 @@
 //! What the probes of a query find.
 
 ghost use Rattle.std.specs.Prelude.{◌≡◌, ◌≤◌, ◌+◌, [], ◌∷◌, ◌++◌, true, false, Some, None, nat_le};
-ghost use Rattle.std.specs.Prelude.{map, IfOk, if◌then◌else◌};
+ghost use Rattle.std.specs.Prelude.{All, map, IfOk, if◌then◌else◌};
 ghost use Rattle.std.specs.List.{list_all};
-ghost use Rattle.cqe_base.specs.Formula.{formula_of, nodes, is_sentence_of};
+ghost use Rattle.cqe_base.specs.Formula.{nodes, is_sentence_of};
 ghost use Rattle.cqe_base.specs.Entailment.{are_sentences_of};
 ghost use Rattle.cqe_base.specs.History.{profile_of};
 ghost use Rattle.cqe_base.specs.Limits.{KeepsLimits};
+ghost use Rattle.cqe_base.specs.Censor.{guarded};
 ghost use Rattle.entailment.specs.Logs.{log_nodes, sentence_nodes};
 ghost use Rattle.entailment.specs.Views.{schema_of, log_of};
-ghost use Rattle.entailment.specs.Probes.{premise_of, goal_of, signed_at};
+ghost use Rattle.entailment.specs.GroundSentences.{sentence_of, IsGroundOver};
+ghost use Rattle.entailment.specs.Probes.{premise_of, goal_of, signed_at, IsGroundPremise};
 ghost use Rattle.censors.specs.Found.{HasFindings};
 ghost use Rattle.censors.specs.Costs.{AreSpentByCost, DecideUndecided};
-ghost use Rattle.censors.specs.Asked.{IsAnswer, IsAnswerOfAll, AreHarms, IsImplied, together};
-ghost use Rattle.censors.specs.Asked.{findings_of};
+ghost use Rattle.censors.specs.Asked.{IsAnswer, IsAnswerOfAll, AreHarms, IsImplied, IsImpliedBy};
+ghost use Rattle.censors.specs.Asked.{together, findings_of};
 
-use crate::{disjunction, law_undecided_is_cost};
+use crate::{Guards, law_undecided_is_cost};
 use cqe_base::laws::{law_entailment, law_limits};
 use cqe_base::machine_laws::law_spent_is_cost;
-use cqe_base::sentence::Sentence;
 use cqe_base::user::{Method, User};
-use entailment::{Probe, Verdict, View, test};
+use entailment::{GroundSentence, Probe, ProbeOutcome, View, probe_outcome};
 use std::alloc::{AllocError, Global};
 
 /// What the probes of a query found. Where `spent` is true the other fields say nothing.
@@ -64,44 +65,33 @@ struct Implied {
 pub fn examine(
     alloc: Global,
     view: &mut View<'_>,
+    guards: &Guards<'_>,
     user: &User,
-    query: &Sentence,
+    query: &GroundSentence,
 ) -> Result<Findings, AllocError>
     requires limits { KeepsLimits (schema_of view.old) (profile_of user.now) }
-    requires sentence { is_sentence_of (schema_of view.old) (formula_of query.now) ≡ true }
-    requires query_nodes { nodes (schema_of view.old) (formula_of query.now) ≤ 20000 }
+    requires guards_schema { guards.now.schema ≡ schema_of view.old }
+    requires guarded { guards.now.sentences ≡ guarded (profile_of user.now) }
+    requires sentence { is_sentence_of (schema_of view.old) (sentence_of query.now) ≡ true }
+    requires grounded { IsGroundOver (schema_of view.old) query.now }
     requires all_nodes { log_nodes (schema_of view.old) (log_of view.old)
-        + nodes (schema_of view.old) (formula_of query.now) ≤ 60000 }
+        + nodes (schema_of view.old) (sentence_of query.now) ≤ 60000 }
     ensures findings { IfOk result
         (HasFindings (schema_of view.old) (profile_of user.now) (log_of view.old)
-        (formula_of query.now)) }
+        (sentence_of query.now)) }
     ensures spent { IfOk result
         (AreSpentByCost (schema_of view.old) (profile_of user.now) (log_of view.old)
-        (formula_of query.now)) }
+        (sentence_of query.now)) }
     ensures undecided { IfOk result (DecideUndecided (schema_of view.old) (profile_of user.now)
-        (log_of view.old) (formula_of query.now)) }
+        (log_of view.old) (sentence_of query.now)) }
     ensures same { view.new ≡ view.old }
 {
     law_limits();
     law_spent_is_cost();
     law_undecided_is_cost();
-    let secrets = user.secrets.as_slice();
-    match user.method {
-        Method::Lying => {
-            let guarded = [disjunction(alloc, secrets)?];
-            let harms = ask_both(alloc, view, query, &guarded, user.budget)?;
-            Ok(found(harms, None))
-        }
-        Method::Refusal => {
-            let implied = ask_log(alloc, view, query, user.budget)?;
-            let harms = ask_both(alloc, view, query, secrets, user.budget)?;
-            Ok(found(harms, Some(implied)))
-        }
-        Method::Combined => {
-            let harms = ask_both(alloc, view, query, secrets, user.budget)?;
-            Ok(found(harms, None))
-        }
-    }
+    let implied = ask_implied(alloc, view, user, query)?;
+    let harms = ask_both(alloc, view, query, guards.sentences(), user.budget)?;
+    Ok(found(harms, implied))
 }
 
 /// The findings of both answers' harms and, for refusal, of the answer that the log entails.
@@ -124,20 +114,45 @@ fn found(harms: Harms, implied: Option<Implied>) -> Findings
     }
 }
 
+/// For refusal, the answer that the log entails.
+fn ask_implied(
+    alloc: Global,
+    view: &mut View<'_>,
+    user: &User,
+    query: &GroundSentence,
+) -> Result<Option<Implied>, AllocError>
+    requires sentence { is_sentence_of (schema_of view.old) (sentence_of query.now) ≡ true }
+    requires grounded { IsGroundOver (schema_of view.old) query.now }
+    requires all_nodes { log_nodes (schema_of view.old) (log_of view.old)
+        + nodes (schema_of view.old) (sentence_of query.now) ≤ 60000 }
+    requires budget { user.now.budget ≤ 4000000 }
+    ensures implied { IfOk result (IsImpliedBy user.now.method (schema_of view.old) user.now.budget
+        (log_of view.old) (sentence_of query.now)) }
+    ensures same { view.new ≡ view.old }
+{
+    match user.method {
+        Method::Refusal => {
+            let implied = ask_log(alloc, view, query, user.budget)?;
+            Ok(Some(implied))
+        }
+        Method::Lying | Method::Combined => Ok(None),
+    }
+}
+
 /// Probes the log against the query and against its negation.
 fn ask_log(
     alloc: Global,
     view: &mut View<'_>,
-    query: &Sentence,
+    query: &GroundSentence,
     budget: u64,
 ) -> Result<Implied, AllocError>
-    requires sentence { is_sentence_of (schema_of view.old) (formula_of query.now) ≡ true }
-    requires query_nodes { nodes (schema_of view.old) (formula_of query.now) ≤ 20000 }
+    requires sentence { is_sentence_of (schema_of view.old) (sentence_of query.now) ≡ true }
+    requires grounded { IsGroundOver (schema_of view.old) query.now }
     requires all_nodes { log_nodes (schema_of view.old) (log_of view.old)
-        + nodes (schema_of view.old) (formula_of query.now) ≤ 60000 }
+        + nodes (schema_of view.old) (sentence_of query.now) ≤ 60000 }
     requires budget { budget ≤ 4000000 }
     ensures implied { IfOk result
-        (IsImplied (schema_of view.old) budget (log_of view.old) (formula_of query.now)) }
+        (IsImplied (schema_of view.old) budget (log_of view.old) (sentence_of query.now)) }
     ensures same { view.new ≡ view.old }
 {
     let yes = ask(
@@ -181,22 +196,23 @@ fn implied_answer(yes: bool, no: bool) -> Option<bool>
 fn ask_both(
     alloc: Global,
     view: &mut View<'_>,
-    query: &Sentence,
-    goals: &[Sentence],
+    query: &GroundSentence,
+    goals: &[GroundSentence],
     budget: u64,
 ) -> Result<Harms, AllocError>
-    requires sentence { is_sentence_of (schema_of view.old) (formula_of query.now) ≡ true }
-    requires query_nodes { nodes (schema_of view.old) (formula_of query.now) ≤ 20000 }
+    requires sentence { is_sentence_of (schema_of view.old) (sentence_of query.now) ≡ true }
+    requires grounded { IsGroundOver (schema_of view.old) query.now }
     requires all_nodes { log_nodes (schema_of view.old) (log_of view.old)
-        + nodes (schema_of view.old) (formula_of query.now) ≤ 60000 }
-    requires goals { list_all (is_sentence_of (schema_of view.old)) (map formula_of goals.now)
+        + nodes (schema_of view.old) (sentence_of query.now) ≤ 60000 }
+    requires goals { list_all (is_sentence_of (schema_of view.old)) (map sentence_of goals.now)
         ≡ true }
     requires goal_nodes { list_all (λ goal. nat_le (nodes (schema_of view.old) goal) 40000)
-        (map formula_of goals.now) ≡ true }
+        (map sentence_of goals.now) ≡ true }
+    requires grounded_goals { All (IsGroundOver (schema_of view.old)) goals.now }
     requires budget { budget ≤ 4000000 }
     ensures harms { IfOk result
-        (AreHarms (schema_of view.old) budget (log_of view.old) (formula_of query.now)
-        (map formula_of goals.now)) }
+        (AreHarms (schema_of view.old) budget (log_of view.old) (sentence_of query.now)
+        (map sentence_of goals.now)) }
     ensures same { view.new ≡ view.old }
 {
     let yes = ask_each(alloc, view, (query, true), goals, budget)?;
@@ -213,22 +229,23 @@ fn ask_both(
 fn ask_each(
     alloc: Global,
     view: &mut View<'_>,
-    premise: (&Sentence, bool),
-    goals: &[Sentence],
+    premise: (&GroundSentence, bool),
+    goals: &[GroundSentence],
     budget: u64,
 ) -> Result<Answer, AllocError>
     requires premise { is_sentence_of (schema_of view.old) (signed_at premise).0 ≡ true }
-    requires premise_nodes { nodes (schema_of view.old) (signed_at premise).0 ≤ 20000 }
+    requires grounded { IsGroundOver (schema_of view.old) premise.0.now }
     requires all_nodes { log_nodes (schema_of view.old) (log_of view.old)
         + nodes (schema_of view.old) (signed_at premise).0 ≤ 60000 }
-    requires goals { list_all (is_sentence_of (schema_of view.old)) (map formula_of goals.now)
+    requires goals { list_all (is_sentence_of (schema_of view.old)) (map sentence_of goals.now)
         ≡ true }
     requires goal_nodes { list_all (λ goal. nat_le (nodes (schema_of view.old) goal) 40000)
-        (map formula_of goals.now) ≡ true }
+        (map sentence_of goals.now) ≡ true }
+    requires grounded_goals { All (IsGroundOver (schema_of view.old)) goals.now }
     requires budget { budget ≤ 4000000 }
     ensures answer { IfOk result
         (IsAnswerOfAll (schema_of view.old) budget (log_of view.old ++ signed_at premise.entry ∷ [])
-        (map formula_of goals.now)) }
+        (map sentence_of goals.now)) }
     ensures same { view.new ≡ view.old }
 {
     let mut all = Answer {
@@ -265,12 +282,11 @@ fn ask(
 ) -> Result<Answer, AllocError>
     requires premise { are_sentences_of (schema_of view.old) (premise_of probe.now) ≡ true }
     requires goal { is_sentence_of (schema_of view.old) (goal_of probe.now).0 ≡ true }
-    requires premise_nodes { list_all (λ signed. nat_le (nodes (schema_of view.old) signed.0) 20000)
-        (premise_of probe.now) ≡ true }
-    requires goal_nodes { nodes (schema_of view.old) (goal_of probe.now).0 ≤ 40000 }
     requires all_nodes { log_nodes (schema_of view.old) (log_of view.old)
         + sentence_nodes (schema_of view.old) (premise_of probe.now)
         + nodes (schema_of view.old) (goal_of probe.now).0 ≤ 100000 }
+    requires grounded_premise { IsGroundPremise (schema_of view.old) probe.now.premise }
+    requires grounded_goal { IsGroundOver (schema_of view.old) probe.now.goal.0.now }
     requires budget { budget ≤ 4000000 }
     ensures answer { IfOk result
         (IsAnswer (schema_of view.old) budget (log_of view.old ++ premise_of probe.now)
@@ -278,16 +294,16 @@ fn ask(
     ensures same { view.new ≡ view.old }
 {
     law_entailment();
-    match test(alloc, view, probe, budget)? {
-        Verdict::Follows => Ok(Answer {
+    match probe_outcome(alloc, view, probe, budget)? {
+        ProbeOutcome::Follows => Ok(Answer {
             spent: false,
             entailed: true,
         }),
-        Verdict::Open(_) => Ok(Answer {
+        ProbeOutcome::Open => Ok(Answer {
             spent: false,
             entailed: false,
         }),
-        Verdict::Spent => Ok(Answer {
+        ProbeOutcome::Spent => Ok(Answer {
             spent: true,
             entailed: false,
         }),

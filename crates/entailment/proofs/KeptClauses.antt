@@ -4,10 +4,11 @@ use Rattle.std.proofs.lemmas.List.{map-append, append-nil}
 use Rattle.cqe_base.specs.Schema.{DatabaseSchema}
 use Rattle.cqe_base.specs.Literal.{Literal}
 use Rattle.cqe_base.specs.Entailment.{Signed}
-use Rattle.cqe_base.specs.ClauseForm.{clause_form, numbering_of, clauses_of_list}
+use Rattle.cqe_base.specs.ClauseForm.{numbering_of, clauses_of_list}
+use Rattle.cqe_base.specs.SignedGround.{SignedGround}
 use Rattle.cqe_base.specs.Outcome.{grounded_signed}
 use Rattle.cqe_base.specs.MachineLaws.{ClauseFormIsPrefix}
-use Rattle.clause_form.specs.Forms.{Form}
+use Rattle.clause_form.specs.Forms.{Form, form_of}
 use Rattle.clause_solver.specs.Beginnings.{IsBeginning}
 use Rattle.entailment.specs.Forms.{form_of_log, StaysOrEmpty}
 
@@ -25,22 +26,19 @@ stays-begins old new clauses (inr none) begins = none-begins new clauses none
 pub begins-more : (kept middle clauses : List (List Literal)) → kept ≡ middle → IsBeginning middle clauses → IsBeginning kept clauses
 begins-more kept middle clauses same begins = subst (λ k. IsBeginning k clauses) (sym same) begins
 
--- the clauses of a log begin those of a longer one
-pub log-begins : ClauseFormIsPrefix → (schema : DatabaseSchema) (log more : List Signed) (old new : Form) → old ≡ form_of_log schema log
-    → new ≡ form_of_log schema (log ++ more) → IsBeginning old.clauses new.clauses
-log-begins prefix schema log more old new old-is new-is =
-    let first = map (grounded_signed schema) log in
-    let rest = map (grounded_signed schema) more in (
-      clauses_of_list rest (numbering_of first),
-      ap (λ f. f.clauses) new-is ∙ ap clause_form (map-append (grounded_signed schema) log more) ∙ prefix first rest
-          ∙ ap (λ (f : Form). f.clauses ++ clauses_of_list rest (numbering_of first)) (sym old-is),
-    )
+-- the clauses of a list begin those of a longer one
+pub form-begins : ClauseFormIsPrefix → (first more : List SignedGround) (old new : Form) → old ≡ form_of first → new ≡ form_of (first ++ more)
+    → IsBeginning old.clauses new.clauses
+form-begins prefix first more old new old-is new-is = (
+  clauses_of_list more (numbering_of first),
+  ap (λ f. f.clauses) new-is ∙ prefix first more ∙ ap (λ (f : Form). f.clauses ++ clauses_of_list more (numbering_of first)) (sym old-is),
+)
 
--- so what begins those of a log begins those of a longer one
-pub log-begins-more : ClauseFormIsPrefix → (schema : DatabaseSchema) (log more : List Signed) (kept : List (List Literal)) (old new : Form)
-    → old ≡ form_of_log schema log → new ≡ form_of_log schema (log ++ more) → IsBeginning kept old.clauses → IsBeginning kept new.clauses
-log-begins-more prefix schema log more kept old new old-is new-is begins =
-    let longer = log-begins prefix schema log more old new old-is new-is in
+-- so what begins those of a list begins those of a longer one
+form-begins-more : ClauseFormIsPrefix → (first more : List SignedGround) (kept : List (List Literal)) (old new : Form)
+    → old ≡ form_of first → new ≡ form_of (first ++ more) → IsBeginning kept old.clauses → IsBeginning kept new.clauses
+form-begins-more prefix first more kept old new old-is new-is begins =
+    let longer = form-begins prefix first more old new old-is new-is in
     (begins.0 ++ longer.0, longer.1 ∙ ap (λ c. c ++ longer.0) begins.1 ∙ append_assoc kept begins.0 longer.0)
 
 take-more-of : {X : Type 0} (a b : ℕ) (xs : List X) → a ≤ b → (more : List X) × (take b xs ≡ take a xs ++ more)
@@ -56,4 +54,5 @@ pub taken-begins : ClauseFormIsPrefix → (schema : DatabaseSchema) (log : List 
     → old ≡ form_of_log schema (take a log) → new ≡ form_of_log schema (take b log) → IsBeginning kept old.clauses → IsBeginning kept new.clauses
 taken-begins prefix schema log a b kept old new le old-is new-is begins =
     let more = take-more-of a b log le in
-    log-begins-more prefix schema (take a log) more.0 kept old new old-is (new-is ∙ ap (form_of_log schema) more.1) begins
+    form-begins-more prefix (map (grounded_signed schema) (take a log)) (map (grounded_signed schema) more.0) kept old new old-is
+    (new-is ∙ ap (form_of_log schema) more.1 ∙ ap form_of (map-append (grounded_signed schema) (take a log) more.0)) begins

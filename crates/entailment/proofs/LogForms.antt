@@ -1,67 +1,119 @@
 -- The forms of logs: how they grow, how large they are, and what they tell of a probe.
-use Rattle.std.proofs.Common.{◌≡◌, ℕ, ◌+◌, ◌^◌, ◌<◌, ◌≤◌, true, List, [], ◌∷◌, ◌++◌, map, sym, ap, ◌∙◌, subst, refl, arith}
+use Rattle.std.proofs.Common.{◌≡◌, ◌+◌, ◌^◌, ◌<◌, ◌≤◌, Bool, true, List, [], ◌∷◌, ◌++◌, map, sym, ap, ◌∙◌, subst, refl, arith, append_assoc}
+use Rattle.std.specs.Prelude.{Option, Some, None}
+use Rattle.std.specs.Borrow.{Bor}
 use Rattle.std.proofs.lemmas.List.{map-append, append-nil}
 use Rattle.std.proofs.lemmas.List.Sums.{sum_by-append}
 use Rattle.std.proofs.lemmas.List.Folds.{list_all-append}
 use Rattle.std.proofs.lemmas.Bool.{and_from}
 use Rattle.cqe_base.specs.Schema.{DatabaseSchema, is_valid_schema}
-use Rattle.cqe_base.specs.Ground.{GroundingKeepsNodes}
+use Rattle.cqe_base.specs.Ground.{GroundingKeepsNodes, ground_nodes}
+use Rattle.cqe_base.specs.SignedGround.{SignedGround}
+use Rattle.cqe_base.specs.GroundParts.{nodes_of_list}
 use Rattle.cqe_base.specs.Entailment.{Signed, are_sentences_of}
-use Rattle.cqe_base.specs.Outcome.{grounded_signed, grounded_probe}
+use Rattle.cqe_base.specs.Outcome.{grounded_signed, grounded_probe, probe_list}
 use Rattle.cqe_base.specs.Formula.{nodes, is_sentence_of}
 use Rattle.cqe_base.specs.MachineLaws.{ClauseFormUsesItsVariables, ClauseFormHasNoRepeat, VariablesAreFew, NumberedFactsAreFew, NumberedFactsAreOfSchema}
 use Rattle.clause_form.specs.Forms.{Form, form_of, with_formula, AddedFormsGrow}
 use Rattle.entailment.specs.Logs.{log_nodes, sentence_nodes}
-use Rattle.entailment.specs.Forms.{form_of_log, with_negated, HasAdded, CanBeProbed, IsSearchable}
+use Rattle.entailment.specs.Forms.{form_of_log, with_negated, HasAdded, GoesOn, HasRoomFor, CanBeProbed, IsSearchable}
+use Rattle.entailment.specs.GroundSentences.{IsGroundOver}
+use Rattle.entailment.specs.Probes.{premise_list, premise_of, goal_of, IsGroundPremise, premise_props, added_by}
+use Rattle.entailment.specs.declared.sentences.GroundSentence.{GroundSentence}
+use Rattle.entailment.specs.declared.probes.Probe.{Probe}
 use Rattle.entailment.proofs.ClauseCount.{clauses_are_few}
 use Rattle.entailment.proofs.LogNodes.{grounded-nodes, sentence_nodes-le, probe-nodes}
 
--- a form with the ground formula of one more sentence is that of the longer log
-pub has_added : AddedFormsGrow → (schema : DatabaseSchema) (s : Signed) (before : Form)
-    → HasAdded schema (s ∷ []) before (with_formula before (grounded_signed schema s))
-has_added grow schema s before log is =
-    ap (λ form. with_formula form (grounded_signed schema s)) is
-    ∙ grow (map (grounded_signed schema) log) (grounded_signed schema s)
-    ∙ ap form_of (sym (map-append (grounded_signed schema) log (s ∷ [])))
+-- a form with one more formula is that of the longer list
+pub has_added : AddedFormsGrow → (formula : SignedGround) (before : Form) → HasAdded (formula ∷ []) before (with_formula before formula)
+has_added grow formula before formulas is = ap (λ form. with_formula form formula) is ∙ grow formulas formula
 
 -- nothing was added
-pub has_added-nothing : (schema : DatabaseSchema) (form : Form) → HasAdded schema [] form form
-has_added-nothing schema form log is = is ∙ ap (form_of_log schema) (sym (append-nil log))
+pub has_added-nothing : (form : Form) → HasAdded [] form form
+has_added-nothing form formulas is = is ∙ ap form_of (sym (append-nil formulas))
 
--- beside the constant, the form of a log takes at most one variable for each node of its sentences
+-- one list was added, and then another
+pub has_added-both : (first rest : List SignedGround) (before middle after : Form) → HasAdded first before middle → HasAdded rest middle after
+    → HasAdded (first ++ rest) before after
+has_added-both first rest before middle after one other formulas is =
+    other (formulas ++ first) (one formulas is) ∙ ap form_of (append_assoc formulas first rest)
+
+-- what was added is some list
+pub has_added-goes_on : (more : List SignedGround) (before after : Form) → HasAdded more before after → GoesOn before after
+has_added-goes_on more before after added formulas is = (more, added formulas is)
+
+-- beside the constant, a form takes at most one variable for each node of its formulas
+form-variables : VariablesAreFew → (formulas : List SignedGround) (form : Form) → form ≡ form_of formulas
+    → form.numbering.variables ≤ 1 + nodes_of_list formulas
+form-variables few formulas form is =
+    let a = few formulas in
+    let e : form.numbering.variables ≡ (form_of formulas).numbering.variables = ap (λ f. f.numbering.variables) is in
+    omega arith
+
+-- so that the form of a log takes at most one for each node of its sentences
 pub variables-few : VariablesAreFew → GroundingKeepsNodes → (schema : DatabaseSchema) (log : List Signed) (form : Form) → form ≡ form_of_log schema log
     → form.numbering.variables ≤ 1 + sentence_nodes schema log
 variables-few few keeps schema log form is =
-    let a = few (map (grounded_signed schema) log) in
+    let a = form-variables few (map (grounded_signed schema) log) form is in
     let b = grounded-nodes keeps schema log in
-    let e : form.numbering.variables ≡ (form_of_log schema log).numbering.variables = ap (λ f. f.numbering.variables) is in
     omega arith
 
--- so that there is room for what a probe adds to its log, which is small enough
-pub room-for-premise : VariablesAreFew → GroundingKeepsNodes → (schema : DatabaseSchema) (log premise : List Signed) (form : Form)
-    → form ≡ form_of_log schema log
-    → log_nodes schema log + sentence_nodes schema premise ≤ 100000 → form.numbering.variables + sentence_nodes schema premise < 2 ^ 31
-room-for-premise few keeps schema log premise form is small =
-    let a = variables-few few keeps schema log form is in
-    let b = sentence_nodes-le schema log in
+-- where there is room for a list there is for its beginning
+pub room-for-first : (first rest : List SignedGround) (form : Form) → HasRoomFor (first ++ rest) form → HasRoomFor first form
+room-for-first first rest form (formulas, is, small) =
+    let sum : nodes_of_list (first ++ rest) ≡ nodes_of_list first + nodes_of_list rest = sum_by-append (λ signed. ground_nodes signed.0) first rest in
+    (formulas, is, omega arith)
+
+-- and, once that was added, for the rest
+pub room-for-rest : (first rest : List SignedGround) (before after : Form) → HasRoomFor (first ++ rest) before → HasAdded first before after
+    → HasRoomFor rest after
+room-for-rest first rest before after (formulas, is, small) added =
+    let sum : nodes_of_list (first ++ rest) ≡ nodes_of_list first + nodes_of_list rest = sum_by-append (λ signed. ground_nodes signed.0) first rest in
+    let grown : nodes_of_list (formulas ++ first) ≡ nodes_of_list formulas + nodes_of_list first =
+    sum_by-append (λ signed. ground_nodes signed.0) formulas first in
+    (formulas ++ first, added formulas is, omega arith)
+
+-- room for one formula is room for its variables
+pub room-for-one : VariablesAreFew → (formula : SignedGround) (form : Form) → HasRoomFor (formula ∷ []) form
+    → form.numbering.variables + ground_nodes formula.0 < 2 ^ 31
+room-for-one few formula form (formulas, is, small) =
+    let a = form-variables few formulas form is in
+    let one : nodes_of_list (formula ∷ []) ≡ ground_nodes formula.0 = omega arith in
     omega arith
 
-pub room-for-goal : VariablesAreFew → GroundingKeepsNodes → (schema : DatabaseSchema) (log premise : List Signed) (goal : ℕ) (form : Form)
-    → form ≡ form_of_log schema (log ++ premise)
-    → log_nodes schema log + sentence_nodes schema premise + goal ≤ 100000 → form.numbering.variables + goal < 2 ^ 31
-room-for-goal few keeps schema log premise goal form is small =
-    let a = variables-few few keeps schema (log ++ premise) form is in
-    let b : sentence_nodes schema (log ++ premise) ≡ sentence_nodes schema log + sentence_nodes schema premise =
-    sum_by-append (λ signed. nodes schema signed.0) log premise in
-    let c = sentence_nodes-le schema log in
-    omega arith
+-- what a probe adds, as the sentences that it means
+pub added-is : (schema : DatabaseSchema) (probe : Probe) → IsGroundPremise schema probe.premise → IsGroundOver schema probe.goal.0.now
+    → added_by probe ≡ map (grounded_signed schema) (with_negated (premise_of probe) (goal_of probe))
+added-is schema probe premise_is goal_is =
+    (λ k. probe_list (premise-is schema probe.premise premise_is k) (goal_is k, probe.goal.1))
+    ∙ sym (map-append (grounded_signed schema) (premise_of probe) (with_negated [] (goal_of probe)))
+  where
+    premise-is : (schema : DatabaseSchema) (premise : Option (Bor GroundSentence × Bool)) → IsGroundPremise schema premise
+        → premise_props premise ≡ map (grounded_signed schema) (premise_list premise)
+    premise-is schema None is = refl
+    premise-is schema (Some s) is = ap (λ g. (g, s.1) ∷ []) is
 
--- so there is where the probe keeps its limits
-pub premise-fits : VariablesAreFew → GroundingKeepsNodes → (schema : DatabaseSchema) (log premise : List Signed) (goal : Signed) (form : Form)
-    → CanBeProbed schema premise goal form log → form.numbering.variables + sentence_nodes schema premise < 2 ^ 31
-premise-fits few keeps schema log premise goal form can =
+-- there is room for what a probe adds to its log, which is small enough
+pub probe-room : GroundingKeepsNodes → (schema : DatabaseSchema) (log premise : List Signed) (goal : Signed) (added : List SignedGround) (form : Form)
+    → added ≡ map (grounded_signed schema) (with_negated premise goal) → CanBeProbed schema premise goal form log → HasRoomFor added form
+probe-room keeps schema log premise goal added form is can =
     let all = can.all_nodes in
-    room-for-premise few keeps schema log premise form can.form_is (omega arith)
+    let own = grounded-nodes keeps schema log in
+    let within = sentence_nodes-le schema log in
+    let more : nodes_of_list added ≡ sentence_nodes schema (with_negated premise goal) =
+    ap nodes_of_list is ∙ grounded-nodes keeps schema (with_negated premise goal) in
+    let sum = sum_by-append (λ signed. nodes schema signed.0) premise (with_negated [] goal) in
+    (map (grounded_signed schema) log, can.form_is, omega arith)
+
+-- and the form with it is that of the log, the premise and the negated goal
+pub probe-added : (schema : DatabaseSchema) (log premise : List Signed) (goal : Signed) (added : List SignedGround) (before after : Form)
+    → added ≡ map (grounded_signed schema) (with_negated premise goal) → HasAdded added before after → before ≡ form_of_log schema log
+    → after ≡ form_of_log schema (with_negated (log ++ premise) goal)
+probe-added schema log premise goal added before after is has before_is =
+    has (map (grounded_signed schema) log) before_is
+    ∙ ap (λ more. form_of (map (grounded_signed schema) log ++ more)) is
+    ∙ ap form_of (sym (map-append (grounded_signed schema) log (with_negated premise goal)))
+    ∙ ap (form_of_log schema) (sym (append_assoc log premise (with_negated [] goal)))
 
 -- what a probe adds is the form of its premises and the negated goal
 pub probe-form : (schema : DatabaseSchema) (premises : List Signed) (goal : Signed)

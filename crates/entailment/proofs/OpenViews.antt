@@ -6,7 +6,8 @@ use Rattle.entailment.specs.Logs.{IsSmallLog, told_log}
 use Rattle.entailment.specs.Forms.{form_of_log, with_negated}
 use Rattle.entailment.specs.Views.{LogView, schema_of, log_of}
 use Rattle.entailment.specs.Inside.{view_inside, IsSound}
-use Rattle.entailment.specs.Verdicts.{IsCheckedOf, searched_verdict}
+use Rattle.entailment.specs.Verdicts.{as_wanted, IsCheckedOf, searched_verdict}
+use Rattle.entailment.specs.declared.probes.Wanted.{Wanted}
 use Rattle.entailment.specs.declared.probes.Verdict.{Verdict}
 use Rattle.entailment.specs.declared.view.Told.{Told}
 use Rattle.entailment.specs.declared.view.View.TheInside.{Inside}
@@ -26,8 +27,8 @@ module _ (v : Inside) (view : LogView) (is : view_inside v ≡ view) (sound : Is
         ∙ ap (λ (w : LogView). form_of_log w.schema w.log) is
 
     -- what was checked is the verdict of the probe
-    pub own-verdict : (premise : List Signed) (goal : Signed) (budget : ℕ) (verdict : Verdict)
-        → IsCheckedOf v.schema.now premise goal budget form verdict
-        → verdict ≡ searched_verdict (form_of_log (schema_of view) (with_negated (log_of view ++ premise) goal)) budget
-    own-verdict premise goal budget verdict checked =
-        subst (λ s. IsCheckedOf s premise goal budget form verdict) schema-is checked (log_of view) own-form
+    pub own-verdict : (premise : List Signed) (goal : Signed) (budget : ℕ) (wanted : Wanted) (verdict : Verdict)
+        → IsCheckedOf v.schema.now premise goal budget wanted form verdict
+        → verdict ≡ as_wanted wanted (searched_verdict (form_of_log (schema_of view) (with_negated (log_of view ++ premise) goal)) budget)
+    own-verdict premise goal budget wanted verdict checked =
+        subst (λ s. IsCheckedOf s premise goal budget wanted form verdict) schema-is checked (log_of view) own-form

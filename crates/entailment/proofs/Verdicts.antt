@@ -16,9 +16,25 @@ use Rattle.clause_form.specs.Forms.{Form, form_of}
 use Rattle.entailment.specs.declared.probes.Verdict.{Verdict}
 use Rattle.entailment.specs.declared.probes.Verdict.TheVariants.{Follows, Open, Spent}
 use Rattle.entailment.specs.Forms.{form_of_log, with_negated}
-use Rattle.entailment.specs.Probes.{outcome_of, IsTrueVerdict}
-use Rattle.entailment.specs.Verdicts.{end_of_probe, verdict_of_end, verdict_of_probe, checked_verdict}
+use Rattle.entailment.specs.Probes.{outcome_of, IsTrueOutcome, IsTrueVerdict}
+use Rattle.entailment.specs.declared.probes.Wanted.{Wanted}
+use Rattle.entailment.specs.declared.probes.Wanted.TheVariants as wanted
+use Rattle.entailment.specs.Verdicts.{as_wanted, end_of_probe, verdict_of_end, verdict_of_probe, checked_verdict}
 use Rattle.entailment.proofs.LogForms.{probe-form}
+
+-- a world or none, the outcome is the same
+pub wanted-outcome : (wanted : Wanted) (verdict : Verdict) → outcome_of (as_wanted wanted verdict) ≡ outcome_of verdict
+wanted-outcome wanted.World verdict = refl
+wanted-outcome wanted.Outcome Follows = refl
+wanted-outcome wanted.Outcome (Open world) = refl
+wanted-outcome wanted.Outcome Spent = refl
+
+-- a true verdict is a true outcome
+pub true-outcome : (schema : DatabaseSchema) (premises : List Signed) (goal : Signed) (verdict : Verdict) → IsTrueVerdict schema premises goal verdict
+    → IsTrueOutcome schema premises goal (outcome_of verdict)
+true-outcome schema premises goal Follows is = is
+true-outcome schema premises goal (Open world) is = (world, is)
+true-outcome schema premises goal Spent is = tt
 
 -- ---- of one end
 

@@ -1,5 +1,5 @@
 -- The clause form of logs.
-use Rattle.std.specs.Prelude.{◌≡◌, ◌≤◌, ◌+◌, ◌⊎◌, true, not, nat_le, List, [], ◌∷◌, ◌++◌, length}
+use Rattle.std.specs.Prelude.{◌≡◌, ◌≤◌, ◌+◌, ◌⊎◌, true, not, List, [], ◌∷◌, ◌++◌, length}
 use Rattle.std.specs.Prelude.{map}
 use Rattle.std.specs.List.{list_all}
 use Rattle.cqe_base.specs.Schema.{DatabaseSchema}
@@ -7,6 +7,8 @@ use Rattle.cqe_base.specs.Facts.{is_fact_of}
 use Rattle.cqe_base.specs.Formula.{nodes, is_sentence_of}
 use Rattle.cqe_base.specs.Entailment.{Signed, are_sentences_of}
 use Rattle.cqe_base.specs.Literal.{Literal, ClausesBelow, HaveNoRepeat}
+use Rattle.cqe_base.specs.SignedGround.{SignedGround}
+use Rattle.cqe_base.specs.GroundParts.{nodes_of_list}
 use Rattle.cqe_base.specs.Outcome.{grounded_signed}
 use Rattle.clause_form.specs.Forms.{Form, form_of}
 use Rattle.entailment.specs.Logs.{log_nodes, sentence_nodes}
@@ -19,24 +21,23 @@ form_of_log schema log = form_of (map (grounded_signed schema) log)
 abbrev pub with_negated : List Signed → Signed → List Signed
 with_negated premises goal = premises ++ (goal.0, not goal.1) ∷ []
 
--- a form to which sentences were added: where it was that of a log, it is now that of the longer
--- log
-abbrev pub HasAdded : DatabaseSchema → List Signed → (before after : Form) → Type 0
-HasAdded schema more before after =
-    (log : List Signed) → before ≡ form_of_log schema log → after ≡ form_of_log schema (log ++ more)
+-- a form to which formulas were added: where it was that of a list, it is now that of the longer
+-- list
+abbrev pub HasAdded : List SignedGround → (before after : Form) → Type 0
+HasAdded more before after =
+    (formulas : List SignedGround) → before ≡ form_of formulas → after ≡ form_of (formulas ++ more)
 
--- a form to which some sentences were added, or none
-abbrev pub GoesOn : DatabaseSchema → (before after : Form) → Type 0
-GoesOn schema before after =
-    (log : List Signed) → before ≡ form_of_log schema log
-    → (more : List Signed) × (after ≡ form_of_log schema (log ++ more))
+-- a form to which some formulas were added, or none
+abbrev pub GoesOn : (before after : Form) → Type 0
+GoesOn before after =
+    (formulas : List SignedGround) → before ≡ form_of formulas
+    → (more : List SignedGround) × (after ≡ form_of (formulas ++ more))
 
--- a form to which a premise, if there is one, and a negated goal were added
-abbrev pub HasProbe : DatabaseSchema → (premise : List Signed) (goal : Signed)
-    (before after : Form) → Type 0
-HasProbe schema premise goal before after =
-    (log : List Signed) → before ≡ form_of_log schema log
-    → after ≡ form_of_log schema (with_negated (log ++ premise) goal)
+-- a form is that of formulas which have, together with these, few nodes
+abbrev pub HasRoomFor : List SignedGround → Form → Type 0
+HasRoomFor more form =
+    (formulas : List SignedGround) × (form ≡ form_of formulas)
+    × (nodes_of_list formulas + nodes_of_list more ≤ 100000)
 
 -- a form is that of a log, and the log, the premise and the goal keep the limits of a probe
 pub record CanBeProbed (schema : DatabaseSchema) (premise : List Signed) (goal : Signed)
@@ -45,8 +46,6 @@ pub record CanBeProbed (schema : DatabaseSchema) (premise : List Signed) (goal :
   pub sentences : are_sentences_of schema log ≡ true
   pub premise_sentence : are_sentences_of schema premise ≡ true
   pub goal_sentence : is_sentence_of schema goal.0 ≡ true
-  pub premise_nodes : list_all (λ signed. nat_le (nodes schema signed.0) 20000) premise ≡ true
-  pub goal_nodes : nodes schema goal.0 ≤ 40000
   pub all_nodes : log_nodes schema log + sentence_nodes schema premise + nodes schema goal.0
       ≤ 100000
 

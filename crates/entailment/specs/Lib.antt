@@ -1,6 +1,7 @@
 pub mod Logs
 pub mod Views
 pub mod ViewCode
+pub mod GroundSentences
 pub mod Probes
 pub mod Forms
 pub mod Inside

@@ -1,5 +1,6 @@
 -- The verdict of a probe, by the end of the search machine.
 use Rattle.std.specs.Prelude.{◌≡◌, ℕ, List, ◌++◌, Option, Some, None, if◌then◌else◌}
+use Rattle.std.specs.FinSet as set
 use Rattle.cqe_base.specs.Schema.{DatabaseSchema}
 use Rattle.cqe_base.specs.Entailment.{Signed}
 use Rattle.cqe_base.specs.Literal.{sign_at}
@@ -9,6 +10,8 @@ use Rattle.cqe_base.specs.Machine.{End, Model, Refuted, end_within_budget}
 use Rattle.cqe_base.specs.Outcome.{grounded_probe}
 use Rattle.clause_form.specs.Forms.{Form}
 use Rattle.entailment.specs.Forms.{form_of_log, with_negated}
+use Rattle.entailment.specs.declared.probes.Wanted.{Wanted}
+use Rattle.entailment.specs.declared.probes.Wanted.TheVariants as wanted
 use Rattle.entailment.specs.declared.probes.Verdict.{Verdict}
 use Rattle.entailment.specs.declared.probes.Verdict.TheVariants.{Follows, Open, Spent}
 
@@ -25,6 +28,13 @@ abbrev pub verdict_of_end : List NumberedFact → Option End → Verdict
 verdict_of_end facts None = Spent
 verdict_of_end facts (Some (Refuted lines)) = Follows
 verdict_of_end facts (Some (Model signs)) = Open (world_of facts (sign_at signs))
+
+-- a verdict with its world, or where the outcome alone is wanted with the empty one
+abbrev pub as_wanted : Wanted → Verdict → Verdict
+as_wanted wanted.World verdict = verdict
+as_wanted wanted.Outcome Follows = Follows
+as_wanted wanted.Outcome (Open world) = Open set.empty
+as_wanted wanted.Outcome Spent = Spent
 
 -- the verdict of a probe is that of the machine's end
 abbrev pub verdict_of_probe : DatabaseSchema → List Signed → Signed → ℕ → Verdict
@@ -47,9 +57,9 @@ abbrev pub searched_verdict : Form → ℕ → Verdict
 searched_verdict form budget =
     checked_verdict form (end_within_budget form.clauses form.numbering.variables budget)
 
--- a verdict is the checked one of the probe of the log whose form it is
+-- a verdict is the checked one of the probe of the log whose form it is, as it is wanted
 abbrev pub IsCheckedOf : DatabaseSchema → (premise : List Signed) (goal : Signed) (budget : ℕ)
-    → Form → Verdict → Type 0
-IsCheckedOf schema premise goal budget form verdict =
-    (log : List Signed) → form ≡ form_of_log schema log
-    → verdict ≡ searched_verdict (form_of_log schema (with_negated (log ++ premise) goal)) budget
+    → Wanted → Form → Verdict → Type 0
+IsCheckedOf schema premise goal budget wanted form verdict =
+    (log : List Signed) → form ≡ form_of_log schema log → verdict ≡ as_wanted wanted
+    (searched_verdict (form_of_log schema (with_negated (log ++ premise) goal)) budget)

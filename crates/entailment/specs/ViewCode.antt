@@ -16,7 +16,8 @@ relation_code =
     code_by (Text × List ℕ) (coded× (coded_list coded_ℕ) (coded_list coded_ℕ))
     (λ r. (r.name, r.columns)) (λ p. record { name = p.0; columns = p.1 }) (λ _. refl)
 
-abbrev schema_code : Coded DatabaseSchema
+-- a schema is stored as its domains and its relations
+abbrev pub schema_code : Coded DatabaseSchema
 schema_code =
     code_by (List NamedDomain × List RelationSchema)
     (coded× (coded_list domain_code) (coded_list relation_code))

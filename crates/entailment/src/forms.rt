@@ -1,24 +1,21 @@
 //! The forms of logs, and of probes of them.
-ghost use Rattle.std.specs.Prelude.{◌≡◌, ◌≤◌, ◌<◌, ◌+◌, ◌^◌, true, nat_le, [], ◌∷◌, length};
-ghost use Rattle.std.specs.Prelude.{take, IfOk, OnOk, OnErr};
-ghost use Rattle.std.specs.List.{list_all};
+ghost use Rattle.std.specs.Prelude.{◌≡◌, ◌≤◌, ◌<◌, ◌+◌, ◌^◌, true, [], ◌∷◌, length, take};
+ghost use Rattle.std.specs.Prelude.{OnOk, OnErr};
 ghost use Rattle.cqe_base.specs.Formula.{formula_of, nodes, is_sentence_of};
-ghost use Rattle.cqe_base.specs.Ground.{ground_of, ground_nodes, grounded};
-ghost use Rattle.cqe_base.specs.Entailment.{are_sentences_of};
-ghost use Rattle.entailment.specs.Logs.{sentence_nodes, told_log, IsSmallLog};
-ghost use Rattle.entailment.specs.Forms.{form_of_log, HasAdded, HasProbe, IsForProbe, GoesOn};
-ghost use Rattle.entailment.specs.Probes.{premise_list, premise_of, goal_of};
+ghost use Rattle.cqe_base.specs.Outcome.{grounded_signed};
+ghost use Rattle.entailment.specs.Logs.{told_log, IsSmallLog};
+ghost use Rattle.entailment.specs.Forms.{form_of_log, HasAdded, HasRoomFor, GoesOn};
+ghost use Rattle.entailment.specs.Probes.{premise_props, added_by};
 
 use crate::probes::Probe;
+use crate::sentences::{GroundSentence, ground_formula};
 use crate::view::Told;
 use clause_form::former::Former;
 use clause_form::laws::law_added_forms_grow;
 use cqe_base::laws::law_grounded_nodes;
 use cqe_base::machine_laws::law_variables_are_few;
-use cqe_base::prop::Prop;
 use cqe_base::schema::Schema;
 use cqe_base::sentence::Sentence;
-use grounding::{GroundError, ground};
 use std::alloc::{AllocError, Global};
 
 /// Adds the sentences of a log that aren't formed yet. A refusal leaves out those from some one on.
@@ -51,41 +48,35 @@ pub(crate) fn form_rest(
 /// premise.
 pub(crate) fn add_probe(
     alloc: Global,
-    schema: &Schema,
     former: &mut Former,
     probe: &Probe<'_>,
 ) -> Result<(), AllocError>
-    requires { IsForProbe schema.now (premise_of probe.now) (goal_of probe.now) former.old }
-    ensures added { OnOk result
-        (HasProbe schema.now (premise_of probe.now) (goal_of probe.now) former.old former.new) }
-    ensures more { GoesOn schema.now former.old former.new }
+    requires { HasRoomFor (added_by probe.now) former.old }
+    ensures added { OnOk result (HasAdded (added_by probe.now) former.old former.new) }
+    ensures more { GoesOn former.old former.new }
 {
     law_variables_are_few();
-    law_grounded_nodes();
-    add_premise(alloc, schema, former, probe.premise)?;
+    law_added_forms_grow();
+    add_premise(alloc, former, probe.premise)?;
     let (goal, yes) = probe.goal;
-    add_sentence(alloc, schema, former, goal, !yes)?;
+    former.add(alloc, &goal.prop, !yes)?;
     Ok(())
 }
 
 /// Adds the premise, if there is one. A refusal changes nothing.
 fn add_premise(
     alloc: Global,
-    schema: &Schema,
     former: &mut Former,
-    premise: Option<(&Sentence, bool)>,
+    premise: Option<(&GroundSentence, bool)>,
 ) -> Result<(), AllocError>
-    requires sentence { are_sentences_of schema.now (premise_list premise) ≡ true }
-    requires small { list_all (λ signed. nat_le (nodes schema.now signed.0) 20000)
-        (premise_list premise) ≡ true }
-    requires room { former.old.numbering.variables
-        + sentence_nodes schema.now (premise_list premise) < 2 ^ 31 }
-    ensures added { OnOk result
-        (HasAdded schema.now (premise_list premise.entry) former.old former.new) }
+    requires { HasRoomFor (premise_props premise) former.old }
+    ensures added { OnOk result (HasAdded (premise_props premise.entry) former.old former.new) }
     ensures refused { OnErr result (former.new ≡ former.old) }
 {
+    law_variables_are_few();
+    law_added_forms_grow();
     match premise {
-        Some((sentence, yes)) => add_sentence(alloc, schema, former, sentence, yes),
+        Some((sentence, yes)) => former.add(alloc, &sentence.prop, yes),
         None => Ok(()),
     }
 }
@@ -103,26 +94,11 @@ pub(crate) fn add_sentence(
     requires room { former.old.numbering.variables + nodes schema.now (formula_of sentence.now)
         < 2 ^ 31 }
     ensures added { OnOk result
-        (HasAdded schema.now ((formula_of sentence.now, yes) ∷ []) former.old former.new) }
+        (HasAdded (grounded_signed schema.now (formula_of sentence.now, yes) ∷ [])
+        former.old former.new) }
     ensures refused { OnErr result (former.new ≡ former.old) }
 {
     law_added_forms_grow();
     let prop = ground_formula(alloc, schema, sentence)?;
     former.add(alloc, &prop, yes)
-}
-
-/// The ground formula of a sentence that isn't too large for one.
-fn ground_formula(alloc: Global, schema: &Schema, sentence: &Sentence) -> Result<Prop, AllocError>
-    requires sentence { is_sentence_of schema.now (formula_of sentence.now) ≡ true }
-    requires small { nodes schema.now (formula_of sentence.now) ≤ 40000 }
-    ensures grounded { IfOk result (λ prop. ground_of prop
-        ≡ grounded schema.now (formula_of sentence.now)) }
-    ensures same_nodes { IfOk result (λ prop. ground_nodes (ground_of prop)
-        ≡ nodes schema.now (formula_of sentence.now)) }
-{
-    match ground(alloc, schema, sentence) {
-        Ok(prop) => Ok(prop),
-        Err(GroundError::TooLarge) => unreachable!(),
-        Err(GroundError::Memory) => Err(AllocError),
-    }
 }

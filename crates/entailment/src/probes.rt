@@ -1,10 +1,9 @@
 //! Probes: the clause form of what is asked, the search, and the check of what it found.
-ghost use Rattle.std.specs.Prelude.{◌≡◌, ◌≤◌, ◌+◌, true, nat_le, ◌++◌, Some, IfOk};
-ghost use Rattle.std.specs.List.{list_all};
+ghost use Rattle.std.specs.Prelude.{◌≡◌, ◌≤◌, ◌+◌, true, ◌++◌, map, Some, IfOk};
 ghost use Rattle.cqe_base.specs.Formula.{nodes, is_sentence_of};
 ghost use Rattle.cqe_base.specs.Entailment.{are_sentences_of};
 ghost use Rattle.cqe_base.specs.Machine.{Model, Refuted};
-ghost use Rattle.cqe_base.specs.Outcome.{outcome};
+ghost use Rattle.cqe_base.specs.Outcome.{outcome, grounded_signed};
 ghost use Rattle.clause_store.specs.PlainLines.{lines_of};
 ghost use Rattle.clause_solver.specs.Beginnings.{IsBeginning};
 ghost use Rattle.entailment.specs.Logs.{log_nodes, sentence_nodes};
@@ -14,11 +13,15 @@ ghost use Rattle.entailment.specs.Views.{schema_of, log_of};
 ghost use Rattle.entailment.specs.Budgets.{IsSpentByCost};
 ghost use Rattle.entailment.specs.Models.{HaveModelsInWorlds};
 ghost use Rattle.entailment.specs.Verdicts.{verdict_of_probe, checked_verdict, searched_verdict};
-ghost use Rattle.entailment.specs.Verdicts.{IsCheckedOf};
-ghost use Rattle.entailment.specs.Probes.{premise_of, goal_of, outcome_of, IsTrueVerdict};
+ghost use Rattle.entailment.specs.Verdicts.{as_wanted, IsCheckedOf};
+ghost use Rattle.entailment.specs.GroundSentences.{IsGroundOver};
+ghost use Rattle.entailment.specs.Probes.{premise_of, goal_of, outcome_of, outcome_found};
+ghost use Rattle.entailment.specs.Probes.{IsTrueOutcome, IsTrueVerdict, IsGroundPremise};
+ghost use Rattle.entailment.specs.Probes.{added_by};
 
 use crate::forms::{add_probe, form_rest};
 use crate::laws::law_models_are_worlds_of_schema;
+use crate::sentences::GroundSentence;
 use crate::view::View;
 use clause_form::former::Former;
 use clause_solver::{Found, KeptSearch};
@@ -31,7 +34,6 @@ use cqe_base::machine_laws::{
     law_spent_is_cost, law_variables_are_few,
 };
 use cqe_base::schema::Schema;
-use cqe_base::sentence::Sentence;
 use cqe_base::world::World;
 use proof_check::model::check_model;
 use proof_check::refutation::check_refutation;
@@ -41,8 +43,8 @@ use std::alloc::{AllocError, Global};
 /// negation.
 #[derive(Clone, Copy)]
 pub struct Probe<'a> {
-    pub premise: Option<(&'a Sentence, bool)>,
-    pub goal: (&'a Sentence, bool),
+    pub premise: Option<(&'a GroundSentence, bool)>,
+    pub goal: (&'a GroundSentence, bool),
 }
 
 /// What a probe found.
@@ -56,6 +58,26 @@ pub enum Verdict {
     Spent,
 }
 
+/// What a probe found, without a world.
+#[derive(Clone, Copy)]
+pub enum ProbeOutcome {
+    /// The premises entail the goal.
+    Follows,
+    /// They don't.
+    Open,
+    /// The budget doesn't suffice.
+    Spent,
+}
+
+/// What is wanted of an open probe.
+#[derive(Clone, Copy)]
+enum Wanted {
+    /// That it is open; its verdict has the empty world.
+    Outcome,
+    /// The world of the machine's model.
+    World,
+}
+
 /// Runs a probe of the view's log with a budget. The clause form of the log, of the premise and of
 /// the negated goal is searched, and what the search found is checked before it is told. Each end
 /// of the machine is right, so the check never fails: a probe is spent for its cost alone.
@@ -67,12 +89,11 @@ pub fn test(
 ) -> Result<Verdict, AllocError>
     requires premise { are_sentences_of (schema_of view.old) (premise_of probe.now) ≡ true }
     requires goal { is_sentence_of (schema_of view.old) (goal_of probe.now).0 ≡ true }
-    requires premise_nodes { list_all (λ signed. nat_le (nodes (schema_of view.old) signed.0) 20000)
-        (premise_of probe.now) ≡ true }
-    requires goal_nodes { nodes (schema_of view.old) (goal_of probe.now).0 ≤ 40000 }
     requires all_nodes { log_nodes (schema_of view.old) (log_of view.old)
         + sentence_nodes (schema_of view.old) (premise_of probe.now)
         + nodes (schema_of view.old) (goal_of probe.now).0 ≤ 100000 }
+    requires grounded_premise { IsGroundPremise (schema_of view.old) probe.now.premise }
+    requires grounded_goal { IsGroundOver (schema_of view.old) probe.now.goal.0.now }
     requires budget { budget ≤ 4000000 }
     ensures outcome { IfOk result (λ verdict. outcome_of verdict
         ≡ outcome (schema_of view.old) (log_of view.old ++ premise_of probe.now)
@@ -82,6 +103,75 @@ pub fn test(
     ensures sound { IfOk result
         (IsTrueVerdict (schema_of view.old) (log_of view.old ++ premise_of probe.now)
         (goal_of probe.now)) }
+    ensures spent { IfOk result
+        (IsSpentByCost (schema_of view.old) (log_of view.old ++ premise_of probe.now)
+        (goal_of probe.now) budget) }
+    ensures models { IfOk result (λ verdict. HaveModelsInWorlds (schema_of view.old)
+        (with_negated (log_of view.old ++ premise_of probe.now) (goal_of probe.now))) }
+    ensures same { view.new ≡ view.old }
+{
+    run(alloc, view, probe, budget, Wanted::World)
+}
+
+/// The outcome of a probe, by the same search and the same check. No world is made, which for an
+/// open probe takes longer than all else.
+pub fn probe_outcome(
+    alloc: Global,
+    view: &mut View<'_>,
+    probe: &Probe<'_>,
+    budget: u64,
+) -> Result<ProbeOutcome, AllocError>
+    requires premise { are_sentences_of (schema_of view.old) (premise_of probe.now) ≡ true }
+    requires goal { is_sentence_of (schema_of view.old) (goal_of probe.now).0 ≡ true }
+    requires all_nodes { log_nodes (schema_of view.old) (log_of view.old)
+        + sentence_nodes (schema_of view.old) (premise_of probe.now)
+        + nodes (schema_of view.old) (goal_of probe.now).0 ≤ 100000 }
+    requires grounded_premise { IsGroundPremise (schema_of view.old) probe.now.premise }
+    requires grounded_goal { IsGroundOver (schema_of view.old) probe.now.goal.0.now }
+    requires budget { budget ≤ 4000000 }
+    ensures outcome { IfOk result (λ found. outcome_found found
+        ≡ outcome (schema_of view.old) (log_of view.old ++ premise_of probe.now)
+        (goal_of probe.now) budget) }
+    ensures sound { IfOk result (λ found.
+        IsTrueOutcome (schema_of view.old) (log_of view.old ++ premise_of probe.now)
+        (goal_of probe.now) (outcome_found found)) }
+    ensures same { view.new ≡ view.old }
+{
+    match run(alloc, view, probe, budget, Wanted::Outcome)? {
+        Verdict::Follows => Ok(ProbeOutcome::Follows),
+        Verdict::Open(_) => Ok(ProbeOutcome::Open),
+        Verdict::Spent => Ok(ProbeOutcome::Spent),
+    }
+}
+
+/// The verdict of a probe, with the world of an open one where that is wanted.
+fn run(
+    alloc: Global,
+    view: &mut View<'_>,
+    probe: &Probe<'_>,
+    budget: u64,
+    wanted: Wanted,
+) -> Result<Verdict, AllocError>
+    requires premise { are_sentences_of (schema_of view.old) (premise_of probe.now) ≡ true }
+    requires goal { is_sentence_of (schema_of view.old) (goal_of probe.now).0 ≡ true }
+    requires all_nodes { log_nodes (schema_of view.old) (log_of view.old)
+        + sentence_nodes (schema_of view.old) (premise_of probe.now)
+        + nodes (schema_of view.old) (goal_of probe.now).0 ≤ 100000 }
+    requires grounded_premise { IsGroundPremise (schema_of view.old) probe.now.premise }
+    requires grounded_goal { IsGroundOver (schema_of view.old) probe.now.goal.0.now }
+    requires budget { budget ≤ 4000000 }
+    ensures outcome { IfOk result (λ verdict. outcome_of verdict
+        ≡ outcome (schema_of view.old) (log_of view.old ++ premise_of probe.now)
+        (goal_of probe.now) budget) }
+    ensures end { IfOk result (λ verdict. verdict
+        ≡ as_wanted wanted (verdict_of_probe (schema_of view.old)
+        (log_of view.old ++ premise_of probe.now) (goal_of probe.now) budget)) }
+    ensures sound { IfOk result (λ verdict.
+        IsTrueOutcome (schema_of view.old) (log_of view.old ++ premise_of probe.now)
+        (goal_of probe.now) (outcome_of verdict)) }
+    ensures world { IfOk result (λ verdict. wanted ≡ Wanted.World
+        → IsTrueVerdict (schema_of view.old) (log_of view.old ++ premise_of probe.now)
+        (goal_of probe.now) verdict) }
     ensures spent { IfOk result
         (IsSpentByCost (schema_of view.old) (log_of view.old ++ premise_of probe.now)
         (goal_of probe.now) budget) }
@@ -114,6 +204,7 @@ pub fn test(
         &mut view.kept,
         probe,
         budget,
+        wanted,
     );
     view.former.cut(before);
     verdict
@@ -128,13 +219,17 @@ fn probed(
     kept: &mut KeptSearch,
     probe: &Probe<'_>,
     budget: u64,
+    wanted: Wanted,
 ) -> Result<Verdict, AllocError>
     requires form { IsForProbe schema.now (premise_of probe.now) (goal_of probe.now) former.old }
+    requires added { added_by probe.now ≡ map (grounded_signed schema.now)
+        (with_negated (premise_of probe.now) (goal_of probe.now)) }
     requires kept { IsBeginning kept.old former.old.clauses }
     requires budget { budget ≤ 4000000 }
     ensures verdict { IfOk result
-        (IsCheckedOf schema.now (premise_of probe.now) (goal_of probe.now) budget former.old) }
-    ensures more { GoesOn schema.now former.old former.new }
+        (IsCheckedOf schema.now (premise_of probe.now) (goal_of probe.now) budget wanted
+        former.old) }
+    ensures more { GoesOn former.old former.new }
     ensures kept { IsBeginning kept.new former.old.clauses }
 {
     law_clause_form_is_prefix();
@@ -146,8 +241,8 @@ fn probed(
     law_numbered_facts_are_of_schema();
     schema.known();
     kept.keep(alloc, former.clauses(), former.variables())?;
-    add_probe(alloc, schema, former, probe)?;
-    verdict_of(alloc, schema, former, kept, budget)
+    add_probe(alloc, former, probe)?;
+    verdict_of(alloc, schema, former, kept, budget, wanted)
 }
 
 /// Searches a form, and checks what was found.
@@ -157,16 +252,18 @@ fn verdict_of(
     former: &Former,
     kept: &mut KeptSearch,
     budget: u64,
+    wanted: Wanted,
 ) -> Result<Verdict, AllocError>
     requires searchable { IsSearchable schema.now former.now }
     requires kept { IsBeginning kept.old former.now.clauses }
     requires budget { budget ≤ 4000000 }
-    ensures verdict { IfOk result (λ verdict. verdict ≡ searched_verdict former.now budget) }
+    ensures verdict { IfOk result (λ verdict. verdict
+        ≡ as_wanted wanted (searched_verdict former.now budget)) }
     ensures kept { StaysOrEmpty kept.old kept.new }
 {
     match kept.search(alloc, former.clauses(), former.variables(), budget)? {
         Found::Refuted(refutation) => checked_refutation(alloc, former, &refutation),
-        Found::Model(signs) => checked_model(alloc, schema, former, &signs),
+        Found::Model(signs) => checked_model(alloc, schema, former, &signs, wanted),
         Found::Spent => Ok(Verdict::Spent),
     }
 }
@@ -177,8 +274,8 @@ fn checked_refutation(
     former: &Former,
     refutation: &Refutation,
 ) -> Result<Verdict, AllocError>
-    ensures { IfOk result (λ verdict. verdict
-        ≡ checked_verdict former.now (Some (Refuted (lines_of refutation.now)))) }
+    ensures { IfOk result (λ verdict. (wanted : Wanted) → verdict ≡ as_wanted wanted
+        (checked_verdict former.now (Some (Refuted (lines_of refutation.now))))) }
 {
     if check_refutation(alloc, former.clauses(), refutation)? {
         Ok(Verdict::Follows)
@@ -193,14 +290,17 @@ fn checked_model(
     schema: &Schema,
     former: &Former,
     signs: &Signs,
+    wanted: Wanted,
 ) -> Result<Verdict, AllocError>
     requires { IsSearchable schema.now former.now }
-    ensures { IfOk result (λ verdict. verdict
-        ≡ checked_verdict former.now (Some (Model signs.now.values.items))) }
+    ensures { IfOk result (λ verdict. verdict ≡ as_wanted wanted
+        (checked_verdict former.now (Some (Model signs.now.values.items)))) }
 {
-    if check_model(former.clauses(), signs) {
-        Ok(Verdict::Open(former.world_of(alloc, schema, signs)?))
-    } else {
-        Ok(Verdict::Spent)
+    if !check_model(former.clauses(), signs) {
+        return Ok(Verdict::Spent);
+    }
+    match wanted {
+        Wanted::Outcome => Ok(Verdict::Open(World::new(alloc))),
+        Wanted::World => Ok(Verdict::Open(former.world_of(alloc, schema, signs)?)),
     }
 }

@@ -5,13 +5,14 @@ ghost use Rattle.cqe_base.specs.Formula.{formula_of, nodes, is_sentence_of};
 ghost use Rattle.cqe_base.specs.Entailment.{are_sentences_of};
 ghost use Rattle.entailment.specs.Logs.{log_nodes, sentence_nodes};
 ghost use Rattle.entailment.specs.Views.{schema_of, log_of};
-ghost use Rattle.entailment.specs.Probes.{premise_list};
+ghost use Rattle.entailment.specs.GroundSentences.{IsGroundOver};
+ghost use Rattle.entailment.specs.Probes.{premise_list, IsGroundPremise};
 
 use cqe_base::schema::Schema;
 use cqe_base::sentence::{Constant, Sentence, Term, Terms, nodes};
 use cqe_base::user::{Method, User};
 use cqe_base::well_formed::is_sentence_of;
-use entailment::{Probe, Verdict, View, test};
+use entailment::{GroundSentence, Probe, Verdict, View, test};
 use std::alloc::{AllocError, Global};
 use std::process::Abort;
 use std::test::Fail;
@@ -78,8 +79,22 @@ fn fits(schema: &Schema, sentence: &Sentence) -> bool
     is_sentence_of(schema, sentence) && nodes(sentence, schema) <= 10_000
 }
 
+/// A sentence that fits, with its ground formula.
+fn ground_sentence(
+    rt: &impl Abort,
+    alloc: Global,
+    schema: &Schema,
+    sentence: Sentence,
+) -> Result<GroundSentence, AllocError>
+    ensures { IfOk result (IsGroundOver schema.now) }
+{
+    assert!(rt; fits(schema, &sentence));
+    let made = GroundSentence::new(alloc, schema, sentence)?;
+    Ok(made)
+}
+
 /// Whether there is no premise, or one that fits.
-fn premise_fits(schema: &Schema, premise: Option<(&Sentence, bool)>) -> bool
+fn premise_fits(schema: &Schema, premise: Option<(&GroundSentence, bool)>) -> bool
     ensures sentence { IsTrue result
         → are_sentences_of schema.now (premise_list premise.entry) ≡ true }
     ensures each { IsTrue result
@@ -88,7 +103,7 @@ fn premise_fits(schema: &Schema, premise: Option<(&Sentence, bool)>) -> bool
     ensures small { IsTrue result → sentence_nodes schema.now (premise_list premise.entry) ≤ 10000 }
 {
     match premise {
-        Some((sentence, _)) => fits(schema, sentence),
+        Some((premise, _)) => fits(schema, &premise.sentence),
         None => true,
     }
 }
@@ -126,11 +141,13 @@ fn found(
 ) -> Result<String, Fail>
     requires schema { schema_of view.old ≡ schema.now }
     requires size { log_nodes (schema_of view.old) (log_of view.old) ≤ 30000 }
+    requires grounded_premise { IsGroundPremise schema.now probe.now.premise }
+    requires grounded_goal { IsGroundOver schema.now probe.now.goal.0.now }
     ensures schema { schema_of view.new ≡ schema_of view.old }
     ensures log { log_of view.new ≡ log_of view.old }
 {
     let (goal, _) = probe.goal;
-    assert!(rt; fits(schema, goal));
+    assert!(rt; fits(schema, &goal.sentence));
     assert!(rt; premise_fits(schema, probe.premise));
     assert!(rt; budget <= 4_000_000);
     let verdict = test(alloc, view, probe, budget)?;
@@ -187,19 +204,25 @@ fn worked_probes(rt: HostRuntime) -> Result<(), Fail> {
     for (number, (premise, goal, budget, wanted)) in CASES.iter().enumerate() {
         let mut view = rule_view(&rt, alloc, &schema)?;
         let (relation, person, yes) = *goal;
-        let goal = of(alloc, relation, person)?;
-        let (further, is_true) = match premise {
-            Some((relation, person, yes)) => (Some(of(alloc, *relation, *person)?), *yes),
-            None => (None, true),
+        let goal = ground_sentence(&rt, alloc, &schema, of(alloc, relation, person)?)?;
+        let found = match premise {
+            Some((relation, person, is_true)) => {
+                let further = of(alloc, *relation, *person)?;
+                let further = ground_sentence(&rt, alloc, &schema, further)?;
+                let probe = Probe {
+                    premise: Some((&further, *is_true)),
+                    goal: (&goal, yes),
+                };
+                found(&rt, alloc, &schema, &mut view, &probe, *budget)?
+            }
+            None => {
+                let probe = Probe {
+                    premise: None,
+                    goal: (&goal, yes),
+                };
+                found(&rt, alloc, &schema, &mut view, &probe, *budget)?
+            }
         };
-        let probe = Probe {
-            premise: match &further {
-                Some(sentence) => Some((sentence, is_true)),
-                None => None,
-            },
-            goal: (&goal, yes),
-        };
-        let found = found(&rt, alloc, &schema, &mut view, &probe, *budget)?;
         assert_eq!(rt; found.as_str(), *wanted, "case {number}");
     }
     Ok(())
@@ -211,7 +234,7 @@ fn views_learn_between_probes(rt: HostRuntime) -> Result<(), Fail> {
     let alloc = rt.alloc();
     let schema = hospital(alloc)?;
     let mut view = rule_view(&rt, alloc, &schema)?;
-    let goal = of(alloc, DRUG, BOB)?;
+    let goal = ground_sentence(&rt, alloc, &schema, of(alloc, DRUG, BOB)?)?;
     let probe = Probe {
         premise: None,
         goal: (&goal, false),

@@ -23,7 +23,7 @@ use cqe_base::schema::Schema;
 use cqe_base::sentence::Sentence;
 use cqe_base::user::{Entry, Mark, Method, User};
 use cqe_base::world::World;
-use entailment::{Probe, Verdict, View, test};
+use entailment::{GroundSentence, Probe, Verdict, View, test};
 use std::alloc::{AllocError, Global};
 
 /// Confidentiality: a legal history of an admitted user of the schema hides his secrets. It
@@ -79,7 +79,7 @@ pub fn other_world(
     schema.known();
     let mut view = told_view(alloc, schema, user, entries)?;
     let goal = guard(alloc, user, secret)?;
-    countermodel(alloc, &mut view, &goal)
+    countermodel(alloc, schema, &mut view, goal)
 }
 
 /// The view whose log is that of the entries.
@@ -139,27 +139,30 @@ fn guard(alloc: Global, user: &User, secret: u32) -> Result<Sentence, AllocError
 /// A world in which the log is true and the goal false, where the log doesn't entail the goal.
 fn countermodel(
     alloc: Global,
+    schema: &Schema,
     view: &mut View<'_>,
-    goal: &Sentence,
+    goal: Sentence,
 ) -> Result<Option<World>, AllocError>
-    requires sentence { is_sentence_of (schema_of view.old) (formula_of goal.now) ≡ true }
-    requires goal_nodes { nodes (schema_of view.old) (formula_of goal.now) ≤ 40000 }
+    requires schema { schema_of view.old ≡ schema.now }
+    requires sentence { is_sentence_of (schema_of view.old) (formula_of goal) ≡ true }
+    requires goal_nodes { nodes (schema_of view.old) (formula_of goal) ≤ 40000 }
     requires log_nodes { log_nodes (schema_of view.old) (log_of view.old) ≤ 60000 }
-    requires unknown { entails (schema_of view.old) (log_of view.old) (formula_of goal.now, true)
+    requires unknown { entails (schema_of view.old) (log_of view.old) (formula_of goal, true)
         ≡ false }
     ensures open { IfOk result (λ found.
         IfSome found (IsCountermodel (schema_of view.old) (log_of view.old)
-        (formula_of goal.now, true))) }
+        (formula_of goal, true))) }
     ensures spent { IfOk result (λ found. IsNone found
         ↔ (outcome (schema_of view.old) (log_of view.old)
-        (formula_of goal.now, true) admission_budget ≡ Spent)) }
+        (formula_of goal, true) admission_budget ≡ Spent)) }
     ensures world { IfOk result (λ found. found ≡ world_in (verdict_of_probe (schema_of view.old)
-        (log_of view.old) (formula_of goal.now, true) admission_budget)) }
+        (log_of view.old) (formula_of goal, true) admission_budget)) }
 {
     law_entailment();
+    let goal = GroundSentence::new(alloc, schema, goal)?;
     let probe = Probe {
         premise: None,
-        goal: (goal, true),
+        goal: (&goal, true),
     };
     match test(alloc, view, &probe, ADMISSION_BUDGET)? {
         Verdict::Open(world) => Ok(Some(world)),

@@ -4,10 +4,11 @@ use Rattle.cqe_base.specs.Schema.{DatabaseSchema}
 use Rattle.cqe_base.specs.Facts.{FactSet}
 use Rattle.cqe_base.specs.Entailment.{Signed}
 use Rattle.cqe_base.specs.History.{UserProfile, History, log, view_size}
-use Rattle.cqe_base.specs.Censor.{IsLegal}
+use Rattle.cqe_base.specs.Censor.{IsLegal, guarded}
 use Rattle.cqe_base.specs.FormulaCode.{formula_set}
 use Rattle.std.proofs.Props.{props}
 use Rattle.cqe_base.specs.Limits.{KeepsLimits, KeepsSizes}
+use Rattle.censors.specs.Guards.{GuardedSentences}
 
 -- the log and the sizes are those of the entries, which are legal and were added within the limits
 pub record IsConsistentLog (schema : DatabaseSchema) (world : FactSet) (user : UserProfile)
@@ -28,3 +29,14 @@ pub IsConsistentLog-prop : (schema : DatabaseSchema) (world : FactSet) (user : U
     → IsProp (IsConsistentLog schema world user entries log_schema log_kept text_bytes view_nodes)
 IsConsistentLog-prop schema world user entries log_schema log_kept text_bytes view_nodes =
     hlevel (props, formula_set)
+
+-- the guards are over the schema, and what is guarded from the user
+pub record AreGuardsOf (schema : DatabaseSchema) (user : UserProfile) (guards : GuardedSentences) :
+    Type 0 where
+  pub schema_is : guards.schema ≡ schema
+  pub guarded_are : guards.sentences ≡ guarded user
+
+-- a fact that holds in one way
+pub AreGuardsOf-prop : (schema : DatabaseSchema) (user : UserProfile) (guards : GuardedSentences)
+    → IsProp (AreGuardsOf schema user guards)
+AreGuardsOf-prop schema user guards = hlevel (props, formula_set)

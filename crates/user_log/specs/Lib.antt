@@ -1,5 +1,5 @@
 pub mod Replies
--- a definition, and a proof, which a ghost field names: IsConsistentLog-prop
+-- definitions, and proofs, which ghost fields name: IsConsistentLog-prop, AreGuardsOf-prop
 pub mod Kept
 pub mod Asked
 pub mod UserLogs

@@ -11,16 +11,17 @@ ghost use Rattle.cqe_base.specs.Limits.{KeepsLimits, KeepsSizes};
 ghost use Rattle.entailment.specs.Views.{schema_of, log_of, room_of};
 ghost use Rattle.entailment.specs.Logs.{log_nodes};
 ghost use Rattle.user_log.specs.Nodes.{told_nodes};
-ghost use Rattle.user_log.specs.Kept.{IsConsistentLog, IsConsistentLog-prop};
+ghost use Rattle.user_log.specs.Kept.{IsConsistentLog, IsConsistentLog-prop, AreGuardsOf, AreGuardsOf-prop};
+ghost use Rattle.entailment.specs.GroundSentences.{sentence_of, IsGroundOver};
 
 use crate::{Prepared, Reply, Weighed};
-use censors::{decide, examine, law_undecided_is_cost};
+use censors::{Guards, decide, examine, law_undecided_is_cost};
 use cqe_base::laws::{law_findings_decide, law_legal_grows, law_limits, law_logs, law_reading};
 use cqe_base::schema::Schema;
 use cqe_base::sentence::{Sentence, nodes};
 use cqe_base::user::{Entry, Mark, User};
 use cqe_base::world::World;
-use entailment::View;
+use entailment::{GroundSentence, View};
 use sentence_text::{ReadError, read_sentence};
 use std::alloc::{AllocError, Global};
 use truth_eval::holds;
@@ -43,6 +44,7 @@ pub struct UserLog<'w> {
     schema: &'w Schema,
     world: &'w World,
     user: &'w User,
+    guards: Guards<'w>,
     view: View<'w>,
     entries: Vec<Entry>,
     text_bytes: u64,
@@ -50,6 +52,8 @@ pub struct UserLog<'w> {
     ghost kept: { IsConsistentLog schema.now world.now (profile_of user.now)
         (map answered_query_of entries.items) (schema_of view) (log_of view)
         text_bytes view_nodes } by { IsConsistentLog-prop _ _ _ _ _ _ _ _ },
+    ghost guarding: { AreGuardsOf schema.now
+        (profile_of user.now) guards } by { AreGuardsOf-prop _ _ _ },
 }
 
 impl<'w> UserLog<'w> {
@@ -78,11 +82,13 @@ impl<'w> UserLog<'w> {
         law_legal_grows();
         schema.known();
         let view_nodes = user.view_nodes(schema);
+        let guards = Guards::new(alloc, schema, user)?;
         let view = View::new(alloc, schema, user)?;
         Ok(UserLog {
             schema,
             world,
             user,
+            guards,
             view,
             entries: Vec::new(alloc),
             text_bytes: 0,
@@ -125,6 +131,7 @@ impl<'w> UserLog<'w> {
             (IsUndecidedByCost (kept_schema self.old) (kept_user self.old)
             (kept_history self.old)) }
     {
+        law_limits();
         let query = match read_sentence(alloc, self.schema, text) {
             Ok(query) => query,
             Err(ReadError::Text(error)) => return Ok(Weighed::Code(Reply::Syntax(error))),
@@ -136,8 +143,9 @@ impl<'w> UserLog<'w> {
         if self.is_too_large(&query) {
             return Ok(Weighed::Code(Reply::Size));
         }
+        let query = GroundSentence::new(alloc, self.schema, query)?;
         let mark = self.mark(alloc, &query)?;
-        Ok(Weighed::Answer(query, mark))
+        Ok(Weighed::Answer(query.sentence, mark))
     }
 
     /// Whether the entries, or the texts with one of this length, are too many.
@@ -159,23 +167,24 @@ impl<'w> UserLog<'w> {
     }
 
     /// The mark of a query by the rule.
-    fn mark(&mut self, alloc: Global, query: &Sentence) -> Result<Mark, AllocError>
-        requires sentence { is_sentence_of (kept_schema self.old) (formula_of query.now) ≡ true }
+    fn mark(&mut self, alloc: Global, query: &GroundSentence) -> Result<Mark, AllocError>
+        requires sentence { is_sentence_of (kept_schema self.old) (sentence_of query.now) ≡ true }
+        requires grounded { IsGroundOver (kept_schema self.old) query.now }
         requires small { is_too_large (kept_schema self.old) (kept_user self.old)
-            (kept_history self.old) (formula_of query.now) ≡ false }
+            (kept_history self.old) (sentence_of query.now) ≡ false }
         ensures same { self.new ≡ self.old }
         ensures rule { IfOk result (λ mark. mark
             ≡ rule (kept_schema self.old) (kept_world self.old) (kept_user self.old)
-            (log (kept_user self.old) (kept_history self.old)) (formula_of query.now)) }
+            (log (kept_user self.old) (kept_history self.old)) (sentence_of query.now)) }
         ensures undecided { IfOk result (λ mark.
             IsMarkByCost (kept_schema self.old) (kept_user self.old) (kept_history self.old)
-            (formula_of query.now) mark) }
+            (sentence_of query.now) mark) }
     {
         law_limits();
         law_findings_decide();
         law_undecided_is_cost();
-        let findings = examine(alloc, &mut self.view, self.user, query)?;
-        let truth = holds(self.schema, self.world, query);
+        let findings = examine(alloc, &mut self.view, &self.guards, self.user, query)?;
+        let truth = holds(self.schema, self.world, &query.sentence);
         Ok(decide(self.user.method, &findings, truth))
     }
 

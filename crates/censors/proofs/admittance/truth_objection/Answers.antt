@@ -1,6 +1,6 @@
 use Rattle.std.proofs.Common.{not, sym, ap, ◌∙◌}
 use Rattle.std.specs.Prelude.{option_map}
-use Rattle.cqe_base.specs.Formula.{is_sentence_of}
+use Rattle.cqe_base.specs.Formula.{formula_of, is_sentence_of}
 use Rattle.cqe_base.specs.Truth.{true_in}
 use Rattle.censors.specs.declared.admittance.Admission.TheVariants.{KnowFalse}
 use Rattle.censors.proofs.Probing.{each_passes}
@@ -9,7 +9,7 @@ use Rattle.censors.proofs.admittance.truth_objection.Goals as goal
 
 pub holds-requires : goal.holds-requires
 holds-requires c =
-    each_passes (is_sentence_of c.args.schema.now) c.args.sentences.now c.loop-number.number c.index-sentences-number.result c.index-sentences-number.is
+    each_passes formula_of (is_sentence_of c.args.schema.now) c.args.sentences.now c.loop-number.number c.index-sentences-number.result c.index-sentences-number.is
     c.loop-number-test.true c.requires.sentences
 
 pub returns-then-not-holds : goal.returns-then-not-holds

@@ -1,29 +1,30 @@
-use Rattle.std.proofs.Common.{◌++◌, [], ap, ◌∙◌, append_assoc}
-use Rattle.cqe_base.specs.Formula.{nodes}
-use Rattle.entailment.specs.Forms.{form_of_log, with_negated}
-use Rattle.entailment.specs.Probes.{premise_of, goal_of}
-use Rattle.entailment.proofs.LogForms.{room-for-goal, premise-fits}
+use Rattle.std.proofs.Common.{[], ◌∷◌, sym, subst}
+use Rattle.cqe_base.specs.SignedGround.{negated}
+use Rattle.clause_form.specs.Forms.{Form}
+use Rattle.entailment.specs.Forms.{HasAdded}
+use Rattle.entailment.specs.Probes.{premise_props, prop_at, added_by}
+use Rattle.entailment.proofs.LogForms.{has_added, has_added-both, has_added-goes_on, room-for-first, room-for-rest, room-for-one}
 use Rattle.entailment.proofs.forms.add_probe.Goals as goal
 
-pub add_premise-requires-clause-room : goal.add_premise-requires-clause-room
-add_premise-requires-clause-room c =
-    premise-fits c.law_variables_are_few.ensures c.law_grounded_nodes.ensures c.args.schema.now c.requires.0 (premise_of c.args.probe.now)
-    (goal_of c.args.probe.now) c.args.former.now c.requires.1
+pub add_premise-requires : goal.add_premise-requires
+add_premise-requires c =
+    room-for-first (premise_props c.args.probe.now.premise) (negated (prop_at c.args.probe.now.goal) ∷ []) c.args.former.now c.requires
 
-pub add_sentence-requires-clause-room : goal.add_sentence-requires-clause-room
-add_sentence-requires-clause-room c =
-    room-for-goal c.law_variables_are_few.ensures c.law_grounded_nodes.ensures c.args.schema.now c.requires.0 (premise_of c.args.probe.now)
-    (nodes c.args.schema.now (goal_of c.args.probe.now).0) c.add_premise.new.former
-    (c.in_ok-add_premise.ensures.added c.requires.0 c.requires.1.form_is) c.requires.1.all_nodes
+pub add-requires : goal.add-requires
+add-requires c =
+    let premise = premise_props c.args.probe.now.premise in
+    let goal_added = negated (prop_at c.args.probe.now.goal) in
+    room-for-one c.law_variables_are_few.ensures goal_added c.add_premise.new.former
+    (room-for-rest premise (goal_added ∷ []) c.args.former.now c.add_premise.new.former c.requires c.in_ok-add_premise.ensures.added)
 
 pub returns-clause-added : goal.returns-clause-added
 returns-clause-added c =
-    λ log is. c.in_ok-add_sentence.ensures.added (log ++ premise_of c.args.probe.now) (c.in_ok-add_premise.ensures.added log is)
+    let goal_added = negated (prop_at c.args.probe.now.goal) in
+    has_added-both (premise_props c.args.probe.now.premise) (goal_added ∷ []) c.args.former.now c.add_premise.new.former c.add.new.self
+    c.in_ok-add_premise.ensures.added
+    (subst (λ (after : Form). HasAdded (goal_added ∷ []) c.add_premise.new.former after) (sym c.in_ok-add.ensures.added)
+    (has_added c.law_added_forms_grow.ensures goal_added c.add_premise.new.former))
 
 pub returns-clause-more : goal.returns-clause-more
 returns-clause-more c =
-    λ log is. (
-      with_negated (premise_of c.args.probe.now) (goal_of c.args.probe.now),
-      c.in_ok-add_sentence.ensures.added (log ++ premise_of c.args.probe.now) (c.in_ok-add_premise.ensures.added log is)
-          ∙ ap (form_of_log c.args.schema.now) (append_assoc log (premise_of c.args.probe.now) (with_negated [] (goal_of c.args.probe.now))),
-    )
+    has_added-goes_on (added_by c.args.probe.now) c.args.former.now c.add.new.self (returns-clause-added c)

@@ -1,4 +1,7 @@
-use Rattle.std.proofs.Common.{take, refl, sym, ap, ◌∙◌, arith}
+use Rattle.std.proofs.Common.{map, take, refl, sym, ap, ◌∙◌, arith}
+use Rattle.std.proofs.lemmas.List.{map-append}
+use Rattle.cqe_base.specs.Outcome.{grounded_signed}
+use Rattle.clause_form.specs.Forms.{form_of}
 use Rattle.entailment.specs.Logs.{told_log}
 use Rattle.entailment.specs.Forms.{form_of_log}
 use Rattle.entailment.proofs.LogItems.{item-sentence, item-small, item-more, nodes-before}
@@ -28,10 +31,12 @@ add_sentence-requires-clause-room c =
 pub loop-number-preserved : goal.loop-number-preserved
 loop-number-preserved c =
     let from = c.loop-number.invariant.from in
+    let before = take c.loop-number.number (told_log c.args.log.now) in
     record {
       from = omega arith;
       formed = refl;
-      form = c.in_ok-add_sentence.ensures.added (take c.loop-number.number (told_log c.args.log.now)) c.loop-number.invariant.form
+      form = c.in_ok-add_sentence.ensures.added (map (grounded_signed c.args.schema.now) before) c.loop-number.invariant.form
+          ∙ ap form_of (sym (map-append (grounded_signed c.args.schema.now) before _))
           ∙ ap (form_of_log c.args.schema.now)
           (sym (item-more c.args.log.now c.loop-number.number c.index-log-number.result c.loop-number-test.true c.index-log-number.is));
     }

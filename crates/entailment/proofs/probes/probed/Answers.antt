@@ -1,10 +1,11 @@
-use Rattle.std.proofs.Common.{length, ap, ◌∙◌, arith}
+use Rattle.std.proofs.Common.{length, map, ap, ◌∙◌, arith}
 use Rattle.std.proofs.lemmas.Result.{IfOk-weaker}
+use Rattle.cqe_base.specs.Outcome.{grounded_signed}
 use Rattle.entailment.specs.Forms.{IsSearchable}
-use Rattle.entailment.specs.Probes.{premise_of, goal_of}
-use Rattle.entailment.specs.Verdicts.{searched_verdict}
-use Rattle.entailment.proofs.LogForms.{probe-searchable, own-searchable}
-use Rattle.entailment.proofs.KeptClauses.{none-begins, all-begin, stays-begins, begins-more, log-begins}
+use Rattle.entailment.specs.Probes.{premise_of, goal_of, added_by}
+use Rattle.entailment.specs.Verdicts.{as_wanted, searched_verdict}
+use Rattle.entailment.proofs.LogForms.{probe-searchable, own-searchable, probe-room, probe-added}
+use Rattle.entailment.proofs.KeptClauses.{none-begins, all-begin, stays-begins, begins-more, form-begins}
 use Rattle.entailment.proofs.probes.probed.Goals as goal
 
 pub keep-requires-clause-variables : goal.keep-requires-clause-variables
@@ -23,6 +24,11 @@ keep-requires-clause-room c =
     c.args.schema.now c.requires.form.0 (premise_of c.args.probe.now) (goal_of c.args.probe.now) c.args.former.now c.known.ensures c.requires.form.1 in
     omega (arith, searchable.few_clauses, ap length c.clauses.ensures)
 
+pub add_probe-requires : goal.add_probe-requires
+add_probe-requires c =
+    probe-room c.law_grounded_nodes.ensures c.args.schema.now c.requires.form.0 (premise_of c.args.probe.now) (goal_of c.args.probe.now)
+    (added_by c.args.probe.now) c.args.former.now c.requires.added c.requires.form.1
+
 pub returns-in_err-keep-clause-kept : goal.returns-in_err-keep-clause-kept
 returns-in_err-keep-clause-kept c = none-begins c.keep.new.self c.args.former.now.clauses c.in_err-keep.ensures.refused
 
@@ -30,9 +36,10 @@ pub verdict_of-requires-clause-kept : goal.verdict_of-requires-clause-kept
 verdict_of-requires-clause-kept c =
     let log = c.requires.form.0 in
     let is = c.requires.form.1.form_is in
-    let more = c.in_ok-add_probe.ensures.more log is in
+    let formulas = map (grounded_signed c.args.schema.now) log in
+    let more = c.in_ok-add_probe.ensures.more formulas is in
     begins-more c.keep.new.self c.args.former.now.clauses c.add_probe.new.former.clauses (c.in_ok-keep.ensures.kept ∙ c.clauses.ensures)
-    (log-begins c.law_clause_form_is_prefix.ensures c.args.schema.now log more.0 c.args.former.now c.add_probe.new.former is more.1)
+    (form-begins c.law_clause_form_is_prefix.ensures formulas more.0 c.args.former.now c.add_probe.new.former is more.1)
 
 pub returns-clause-kept : goal.returns-clause-kept
 returns-clause-kept c =
@@ -46,11 +53,14 @@ verdict_of-requires-clause-searchable c =
     probe-searchable c.law_variables_are_few.ensures c.law_grounded_nodes.ensures c.law_clause_form_uses_its_variables.ensures
     c.law_clause_form_has_no_repeat.ensures c.law_numbered_facts_are_few.ensures c.law_numbered_facts_are_of_schema.ensures
     c.args.schema.now log (premise_of c.args.probe.now) (goal_of c.args.probe.now) c.add_probe.new.former
-    (c.in_ok-add_probe.ensures.added log can.form_is)
+    (probe-added c.args.schema.now log (premise_of c.args.probe.now) (goal_of c.args.probe.now) (added_by c.args.probe.now) c.args.former.now
+    c.add_probe.new.former c.requires.added c.in_ok-add_probe.ensures.added can.form_is)
     c.known.ensures can.sentences can.premise_sentence can.goal_sentence can.all_nodes
 
 pub returns-clause-verdict : goal.returns-clause-verdict
 returns-clause-verdict c =
     IfOk-weaker c.verdict_of.result _ _
-    (λ verdict is log at. is ∙ ap (λ form. searched_verdict form c.args.budget) (c.in_ok-add_probe.ensures.added log at))
+    (λ verdict is log at. is ∙ ap (λ form. as_wanted c.args.wanted (searched_verdict form c.args.budget))
+    (probe-added c.args.schema.now log (premise_of c.args.probe.now) (goal_of c.args.probe.now) (added_by c.args.probe.now) c.args.former.now
+    c.add_probe.new.former c.requires.added c.in_ok-add_probe.ensures.added at))
     c.verdict_of.ensures.verdict

@@ -41,4 +41,5 @@ invariant_of-self c =
           c.requires.mark
           (grind (arith, common_steps)) c.tell.ensures.schema
           (c.tell.ensures.told ∙ ap (λ q. log_of before.view ++ told_by entry.mark q) c.requires.told) c.from.ensures c.requires.nodes;
+      guarding = before.guarding;
     }

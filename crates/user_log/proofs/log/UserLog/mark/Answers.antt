@@ -1,9 +1,10 @@
 use Rattle.std.proofs.Common.{◌≤◌, ◌+◌, true, map, sym, ap, subst, ◌∙◌}
-use Rattle.cqe_base.specs.Formula.{formula_of, nodes}
+use Rattle.cqe_base.specs.Formula.{nodes}
 use Rattle.cqe_base.specs.History.{profile_of, answered_query_of}
 use Rattle.cqe_base.specs.Censor.{mark_by}
 use Rattle.entailment.specs.Logs.{log_nodes}
 use Rattle.entailment.specs.Views.{log_of}
+use Rattle.entailment.specs.GroundSentences.{sentence_of, IsGroundOver}
 use Rattle.user_log.specs.UserLogs.{kept_schema, kept_world, kept_user, kept_history}
 use Rattle.user_log.proofs.Keeping.{decided}
 use Rattle.user_log.proofs.SameLogs.{kept_with, same_log}
@@ -14,20 +15,26 @@ pub examine-requires-clause-all_nodes : goal.examine-requires-clause-all_nodes
 examine-requires-clause-all_nodes c =
     let kept = c.args.self.now.kept in
     let schema = c.args.self.now.schema.now in
-    let query = formula_of c.args.query.now in
+    let query = sentence_of c.args.query.now in
     let fits = c.law_limits.ensures.queries schema (profile_of c.args.self.now.user.now)
     (map answered_query_of c.args.self.now.entries.items) query kept.limits c.requires.small in
     subst (λ s. log_nodes s (log_of c.args.self.now.view) + nodes s query ≤ 60000) (sym kept.schema_is)
     (subst (λ told. log_nodes schema told + nodes schema query ≤ 60000) (sym kept.log_is) (fits.log_nodes true))
 
+pub examine-requires-clause-guards_schema : goal.examine-requires-clause-guards_schema
+examine-requires-clause-guards_schema c = c.args.self.now.guarding.schema_is ∙ sym c.args.self.now.kept.schema_is
+
+pub examine-requires-clause-grounded : goal.examine-requires-clause-grounded
+examine-requires-clause-grounded c = subst (λ s. IsGroundOver s c.args.query.now) (sym c.args.self.now.kept.schema_is) c.requires.grounded
+
 pub invariant_of-self : goal.invariant_of-self
-invariant_of-self c = record { kept = kept_with c.args.self.now c.examine.new.view c.examine.ensures.same }
+invariant_of-self c = record { kept = kept_with c.args.self.now c.examine.new.view c.examine.ensures.same; guarding = c.args.self.now.guarding }
 
 pub returns-in_err-findings-clause-same : goal.returns-in_err-findings-clause-same
-returns-in_err-findings-clause-same c = same_log c.args.self.now c.examine.new.view c.examine.ensures.same _
+returns-in_err-findings-clause-same c = same_log c.args.self.now c.examine.new.view c.examine.ensures.same _ _
 
 pub returns-clause-same : goal.returns-clause-same
-returns-clause-same c = same_log c.args.self.now c.examine.new.view c.examine.ensures.same _
+returns-clause-same c = same_log c.args.self.now c.examine.new.view c.examine.ensures.same _ _
 
 pub returns-clause-rule : goal.returns-clause-rule
 returns-clause-rule c =
@@ -40,5 +47,5 @@ returns-clause-rule c =
 pub returns-clause-undecided : goal.returns-clause-undecided
 returns-clause-undecided c =
     let self = c.args.self.now in
-    mark_by_cost c.law_undecided_is_cost.ensures (kept_schema self) (kept_world self) (kept_user self) (kept_history self) (formula_of c.args.query.now) _
+    mark_by_cost c.law_undecided_is_cost.ensures (kept_schema self) (kept_world self) (kept_user self) (kept_history self) (sentence_of c.args.query.now) _
     (returns-clause-rule c)

@@ -1,19 +1,21 @@
-use Rattle.std.proofs.Common.{◌≡◌, ◌≤◌, ◌++◌, true, length, take, refl, ap, sym, subst, ◌∙◌}
+use Rattle.std.proofs.Common.{◌≡◌, ◌≤◌, ◌++◌, true, length, map, take, refl, ap, sym, subst, ◌∙◌}
 use Rattle.std.proofs.lemmas.Result.{IfOk-weaker}
 use Rattle.cqe_base.specs.Schema.{is_valid_schema}
-use Rattle.clause_form.specs.Forms.{Form, size_of}
+use Rattle.cqe_base.specs.Outcome.{grounded_signed}
+use Rattle.clause_form.specs.Forms.{Form, form_of, size_of}
 use Rattle.clause_solver.specs.Beginnings.{IsBeginning}
 use Rattle.entailment.specs.Logs.{told_log}
 use Rattle.entailment.specs.Views.{schema_of, log_of}
 use Rattle.entailment.specs.Forms.{form_of_log, with_negated, IsForProbe}
-use Rattle.entailment.specs.Probes.{premise_of, goal_of, outcome_of}
-use Rattle.entailment.proofs.LogForms.{premises-sentences, probe-sentences}
-use Rattle.entailment.proofs.ViewForms.{cut-back, is-within}
+use Rattle.entailment.specs.GroundSentences.{IsGroundOver}
+use Rattle.entailment.specs.Probes.{premise_of, goal_of, outcome_of, IsTrueOutcome, IsGroundPremise}
+use Rattle.entailment.proofs.LogForms.{premises-sentences, probe-sentences, added-is}
 use Rattle.entailment.proofs.KeptClauses.{taken-begins}
 use Rattle.entailment.proofs.OpenViews.{schema-is, own-small, own-form, own-verdict}
-use Rattle.entailment.proofs.Verdicts.{outcome-is, verdict-is, true-verdict}
+use Rattle.entailment.specs.Verdicts.{as_wanted, searched_verdict}
+use Rattle.entailment.proofs.Verdicts.{wanted-outcome, outcome-is, verdict-is, true-outcome, true-verdict}
 use Rattle.entailment.proofs.CostBounds.{spent-by-cost}
-use Rattle.entailment.proofs.probes.test.Goals as goal
+use Rattle.entailment.proofs.probes.run.Goals as goal
 
 pub probed-verdict-requires-clause-form : goal.probed-verdict-requires-clause-form
 probed-verdict-requires-clause-form c =
@@ -28,19 +30,24 @@ probed-verdict-requires-clause-form c =
         sentences = small.sentences;
         premise_sentence = c.requires.premise;
         goal_sentence = c.requires.goal;
-        premise_nodes = c.requires.premise_nodes;
-        goal_nodes = c.requires.goal_nodes;
         all_nodes = c.requires.all_nodes;
       },
     )
 
+pub probed-verdict-requires-clause-added : goal.probed-verdict-requires-clause-added
+probed-verdict-requires-clause-added c =
+    let probe = c.args.probe.now in
+    let same = schema-is c.view.inside _ c.view.view_is c.view.invariant in
+    added-is c.view.inside.schema.now probe
+    (subst (λ s. IsGroundPremise s probe.premise) (sym same) c.requires.grounded_premise)
+    (subst (λ s. IsGroundOver s probe.goal.0.now) (sym same) c.requires.grounded_goal)
+
 pub cut-requires : goal.cut-requires
 cut-requires c =
     let v = c.view.inside in
-    let log = told_log c.as_slice.result.now in
-    let more = c.probed-verdict.ensures.more log c.in_ok-form_rest.ensures.whole in
-    is-within v.schema.now log more.0 c.probed-verdict.new.former c.mark-before.result more.1
-    (c.mark-before.ensures ∙ ap size_of c.in_ok-form_rest.ensures.whole)
+    let formulas = map (grounded_signed v.schema.now) (told_log c.as_slice.result.now) in
+    let more = c.probed-verdict.ensures.more formulas c.in_ok-form_rest.ensures.whole in
+    (formulas, more.0, more.1, c.mark-before.ensures ∙ ap size_of c.in_ok-form_rest.ensures.whole)
 
 pub probed-verdict-requires-clause-kept : goal.probed-verdict-requires-clause-kept
 probed-verdict-requires-clause-kept c =
@@ -66,11 +73,10 @@ pub invariant_of-view-2 : goal.invariant_of-view-2
 invariant_of-view-2 c =
     let v = c.view.inside in
     let same = c.as_slice.ensures.value in
-    let log = take c.form_rest.new.formed (told_log c.as_slice.result.now) in
-    let more = c.probed-verdict.ensures.more log c.form_rest.ensures.form in
-    let back : c.cut.new.self ≡ form_of_log v.schema.now log =
-    cut-back v.schema.now log more.0 c.probed-verdict.new.former c.cut.new.self c.mark-before.result c.cut.ensures more.1
-    (c.mark-before.ensures ∙ ap size_of c.form_rest.ensures.form) in
+    let formulas = map (grounded_signed v.schema.now) (take c.form_rest.new.formed (told_log c.as_slice.result.now)) in
+    let more = c.probed-verdict.ensures.more formulas c.form_rest.ensures.form in
+    let back : c.cut.new.self ≡ form_of formulas =
+    c.cut.ensures formulas more.0 more.1 (c.mark-before.ensures ∙ ap size_of c.form_rest.ensures.form) in
     record {
       small = c.view.invariant.small;
       within = subst (λ items. c.form_rest.new.formed ≤ length (told_log items)) same c.form_rest.ensures.within;
@@ -84,11 +90,15 @@ returns-clause-outcome c =
     let probe = c.args.probe.now in
     let premises = log_of view ++ premise_of probe in
     IfOk-weaker c.probed-verdict.result _ _
-    (λ verdict checked. outcome-is (schema_of view) premises (goal_of probe) c.args.budget
-    (form_of_log (schema_of view) (with_negated premises (goal_of probe))) refl verdict
+    (λ verdict checked.
+    let searched = searched_verdict (form_of_log (schema_of view) (with_negated premises (goal_of probe))) c.args.budget in
+    ap outcome_of
     (own-verdict c.view.inside _ c.view.view_is c.view.invariant c.as_slice.result.now c.as_slice.ensures.value
     c.form_rest.new.former c.in_ok-form_rest.ensures.whole
-    (premise_of probe) (goal_of probe) c.args.budget verdict checked))
+    (premise_of probe) (goal_of probe) c.args.budget c.args.wanted verdict checked)
+    ∙ wanted-outcome c.args.wanted searched
+    ∙ outcome-is (schema_of view) premises (goal_of probe) c.args.budget
+    (form_of_log (schema_of view) (with_negated premises (goal_of probe))) refl searched refl)
     c.probed-verdict.ensures.verdict
 
 pub returns-clause-end : goal.returns-clause-end
@@ -97,13 +107,16 @@ returns-clause-end c =
     let probe = c.args.probe.now in
     let premises = log_of view ++ premise_of probe in
     IfOk-weaker c.probed-verdict.result _ _
-    (λ verdict checked. verdict-is (schema_of view) premises (goal_of probe) c.args.budget
-    (form_of_log (schema_of view) (with_negated premises (goal_of probe))) refl verdict
-    (own-verdict c.view.inside _ c.view.view_is c.view.invariant c.as_slice.result.now c.as_slice.ensures.value
+    (λ verdict checked.
+    own-verdict c.view.inside _ c.view.view_is c.view.invariant c.as_slice.result.now c.as_slice.ensures.value
     c.form_rest.new.former c.in_ok-form_rest.ensures.whole
-    (premise_of probe) (goal_of probe) c.args.budget verdict checked)
+    (premise_of probe) (goal_of probe) c.args.budget c.args.wanted verdict checked
+    ∙ ap (as_wanted c.args.wanted)
+    (verdict-is (schema_of view) premises (goal_of probe) c.args.budget
+    (form_of_log (schema_of view) (with_negated premises (goal_of probe))) refl
+    (searched_verdict (form_of_log (schema_of view) (with_negated premises (goal_of probe))) c.args.budget) refl
     c.law_clause_form_uses_its_variables.ensures c.law_clause_form_has_no_repeat.ensures
-    c.law_budget_is_whole_cost.ensures c.law_machine_ends_are_right.ensures)
+    c.law_budget_is_whole_cost.ensures c.law_machine_ends_are_right.ensures))
     c.probed-verdict.ensures.verdict
 
 pub returns-clause-sound : goal.returns-clause-sound
@@ -113,12 +126,40 @@ returns-clause-sound c =
     let premises = log_of view ++ premise_of probe in
     let small = own-small c.view.inside _ c.view.view_is c.view.invariant in
     let same = schema-is c.view.inside _ c.view.view_is c.view.invariant in
+    let searched = searched_verdict (form_of_log (schema_of view) (with_negated premises (goal_of probe))) c.args.budget in
     IfOk-weaker c.probed-verdict.result _ _
-    (λ verdict checked. true-verdict (schema_of view) premises (goal_of probe) c.args.budget
+    (λ verdict checked.
+    subst (IsTrueOutcome (schema_of view) premises (goal_of probe))
+    (sym (ap outcome_of
+    (own-verdict c.view.inside _ c.view.view_is c.view.invariant c.as_slice.result.now c.as_slice.ensures.value
+    c.form_rest.new.former c.in_ok-form_rest.ensures.whole
+    (premise_of probe) (goal_of probe) c.args.budget c.args.wanted verdict checked)
+    ∙ wanted-outcome c.args.wanted searched))
+    (true-outcome (schema_of view) premises (goal_of probe) searched
+    (true-verdict (schema_of view) premises (goal_of probe) c.args.budget
+    (form_of_log (schema_of view) (with_negated premises (goal_of probe))) refl searched refl
+    c.law_refutation_entails.ensures c.law_model_is_countermodel.ensures
+    (subst (λ s. is_valid_schema s ≡ true) same c.known.ensures)
+    (premises-sentences (schema_of view) (log_of view) (premise_of probe) small.sentences c.requires.premise)
+    c.requires.goal)))
+    c.probed-verdict.ensures.verdict
+
+pub returns-clause-world : goal.returns-clause-world
+returns-clause-world c =
+    let view = c.args.view.now in
+    let probe = c.args.probe.now in
+    let premises = log_of view ++ premise_of probe in
+    let small = own-small c.view.inside _ c.view.view_is c.view.invariant in
+    let same = schema-is c.view.inside _ c.view.view_is c.view.invariant in
+    IfOk-weaker c.probed-verdict.result _ _
+    (λ verdict checked is.
+    let searched = searched_verdict (form_of_log (schema_of view) (with_negated premises (goal_of probe))) c.args.budget in
+    true-verdict (schema_of view) premises (goal_of probe) c.args.budget
     (form_of_log (schema_of view) (with_negated premises (goal_of probe))) refl verdict
     (own-verdict c.view.inside _ c.view.view_is c.view.invariant c.as_slice.result.now c.as_slice.ensures.value
     c.form_rest.new.former c.in_ok-form_rest.ensures.whole
-    (premise_of probe) (goal_of probe) c.args.budget verdict checked)
+    (premise_of probe) (goal_of probe) c.args.budget c.args.wanted verdict checked
+    ∙ ap (λ w. as_wanted w searched) is)
     c.law_refutation_entails.ensures c.law_model_is_countermodel.ensures
     (subst (λ s. is_valid_schema s ≡ true) same c.known.ensures)
     (premises-sentences (schema_of view) (log_of view) (premise_of probe) small.sentences c.requires.premise)
