@@ -11,7 +11,8 @@ ghost use Rattle.cqe_base.specs.Limits.{KeepsLimits, KeepsSizes};
 ghost use Rattle.entailment.specs.Views.{schema_of, log_of, room_of};
 ghost use Rattle.entailment.specs.Logs.{log_nodes};
 ghost use Rattle.user_log.specs.Nodes.{told_nodes};
-ghost use Rattle.user_log.specs.Kept.{IsConsistentLog, IsConsistentLog-prop, AreGuardsOf, AreGuardsOf-prop};
+ghost use Rattle.user_log.specs.Kept.{IsConsistentLog, IsConsistentLog-prop, AreGuardsOf};
+ghost use Rattle.user_log.specs.Kept.{AreGuardsOf-prop};
 ghost use Rattle.entailment.specs.GroundSentences.{sentence_of, IsGroundOver};
 
 use crate::{Prepared, Reply, Weighed};
