@@ -13,6 +13,7 @@ ghost use Rattle.cqe_base.specs.OtherWorlds.{IsLegalSomewhere, guard_at};
 ghost use Rattle.cqe_base.specs.Secrecies.{LiarsKeepNoSecrecy};
 ghost use Rattle.entailment.specs.Logs.{log_nodes};
 ghost use Rattle.entailment.specs.Views.{schema_of, log_of};
+ghost use Rattle.entailment.specs.GroundSentences.{sentence_of, IsGroundOver};
 ghost use Rattle.entailment.specs.Verdicts.{verdict_of_probe};
 ghost use Rattle.two_worlds.specs.Others.{HidesSecret};
 ghost use Rattle.two_worlds.specs.OtherWorld.{world_in, other_world_of, IsOneForLies};
@@ -78,8 +79,8 @@ pub fn other_world(
     law_alike();
     schema.known();
     let mut view = told_view(alloc, schema, user, entries)?;
-    let goal = guard(alloc, user, secret)?;
-    countermodel(alloc, schema, &mut view, goal)
+    let goal = ground_guard(alloc, schema, user, secret)?;
+    countermodel(alloc, &mut view, &goal)
 }
 
 /// The view whose log is that of the entries.
@@ -124,6 +125,24 @@ fn tell(alloc: Global, view: &mut View<'_>, entry: &Entry) -> Result<(), AllocEr
     }
 }
 
+/// What is guarded in the place of a secret, with its ground formula.
+fn ground_guard(
+    alloc: Global,
+    schema: &Schema,
+    user: &User,
+    secret: u32,
+) -> Result<GroundSentence, AllocError>
+    requires limits { KeepsLimits schema.now (profile_of user.now) }
+    requires secret { secret < vec_len user.now.secrets }
+    ensures grounded { IfOk result (IsGroundOver schema.now) }
+    ensures guard { IfOk result (λ made. sentence_of made ≡ guard_at (profile_of user.now) secret) }
+{
+    law_limits();
+    let sentence = guard(alloc, user, secret)?;
+    let made = GroundSentence::new(alloc, schema, sentence)?;
+    Ok(made)
+}
+
 /// What is guarded in the place of a secret: for lying the disjunction of the secrets, and else the
 /// secret.
 fn guard(alloc: Global, user: &User, secret: u32) -> Result<Sentence, AllocError>
@@ -139,30 +158,28 @@ fn guard(alloc: Global, user: &User, secret: u32) -> Result<Sentence, AllocError
 /// A world in which the log is true and the goal false, where the log doesn't entail the goal.
 fn countermodel(
     alloc: Global,
-    schema: &Schema,
     view: &mut View<'_>,
-    goal: Sentence,
+    goal: &GroundSentence,
 ) -> Result<Option<World>, AllocError>
-    requires schema { schema_of view.old ≡ schema.now }
-    requires sentence { is_sentence_of (schema_of view.old) (formula_of goal) ≡ true }
-    requires goal_nodes { nodes (schema_of view.old) (formula_of goal) ≤ 40000 }
+    requires sentence { is_sentence_of (schema_of view.old) (sentence_of goal.now) ≡ true }
+    requires grounded { IsGroundOver (schema_of view.old) goal.now }
+    requires goal_nodes { nodes (schema_of view.old) (sentence_of goal.now) ≤ 40000 }
     requires log_nodes { log_nodes (schema_of view.old) (log_of view.old) ≤ 60000 }
-    requires unknown { entails (schema_of view.old) (log_of view.old) (formula_of goal, true)
+    requires unknown { entails (schema_of view.old) (log_of view.old) (sentence_of goal.now, true)
         ≡ false }
     ensures open { IfOk result (λ found.
         IfSome found (IsCountermodel (schema_of view.old) (log_of view.old)
-        (formula_of goal, true))) }
+        (sentence_of goal.now, true))) }
     ensures spent { IfOk result (λ found. IsNone found
         ↔ (outcome (schema_of view.old) (log_of view.old)
-        (formula_of goal, true) admission_budget ≡ Spent)) }
+        (sentence_of goal.now, true) admission_budget ≡ Spent)) }
     ensures world { IfOk result (λ found. found ≡ world_in (verdict_of_probe (schema_of view.old)
-        (log_of view.old) (formula_of goal, true) admission_budget)) }
+        (log_of view.old) (sentence_of goal.now, true) admission_budget)) }
 {
     law_entailment();
-    let goal = GroundSentence::new(alloc, schema, goal)?;
     let probe = Probe {
         premise: None,
-        goal: (&goal, true),
+        goal: (goal, true),
     };
     match test(alloc, view, &probe, ADMISSION_BUDGET)? {
         Verdict::Open(world) => Ok(Some(world)),

@@ -9,6 +9,7 @@ use Rattle.cqe_base.specs.History.{profile_of, answered_query_of, log}
 use Rattle.cqe_base.specs.OtherWorlds.{guard_at}
 use Rattle.cqe_base.specs.Censor.{admission_budget}
 use Rattle.entailment.specs.Views.{schema_of, log_of}
+use Rattle.entailment.specs.GroundSentences.{sentence_of, IsGroundOver}
 use Rattle.entailment.specs.Verdicts.{verdict_of_probe}
 use Rattle.two_worlds.specs.Others.{HidesSecret}
 use Rattle.two_worlds.specs.OtherWorld.{world_in}
@@ -19,7 +20,7 @@ pub countermodel-requires-clause-sentence : goal.countermodel-requires-clause-se
 countermodel-requires-clause-sentence c =
     let user = profile_of c.args.user.now in
     let fits = c.law_limits.ensures.probes c.args.schema.now user c.requires.limits in
-    (λ k. is_sentence_of (c.in_ok-view.ensures.schema k) (c.in_ok-goal.ensures k))
+    (λ k. is_sentence_of (c.in_ok-view.ensures.schema k) (c.in_ok-goal.ensures.guard k))
     ∙ guard_passes c.args.schema.now user (map answered_query_of c.args.entries.now) c.args.secret
     (omega (
       arith,
@@ -28,12 +29,16 @@ countermodel-requires-clause-sentence c =
       c.requires.secret,
     )) (is_sentence_of c.args.schema.now) fits.guarded_sentences
 
+pub countermodel-requires-clause-grounded : goal.countermodel-requires-clause-grounded
+countermodel-requires-clause-grounded c =
+    subst (λ schema. IsGroundOver schema c.in_ok-goal.goal) (sym c.in_ok-view.ensures.schema) c.in_ok-goal.ensures.grounded
+
 pub countermodel-requires-clause-goal_nodes : goal.countermodel-requires-clause-goal_nodes
 countermodel-requires-clause-goal_nodes c =
     let user = profile_of c.args.user.now in
     let fits = c.law_limits.ensures.probes c.args.schema.now user c.requires.limits in
-    let same : nodes (schema_of c.in_ok-view.view) (formula_of c.in_ok-goal.goal) ≡ nodes c.args.schema.now (guard_at user c.args.secret) =
-    λ k. nodes (c.in_ok-view.ensures.schema k) (c.in_ok-goal.ensures k) in
+    let same : nodes (schema_of c.in_ok-view.view) (sentence_of c.in_ok-goal.goal) ≡ nodes c.args.schema.now (guard_at user c.args.secret) =
+    λ k. nodes (c.in_ok-view.ensures.schema k) (c.in_ok-goal.ensures.guard k) in
     subst (λ n. n ≤ 40000) (sym same) (leb-true _ 40000
     (guard_passes c.args.schema.now user (map answered_query_of c.args.entries.now) c.args.secret
     (omega (
@@ -46,9 +51,9 @@ countermodel-requires-clause-goal_nodes c =
 pub returns-clause-spent : goal.returns-clause-spent
 returns-clause-spent c =
     let user = profile_of c.args.user.now in
-    let same : outcome (schema_of c.in_ok-view.view) (log_of c.in_ok-view.view) (formula_of c.in_ok-goal.goal, true) admission_budget
+    let same : outcome (schema_of c.in_ok-view.view) (log_of c.in_ok-view.view) (sentence_of c.in_ok-goal.goal, true) admission_budget
     ≡ outcome c.args.schema.now (log user (map answered_query_of c.args.entries.now)) (guard_at user c.args.secret, true) admission_budget =
-    λ k. outcome (c.in_ok-view.ensures.schema k) (c.in_ok-view.ensures.log k) (c.in_ok-goal.ensures k, true) admission_budget in
+    λ k. outcome (c.in_ok-view.ensures.schema k) (c.in_ok-view.ensures.log k) (c.in_ok-goal.ensures.guard k, true) admission_budget in
     IfOk-weaker c.countermodel.result _ _
     (λ found both. (λ none. sym same ∙ both.0 none, λ spent. both.1 (same ∙ spent)))
     c.countermodel.ensures.spent
@@ -57,7 +62,7 @@ pub countermodel-requires-clause-unknown : goal.countermodel-requires-clause-unk
 countermodel-requires-clause-unknown c =
     let user = profile_of c.args.user.now in
     let entries = map answered_query_of c.args.entries.now in
-    (λ k. entails (c.in_ok-view.ensures.schema k) (c.in_ok-view.ensures.log k) (c.in_ok-goal.ensures k, true))
+    (λ k. entails (c.in_ok-view.ensures.schema k) (c.in_ok-view.ensures.log k) (c.in_ok-goal.ensures.guard k, true))
     ∙ unknown c.args.schema.now user entries c.args.secret
     (omega (
       arith,
@@ -70,7 +75,7 @@ pub returns-clause-hides : goal.returns-clause-hides
 returns-clause-hides c =
     let user = profile_of c.args.user.now in
     let entries = map answered_query_of c.args.entries.now in
-    of_found (IsCountermodel (schema_of c.in_ok-view.view) (log_of c.in_ok-view.view) (formula_of c.in_ok-goal.goal, true))
+    of_found (IsCountermodel (schema_of c.in_ok-view.view) (log_of c.in_ok-view.view) (sentence_of c.in_ok-goal.goal, true))
     (HidesSecret c.args.schema.now user entries c.args.secret)
     (λ other is. hidden c.args.schema.now user entries c.args.secret
     (omega (
@@ -81,14 +86,14 @@ returns-clause-hides c =
     )) other c.law_alike.ensures.disjunctions c.law_alike.ensures.alike c.law_alike.ensures.replies c.requires.legal
     (subst (λ schema. IsCountermodel schema (log user entries) (guard_at user c.args.secret, true) other) c.in_ok-view.ensures.schema
     (subst (λ told. IsCountermodel (schema_of c.in_ok-view.view) told (guard_at user c.args.secret, true) other) c.in_ok-view.ensures.log
-    (subst (λ goal. IsCountermodel (schema_of c.in_ok-view.view) (log_of c.in_ok-view.view) (goal, true) other) c.in_ok-goal.ensures is))))
+    (subst (λ goal. IsCountermodel (schema_of c.in_ok-view.view) (log_of c.in_ok-view.view) (goal, true) other) c.in_ok-goal.ensures.guard is))))
     c.countermodel.result c.countermodel.ensures.open
 
 pub returns-clause-world : goal.returns-clause-world
 returns-clause-world c =
     IfOk-weaker c.countermodel.result _ _
     (λ found is. is ∙ λ k. world_in (verdict_of_probe (c.in_ok-view.ensures.schema k)
-    (c.in_ok-view.ensures.log k) (c.in_ok-goal.ensures k, true) admission_budget))
+    (c.in_ok-view.ensures.log k) (c.in_ok-goal.ensures.guard k, true) admission_budget))
     c.countermodel.ensures.world
 
 pub returns-clause-one_for_lies : goal.returns-clause-one_for_lies
