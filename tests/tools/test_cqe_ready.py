@@ -28,7 +28,8 @@ class Ready(unittest.TestCase):
         self.assertEqual(heard, ["login ready ready"])
 
     def test_a_server_that_closes_at_first(self) -> None:
-        with serving(Line.close, answering("error 25")) as address:
+        # Many, since only some of them close before the login is written.
+        with serving(*[Line.close] * 10, answering("error 25")) as address:
             self.assertEqual(self.status(address, "30"), 0)
 
     def test_a_server_that_is_silent(self) -> None:

@@ -140,6 +140,8 @@ CASES_OF_2 = {
     "a secrecy that is a number": (of_2('["hiv(ann)", 7]'), "policy 3 users[0].secrecies", (12, 26, "7"), ["integer"]),
     "a secrecy that is no sentence": (of_2('["hiv(ann)", "hiv(carl)"]'), "policy 6 users[0].secrecies[1] 3 4",
                                       (12, 31, "carl"), ["secrecies[1]", "'carl'"]),
+    "secrets that are a number": (of_2('["hiv(ann)"]', "7"), "policy 3 users[0].secrets", (13, 11, "7"),
+                                  ["integer", "1 to 16", "in version 2 also of none"]),
     "nine secrecies": (of_2(listed(9)), "policy 7 users[0].secrecies", None, ["9 sentences", "at most 8", "joined"]),
     "17 secrets": (of_2("[]", listed(17)), "policy 7 users[0].secrets", None, ["17 sentences", "at most 16", "'or'"]),
     "15 secrets and a secrecy": (of_2('["hiv(ann)"]', listed(15)), "policy 7 users[0].secrecies",

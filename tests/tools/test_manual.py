@@ -82,6 +82,15 @@ class Codes(unittest.TestCase):
         for cause in self.rows("CAUSE is the first of these"):
             self.assertRegex(page, rf"\n\.BI? {re.match('`([a-z ]*[a-z])', cause)[1]}\b")
 
+    def test_keys_and_lines(self) -> None:
+        """That the section FILES TO WRITE has each key of a policy's user and each line of a case."""
+        page = CQE.read_text(encoding="utf-8").partition(".SH FILES TO WRITE\n")[2].partition(".SH ")[0]
+        keys, lines = self.rows("## The policy file"), self.rows("## Scripts of `case`")
+        words = {word for cell in keys + lines for word in re.findall(r"`([a-z]+)", cell)}
+        self.assertLessEqual({"know", "secrecies", "secrecy", "token"}, words)
+        for word in sorted(words):
+            self.assertRegex(page, rf"\b{word}\b")
+
     def test_kinds(self) -> None:
         page = CQE.read_text(encoding="utf-8").partition(".SH KINDS\n")[2]
         kinds = {title: re.findall(r"^\.BI? (\d)\b", text, re.MULTILINE)

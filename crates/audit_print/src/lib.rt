@@ -1,5 +1,5 @@
-//! The audit of one user: his history, and for each secret another world that gives him the same
-//! replies.
+//! The audit of one user: his history, for each secret another world that gives him the same
+//! replies, and for each secrecy two, one in which it is true and one in which it is false.
 //!
 //! `audit` prints what a desk holds, as text or as JSON. Byte for byte it is the text of a
 //! definition over the desk's standing and history and over worlds of which each hides its secret;

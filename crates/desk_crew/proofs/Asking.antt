@@ -18,7 +18,8 @@ use Rattle.censors.specs.Admitting.{admission_of}
 module _ {D : Type 0} {g h : _} where
   -- what was settled at a desk was told at its seat
   pub told_of : (old new : DeskSeat D g h) (text : Text) (reply : Run.Reply) → seat_user new ≡ seat_user old
-      → new.admission ≡ old.admission → seat_journal new ≡ seat_journal old → new.refusal ≡ old.refusal → seat_kept new ≡ seat_kept old → (seat_kept old).user ≡ profile_of (seat_user old)
+      → new.admission ≡ old.admission → seat_journal new ≡ seat_journal old → new.refusal ≡ old.refusal → seat_kept new ≡ seat_kept old
+      → (seat_kept old).user ≡ profile_of (seat_user old)
       → ((state : UserState) → IsSeatIn old state → IsAskOf (seat_kept old).schema (seat_kept old).world (seat_kept old).user (IsSeatIn new) state text reply)
       → IsToldAt (seat_kept old).schema (seat_kept old).world text reply old new
   told_of old new text reply user_is admission_is journal_is refusal_is kept_is is settled = record {

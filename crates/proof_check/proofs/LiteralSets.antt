@@ -193,21 +193,49 @@ resolved_on set c d l e none h =
     subst (IsSetOfResult true set)
     (sym (ap (λ ls. resolvent_on ls c d) (only_one (clashes c d) l e) ∙ ap (λ b. cond b None (Some (resolvent (variable_of l) c d))) none)) (refl, h)
 
--- the literal goes, the other clause's literals join, unless that has the literal itself
-pub resolved_by : (joined : Bool) (set removed after c d : List Literal) (l : Literal) → IsSetOf set c → Some l ≡ only (clashes c d)
-    → has_literal c (opposite l) ≡ false
-    → ((m : Literal) → has_literal removed m ≡ (has_literal set m && not (same_literal m l)))
-    → joined ≡ not (has_literal d l)
-    → (joined ≡ true → (m : Literal) → has_literal after m ≡ (has_literal removed m || has_literal (without_variable (variable_of l) d) m))
-    → IsSetOfResult joined after (single_resolvent c d)
-resolved_by true set removed after c d l same e none gone without joined =
-    resolved_on after c d l e (or_from _ _ none (is_not (has_literal d l) (sym without))) (λ m.
-    joined refl m
-    ∙ ap (λ b. b || has_literal (without_variable (variable_of l) d) m)
-    (gone m ∙ ap (λ b. b && not (same_literal m l)) (same m) ∙ sym (without_single l c none m))
-    ∙ sym (has_union (without_variable (variable_of l) c) (without_variable (variable_of l) d) m))
-resolved_by false set removed after c d l same e none gone without joined =
-    not_resolved_on after c d l e (or_right _ _ (is_yes (has_literal d l) (sym without)))
+-- the same of the opposite of one that a clause hasn't
+without_other : (l : Literal) (d : List Literal) → has_literal d l ≡ false → (m : Literal)
+    → has_literal (without_variable (variable_of l) d) m ≡ (has_literal d m && not (same_literal m (opposite l)))
+without_other (Positive v) d none m = without_single (Negative v) d none m
+without_other (Negative v) d none m = without_single (Positive v) d none m
+
+not_opposite : (l : Literal) → same_literal l (opposite l) ≡ false
+not_opposite (Positive v) = refl
+not_opposite (Negative v) = refl
+
+both_or_first : (x y n : Bool) → (n ≡ false → x ≡ false) → ((x || y) && n) ≡ (x || (y && n))
+both_or_first true y true h = refl
+both_or_first true y false h = absurd (both_ways true (h refl) refl)
+both_or_first false y n h = refl
+
+-- a literal goes, the other clause's literals join, and the literal's opposite goes
+module _ (set removed joined after c d : List Literal) (l : Literal) (same : IsSetOf set c) (is : Some l ≡ only (clashes c d))
+    (none : has_literal c (opposite l) ≡ false) (gone : (m : Literal) → has_literal removed m ≡ (has_literal set m && not (same_literal m l)))
+    (more : (m : Literal) → has_literal joined m ≡ (has_literal removed m || has_literal d m))
+    (less : (m : Literal) → has_literal after m ≡ (has_literal joined m && not (same_literal m (opposite l)))) where
+  left_of : (m : Literal) → has_literal removed m ≡ has_literal (without_variable (variable_of l) c) m
+  left_of m = gone m ∙ ap (λ b. b && not (same_literal m l)) (same m) ∙ sym (without_single l c none m)
+
+  -- the literal is there again exactly where the other clause has it
+  again : has_literal after l ≡ has_literal d l
+  again =
+      less l ∙ ap (λ b. has_literal joined l && not b) (not_opposite l) ∙ and_true (has_literal joined l) ∙ more l
+      ∙ ap (λ b. b || has_literal d l) (gone l ∙ ap (λ b. has_literal set l && not b) (same_literal-same l) ∙ and_false (has_literal set l))
+
+  not_first : (m : Literal) → not (same_literal m (opposite l)) ≡ false → has_literal removed m ≡ false
+  not_first m e =
+      gone m ∙ and_left _ _ (same m ∙ ap (has_literal c) (same_literal-true m (opposite l) (is_yes _ e)) ∙ none)
+
+  pub resolved_by : (resolved : Bool) → resolved ≡ not (has_literal after l) → IsSetOfResult resolved after (single_resolvent c d)
+  resolved_by true e =
+      let without : has_literal d l ≡ false = sym again ∙ is_not (has_literal after l) (sym e) in
+      resolved_on after c d l is (or_from _ _ none without) (λ m.
+      less m ∙ ap (λ b. b && not (same_literal m (opposite l))) (more m)
+      ∙ both_or_first (has_literal removed m) (has_literal d m) (not (same_literal m (opposite l))) (not_first m)
+      ∙ ap (λ b. b || (has_literal d m && not (same_literal m (opposite l)))) (left_of m)
+      ∙ ap (λ b. has_literal (without_variable (variable_of l) c) m || b) (sym (without_other l d without m))
+      ∙ sym (has_union (without_variable (variable_of l) c) (without_variable (variable_of l) d) m))
+  resolved_by false e = not_resolved_on after c d l is (or_right _ _ (sym again ∙ is_yes (has_literal after l) (sym e)))
 
 -- a chain ends where a step has no result
 pub none_stays : (cs : List (List Literal)) (chain : List ℕ) (set : List Literal) (o : Option (List Literal)) → IsSetOfResult false set o
@@ -330,6 +358,24 @@ module _ (marks after : List Bool) (touched clause c : List Literal) (inside : A
       by : (b : Bool) → list_any (is_marked after) touched ≡ b → not b ≡ same_literals clause c
       by true e = sym (and_right _ _ (beyond e))
       by false e = sym (and_from _ _ first (within e))
+
+module _ (marks after : List Bool) (touched clause : List Literal) (inside : AreTouched marks touched)
+    (less : (l : Literal) → is_marked after l ≡ (is_marked marks l && not (has_literal clause l))) (some : Bool)
+    (is : some ≡ list_any (is_marked after) touched) where
+  -- the same of a set by its marks
+  pub compared : (set d : List Literal) → marked_of marks touched ≡ set → list_all (has_literal set) clause ≡ true → IsSetOf set d
+      → not some ≡ same_literals clause d
+  compared set d view all same =
+      let has = has_marked marks touched set view inside in
+      ap not is
+      ∙ left_is_none marks after touched clause d inside (λ l. sym (has l) ∙ same l) less
+      (all_same (is_marked marks) (has_literal set) clause (λ l. sym (has l)) ∙ all)
+
+  -- where none of the touched literals is marked any more, none is
+  pub none_left : some ≡ false → AreTouched after []
+  none_left none = λ l e.
+      let before = and_parts (is_marked marks l) (not (has_literal clause l)) (sym (less l) ∙ e) in
+      absurd (both_ways _ (some_left (is_marked after) touched l (sym is ∙ none) (inside l before.0)) e)
 
 -- the set lacks a literal of the clause
 pub lacks_one : (set clause c : List Literal) → IsSetOf set c → list_all (has_literal set) clause ≡ false → false ≡ same_literals clause c

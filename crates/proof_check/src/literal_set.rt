@@ -109,7 +109,11 @@ impl LiteralSet {
             return false;
         }
         unmark_all(&mut self.marks, clause);
-        !has_marked(&self.marks, &self.touched)
+        if has_marked(&self.marks, &self.touched) {
+            return false;
+        }
+        self.touched.clear();
+        true
     }
 }
 

@@ -1,12 +1,10 @@
 //! Refutations, and when they are right.
 
-ghost use Rattle.std.specs.Prelude.{◌≡◌, ◌++◌, ◌||◌, not, map, IfOk, IsTrue, slice_get, Some};
-ghost use Rattle.std.specs.Prelude.{List};
+ghost use Rattle.std.specs.Prelude.{◌≡◌, ◌++◌, ◌||◌, map, IfOk, IsTrue, slice_get, Some, List};
 ghost use Rattle.std.specs.Option.{option_copied};
-ghost use Rattle.cqe_base.specs.Literal.{Literal, variable_of, has_literal};
+ghost use Rattle.cqe_base.specs.Literal.{Literal, has_literal};
 ghost use Rattle.cqe_base.specs.Refutation.{clashes, single_resolvent, chain_from, chain_result};
 ghost use Rattle.cqe_base.specs.Refutation.{is_result, ends_empty, is_refutation};
-ghost use Rattle.cqe_base.specs.Refutation.{without_variable};
 ghost use Rattle.cqe_base.specs.MachineLaws.{HaveNoModel};
 ghost use Rattle.clause_store.specs.PlainLines.{lines_of, line_of};
 ghost use Rattle.proof_check.specs.Clashing.{only, is_other};
@@ -80,9 +78,7 @@ fn replace(set: &mut LiteralSet, clause: &[Lit]) -> Result<(), AllocError>
     ensures { IfOk result (λ _. IsSetOf set.new clause.now) }
 {
     set.clear();
-    for literal in clause {
-        set.add(*literal)?;
-    }
+    join(set, clause)?;
     Ok(())
 }
 
@@ -136,25 +132,21 @@ fn resolve_single(set: &mut LiteralSet, second: &[Lit]) -> Result<bool, AllocErr
         return Ok(false);
     }
     set.remove(l);
-    Ok(join(set, l, second)?)
+    join(set, second)?;
+    set.remove(l.opposite());
+    // It is there again only where the second clause has it too.
+    Ok(!set.has(l))
 }
 
-/// The literals of a clause but those of a literal's variable join the set; false where the clause
-/// has the literal itself.
-fn join(set: &mut LiteralSet, literal: Lit, clause: &[Lit]) -> Result<bool, AllocError>
-    ensures without { IfOk result (λ joined. joined ≡ not (has_literal clause.now literal)) }
-    ensures joined { IfOk result (λ joined. IsTrue joined → (l : Literal) → has_literal set.new l
-        ≡ (has_literal set.old l
-        || has_literal (without_variable (variable_of literal) clause.now) l)) }
+/// The literals of a clause join the set.
+fn join(set: &mut LiteralSet, clause: &[Lit]) -> Result<(), AllocError>
+    ensures { IfOk result (λ _. (l : Literal)
+        → has_literal set.new l ≡ (has_literal set.old l || has_literal clause.now l)) }
 {
-    for other in clause {
-        if other.variable() != literal.variable() {
-            set.add(*other)?;
-        } else if other.is(literal) {
-            return Ok(false);
-        }
+    for literal in clause {
+        set.add(*literal)?;
     }
-    Ok(true)
+    Ok(())
 }
 
 /// The literal of the set whose opposite is in the clause, where there is exactly one.
