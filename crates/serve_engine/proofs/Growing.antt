@@ -1,12 +1,13 @@
 -- A connection that was served stays so.
-use Rattle.std.proofs.Common.{◌≡◌, ℕ, Bool, true, false, ◌||◌, List, [], ◌∷◌, ◌++◌, length, sym, subst, arith}
+use Rattle.std.proofs.Common.{◌≡◌, ℕ, Bool, true, false, List, [], ◌∷◌, ◌++◌, length, sym, subst, arith}
 use Rattle.std.specs.Prelude.{Option, Some, None}
+use Rattle.std.specs.Option.{option_or}
 use Rattle.std.specs.List.{AllZip}
 use Rattle.std.proofs.lemmas.List.{append-nil, length-append}
 use Rattle.outside.specs.Visits.{Visit}
 use Rattle.cqe_base.specs.Schema.{DatabaseSchema, Text}
 use Rattle.cqe_base.specs.Facts.{FactSet}
-use Rattle.cqe_base.specs.History.{UserProfile, History}
+use Rattle.cqe_base.specs.History.{UserProfile, AnsweredQuery, History}
 use Rattle.cqe_base.specs.Run.{Standing, Reply}
 use Rattle.cqe_base.specs.declared.user.User.{User}
 use Rattle.session_core.specs.Replied.{Replied, nothing}
@@ -16,29 +17,29 @@ use Rattle.serve_engine.specs.Served.{Member, SessionMarks, IsLater, RepliedAt, 
 module _ (schema : DatabaseSchema) (world : FactSet) where
   -- replies by a history are replies by a longer one
   replied_longer : (user : UserProfile) (standing : Standing) (history more : History)
-      (broke broke' : Bool) {least : ℕ} {asks : List (Text × Reply)} {entries : History} {fails : Bool} → (broke ≡ true → broke' ≡ true)
-      → Replied schema world user standing history broke least false asks entries fails
-      → Replied schema world user standing (history ++ more) broke' least false asks entries (fails || false)
-  replied_longer user standing history more broke broke' {least} {asks} {entries} {fails} on chain =
+      (broke broke' : Bool) {least : ℕ} {asks : List (Text × Reply)} {entries : History} {in_flight : Option AnsweredQuery} → (broke ≡ true → broke' ≡ true)
+      → Replied schema world user standing history broke least false asks entries in_flight
+      → Replied schema world user standing (history ++ more) broke' least false asks entries (option_or in_flight None)
+  replied_longer user standing history more broke broke' {least} {asks} {entries} {in_flight} on chain =
       let longer = length-append history more in
       let both = replied_then schema world user standing history more broke broke' on chain (nothing (omega (arith, longer)) on) in
-      subst (λ a. Replied schema world user standing (history ++ more) broke' least false a entries (fails || false)) (append-nil asks)
-      (subst (λ e. Replied schema world user standing (history ++ more) broke' least false (asks ++ []) e (fails || false)) (append-nil entries) both)
+      subst (λ a. Replied schema world user standing (history ++ more) broke' least false a entries (option_or in_flight None)) (append-nil asks)
+      (subst (λ e. Replied schema world user standing (history ++ more) broke' least false (asks ++ []) e (option_or in_flight None)) (append-nil entries) both)
 
   -- so they are of the same user later
-  replied_later : (before after : Member) {asks : List (Text × Reply)} {entries : History} {fails : Bool} → IsLater before after
-      → Replied schema world before.profile before.standing before.history before.broke (length before.opening) false asks entries fails
-      → Replied schema world after.profile after.standing after.history after.broke (length after.opening) false asks entries (fails || false)
-  replied_later before after {asks} {entries} {fails} later chain =
+  replied_later : (before after : Member) {asks : List (Text × Reply)} {entries : History} {in_flight : Option AnsweredQuery} → IsLater before after
+      → Replied schema world before.profile before.standing before.history before.broke (length before.opening) false asks entries in_flight
+      → Replied schema world after.profile after.standing after.history after.broke (length after.opening) false asks entries (option_or in_flight None)
+  replied_later before after {asks} {entries} {in_flight} later chain =
       let longer = replied_longer before.profile before.standing before.history later.further.0 before.broke after.broke later.broke chain in
-      subst (λ u. Replied schema world u after.standing after.history after.broke (length after.opening) false asks entries (fails || false))
+      subst (λ u. Replied schema world u after.standing after.history after.broke (length after.opening) false asks entries (option_or in_flight None))
       (sym later.profile)
-      (subst (λ s. Replied schema world before.profile s after.history after.broke (length after.opening) false asks entries (fails || false))
+      (subst (λ s. Replied schema world before.profile s after.history after.broke (length after.opening) false asks entries (option_or in_flight None))
       (sym later.standing)
-      (subst (λ h. Replied schema world before.profile before.standing h after.broke (length after.opening) false asks entries (fails || false))
+      (subst (λ h. Replied schema world before.profile before.standing h after.broke (length after.opening) false asks entries (option_or in_flight None))
       (sym later.further.1)
       (subst (λ o. Replied schema world before.profile before.standing (before.history ++ later.further.0) after.broke (length o) false asks entries
-      (fails || false)) (sym later.opening) longer)))
+      (option_or in_flight None)) (sym later.opening) longer)))
 
   at_later : {place : ℕ} {before : List Member} {asks : List (Text × Reply)} {entries : History} (after : List Member) → AllZip IsLater before after
       → RepliedAt schema world place before asks entries → RepliedAt schema world place after asks entries

@@ -130,9 +130,9 @@ module _ {D : Type 0} where
         let never : false ≡ true → has_broke (seen p) ≡ true = λ e. absurd cc in
         here
         (subst (λ s. Replied s world f.user (standing_of f.standing) (history_of (seen q)) (has_broke (seen q))
-        (length f.opening) false asks is.entries is.fails) within.0.0
+        (length f.opening) false asks is.entries is.in_flight) within.0.0
         (subst (λ w. Replied f.schema w f.user (standing_of f.standing) (history_of (seen q)) (has_broke (seen q))
-        (length f.opening) false asks is.entries is.fails) within.0.1
+        (length f.opening) false asks is.entries is.in_flight) within.0.1
         (from_earlier f.schema f.world f.user (standing_of f.standing) (history_of (seen q)) (has_broke (seen q)) openings.0 never is.replied)))
     at_replied within openings (desks.further deep) = further (at_replied within.1 openings.1 deep)
 

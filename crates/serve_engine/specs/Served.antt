@@ -57,9 +57,9 @@ module _ (schema : DatabaseSchema) (world : FactSet) where
   -- entries of the marks.
   pub data RepliedAt : ℕ → List Member → List (Text × Reply) → History → Type 0 where
     here : {member : Member} {others : List Member} {asks : List (Text × Reply)}
-        {entries : History} {fails : Bool}
+        {entries : History} {in_flight : Option AnsweredQuery}
         → Replied schema world member.profile member.standing member.history member.broke
-        (length member.opening) false asks entries fails
+        (length member.opening) false asks entries in_flight
         → RepliedAt zero (member ∷ others) asks entries
     further : {place : ℕ} {member : Member} {others : List Member} {asks : List (Text × Reply)}
         {entries : History} → RepliedAt place others asks entries

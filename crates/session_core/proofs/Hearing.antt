@@ -105,10 +105,10 @@ as_many (l ∷ ls) on = by (goes_on (heard_as l)) refl (as_many ls)
 
 module _ (bytes left : List ℕ) (lines : List HeardLine) (so_far : HeardSoFar bytes left lines) where
   pub hears_fault : length lines < 100000 → Hears ReadFault bytes lines
-  hears_fault few = let front = some_front bytes lines (heard_lines (text_lines left)) (omega (arith, few)) so_far.whole in (front.0, front.1, few)
+  hears_fault few = some_front bytes lines (heard_lines (text_lines left)) (omega (arith, few)) so_far.whole
 
   pub hears_many : length lines ≡ 100000 → Hears TooMany bytes lines
-  hears_many many = (sym (take_at lines (heard_lines (text_lines left)) 100000 many) ∙ ap (take 100000) (sym so_far.whole), so_far.on, many)
+  hears_many many = (sym (take_at lines (heard_lines (text_lines left)) 100000 many) ∙ ap (take 100000) (sym so_far.whole), so_far.on)
 
   pub hears_end : length lines < 100000 → left ≡ [] → Hears InputEnd bytes lines
   unfolding text_lines
@@ -117,7 +117,6 @@ module _ (bytes left : List ℕ) (lines : List HeardLine) (so_far : HeardSoFar b
         sym (take_all 100000 lines (omega (arith, few))) ∙ ap (take 100000) (sym all),
         so_far.on,
         sym (ap length all) ∙ as_many (text_lines bytes) (ap (list_all goes_on) all ∙ so_far.on),
-        few,
       )
 
   long_last : BeginsTooLong left → heard_lines (text_lines bytes) ≡ lines ++ overlong ∷ []

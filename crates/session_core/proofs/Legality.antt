@@ -49,7 +49,7 @@ module _ {D : Type 0} where
       → EachHides fixeds passes
   all_hide hide [] [] legal = tt
   all_hide hide (f ∷ fixeds) (p ∷ passes) legal = (
-    λ served. hide f.schema f.world f.user (history_of (seen p)) legal.0.valid legal.0.user_of (legal.0.admits served) legal.0.legal,
+    λ admits. hide f.schema f.world f.user (history_of (seen p)) legal.0.valid legal.0.user_of admits legal.0.legal,
     all_hide hide fixeds passes legal.1,
   )
   all_hide hide [] (p ∷ passes) legal = absurd legal

@@ -21,7 +21,7 @@ use Rattle.session_core.specs.Talks.{Talks, silent, unknown, written_lines}
 use Rattle.session_core.specs.Desks.{AsksOf}
 use Rattle.session_core.specs.Members.{AreDesksOf}
 use Rattle.session_core.specs.Asked.{Replies}
-use Rattle.session_core.specs.Sessions.{Session, Hears, Writes}
+use Rattle.session_core.specs.Sessions.{Session, Hears, Counts, Writes}
 use Rattle.session_core.specs.declared.session.Ended.{Ended}
 use Rattle.session_core.specs.declared.session.Ended.TheVariants.{Quit, InputEnd, TooLong, TooMany, ReadFault, WriteFault}
 use Rattle.session_core.proofs.Talking.{talks_more, talks_few, written_more}
@@ -37,6 +37,15 @@ cut_behind before middle after texts text is part = (
   record { front = texts; last = text; split = refl; part = (part.0, part.1, refl) },
   part.2 ∙ ap (λ m. m ++ take part.0 (text ++ codes "\n")) is ∙ append_assoc before (written_lines texts) (take part.0 (text ++ codes "\n")),
 )
+
+-- no end comes behind more lines than the greatest number
+pub counts_few : (ended : Ended) (count : ℕ) → Counts ended count → count ≤ 100000
+counts_few Quit count few = few
+counts_few InputEnd count few = omega (arith, few)
+counts_few TooLong count few = few
+counts_few TooMany count few = omega (arith, few)
+counts_few ReadFault count few = omega (arith, few)
+counts_few WriteFault count few = few
 
 module _ {D : Type 0} (S K : Type 0) (users : List User) (fixeds : List (Fixed D)) (bytes : List ℕ) (old : List (Pass TurnItem (Fixed D))) (before : List ℕ)
   where
@@ -71,9 +80,9 @@ module _ {D : Type 0} (S K : Type 0) (users : List User) (fixeds : List (Fixed D
         pub turns_left : count < 100000 → AllByRecursion (λ pass. 67108864 ≤ turns pass) old → AllByRecursion (λ pass. 2 ≤ turns pass) now
         turns_left few all = of_turns who fixeds old now so_far.asks 67108864 2 (omega (arith, few, so_far.many, talks_few users so_far.talks)) so_far.desks all
 
-        ended_here : (ended : Ended) → count ≤ 100000 → (S → Hears ended bytes so_far.lines) → (K → Writes ended before after so_far.texts)
+        ended_here : (ended : Ended) → Counts ended (length so_far.lines) → (S → Hears ended bytes so_far.lines) → (K → Writes ended before after so_far.texts)
             → Session S K users fixeds ended bytes old now before after
-        ended_here ended few hears writes =
+        ended_here ended counted hears writes =
             record {
               own = so_far.own;
               lines = so_far.lines;
@@ -82,8 +91,7 @@ module _ {D : Type 0} (S K : Type 0) (users : List User) (fixeds : List (Fixed D
               texts = so_far.texts;
               talks = so_far.talks;
               desks = so_far.desks;
-              few =
-                  omega (arith, few, so_far.many);
+              counted = counted;
               hears = hears;
               writes = writes;
             }
@@ -91,19 +99,20 @@ module _ {D : Type 0} (S K : Type 0) (users : List User) (fixeds : List (Fixed D
         -- the input is over
         pub ends_input : count < 100000 → (S → left ≡ []) → Session S K users fixeds InputEnd bytes old now before after
         ends_input few none =
-            ended_here InputEnd (omega (arith, few)) (λ s.
+            ended_here InputEnd (omega (arith, few, so_far.many)) (λ s.
             hears_end bytes left so_far.lines (so_far.hears s) (omega (arith, few, so_far.many)) (none s)) so_far.writes
 
         -- the source failed
         pub ends_read : count < 100000 → Session S K users fixeds ReadFault bytes old now before after
         ends_read few =
-            ended_here ReadFault (omega (arith, few)) (λ s. hears_fault bytes left so_far.lines (so_far.hears s) (omega (arith, few, so_far.many)))
+            ended_here ReadFault (omega (arith, few, so_far.many)) (λ s. hears_fault bytes left so_far.lines (so_far.hears s) (omega (arith, few, so_far.many)))
             so_far.writes
 
         -- the greatest number of lines was answered
         pub ends_many : 100000 ≤ count → count ≤ 100000 → Session S K users fixeds TooMany bytes old now before after
-        ends_many far few = ended_here TooMany few (λ s. hears_many bytes left so_far.lines (so_far.hears s) (omega (arith, far, few, so_far.many)))
-            so_far.writes
+        ends_many far few =
+            let many : length so_far.lines ≡ 100000 = omega (arith, far, few, so_far.many) in
+            ended_here TooMany many (λ s. hears_many bytes left so_far.lines (so_far.hears s) many) so_far.writes
 
         -- a line was too long, and it was replied to or the sink failed
         module _ (afterwards : List ℕ) (within : IfSome who (λ place. place < length fixeds)) (many : length old ≡ length fixeds) (few : count < 100000)
@@ -112,10 +121,12 @@ module _ {D : Type 0} (S K : Type 0) (users : List User) (fixeds : List (Fixed D
           long_talks = subst (λ a. Talks users None (so_far.lines ++ overlong ∷ []) who a (so_far.texts ++ text_of (Code 26) ∷ [])) (append-nil so_far.asks)
               (talks_more users overlong so_far.talks unknown)
 
-          long_here : (ended : Ended) → (S → Hears ended bytes (so_far.lines ++ overlong ∷ []))
+          long_few : length (so_far.lines ++ overlong ∷ []) ≤ 100000
+          long_few = let one_more = length-append so_far.lines (overlong ∷ []) in omega (arith, few, so_far.many, one_more)
+
+          long_here : (ended : Ended) → Counts ended (length (so_far.lines ++ overlong ∷ [])) → (S → Hears ended bytes (so_far.lines ++ overlong ∷ []))
               → (K → Writes ended before afterwards (so_far.texts ++ text_of (Code 26) ∷ [])) → Session S K users fixeds ended bytes old now before afterwards
-          long_here ended hears writes =
-              let one_more = length-append so_far.lines (overlong ∷ []) in
+          long_here ended counted hears writes =
               record {
                 own = so_far.own;
                 lines = so_far.lines ++ overlong ∷ [];
@@ -124,7 +135,7 @@ module _ {D : Type 0} (S K : Type 0) (users : List User) (fixeds : List (Fixed D
                 texts = so_far.texts ++ text_of (Code 26) ∷ [];
                 talks = long_talks;
                 desks = so_far.desks;
-                few = omega (arith, few, so_far.many, one_more);
+                counted = counted;
                 hears = hears;
                 writes = writes;
               }
@@ -134,12 +145,12 @@ module _ {D : Type 0} (S K : Type 0) (users : List User) (fixeds : List (Fixed D
               → (ended ≡ WriteFault → K → AppendsPart after afterwards (text_of (Code 26) ++ codes "\n"))
               → Session S K users fixeds ended bytes old now before afterwards
           ends_long ended (inl is) whole part = subst (λ e. Session S K users fixeds e bytes old now before afterwards) (sym is)
-              (long_here TooLong (λ s. hears_long bytes left so_far.lines (so_far.hears s) (omega (arith, few, so_far.many)) (begins s))
+              (long_here TooLong long_few (λ s. hears_long bytes left so_far.lines (so_far.hears s) (omega (arith, few, so_far.many)) (begins s))
               (λ k. whole is k ∙ ap (λ m. m ++ (text_of (Code 26) ++ codes "\n")) (so_far.writes k)
               ∙ append_assoc before (written_lines so_far.texts) (text_of (Code 26) ++ codes "\n")
               ∙ ap (λ l. before ++ l) (sym (written_more so_far.texts (text_of (Code 26))))))
           ends_long ended (inr is) whole part = subst (λ e. Session S K users fixeds e bytes old now before afterwards) (sym is)
-              (long_here WriteFault (λ s. hears_long_cut bytes left so_far.lines (so_far.hears s) (omega (arith, few, so_far.many)) (begins s))
+              (long_here WriteFault long_few (λ s. hears_long_cut bytes left so_far.lines (so_far.hears s) (omega (arith, few, so_far.many)) (begins s))
               (λ k. cut_behind before after afterwards so_far.texts (text_of (Code 26)) (so_far.writes k) (part is k)))
 
         -- a line was taken and replied to
@@ -158,11 +169,13 @@ module _ {D : Type 0} (S K : Type 0) (users : List User) (fixeds : List (Fixed D
               wrote ∙ ap (λ m. m ++ (text ++ codes "\n")) (so_far.writes k) ∙ append_assoc before (written_lines so_far.texts) (text ++ codes "\n")
               ∙ ap (λ l. before ++ l) (sym (written_more so_far.texts text))
 
-          more_here : (ended : Ended) → (S → Hears ended bytes (so_far.lines ++ heard line ∷ []))
+          more_few : length (so_far.lines ++ heard line ∷ []) ≤ 100000
+          more_few = let one_more = length-append so_far.lines (heard line ∷ []) in omega (arith, few, so_far.many, one_more)
+
+          more_here : (ended : Ended) → Counts ended (length (so_far.lines ++ heard line ∷ [])) → (S → Hears ended bytes (so_far.lines ++ heard line ∷ []))
               → (K → Writes ended before afterwards (so_far.texts ++ text ∷ []))
               → Session S K users fixeds ended bytes old then_now before afterwards
-          more_here ended hears writes =
-              let one_more = length-append so_far.lines (heard line ∷ []) in
+          more_here ended counted hears writes =
               record {
                 own = so_far.own;
                 lines = so_far.lines ++ heard line ∷ [];
@@ -171,13 +184,14 @@ module _ {D : Type 0} (S K : Type 0) (users : List User) (fixeds : List (Fixed D
                 texts = so_far.texts ++ text ∷ [];
                 talks = more_talks;
                 desks = more_desks;
-                few = omega (arith, few, so_far.many, one_more);
+                counted = counted;
                 hears = hears;
                 writes = writes;
               }
 
           -- and the session goes on
-          pub goes_on_more : (K → afterwards ≡ after ++ (text ++ codes "\n")) → is_quit (request_of line) ≡ false → SoFar rest then_now afterwards next (count + 1)
+          pub goes_on_more : (K → afterwards ≡ after ++ (text ++ codes "\n")) → is_quit (request_of line) ≡ false
+              → SoFar rest then_now afterwards next (count + 1)
           goes_on_more wrote on = record {
             own = so_far.own;
             lines = so_far.lines ++ heard line ∷ [];
@@ -194,11 +208,11 @@ module _ {D : Type 0} (S K : Type 0) (users : List User) (fixeds : List (Fixed D
           pub ends_quit : (K → afterwards ≡ after ++ (text ++ codes "\n")) → is_quit (request_of line) ≡ true
               → Session S K users fixeds Quit bytes old then_now before afterwards
           ends_quit wrote quit =
-              more_here Quit (λ s. hears_quit bytes left rest line so_far.lines (so_far.hears s) (takes s) (omega (arith, few, so_far.many)) quit)
+              more_here Quit more_few (λ s. hears_quit bytes left rest line so_far.lines (so_far.hears s) (takes s) (omega (arith, few, so_far.many)) quit)
               (λ k. more_writes k (wrote k))
 
           -- or the sink failed
           pub ends_cut : (K → AppendsPart after afterwards (text ++ codes "\n")) → Session S K users fixeds WriteFault bytes old then_now before afterwards
           ends_cut wrote =
-              more_here WriteFault (λ s. hears_cut bytes left rest line so_far.lines (so_far.hears s) (takes s) (omega (arith, few, so_far.many))) (λ k.
-              cut_behind before after afterwards so_far.texts text (so_far.writes k) (wrote k))
+              more_here WriteFault more_few (λ s. hears_cut bytes left rest line so_far.lines (so_far.hears s) (takes s) (omega (arith, few, so_far.many)))
+              (λ k. cut_behind before after afterwards so_far.texts text (so_far.writes k) (wrote k))

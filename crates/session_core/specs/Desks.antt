@@ -1,8 +1,9 @@
 -- What a session does with the passes.
-use Rattle.std.specs.Prelude.{◌≡◌, ℕ, zero, suc, ◌≤◌, ◌+◌, ◌*◌, Bool, ◌||◌, List, [], ◌∷◌, ◌++◌}
-use Rattle.std.specs.Prelude.{length, Option, Some, None}
+use Rattle.std.specs.Prelude.{◌≡◌, ℕ, zero, suc, ◌≤◌, ◌+◌, ◌*◌, List, [], ◌∷◌, ◌++◌, length}
+use Rattle.std.specs.Prelude.{Option, Some, None}
+use Rattle.std.specs.Option.{option_or}
 use Rattle.cqe_base.specs.Schema.{Text}
-use Rattle.cqe_base.specs.History.{History}
+use Rattle.cqe_base.specs.History.{AnsweredQuery, History}
 use Rattle.cqe_base.specs.Run.{Reply}
 use Rattle.turnstile.specs.declared.pass.Pass.{Pass}
 use Rattle.turnstile.specs.History.{IsPrefix}
@@ -10,29 +11,29 @@ use Rattle.turnstile.specs.Passes.{seen, mine, shares, turns}
 use Rattle.user_desk.specs.Standings.{standing_of}
 use Rattle.desk_counter.specs.declared.item.TurnItem.{TurnItem}
 use Rattle.desk_counter.specs.declared.item.Fixed.{Fixed}
-use Rattle.desk_counter.specs.Items.{history_of, has_broke}
+use Rattle.desk_counter.specs.Items.{history_of, flying, has_broke}
 use Rattle.session_core.specs.Replied.{Replied}
 
 module _ {D : Type 0} where
   -- the replies to these asks are by what the pass has seen after them, in the order of the asks
   abbrev pub AreReplied : Fixed D → Pass TurnItem (Fixed D) → Pass TurnItem (Fixed D)
-      → List (Text × Reply) → History → Bool → Type 0
-  AreReplied fixed old new asks entries fails =
+      → List (Text × Reply) → History → Option AnsweredQuery → Type 0
+  AreReplied fixed old new asks entries in_flight =
       Replied fixed.schema fixed.world fixed.user (standing_of fixed.standing)
       (history_of (seen new)) (has_broke (seen new)) (length (history_of (seen old)))
-      (has_broke (seen old)) asks entries fails
+      (has_broke (seen old)) asks entries in_flight
 
   -- What asks do with a pass: they were replied to by what it has seen since; it has the entries
-  -- of their marks more of its own, in order, each once; and an entry whose append failed it has of
-  -- its own only where an append of theirs did.
+  -- of their marks more of its own, in order, each once; and the entry in flight that it has of its
+  -- own is the one that it had, or else that of the very ask whose append failed.
   pub record Asks (fixed : Fixed D) (old new : Pass TurnItem (Fixed D))
       (asks : List (Text × Reply)) :
       Type 0 where
     pub entries : History
-    pub fails : Bool
-    pub replied : AreReplied fixed old new asks entries fails
+    pub in_flight : Option AnsweredQuery
+    pub replied : AreReplied fixed old new asks entries in_flight
     pub own : history_of (mine new) ≡ history_of (mine old) ++ entries
-    pub own_failed : has_broke (mine new) ≡ (has_broke (mine old) || fails)
+    pub own_failed : flying (mine new) ≡ option_or (flying (mine old)) in_flight
     pub later : IsPrefix (seen old) (seen new)
     pub same_shares : shares new ≡ shares old
     pub used : turns old ≤ turns new + 2 * length asks

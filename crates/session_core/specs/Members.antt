@@ -41,10 +41,10 @@ module _ {D : Type 0} where
   abbrev pub HaveSeenLegal : List (Fixed D) → List (Pass TurnItem (Fixed D)) → Type 0
   HaveSeenLegal fixeds passes = AllZip HasSeenLegal fixeds passes
 
-  -- what each pass has seen hides, where its user is served
+  -- what each pass has seen hides, where its user is admitted
   abbrev pub EachHides : List (Fixed D) → List (Pass TurnItem (Fixed D)) → Type 0
   EachHides fixeds passes =
-      AllZip (λ fixed pass. is_open fixed.standing ≡ true
+      AllZip (λ fixed pass. admitted fixed.schema fixed.world fixed.user ≡ true
       → Hides fixed.schema fixed.world fixed.user (history_of (seen pass))) fixeds passes
 
 module _ {V I F : Type 0} {h : _} where

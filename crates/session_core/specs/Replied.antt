@@ -1,10 +1,10 @@
 -- The replies to one user in a session, by his one history.
 use Rattle.std.specs.Prelude.{◌≡◌, ℕ, suc, ◌≤◌, Bool, true, false, List, [], ◌∷◌, ◌++◌, length, Ok}
+use Rattle.std.specs.Prelude.{Option, Some, None}
 use Rattle.cqe_base.specs.Schema.{DatabaseSchema, Text}
 use Rattle.cqe_base.specs.Facts.{FactSet}
 use Rattle.cqe_base.specs.Reading.{reading}
 use Rattle.cqe_base.specs.History.{UserProfile, AnsweredQuery, History}
-use Rattle.cqe_base.specs.declared.user.Mark.{Mark}
 use Rattle.cqe_base.specs.Run.{Standing, Reply, reply, marked, no_sentence, history_full, too_large}
 use Rattle.cqe_base.specs.Run.{user_closed, desk_sealed, desk_broken, no_memory}
 
@@ -27,32 +27,34 @@ module _ (schema : DatabaseSchema) (world : FactSet) (user : UserProfile) (stand
   -- behind them, and the next ask has it among its own.
   -- That its append failed is told of an ask whose reply would be a mark, at a desk where none had
   -- failed. Behind it all asks find it failed, and so it is in the end. The last list are the
-  -- entries of the marks, and it is said whether an append of one of these asks failed.
-  pub data Replied : (least : ℕ) (failed : Bool) → List (Text × Reply) → History → (fails : Bool)
-      → Type 0 where
+  -- entries of the marks, and behind it stands the one entry whose append failed, if that was of
+  -- one of these asks: the ask's query, the mark that its reply would be, and its text's length.
+  pub data Replied : (least : ℕ) (failed : Bool) → List (Text × Reply) → History
+      → (in_flight : Option AnsweredQuery) → Type 0 where
     nothing : {least : ℕ} {failed : Bool} → least ≤ length history
-        → (failed ≡ true → broke ≡ true) → Replied least failed [] [] false
+        → (failed ≡ true → broke ≡ true) → Replied least failed [] [] None
     answered : {least : ℕ} {text : Text} {asks : List (Text × Reply)} {entries : History}
-        {fails : Bool} (before after : History) (entry : AnsweredQuery)
+        {in_flight : Option AnsweredQuery} (before after : History) (entry : AnsweredQuery)
         → least ≤ length before → history ≡ before ++ entry ∷ after
         → reading schema text ≡ Ok entry.query → entry.length ≡ length text
         → reply schema world user before standing false text ≡ marked entry.mark
-        → Replied (suc (length before)) false asks entries fails
-        → Replied least false ((text, marked entry.mark) ∷ asks) (entry ∷ entries) fails
+        → Replied (suc (length before)) false asks entries in_flight
+        → Replied least false ((text, marked entry.mark) ∷ asks) (entry ∷ entries) in_flight
     coded : {least : ℕ} {failed : Bool} {text : Text} {code : Reply} {asks : List (Text × Reply)}
-        {entries : History} {fails : Bool} (before after : History) (failed_now : Bool)
+        {entries : History} {in_flight : Option AnsweredQuery} (before after : History)
+        (failed_now : Bool)
         → least ≤ length before → history ≡ before ++ after → (failed ≡ true → failed_now ≡ true)
         → IsUnmarked code → reply schema world user before standing failed_now text ≡ code
-        → Replied (length before) failed_now asks entries fails
-        → Replied least failed ((text, code) ∷ asks) entries fails
+        → Replied (length before) failed_now asks entries in_flight
+        → Replied least failed ((text, code) ∷ asks) entries in_flight
     append_failed : {least : ℕ} {text : Text} {asks : List (Text × Reply)} {entries : History}
-        {fails : Bool}
-        (before after : History) (mark : Mark)
+        {in_flight : Option AnsweredQuery} (before after : History) (entry : AnsweredQuery)
         → least ≤ length before → history ≡ before ++ after
-        → reply schema world user before standing false text ≡ marked mark → broke ≡ true
-        → Replied (length before) true asks entries fails
-        → Replied least false ((text, desk_broken) ∷ asks) entries true
+        → reading schema text ≡ Ok entry.query → entry.length ≡ length text
+        → reply schema world user before standing false text ≡ marked entry.mark → broke ≡ true
+        → Replied (length before) true asks entries in_flight
+        → Replied least false ((text, desk_broken) ∷ asks) entries (Some entry)
     wanted : {least : ℕ} {failed : Bool} {text : Text} {asks : List (Text × Reply)}
-        {entries : History} {fails : Bool}
-        → Replied least failed asks entries fails
-        → Replied least failed ((text, no_memory) ∷ asks) entries fails
+        {entries : History} {in_flight : Option AnsweredQuery}
+        → Replied least failed asks entries in_flight
+        → Replied least failed ((text, no_memory) ∷ asks) entries in_flight

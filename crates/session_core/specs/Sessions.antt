@@ -21,19 +21,26 @@ use Rattle.session_core.specs.declared.session.Ended.TheVariants.{ReadFault, Wri
 -- What each end says of the lines that were answered: they are all that a session hears of the
 -- bytes, up to the word that ends it, the longer line, the end of the input or the greatest number;
 -- where a stream failed, the first of these.
--- The input ends, and the source fails, only before the greatest number.
 abbrev pub Hears : Ended → List ℕ → List HeardLine → Type 0
 Hears Quit bytes lines = (lines ≡ session_lines bytes) × (front : List HeardLine) × (line : Text)
     × (lines ≡ front ++ heard line ∷ []) × (request_of line ≡ quit_session)
 Hears InputEnd bytes lines = (lines ≡ session_lines bytes) × (list_all goes_on lines ≡ true)
-    × (length lines ≡ length (text_lines bytes)) × (length lines < 100000)
+    × (length lines ≡ length (text_lines bytes))
 Hears TooLong bytes lines =
     (lines ≡ session_lines bytes) × (front : List HeardLine) × (lines ≡ front ++ overlong ∷ [])
-Hears TooMany bytes lines =
-    (lines ≡ session_lines bytes) × (list_all goes_on lines ≡ true) × (length lines ≡ 100000)
+Hears TooMany bytes lines = (lines ≡ session_lines bytes) × (list_all goes_on lines ≡ true)
 Hears ReadFault bytes lines = (rest : List HeardLine) × (session_lines bytes ≡ lines ++ rest)
-    × (length lines < 100000)
 Hears WriteFault bytes lines = (rest : List HeardLine) × (session_lines bytes ≡ lines ++ rest)
+
+-- How many lines were answered, whatever the source tells: the greatest number, behind which the
+-- session ends; fewer where the input ends or the source fails; and never more.
+abbrev pub Counts : Ended → ℕ → Type 0
+Counts Quit count = count ≤ 100000
+Counts InputEnd count = count < 100000
+Counts TooLong count = count ≤ 100000
+Counts TooMany count = count ≡ 100000
+Counts ReadFault count = count < 100000
+Counts WriteFault count = count ≤ 100000
 
 -- What was written: a line for each text; where the sink failed, of the last one only a part.
 abbrev pub Writes : Ended → List ℕ → List ℕ → List Text → Type 0
@@ -45,7 +52,7 @@ Writes TooMany old new texts = new ≡ old ++ written_lines texts
 Writes ReadFault old new texts = new ≡ old ++ written_lines texts
 
 -- A session of these users, each at the desk that is his, where the source tells its bytes and the
--- sink what was written. At most 100,000 lines are answered.
+-- sink what was written.
 pub record Session {D : Type 0} (source_tells sink_tells : Type 0) (users : List User)
     (fixeds : List (Fixed D)) (ended : Ended) (bytes : List ℕ)
     (old new : List (Pass TurnItem (Fixed D))) (before after : List ℕ) : Type 0 where
@@ -56,6 +63,6 @@ pub record Session {D : Type 0} (source_tells sink_tells : Type 0) (users : List
   pub texts : List Text
   pub talks : Talks users None lines who asks texts
   pub desks : AsksOf who fixeds old new asks
-  pub few : length lines ≤ 100000
+  pub counted : Counts ended (length lines)
   pub hears : source_tells → Hears ended bytes lines
   pub writes : sink_tells → Writes ended before after texts

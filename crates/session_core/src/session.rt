@@ -145,7 +145,7 @@ fn is_quit(request: &Request<'_>) -> bool
 /// Serves a session: reads lines from the source up to `quit`, the end of the input, a line that is
 /// too long or the 100,000th, and writes a reply to each. An ask is replied to by the history of
 /// the user who logged in, at his own desk, and only his pass changes. What each pass has seen is
-/// legal, and hides where its user is served. It waits for other sessions of that user, and makes
+/// legal, and hides where its user is admitted. It waits for other sessions of that user, and makes
 /// at most 2^26 turns.
 pub fn serve_session<R: Wait, D: Disk, S: Source, K: Sink, G: Gate>(
     rt: &R,

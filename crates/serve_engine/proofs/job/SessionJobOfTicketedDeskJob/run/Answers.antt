@@ -1,6 +1,7 @@
-use Rattle.std.proofs.Common.{refl, arith}
+use Rattle.std.proofs.Common.{length, refl, arith}
 use Rattle.session_core.specs.Members.{passes_in, counters_in, users_of, fixeds_of}
 use Rattle.session_core.proofs.Passing.{passes_many}
+use Rattle.session_core.proofs.Serving.{counts_few}
 use Rattle.session_core.proofs.Talking.{talks_few}
 use Rattle.serve_engine.proofs.Owning.{marks_of, of_own}
 use Rattle.serve_engine.proofs.Holding.{are_passes, at_each, each_opened, have_opened, each_legal, have_legal}
@@ -45,7 +46,7 @@ returns-clause-room g c =
     let session = c.serve_session-ended.ensures.session in
     let no_more = talks_few (users_of job.counters.now) session.talks in
     of_room session.who (fixeds_of job.counters.now) (passes_in job.passes) (passes_in c.serve_session-ended.new.passes) session.asks
-    (omega (arith, session.few, no_more)) session.desks
+    (omega (arith, counts_few c.serve_session-ended.result (length session.lines) session.counted, no_more)) session.desks
 
 pub returns-clause-keeps : goal.returns-clause-keeps
 returns-clause-keeps g c =
