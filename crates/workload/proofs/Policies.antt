@@ -31,7 +31,7 @@ use Rattle.policy_files.specs.Keys.{◌>>=◌, key_place, text_place, of_kind, r
 use Rattle.policy_files.specs.Policies.{PolicyUser}
 use Rattle.policy_files.specs.Policy.{policy_of, policy_in, tree_of, schema_in}
 use Rattle.policy_files.specs.Users.{user_of, users_behind, sentence_of, sentences_of, names_of, small_sentence, name_of, method_of, with_small_view}
-use Rattle.policy_files.specs.Users.{user_place}
+use Rattle.policy_files.specs.Users.{all_secrets, user_place}
 use Rattle.policy_files.proofs.Trees.{listed-items_of}
 use Rattle.workload.specs.Draws.{state_after, drawn}
 use Rattle.workload.specs.Stated.{workload_schema}
@@ -162,7 +162,8 @@ module _ (law : CanonicalFormsRead) where
       let b = secret_person seed k 1 in
       let c = secret_person seed k 2 in
       (λ i. name_step earlier number k low new i >>= λ name. method_step number k i >>= λ method. known_step number i >>= λ know.
-      secrets_step number a b c (below seed (620 + 3 * k + 0)) (below seed (620 + 3 * k + 1)) (below seed (620 + 3 * k + 2)) i >>= λ secrets.
+      secrets_step number a b c (below seed (620 + 3 * k + 0)) (below seed (620 + 3 * k + 1)) (below seed (620 + 3 * k + 2)) i >>= λ others.
+      all_secrets number [] others >>= λ secrets.
       with_small_view workload_schema number (record {
         name =
             name;
