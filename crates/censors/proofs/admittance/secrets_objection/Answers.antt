@@ -1,4 +1,4 @@
-use Rattle.std.proofs.Common.{◌≡◌, ◌≤◌, Some, true, nat_le, map, sym, subst, ap, ◌∙◌}
+use Rattle.std.proofs.Common.{◌≤◌, Some, nat_le, map, sym, subst, ap, ◌∙◌}
 use Rattle.std.specs.List.{list_all}
 use Rattle.std.proofs.lemmas.Bool.{leb-true}
 use Rattle.cqe_base.specs.Formula.{formula_of, nodes, is_sentence_of}
