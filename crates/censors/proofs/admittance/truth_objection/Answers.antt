@@ -9,8 +9,8 @@ use Rattle.censors.proofs.admittance.truth_objection.Goals as goal
 
 pub holds-requires : goal.holds-requires
 holds-requires c =
-    each_passes formula_of (is_sentence_of c.args.schema.now) c.args.sentences.now c.loop-number.number c.index-sentences-number.result c.index-sentences-number.is
-    c.loop-number-test.true c.requires.sentences
+    each_passes formula_of (is_sentence_of c.args.schema.now) c.args.sentences.now c.loop-number.number c.index-sentences-number.result
+    c.index-sentences-number.is c.loop-number-test.true c.requires.sentences
 
 pub returns-then-not-holds : goal.returns-then-not-holds
 returns-then-not-holds c =
