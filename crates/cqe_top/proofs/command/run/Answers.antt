@@ -1,40 +1,47 @@
-use Rattle.std.proofs.Common.{sym, ap, ◌∙◌, map, string_bytes}
+use Rattle.std.proofs.Common.{◌≡◌, sym, ap, ◌∙◌, map, string_bytes, Option}
 use Rattle.std.specs.Prelude.{Some, option_map}
-use Rattle.command_words.specs.Readings.{reading_in, names_of_files, runs_selfrun, runs_serve}
-use Rattle.cqe_top.proofs.Numbers.{kept}
+use Rattle.command_words.specs.Readings.{FileNames, reading_in, names_of_files, runs_selfrun}
+use Rattle.cqe_top.specs.Tasks.{reading_over, KeepsBounds}
+use Rattle.cqe_top.specs.declared.over_files.Task.{Task}
+use Rattle.cqe_top.specs.declared.over_files.Task.TheVariants.{Init, Batch, Audit, Serve}
+use Rattle.cqe_top.proofs.Numbers.{Keeps, kept}
 use Rattle.cqe_top.proofs.command.run.Goals as goal
+
+-- a task over files keeps the bounds of its reading
+bounds_of : (files : FileNames) (task : Task) → Keeps (reading_over files task) → KeepsBounds task
+bounds_of files Init keeps = tt
+bounds_of files Batch keeps = tt
+bounds_of files (Audit user json) keeps = tt
+bounds_of files (Serve listening) keeps = keeps
 
 pub run_selfrun-end-requires-clause-some_user : goal.run_selfrun-end-requires-clause-some_user
 run_selfrun-end-requires-clause-some_user g c =
-    let read = c.in-Ok-Some-Selfrun in
-    let run = read.words in
-    (kept (map string_bytes c.args.words.now) (runs_selfrun run.seed run.users run.asks) (sym read.ensures
-    ∙ ap (option_map reading_in) (read.field-0-is ∙ ap Some read.field-0-0-is))).some_user
+    let run = c.in-Selfrun.words in
+    (kept (map string_bytes c.args.words.now) (runs_selfrun run.seed run.users run.asks)
+    (sym c.in-Ok-Some.ensures ∙ ap (option_map reading_in) c.in-Ok-Some.field-0-is ∙ ap Some (sym c.in-Selfrun.ensures))).some_user
 
 pub run_selfrun-end-requires-clause-few_users : goal.run_selfrun-end-requires-clause-few_users
 run_selfrun-end-requires-clause-few_users g c =
-    let read = c.in-Ok-Some-Selfrun in
-    let run = read.words in
-    (kept (map string_bytes c.args.words.now) (runs_selfrun run.seed run.users run.asks) (sym read.ensures
-    ∙ ap (option_map reading_in) (read.field-0-is ∙ ap Some read.field-0-0-is))).few_users
+    let run = c.in-Selfrun.words in
+    (kept (map string_bytes c.args.words.now) (runs_selfrun run.seed run.users run.asks)
+    (sym c.in-Ok-Some.ensures ∙ ap (option_map reading_in) c.in-Ok-Some.field-0-is ∙ ap Some (sym c.in-Selfrun.ensures))).few_users
 
 pub run_selfrun-end-requires-clause-some_ask : goal.run_selfrun-end-requires-clause-some_ask
 run_selfrun-end-requires-clause-some_ask g c =
-    let read = c.in-Ok-Some-Selfrun in
-    let run = read.words in
-    (kept (map string_bytes c.args.words.now) (runs_selfrun run.seed run.users run.asks) (sym read.ensures
-    ∙ ap (option_map reading_in) (read.field-0-is ∙ ap Some read.field-0-0-is))).some_ask
+    let run = c.in-Selfrun.words in
+    (kept (map string_bytes c.args.words.now) (runs_selfrun run.seed run.users run.asks)
+    (sym c.in-Ok-Some.ensures ∙ ap (option_map reading_in) c.in-Ok-Some.field-0-is ∙ ap Some (sym c.in-Selfrun.ensures))).some_ask
 
 pub run_selfrun-end-requires-clause-few_asks : goal.run_selfrun-end-requires-clause-few_asks
 run_selfrun-end-requires-clause-few_asks g c =
-    let read = c.in-Ok-Some-Selfrun in
-    let run = read.words in
-    (kept (map string_bytes c.args.words.now) (runs_selfrun run.seed run.users run.asks) (sym read.ensures
-    ∙ ap (option_map reading_in) (read.field-0-is ∙ ap Some read.field-0-0-is))).few_asks
+    let run = c.in-Selfrun.words in
+    (kept (map string_bytes c.args.words.now) (runs_selfrun run.seed run.users run.asks)
+    (sym c.in-Ok-Some.ensures ∙ ap (option_map reading_in) c.in-Ok-Some.field-0-is ∙ ap Some (sym c.in-Selfrun.ensures))).few_asks
 
-pub run_over_files-requires-in-Ok-Some-Serve-clause-bounds : goal.run_over_files-requires-in-Ok-Some-Serve-clause-bounds
-run_over_files-requires-in-Ok-Some-Serve-clause-bounds g c κs within =
-    let read = c.in-Ok-Some-Serve in
-    let server = read.words in
-    kept (map string_bytes c.args.words.now) (runs_serve (names_of_files server.files) server.listen.now server.workers server.sessions)
-    (sym read.ensures ∙ ap (option_map reading_in) (read.field-0-is ∙ ap Some read.field-0-0-is))
+pub run_over_files-requires-clause-bounds : goal.run_over_files-requires-clause-bounds
+run_over_files-requires-clause-bounds g c κs within =
+    let files = names_of_files c.in-OverFiles.files in
+    let task = c.in-OverFiles.task in
+    bounds_of files task
+    (kept (map string_bytes c.args.words.now) (reading_over files task)
+    (sym c.in-Ok-Some.ensures ∙ ap (option_map reading_in) c.in-Ok-Some.field-0-is ∙ ap Some (sym c.in-OverFiles.ensures)))
