@@ -306,16 +306,3 @@ fn a_new_life_finds_what_was_answered(rt: HostRuntime) -> Result<(), Fail> {
     }
     Ok(())
 }
-
-fn crosses_threads<T: Send + Sync>(_value: &T) {}
-
-#[test]
-fn a_desk_crosses_threads(rt: HostRuntime) -> Result<(), Fail> {
-    let alloc = rt.alloc();
-    let ward = ward_knowing(alloc, RULE)?;
-    let disk = MemoryDisk::new(alloc, with_header(alloc, &[0])?)?;
-    let desk = desk_on(&rt, alloc, &ward, disk)?;
-    crosses_threads(&desk);
-    let _disk = desk.close();
-    Ok(())
-}

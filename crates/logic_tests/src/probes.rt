@@ -197,31 +197,67 @@ const CASES: [Case; 9] = [
     (Some((HIV, BOB, false)), (DRUG, ANN, true), 0, "spent"),
 ];
 
+/// What a probe without a further premise finds.
+fn found_alone(
+    rt: &impl Abort,
+    alloc: Global,
+    schema: &Schema,
+    view: &mut View<'_>,
+    goal: (u32, u32, bool),
+    budget: u64,
+) -> Result<String, Fail>
+    requires schema { schema_of view.old ≡ schema.now }
+    requires size { log_nodes (schema_of view.old) (log_of view.old) ≤ 30000 }
+    ensures schema { schema_of view.new ≡ schema_of view.old }
+    ensures log { log_of view.new ≡ log_of view.old }
+{
+    let (relation, person, yes) = goal;
+    let sentence = of(alloc, relation, person)?;
+    let goal = ground_sentence(rt, alloc, schema, sentence)?;
+    let probe = Probe {
+        premise: None,
+        goal: (&goal, yes),
+    };
+    found(rt, alloc, schema, view, &probe, budget)
+}
+
+/// What a probe with a further premise finds.
+fn found_behind(
+    rt: &impl Abort,
+    alloc: Global,
+    schema: &Schema,
+    view: &mut View<'_>,
+    premise: (u32, u32, bool),
+    goal: (u32, u32, bool),
+    budget: u64,
+) -> Result<String, Fail>
+    requires schema { schema_of view.old ≡ schema.now }
+    requires size { log_nodes (schema_of view.old) (log_of view.old) ≤ 30000 }
+{
+    let (relation, person, is_true) = premise;
+    let sentence = of(alloc, relation, person)?;
+    let further = ground_sentence(rt, alloc, schema, sentence)?;
+    let (relation, person, yes) = goal;
+    let sentence = of(alloc, relation, person)?;
+    let goal = ground_sentence(rt, alloc, schema, sentence)?;
+    let probe = Probe {
+        premise: Some((&further, is_true)),
+        goal: (&goal, yes),
+    };
+    found(rt, alloc, schema, view, &probe, budget)
+}
+
 #[test]
 fn worked_probes(rt: HostRuntime) -> Result<(), Fail> {
     let alloc = rt.alloc();
     let schema = hospital(alloc)?;
     for (number, (premise, goal, budget, wanted)) in CASES.iter().enumerate() {
         let mut view = rule_view(&rt, alloc, &schema)?;
-        let (relation, person, yes) = *goal;
-        let goal = ground_sentence(&rt, alloc, &schema, of(alloc, relation, person)?)?;
         let found = match premise {
-            Some((relation, person, is_true)) => {
-                let further = of(alloc, *relation, *person)?;
-                let further = ground_sentence(&rt, alloc, &schema, further)?;
-                let probe = Probe {
-                    premise: Some((&further, *is_true)),
-                    goal: (&goal, yes),
-                };
-                found(&rt, alloc, &schema, &mut view, &probe, *budget)?
+            Some(premise) => {
+                found_behind(&rt, alloc, &schema, &mut view, *premise, *goal, *budget)?
             }
-            None => {
-                let probe = Probe {
-                    premise: None,
-                    goal: (&goal, yes),
-                };
-                found(&rt, alloc, &schema, &mut view, &probe, *budget)?
-            }
+            None => found_alone(&rt, alloc, &schema, &mut view, *goal, *budget)?,
         };
         assert_eq!(rt; found.as_str(), *wanted, "case {number}");
     }
@@ -234,17 +270,13 @@ fn views_learn_between_probes(rt: HostRuntime) -> Result<(), Fail> {
     let alloc = rt.alloc();
     let schema = hospital(alloc)?;
     let mut view = rule_view(&rt, alloc, &schema)?;
-    let goal = ground_sentence(&rt, alloc, &schema, of(alloc, DRUG, BOB)?)?;
-    let probe = Probe {
-        premise: None,
-        goal: (&goal, false),
-    };
-    let before = found(&rt, alloc, &schema, &mut view, &probe, 100)?;
+    let goal = (DRUG, BOB, false);
+    let before = found_alone(&rt, alloc, &schema, &mut view, goal, 100)?;
     assert_eq!(rt; before.as_str(), "open 0-1 1-1");
     let learnt = of(alloc, HIV, BOB)?;
     assert!(rt; fits(&schema, &learnt));
     view.add(alloc, &learnt, false)?;
-    let behind = found(&rt, alloc, &schema, &mut view, &probe, 100)?;
+    let behind = found_alone(&rt, alloc, &schema, &mut view, goal, 100)?;
     assert_eq!(rt; behind.as_str(), "follows");
     assert_eq!(rt; view.len(), 2);
     Ok(())

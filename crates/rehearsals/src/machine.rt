@@ -1,10 +1,7 @@
 //! Clauses as numbers: searched by both bodies of the machine, and refutations and models of them
 //! judged.
-ghost use Rattle.std.specs.Prelude.{IfOk};
-ghost use Rattle.clause_solver.specs.Beginnings.{IsBeginning};
-
 use clause_solver::plain::search_plain;
-use clause_solver::{Found, KeptSearch, Searched, is_searchable, search, search_with_cost};
+use clause_solver::{Found, is_searchable, search, search_with_cost};
 use clause_store::clauses::Clauses;
 use clause_store::literal::Lit;
 use clause_store::refutation::{Line, Refutation, Signs};
@@ -99,65 +96,7 @@ fn found_text(alloc: Global, found: &Found) -> Result<String, AllocError> {
     }
 }
 
-/// Whether two searches found the same at the same cost.
-fn are_same(alloc: Global, first: &Searched, second: &Searched) -> Result<bool, AllocError> {
-    let one = found_text(alloc, &first.found)?;
-    let other = found_text(alloc, &second.found)?;
-    Ok(first.cost == second.cost && one.as_str() == other.as_str())
-}
-
-/// Whether a search behind kept clauses finds in each longer beginning of a list what one from
-/// nothing finds, and so does each search behind another.
-fn is_same_behind(
-    alloc: Global,
-    kept: &mut KeptSearch,
-    start: &Clauses,
-    clauses: &Clauses,
-    variables: u32,
-    budget: u64,
-) -> Result<bool, AllocError>
-    requires { IsBeginning kept.old start.now }
-    ensures { IfOk result (λ _. IsBeginning kept.new start.now) }
-{
-    let mut list = start.copy(alloc)?;
-    for number in start.len()..clauses.len() {
-        let _number = list.push(clauses.clause(number))?;
-        if !is_searchable(&list, variables, budget) {
-            return Ok(false);
-        }
-        let from_kept = kept.search_with_cost(alloc, &list, variables, budget)?;
-        let from_nothing = search_with_cost(alloc, &list, variables, budget)?;
-        if !are_same(alloc, &from_kept, &from_nothing)? {
-            return Ok(false);
-        }
-    }
-    Ok(true)
-}
-
-/// Whether so it is behind each beginning of the list, one clause being kept more at a time.
-fn is_same_kept(
-    alloc: Global,
-    clauses: &Clauses,
-    variables: u32,
-    budget: u64,
-) -> Result<bool, AllocError> {
-    let mut kept = KeptSearch::new(alloc);
-    let mut start = Clauses::new(alloc);
-    for number in 0..clauses.len() {
-        if !is_same_behind(alloc, &mut kept, &start, clauses, variables, budget)? {
-            return Ok(false);
-        }
-        let _number = start.push(clauses.clause(number))?;
-        if !is_searchable(&start, variables, budget) {
-            return Ok(false);
-        }
-        kept.keep(alloc, &start, variables)?;
-    }
-    Ok(true)
-}
-
-/// What both bodies find within a budget, or that they differ, or that the faster one does behind
-/// kept clauses.
+/// What both bodies find within a budget, or that they differ.
 fn both(
     alloc: Global,
     clauses: &Clauses,
@@ -169,13 +108,11 @@ fn both(
     }
     let fast = found_text(alloc, &search(alloc, clauses, variables, budget)?)?;
     let plain = found_text(alloc, &search_plain(alloc, clauses, variables, budget)?)?;
-    if fast.as_str() != plain.as_str() {
-        return String::from_str(alloc, "the bodies differ");
+    if fast.as_str() == plain.as_str() {
+        Ok(fast)
+    } else {
+        String::from_str(alloc, "the bodies differ")
     }
-    if !is_same_kept(alloc, clauses, variables, budget)? {
-        return String::from_str(alloc, "a search behind kept clauses differs");
-    }
-    Ok(fast)
 }
 
 /// The whole cost of a search, and what both bodies find at this budget, if they find nothing at
