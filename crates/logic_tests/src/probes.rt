@@ -197,26 +197,38 @@ const CASES: [Case; 9] = [
     (Some((HIV, BOB, false)), (DRUG, ANN, true), 0, "spent"),
 ];
 
+/// One of the sentences of the cases, ground.
+fn ground_of(
+    rt: &impl Abort,
+    alloc: Global,
+    schema: &Schema,
+    relation: u32,
+    person: u32,
+) -> Result<GroundSentence, AllocError>
+    ensures { IfOk result (IsGroundOver schema.now) }
+{
+    let sentence = of(alloc, relation, person)?;
+    ground_sentence(rt, alloc, schema, sentence)
+}
+
 /// What a probe without a further premise finds.
 fn found_alone(
     rt: &impl Abort,
     alloc: Global,
     schema: &Schema,
     view: &mut View<'_>,
-    goal: (u32, u32, bool),
+    goal: (&GroundSentence, bool),
     budget: u64,
 ) -> Result<String, Fail>
     requires schema { schema_of view.old ≡ schema.now }
     requires size { log_nodes (schema_of view.old) (log_of view.old) ≤ 30000 }
+    requires grounded { IsGroundOver schema.now goal.0.now }
     ensures schema { schema_of view.new ≡ schema_of view.old }
     ensures log { log_of view.new ≡ log_of view.old }
 {
-    let (relation, person, yes) = goal;
-    let sentence = of(alloc, relation, person)?;
-    let goal = ground_sentence(rt, alloc, schema, sentence)?;
     let probe = Probe {
         premise: None,
-        goal: (&goal, yes),
+        goal,
     };
     found(rt, alloc, schema, view, &probe, budget)
 }
@@ -227,39 +239,44 @@ fn found_behind(
     alloc: Global,
     schema: &Schema,
     view: &mut View<'_>,
-    premise: (u32, u32, bool),
-    goal: (u32, u32, bool),
+    premise: (&GroundSentence, bool),
+    goal: (&GroundSentence, bool),
     budget: u64,
 ) -> Result<String, Fail>
     requires schema { schema_of view.old ≡ schema.now }
     requires size { log_nodes (schema_of view.old) (log_of view.old) ≤ 30000 }
+    requires grounded_premise { IsGroundOver schema.now premise.0.now }
+    requires grounded_goal { IsGroundOver schema.now goal.0.now }
 {
-    let (relation, person, is_true) = premise;
-    let sentence = of(alloc, relation, person)?;
-    let further = ground_sentence(rt, alloc, schema, sentence)?;
-    let (relation, person, yes) = goal;
-    let sentence = of(alloc, relation, person)?;
-    let goal = ground_sentence(rt, alloc, schema, sentence)?;
     let probe = Probe {
-        premise: Some((&further, is_true)),
-        goal: (&goal, yes),
+        premise: Some(premise),
+        goal,
     };
     found(rt, alloc, schema, view, &probe, budget)
+}
+
+/// What a case finds.
+fn found_in(rt: &impl Abort, alloc: Global, schema: &Schema, case: &Case) -> Result<String, Fail> {
+    let (premise, (relation, person, yes), budget, _) = *case;
+    let mut view = rule_view(rt, alloc, schema)?;
+    let goal = ground_of(rt, alloc, schema, relation, person)?;
+    match premise {
+        Some((relation, person, is_true)) => {
+            let further = ground_of(rt, alloc, schema, relation, person)?;
+            let (premise, goal) = ((&further, is_true), (&goal, yes));
+            found_behind(rt, alloc, schema, &mut view, premise, goal, budget)
+        }
+        None => found_alone(rt, alloc, schema, &mut view, (&goal, yes), budget),
+    }
 }
 
 #[test]
 fn worked_probes(rt: HostRuntime) -> Result<(), Fail> {
     let alloc = rt.alloc();
     let schema = hospital(alloc)?;
-    for (number, (premise, goal, budget, wanted)) in CASES.iter().enumerate() {
-        let mut view = rule_view(&rt, alloc, &schema)?;
-        let found = match premise {
-            Some(premise) => {
-                found_behind(&rt, alloc, &schema, &mut view, *premise, *goal, *budget)?
-            }
-            None => found_alone(&rt, alloc, &schema, &mut view, *goal, *budget)?,
-        };
-        assert_eq!(rt; found.as_str(), *wanted, "case {number}");
+    for (number, case) in CASES.iter().enumerate() {
+        let found = found_in(&rt, alloc, &schema, case)?;
+        assert_eq!(rt; found.as_str(), case.3, "case {number}");
     }
     Ok(())
 }
@@ -270,13 +287,13 @@ fn views_learn_between_probes(rt: HostRuntime) -> Result<(), Fail> {
     let alloc = rt.alloc();
     let schema = hospital(alloc)?;
     let mut view = rule_view(&rt, alloc, &schema)?;
-    let goal = (DRUG, BOB, false);
-    let before = found_alone(&rt, alloc, &schema, &mut view, goal, 100)?;
+    let goal = ground_of(&rt, alloc, &schema, DRUG, BOB)?;
+    let before = found_alone(&rt, alloc, &schema, &mut view, (&goal, false), 100)?;
     assert_eq!(rt; before.as_str(), "open 0-1 1-1");
     let learnt = of(alloc, HIV, BOB)?;
     assert!(rt; fits(&schema, &learnt));
     view.add(alloc, &learnt, false)?;
-    let behind = found_alone(&rt, alloc, &schema, &mut view, goal, 100)?;
+    let behind = found_alone(&rt, alloc, &schema, &mut view, (&goal, false), 100)?;
     assert_eq!(rt; behind.as_str(), "follows");
     assert_eq!(rt; view.len(), 2);
     Ok(())
