@@ -255,18 +255,40 @@ fn found_behind(
     found(rt, alloc, schema, view, &probe, budget)
 }
 
+/// What a probe with this further premise finds.
+fn found_with(
+    rt: &impl Abort,
+    alloc: Global,
+    schema: &Schema,
+    view: &mut View<'_>,
+    premise: (u32, u32, bool),
+    goal: (&GroundSentence, bool),
+    budget: u64,
+) -> Result<String, Fail>
+    requires schema { schema_of view.old ≡ schema.now }
+    requires size { log_nodes (schema_of view.old) (log_of view.old) ≤ 30000 }
+    requires grounded { IsGroundOver schema.now goal.0.now }
+{
+    let (relation, person, is_true) = premise;
+    let further = ground_of(rt, alloc, schema, relation, person)?;
+    found_behind(rt, alloc, schema, view, (&further, is_true), goal, budget)
+}
+
 /// What a case finds.
-fn found_in(rt: &impl Abort, alloc: Global, schema: &Schema, case: &Case) -> Result<String, Fail> {
-    let (premise, (relation, person, yes), budget, _) = *case;
+fn found_in(
+    rt: &impl Abort,
+    alloc: Global,
+    schema: &Schema,
+    goal: (&GroundSentence, bool),
+    premise: Option<(u32, u32, bool)>,
+    budget: u64,
+) -> Result<String, Fail>
+    requires { IsGroundOver schema.now goal.0.now }
+{
     let mut view = rule_view(rt, alloc, schema)?;
-    let goal = ground_of(rt, alloc, schema, relation, person)?;
     match premise {
-        Some((relation, person, is_true)) => {
-            let further = ground_of(rt, alloc, schema, relation, person)?;
-            let (premise, goal) = ((&further, is_true), (&goal, yes));
-            found_behind(rt, alloc, schema, &mut view, premise, goal, budget)
-        }
-        None => found_alone(rt, alloc, schema, &mut view, (&goal, yes), budget),
+        Some(premise) => found_with(rt, alloc, schema, &mut view, premise, goal, budget),
+        None => found_alone(rt, alloc, schema, &mut view, goal, budget),
     }
 }
 
@@ -274,11 +296,33 @@ fn found_in(rt: &impl Abort, alloc: Global, schema: &Schema, case: &Case) -> Res
 fn worked_probes(rt: HostRuntime) -> Result<(), Fail> {
     let alloc = rt.alloc();
     let schema = hospital(alloc)?;
-    for (number, case) in CASES.iter().enumerate() {
-        let found = found_in(&rt, alloc, &schema, case)?;
-        assert_eq!(rt; found.as_str(), case.3, "case {number}");
+    for (number, (premise, goal, budget, wanted)) in CASES.iter().enumerate() {
+        let (relation, person, yes) = *goal;
+        let goal = ground_of(&rt, alloc, &schema, relation, person)?;
+        let found = found_in(&rt, alloc, &schema, (&goal, yes), *premise, *budget)?;
+        assert_eq!(rt; found.as_str(), *wanted, "case {number}");
     }
     Ok(())
+}
+
+/// What is found before and behind a sentence is learnt.
+fn found_twice(
+    rt: &impl Abort,
+    alloc: Global,
+    schema: &Schema,
+    view: &mut View<'_>,
+    learnt: &Sentence,
+    goal: (&GroundSentence, bool),
+) -> Result<(String, String), Fail>
+    requires schema { schema_of view.old ≡ schema.now }
+    requires size { log_nodes (schema_of view.old) (log_of view.old) ≤ 10000 }
+    requires grounded { IsGroundOver schema.now goal.0.now }
+{
+    let before = found_alone(rt, alloc, schema, view, goal, 100)?;
+    assert!(rt; fits(schema, learnt));
+    view.add(alloc, learnt, false)?;
+    let behind = found_alone(rt, alloc, schema, view, goal, 100)?;
+    Ok((before, behind))
 }
 
 /// What is learnt behind a probe counts from the next probe on.
@@ -287,13 +331,11 @@ fn views_learn_between_probes(rt: HostRuntime) -> Result<(), Fail> {
     let alloc = rt.alloc();
     let schema = hospital(alloc)?;
     let mut view = rule_view(&rt, alloc, &schema)?;
-    let goal = ground_of(&rt, alloc, &schema, DRUG, BOB)?;
-    let before = found_alone(&rt, alloc, &schema, &mut view, (&goal, false), 100)?;
-    assert_eq!(rt; before.as_str(), "open 0-1 1-1");
     let learnt = of(alloc, HIV, BOB)?;
-    assert!(rt; fits(&schema, &learnt));
-    view.add(alloc, &learnt, false)?;
-    let behind = found_alone(&rt, alloc, &schema, &mut view, (&goal, false), 100)?;
+    let goal = ground_of(&rt, alloc, &schema, DRUG, BOB)?;
+    let goal = (&goal, false);
+    let (before, behind) = found_twice(&rt, alloc, &schema, &mut view, &learnt, goal)?;
+    assert_eq!(rt; before.as_str(), "open 0-1 1-1");
     assert_eq!(rt; behind.as_str(), "follows");
     assert_eq!(rt; view.len(), 2);
     Ok(())
