@@ -292,15 +292,20 @@ fn found_in(
     }
 }
 
+/// What a case finds, with its goal ground.
+fn found_for(rt: &impl Abort, alloc: Global, schema: &Schema, case: &Case) -> Result<String, Fail> {
+    let (premise, (relation, person, yes), budget, _) = *case;
+    let goal = ground_of(rt, alloc, schema, relation, person)?;
+    found_in(rt, alloc, schema, (&goal, yes), premise, budget)
+}
+
 #[test]
 fn worked_probes(rt: HostRuntime) -> Result<(), Fail> {
     let alloc = rt.alloc();
     let schema = hospital(alloc)?;
-    for (number, (premise, goal, budget, wanted)) in CASES.iter().enumerate() {
-        let (relation, person, yes) = *goal;
-        let goal = ground_of(&rt, alloc, &schema, relation, person)?;
-        let found = found_in(&rt, alloc, &schema, (&goal, yes), *premise, *budget)?;
-        assert_eq!(rt; found.as_str(), *wanted, "case {number}");
+    for (number, case) in CASES.iter().enumerate() {
+        let found = found_for(&rt, alloc, &schema, case)?;
+        assert_eq!(rt; found.as_str(), case.3, "case {number}");
     }
     Ok(())
 }
@@ -325,18 +330,37 @@ fn found_twice(
     Ok((before, behind))
 }
 
+/// A goal is open before something is learnt, and follows behind it.
+fn opens_then_follows(
+    rt: &impl Abort,
+    alloc: Global,
+    schema: &Schema,
+    view: &mut View<'_>,
+    goal: (&GroundSentence, bool),
+) -> Result<(), Fail>
+    requires schema { schema_of view.old ≡ schema.now }
+    requires size { log_nodes (schema_of view.old) (log_of view.old) ≤ 10000 }
+    requires grounded { IsGroundOver schema.now goal.0.now }
+{
+    let learnt = of(alloc, HIV, BOB)?;
+    let (before, behind) = found_twice(rt, alloc, schema, view, &learnt, goal)?;
+    assert_eq!(rt; before.as_str(), "open 0-1 1-1");
+    assert_eq!(rt; behind.as_str(), "follows");
+    assert_eq!(rt; view.len(), 2);
+    Ok(())
+}
+
+/// The same of a view of its own.
+fn learns(rt: &impl Abort, alloc: Global, schema: &Schema) -> Result<(), Fail> {
+    let mut view = rule_view(rt, alloc, schema)?;
+    let goal = ground_of(rt, alloc, schema, DRUG, BOB)?;
+    opens_then_follows(rt, alloc, schema, &mut view, (&goal, false))
+}
+
 /// What is learnt behind a probe counts from the next probe on.
 #[test]
 fn views_learn_between_probes(rt: HostRuntime) -> Result<(), Fail> {
     let alloc = rt.alloc();
     let schema = hospital(alloc)?;
-    let mut view = rule_view(&rt, alloc, &schema)?;
-    let learnt = of(alloc, HIV, BOB)?;
-    let goal = ground_of(&rt, alloc, &schema, DRUG, BOB)?;
-    let goal = (&goal, false);
-    let (before, behind) = found_twice(&rt, alloc, &schema, &mut view, &learnt, goal)?;
-    assert_eq!(rt; before.as_str(), "open 0-1 1-1");
-    assert_eq!(rt; behind.as_str(), "follows");
-    assert_eq!(rt; view.len(), 2);
-    Ok(())
+    learns(&rt, alloc, &schema)
 }
