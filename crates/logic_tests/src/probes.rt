@@ -255,19 +255,48 @@ fn found_behind(
     found(rt, alloc, schema, view, &probe, budget)
 }
 
+/// What a probe with this further premise finds.
+fn found_with(
+    rt: &impl Abort,
+    alloc: Global,
+    schema: &Schema,
+    view: &mut View<'_>,
+    premise: (u32, u32, bool),
+    goal: (&GroundSentence, bool),
+    budget: u64,
+) -> Result<String, Fail>
+    requires schema { schema_of view.old ≡ schema.now }
+    requires size { log_nodes (schema_of view.old) (log_of view.old) ≤ 30000 }
+    requires grounded { IsGroundOver schema.now goal.0.now }
+{
+    let (relation, person, is_true) = premise;
+    let further = ground_of(rt, alloc, schema, relation, person)?;
+    found_behind(rt, alloc, schema, view, (&further, is_true), goal, budget)
+}
+
 /// What a case finds.
-fn found_in(rt: &impl Abort, alloc: Global, schema: &Schema, case: &Case) -> Result<String, Fail> {
-    let (premise, (relation, person, yes), budget, _) = *case;
+fn found_in(
+    rt: &impl Abort,
+    alloc: Global,
+    schema: &Schema,
+    goal: (&GroundSentence, bool),
+    premise: Option<(u32, u32, bool)>,
+    budget: u64,
+) -> Result<String, Fail>
+    requires { IsGroundOver schema.now goal.0.now }
+{
     let mut view = rule_view(rt, alloc, schema)?;
-    let goal = ground_of(rt, alloc, schema, relation, person)?;
     match premise {
-        Some((relation, person, is_true)) => {
-            let further = ground_of(rt, alloc, schema, relation, person)?;
-            let (premise, goal) = ((&further, is_true), (&goal, yes));
-            found_behind(rt, alloc, schema, &mut view, premise, goal, budget)
-        }
-        None => found_alone(rt, alloc, schema, &mut view, (&goal, yes), budget),
+        Some(premise) => found_with(rt, alloc, schema, &mut view, premise, goal, budget),
+        None => found_alone(rt, alloc, schema, &mut view, goal, budget),
     }
+}
+
+/// What a case finds, with its goal ground.
+fn found_for(rt: &impl Abort, alloc: Global, schema: &Schema, case: &Case) -> Result<String, Fail> {
+    let (premise, (relation, person, yes), budget, _) = *case;
+    let goal = ground_of(rt, alloc, schema, relation, person)?;
+    found_in(rt, alloc, schema, (&goal, yes), premise, budget)
 }
 
 #[test]
@@ -275,10 +304,57 @@ fn worked_probes(rt: HostRuntime) -> Result<(), Fail> {
     let alloc = rt.alloc();
     let schema = hospital(alloc)?;
     for (number, case) in CASES.iter().enumerate() {
-        let found = found_in(&rt, alloc, &schema, case)?;
+        let found = found_for(&rt, alloc, &schema, case)?;
         assert_eq!(rt; found.as_str(), case.3, "case {number}");
     }
     Ok(())
+}
+
+/// What is found before and behind a sentence is learnt.
+fn found_twice(
+    rt: &impl Abort,
+    alloc: Global,
+    schema: &Schema,
+    view: &mut View<'_>,
+    learnt: &Sentence,
+    goal: (&GroundSentence, bool),
+) -> Result<(String, String), Fail>
+    requires schema { schema_of view.old ≡ schema.now }
+    requires size { log_nodes (schema_of view.old) (log_of view.old) ≤ 10000 }
+    requires grounded { IsGroundOver schema.now goal.0.now }
+{
+    let before = found_alone(rt, alloc, schema, view, goal, 100)?;
+    assert!(rt; fits(schema, learnt));
+    view.add(alloc, learnt, false)?;
+    let behind = found_alone(rt, alloc, schema, view, goal, 100)?;
+    Ok((before, behind))
+}
+
+/// A goal is open before something is learnt, and follows behind it.
+fn opens_then_follows(
+    rt: &impl Abort,
+    alloc: Global,
+    schema: &Schema,
+    view: &mut View<'_>,
+    goal: (&GroundSentence, bool),
+) -> Result<(), Fail>
+    requires schema { schema_of view.old ≡ schema.now }
+    requires size { log_nodes (schema_of view.old) (log_of view.old) ≤ 10000 }
+    requires grounded { IsGroundOver schema.now goal.0.now }
+{
+    let learnt = of(alloc, HIV, BOB)?;
+    let (before, behind) = found_twice(rt, alloc, schema, view, &learnt, goal)?;
+    assert_eq!(rt; before.as_str(), "open 0-1 1-1");
+    assert_eq!(rt; behind.as_str(), "follows");
+    assert_eq!(rt; view.len(), 2);
+    Ok(())
+}
+
+/// The same of a view of its own.
+fn learns(rt: &impl Abort, alloc: Global, schema: &Schema) -> Result<(), Fail> {
+    let mut view = rule_view(rt, alloc, schema)?;
+    let goal = ground_of(rt, alloc, schema, DRUG, BOB)?;
+    opens_then_follows(rt, alloc, schema, &mut view, (&goal, false))
 }
 
 /// What is learnt behind a probe counts from the next probe on.
@@ -286,15 +362,5 @@ fn worked_probes(rt: HostRuntime) -> Result<(), Fail> {
 fn views_learn_between_probes(rt: HostRuntime) -> Result<(), Fail> {
     let alloc = rt.alloc();
     let schema = hospital(alloc)?;
-    let mut view = rule_view(&rt, alloc, &schema)?;
-    let goal = ground_of(&rt, alloc, &schema, DRUG, BOB)?;
-    let before = found_alone(&rt, alloc, &schema, &mut view, (&goal, false), 100)?;
-    assert_eq!(rt; before.as_str(), "open 0-1 1-1");
-    let learnt = of(alloc, HIV, BOB)?;
-    assert!(rt; fits(&schema, &learnt));
-    view.add(alloc, &learnt, false)?;
-    let behind = found_alone(&rt, alloc, &schema, &mut view, (&goal, false), 100)?;
-    assert_eq!(rt; behind.as_str(), "follows");
-    assert_eq!(rt; view.len(), 2);
-    Ok(())
+    learns(&rt, alloc, &schema)
 }
