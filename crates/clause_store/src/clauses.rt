@@ -68,6 +68,8 @@ impl Clauses {
     }
 
     /// The clause that was pushed under this number.
+    // Passes over all clauses call it: it is to cost no call.
+    #[inline(always)]
     pub fn clause(&self, number: usize) -> &[Lit]
         requires { number < length self.now }
         ensures { result.now ≡ slice_index_or self.now number result.now }
@@ -109,6 +111,7 @@ impl Clauses {
 }
 
 /// Where the clause of this number starts: where the one before it ends.
+#[inline(always)]
 fn start_of(ends: &[usize], number: usize) -> usize
     requires { number ≤ length ends.now }
     ensures { result ≡ start_of 0 ends.now number }
