@@ -5,6 +5,7 @@ pub mod GroundSentences
 pub mod Probes
 pub mod Forms
 pub mod Inside
+pub mod ViewsInside
 pub mod Budgets
 pub mod Models
 pub mod Verdicts
