@@ -1,0 +1,63 @@
+use Rattle.std.proofs.Common.{◌≡◌, length, sym, ap, subst, ◌∙◌}
+use Rattle.std.proofs.lemmas.Bool.{eqb-true}
+use Rattle.entailment.specs.Views.{log_of, IsViewWithin}
+use Rattle.entailment.specs.GroundSentences.{sentence_of}
+use Rattle.censors.specs.Found.{HasFindings}
+use Rattle.user_log.specs.UserLogs.{kept_schema, kept_user}
+use Rattle.user_log.proofs.Asking.{full_weighed, large_weighed, answer_weighed}
+use Rattle.user_log.proofs.Examining.{whole-log}
+use Rattle.user_log.proofs.SameLogs.{kept_with, same_log}
+use Rattle.user_log.proofs.log.UserLog.weigh_examined.Goals as goal
+
+pub put-requires : goal.put-requires
+put-requires c =
+    let self = c.args.self.now in
+    let view = c.args.examined.view in
+    subst (λ s. IsViewWithin s (log_of self.views) view) (sym self.kept.schema_is)
+    (subst (λ told. IsViewWithin (kept_schema self) told view) (sym self.kept.log_is) c.requires.examined.within)
+
+pub invariant_of-self : goal.invariant_of-self
+invariant_of-self c = record {
+  kept = kept_with c.args.self.now c.put.new.self c.put.ensures;
+  guarding = c.args.self.now.guarding;
+}
+
+pub mark_with-requires-clause-sentence : goal.mark_with-requires-clause-sentence
+mark_with-requires-clause-sentence c = c.law_reading.ensures.of_schema _ _ _ c.requires.examined.read
+
+pub mark_with-requires-clause-grounded : goal.mark_with-requires-clause-grounded
+mark_with-requires-clause-grounded c = c.requires.examined.grounded
+
+pub mark_with-requires-clause-found : goal.mark_with-requires-clause-found
+mark_with-requires-clause-found c whole =
+    let self = c.args.self.now in
+    let examined = c.args.examined in
+    let given = c.requires.examined in
+    let long : length (log_of examined.view) ≡ length (log_of self.views) = sym c.len.ensures ∙ eqb-true _ _ whole ∙ c.len-2.ensures in
+    subst (λ told. HasFindings (kept_schema self) (kept_user self) told (sentence_of examined.query) examined.findings)
+    (whole-log _ _ given.within.1 (long ∙ ap length self.kept.log_is)) given.findings
+
+pub returns-then-is_full-clause-same : goal.returns-then-is_full-clause-same
+returns-then-is_full-clause-same c = same_log c.args.self.now c.put.new.self c.put.ensures _ _
+
+pub returns-then-is_full-clause-weighed : goal.returns-then-is_full-clause-weighed
+returns-then-is_full-clause-weighed c = full_weighed _ _ _ _ _ _ c.requires.examined.read (sym c.is_full.ensures ∙ c.if-is_full.true)
+
+pub returns-then-is_too_large-clause-same : goal.returns-then-is_too_large-clause-same
+returns-then-is_too_large-clause-same c = same_log c.args.self.now c.put.new.self c.put.ensures _ _
+
+pub returns-then-is_too_large-clause-weighed : goal.returns-then-is_too_large-clause-weighed
+returns-then-is_too_large-clause-weighed c =
+    large_weighed _ _ _ _ _ _ c.requires.examined.read (sym c.is_full.ensures ∙ c.if-is_full.false)
+    (sym c.is_too_large.ensures ∙ c.if-is_too_large.true)
+
+pub returns-in_err-mark-clause-same : goal.returns-in_err-mark-clause-same
+returns-in_err-mark-clause-same c = c.mark_with.ensures.same ∙ same_log c.args.self.now c.put.new.self c.put.ensures _ _
+
+pub returns-clause-same : goal.returns-clause-same
+returns-clause-same c = c.mark_with.ensures.same ∙ same_log c.args.self.now c.put.new.self c.put.ensures _ _
+
+pub returns-clause-weighed : goal.returns-clause-weighed
+returns-clause-weighed c =
+    answer_weighed _ _ _ _ _ _ c.requires.examined.read _ (sym c.is_full.ensures ∙ c.if-is_full.false)
+    (sym c.is_too_large.ensures ∙ c.if-is_too_large.false) c.in_ok-mark.ensures.rule
