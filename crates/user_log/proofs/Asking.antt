@@ -1,5 +1,5 @@
 -- What an ask answers, from what weighing its text found.
-use Rattle.std.proofs.Common.{◌≡◌, Bool, true, false, [], ◌∷◌, ◌++◌, length, sym, ap, ◌∙◌}
+use Rattle.std.proofs.Common.{◌≡◌, Bool, true, false, [], ◌∷◌, ◌++◌, length, refl, sym, ap, ◌∙◌}
 use Rattle.std.specs.Prelude.{Option, None, option_to_list, Ok, if◌then◌else◌}
 use Rattle.std.proofs.lemmas.Grind.{common_steps}
 use Rattle.std.proofs.Common.{arith}
@@ -49,7 +49,7 @@ module _
 
   pub full_weighed : is_full entries (length text) ≡ true → IsWeighed schema world user entries text (Code Full)
   full_weighed full = (
-    sym (replied true (is_too_large schema user entries query) full (λ i. is_too_large schema user entries query)),
+    sym (replied true (is_too_large schema user entries query) full refl),
     ap (λ r. entry_added text r history_full) read,
   )
 

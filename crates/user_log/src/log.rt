@@ -17,7 +17,7 @@ ghost use Rattle.user_log.specs.Kept.{IsConsistentLog, IsConsistentLog-prop, Are
 ghost use Rattle.user_log.specs.Kept.{AreGuardsOf-prop};
 ghost use Rattle.entailment.specs.GroundSentences.{sentence_of, IsGroundOver};
 
-use crate::{Examined, Prepared, Reply, Weighed};
+use crate::{Examined, Examiner, Prepared, Reply, Weighed};
 use censors::{Findings, Guards, decide, examine, law_undecided_is_cost};
 use cqe_base::laws::{law_findings_decide, law_legal_grows, law_limits, law_logs, law_reading};
 use cqe_base::schema::Schema;
@@ -64,6 +64,7 @@ impl<'w> UserLog<'w> {
     ghost use Rattle.user_log.specs.UserLogs.{IsOfSame};
     ghost use Rattle.user_log.specs.Asked.{IsAnswer, IsWeighed, IsAsked};
     ghost use Rattle.user_log.specs.Examining.{IsExamined, IsLent};
+    ghost use Rattle.user_log.specs.Examiners.{examiner_schema, examiner_user};
     ghost use Rattle.user_log.specs.Undecided.{IsMarkByCost, IsUndecidedByCost, IsReplyByCost};
     ghost use Rattle.user_log.specs.Replies.{reply_of};
     ghost use Rattle.user_log.specs.Prepared.{IsPrepared, prepared_entry};
@@ -105,6 +106,15 @@ impl<'w> UserLog<'w> {
         ensures { profile_of result.now ≡ kept_user self.now }
     {
         self.user
+    }
+
+    /// What examines the user's texts outside of the log.
+    pub fn examiner(&self, alloc: Global) -> Result<Examiner<'w>, AllocError>
+        ensures schema { IfOk result (λ examiner.
+            examiner_schema examiner ≡ kept_schema self.now) }
+        ensures user { IfOk result (λ examiner. examiner_user examiner ≡ kept_user self.now) }
+    {
+        Examiner::new(alloc, self.schema, self.user)
     }
 
     /// The entries, oldest first.
