@@ -17,6 +17,7 @@ use user_log::{Examined, Examiner, Reply};
 /// A value under a turnstile that belongs to a user.
 pub trait Owned: Recorded {
     ghost owner: { Self → UserProfile };
+
     ghost schema: { Self → DatabaseSchema };
     // What no turn changes, as the turnstile has it.
     ghost kept: { Self → Self.Fixed };

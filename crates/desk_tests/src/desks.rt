@@ -107,7 +107,10 @@ fn one_ask_writes_its_bytes(rt: HostRuntime) -> Result<(), Fail> {
     format(&mut disk, &HEADER)?;
     let mut desk = desk_on(&rt, alloc, &ward, disk)?;
     assert_eq!(rt; *desk.standing(), Standing::Open);
-    assert_eq!(rt; desk.settle(alloc, "drug(ann)", None), Reply::Mark(Mark::No));
+    assert_eq!(rt;
+        desk.settle(alloc, "drug(ann)", None),
+        Reply::Mark(Mark::No)
+    );
     assert_eq!(rt; desk.entries().len(), 1);
     assert!(rt; !desk.broken());
     // The empty text isn't a sentence: kind 2 at its end. A code writes nothing.

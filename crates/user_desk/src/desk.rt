@@ -168,12 +168,7 @@ impl<'w, D: Disk> Desk<'w, D> {
 
     /// A view of the log, after which the query of a text can be examined outside of the desk.
     /// There is none where a code answers the text, or memory is wanting. The desk stays as it is.
-    pub fn lend(
-        &mut self,
-        alloc: Global,
-        text: &str,
-        query: &GroundSentence,
-    ) -> Option<View<'w>>
+    pub fn lend(&mut self, alloc: Global, text: &str, query: &GroundSentence) -> Option<View<'w>>
         requires { length text.now ≤ 4096 }
         ensures same { IsOfSame self.old self.new }
         ensures opening { IsOfOneOpening self.old self.new }

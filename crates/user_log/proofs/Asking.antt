@@ -37,26 +37,26 @@ module _
     (schema : DatabaseSchema) (world : FactSet) (user : UserProfile) (entries : History) (text : Text) (query : Formula)
     (read : reading schema text ≡ Ok query)
   where
-  -- the reply, by the sizes
-  replied : (full large : Bool) → is_full entries (length text) ≡ full → is_too_large schema user entries query ≡ large
-      → open_reply schema world user entries text
-      ≡ (if full then history_full else if large then too_large else marked (rule schema world user (log user entries) query))
-  replied full large f l =
-      let told = marked (rule schema world user (log user entries) query) in
-      ap (reply_by schema world user entries standing_open false text) read
-      ∙ ap (λ b. if b then history_full else if is_too_large schema user entries query then too_large else told) f
-      ∙ ap (λ b. if full then history_full else if b then too_large else told) l
+    -- the reply, by the sizes
+    replied : (full large : Bool) → is_full entries (length text) ≡ full → is_too_large schema user entries query ≡ large
+        → open_reply schema world user entries text
+        ≡ (if full then history_full else if large then too_large else marked (rule schema world user (log user entries) query))
+    replied full large f l =
+        let told = marked (rule schema world user (log user entries) query) in
+        ap (reply_by schema world user entries standing_open false text) read
+        ∙ ap (λ b. if b then history_full else if is_too_large schema user entries query then too_large else told) f
+        ∙ ap (λ b. if full then history_full else if b then too_large else told) l
 
-  pub full_weighed : is_full entries (length text) ≡ true → IsWeighed schema world user entries text (Code Full)
-  full_weighed full = (
-    sym (replied true (is_too_large schema user entries query) full refl),
-    ap (λ r. entry_added text r history_full) read,
-  )
+    pub full_weighed : is_full entries (length text) ≡ true → IsWeighed schema world user entries text (Code Full)
+    full_weighed full = (
+      sym (replied true (is_too_large schema user entries query) full refl),
+      ap (λ r. entry_added text r history_full) read,
+    )
 
-  pub large_weighed : is_full entries (length text) ≡ false → is_too_large schema user entries query ≡ true
-      → IsWeighed schema world user entries text (Code Size)
-  large_weighed full large = (sym (replied false true full large), ap (λ r. entry_added text r too_large) read)
+    pub large_weighed : is_full entries (length text) ≡ false → is_too_large schema user entries query ≡ true
+        → IsWeighed schema world user entries text (Code Size)
+    large_weighed full large = (sym (replied false true full large), ap (λ r. entry_added text r too_large) read)
 
-  pub answer_weighed : (mark : Mark) → is_full entries (length text) ≡ false → is_too_large schema user entries query ≡ false
-      → mark ≡ rule schema world user (log user entries) query → IsAnswer schema world user entries text query mark
-  answer_weighed mark full large is = record { read = read; answer = replied false false full large ∙ ap marked (sym is) }
+    pub answer_weighed : (mark : Mark) → is_full entries (length text) ≡ false → is_too_large schema user entries query ≡ false
+        → mark ≡ rule schema world user (log user entries) query → IsAnswer schema world user entries text query mark
+    answer_weighed mark full large is = record { read = read; answer = replied false false full large ∙ ap marked (sym is) }

@@ -1,12 +1,13 @@
 //! A user's entries, with the view of their log and their sizes.
 
 ghost use Rattle.std.specs.Prelude.{◌≡◌, ◌≤◌, ◌<◌, ◌+◌, ◌++◌, ◌∷◌, [], ◌&&◌, true, false, Bool};
-ghost use Rattle.std.specs.Prelude.{length, map, sum_by, IfOk, OnOk, OnErr, IfSome};
+ghost use Rattle.std.specs.Prelude.{length, map, sum_by, Ok, IfOk, OnOk, OnErr, IfSome, IfNone};
 ghost use Rattle.cqe_base.specs.Formula.{formula_of, nodes, is_sentence_of};
 ghost use Rattle.cqe_base.specs.History.{profile_of, answered_query_of, log, view_size, told_by};
 ghost use Rattle.cqe_base.specs.History.{signed_nodes};
 ghost use Rattle.cqe_base.specs.Truth.{true_in};
 ghost use Rattle.cqe_base.specs.Censor.{rule, IsLegal, guarded, mark_by};
+ghost use Rattle.cqe_base.specs.Reading.{reading};
 ghost use Rattle.cqe_base.specs.Run.{is_full, is_too_large};
 ghost use Rattle.cqe_base.specs.Limits.{KeepsLimits, KeepsSizes};
 ghost use Rattle.entailment.specs.Views.{schema_of, log_of, room_of};
@@ -176,11 +177,8 @@ impl<'w> UserLog<'w> {
             Err(ReadError::Text(error)) => return Ok(Weighed::Code(Reply::Syntax(error))),
             Err(ReadError::Memory) => return Err(AllocError),
         };
-        if self.is_full(text.len()) {
-            return Ok(Weighed::Code(Reply::Full));
-        }
-        if self.is_too_large(&query) {
-            return Ok(Weighed::Code(Reply::Size));
+        if let Some(code) = self.refusal(text, &query) {
+            return Ok(Weighed::Code(code));
         }
         let query = GroundSentence::new(alloc, self.schema, query)?;
         let mark = self.mark(alloc, &query)?;
@@ -213,11 +211,8 @@ impl<'w> UserLog<'w> {
         } = examined;
         let is_whole = view.len() == self.views.len();
         self.views.put(view);
-        if self.is_full(text.len()) {
-            return Ok(Weighed::Code(Reply::Full));
-        }
-        if self.is_too_large(&query.sentence) {
-            return Ok(Weighed::Code(Reply::Size));
+        if let Some(code) = self.refusal(text, &query.sentence) {
+            return Ok(Weighed::Code(code));
         }
         let mark = self.mark_with(alloc, &query, is_whole, &findings)?;
         Ok(Weighed::Answer(query.sentence, mark))
@@ -225,12 +220,7 @@ impl<'w> UserLog<'w> {
 
     /// A view of the log, after which the query can be examined outside of it. There is none where
     /// a code answers the query, or memory is wanting.
-    pub fn lend(
-        &mut self,
-        alloc: Global,
-        text: &str,
-        query: &GroundSentence,
-    ) -> Option<View<'w>>
+    pub fn lend(&mut self, alloc: Global, text: &str, query: &GroundSentence) -> Option<View<'w>>
         requires { length text.now ≤ 4096 }
         ensures same { self.new ≡ self.old }
         ensures lent { IfSome result
@@ -238,16 +228,33 @@ impl<'w> UserLog<'w> {
             (sentence_of query.now)) }
     {
         law_limits();
-        if self.is_full(text.len()) {
-            return None;
-        }
-        if self.is_too_large(&query.sentence) {
+        if let Some(_code) = self.refusal(text, &query.sentence) {
             return None;
         }
         match self.views.lend(alloc) {
             Ok(view) => Some(view),
             Err(_) => None,
         }
+    }
+
+    /// The code that answers the query of a text for want of room, if one does.
+    fn refusal(&self, text: &str, query: &Sentence) -> Option<Reply>
+        requires { length text.now ≤ 4096 }
+        ensures code { IfSome result (λ code.
+            reading (kept_schema self.now) text.now ≡ Ok (formula_of query.now)
+            → IsWeighed (kept_schema self.now) (kept_world self.now) (kept_user self.now)
+            (kept_history self.now) text.now (Weighed.Code code)) }
+        ensures room { IfNone result (is_full (kept_history self.now) (length text.now) ≡ false) }
+        ensures small { IfNone result (is_too_large (kept_schema self.now) (kept_user self.now)
+            (kept_history self.now) (formula_of query.now) ≡ false) }
+    {
+        if self.is_full(text.len()) {
+            return Some(Reply::Full);
+        }
+        if self.is_too_large(query) {
+            return Some(Reply::Size);
+        }
+        None
     }
 
     /// Whether the entries, or the texts with one of this length, are too many.

@@ -17,7 +17,7 @@ pub returns-in-Ok-clause-lent : goal.returns-in-Ok-clause-lent
 returns-in-Ok-clause-lent c =
     let self = c.args.self.now in
     let fits = c.law_limits.ensures.queries (kept_schema self) (kept_user self) (kept_history self) (sentence_of c.args.query.now)
-    self.kept.limits (sym c.is_too_large.ensures ∙ c.if-is_too_large.false) in
+    self.kept.limits c.in_default.ensures.small in
     record {
       schema_is = c.in-Ok.ensures.schema ∙ self.kept.schema_is;
       log_is = c.in-Ok.ensures.log ∙ self.kept.log_is;

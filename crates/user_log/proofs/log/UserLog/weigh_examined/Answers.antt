@@ -4,7 +4,7 @@ use Rattle.entailment.specs.Views.{log_of, IsViewWithin}
 use Rattle.entailment.specs.GroundSentences.{sentence_of}
 use Rattle.censors.specs.Found.{HasFindings}
 use Rattle.user_log.specs.UserLogs.{kept_schema, kept_user}
-use Rattle.user_log.proofs.Asking.{full_weighed, large_weighed, answer_weighed}
+use Rattle.user_log.proofs.Asking.{answer_weighed}
 use Rattle.user_log.proofs.Examining.{whole-log}
 use Rattle.user_log.proofs.SameLogs.{kept_with, same_log}
 use Rattle.user_log.proofs.log.UserLog.weigh_examined.Goals as goal
@@ -37,19 +37,11 @@ mark_with-requires-clause-found c whole =
     subst (λ told. HasFindings (kept_schema self) (kept_user self) told (sentence_of examined.query) examined.findings)
     (whole-log _ _ given.within.1 (long ∙ ap length self.kept.log_is)) given.findings
 
-pub returns-then-is_full-clause-same : goal.returns-then-is_full-clause-same
-returns-then-is_full-clause-same c = same_log c.args.self.now c.put.new.self c.put.ensures _ _
+pub returns-in-Some-clause-same : goal.returns-in-Some-clause-same
+returns-in-Some-clause-same c = same_log c.args.self.now c.put.new.self c.put.ensures _ _
 
-pub returns-then-is_full-clause-weighed : goal.returns-then-is_full-clause-weighed
-returns-then-is_full-clause-weighed c = full_weighed _ _ _ _ _ _ c.requires.examined.read (sym c.is_full.ensures ∙ c.if-is_full.true)
-
-pub returns-then-is_too_large-clause-same : goal.returns-then-is_too_large-clause-same
-returns-then-is_too_large-clause-same c = same_log c.args.self.now c.put.new.self c.put.ensures _ _
-
-pub returns-then-is_too_large-clause-weighed : goal.returns-then-is_too_large-clause-weighed
-returns-then-is_too_large-clause-weighed c =
-    large_weighed _ _ _ _ _ _ c.requires.examined.read (sym c.is_full.ensures ∙ c.if-is_full.false)
-    (sym c.is_too_large.ensures ∙ c.if-is_too_large.true)
+pub returns-in-Some-clause-weighed : goal.returns-in-Some-clause-weighed
+returns-in-Some-clause-weighed c = c.in-Some.ensures.code c.requires.examined.read
 
 pub returns-in_err-mark-clause-same : goal.returns-in_err-mark-clause-same
 returns-in_err-mark-clause-same c = c.mark_with.ensures.same ∙ same_log c.args.self.now c.put.new.self c.put.ensures _ _
@@ -59,5 +51,4 @@ returns-clause-same c = c.mark_with.ensures.same ∙ same_log c.args.self.now c.
 
 pub returns-clause-weighed : goal.returns-clause-weighed
 returns-clause-weighed c =
-    answer_weighed _ _ _ _ _ _ c.requires.examined.read _ (sym c.is_full.ensures ∙ c.if-is_full.false)
-    (sym c.is_too_large.ensures ∙ c.if-is_too_large.false) c.in_ok-mark.ensures.rule
+    answer_weighed _ _ _ _ _ _ c.requires.examined.read _ c.in_default.ensures.room c.in_default.ensures.small c.in_ok-mark.ensures.rule
