@@ -6,7 +6,7 @@ use Rattle.entailment.proofs.view.View.blank.Goals as goal
 
 pub invariant_of-result : goal.invariant_of-result
 invariant_of-result c =
-    let none = ap told_log c.new-3.ensures.items in
+    let none = ap told_log c.new-2.ensures.items in
     record {
       small = subst (IsSmallLog c.args.schema.now) (sym none) (small-none c.args.schema.now);
       within = omega arith;
