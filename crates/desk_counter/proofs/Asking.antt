@@ -13,7 +13,7 @@ use Rattle.turnstile.specs.declared.pass.Pass.{Pass}
 use Rattle.turnstile.specs.declared.view.View.{View}
 use Rattle.turnstile.specs.History.{Entries, IsPrefix, AddsAlike, AddsAtMostOne, count_of}
 use Rattle.turnstile.specs.Views.{turn_view, outside_view}
-use Rattle.turnstile.specs.Passes.{view_of, seen, mine, shares, turns, tickets}
+use Rattle.turnstile.specs.Passes.{view_of, seen, mine, shares, tickets}
 use Rattle.user_log.specs.declared.reply.Reply.{Reply}
 use Rattle.user_log.specs.declared.reply.Reply.TheVariants.{Mark, Syntax, Full, Size, Closed, Sealed, Broken, Memory}
 use Rattle.desk_counter.specs.declared.item.TurnItem.{TurnItem}
@@ -216,10 +216,10 @@ module _ {D : Type 0} (fixed : Fixed D) where
       }
 
   -- the turns and the shares behind a turn
-  pub turns_used : {old new : Pass TurnItem (Fixed D)} {inside : View TurnItem (Fixed D)} (ticket : ℕ) (found after : Entries TurnItem)
-      → inside ≡ turn_view (view_of old) ticket found → view_of new ≡ outside_view inside after
-      → (shares new ≡ shares old) × (turns new ≡ turns old - 1)
-  turns_used ticket found after entered left = (
+  pub turns_used : (old new inside : View TurnItem (Fixed D)) (ticket : ℕ) (found after : Entries TurnItem)
+      → inside ≡ turn_view old ticket found → new ≡ outside_view inside after
+      → (new.shares ≡ old.shares) × (new.turns ≡ old.turns - 1)
+  turns_used old new inside ticket found after entered left = (
     ap (λ (v : View TurnItem (Fixed D)). v.shares) left ∙ ap (λ (v : View TurnItem (Fixed D)). v.shares) entered,
     ap (λ (v : View TurnItem (Fixed D)). v.turns) left ∙ ap (λ (v : View TurnItem (Fixed D)). v.turns) entered,
   )

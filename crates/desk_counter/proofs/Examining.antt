@@ -1,10 +1,9 @@
 -- What was examined in between two turns.
-use Rattle.std.proofs.Common.{◌≡◌, [], ◌∷◌, ◌++◌, refl, sym, ap, ◌∙◌, subst, append_assoc}
+use Rattle.std.proofs.Common.{◌≡◌, [], ◌∷◌, ◌++◌, sym, ap, ◌∙◌, subst, append_assoc}
 use Rattle.std.specs.Prelude.{Option, Some, None, IfSome}
 use Rattle.std.proofs.lemmas.List.{append-nil}
 use Rattle.cqe_base.specs.Schema.{DatabaseSchema, Text}
-use Rattle.cqe_base.specs.Entailment.{Signed}
-use Rattle.cqe_base.specs.History.{UserProfile, AnsweredQuery, History, LogsGrow, log, told_by}
+use Rattle.cqe_base.specs.History.{UserProfile, History, LogsGrow, log, told_by}
 use Rattle.turnstile.specs.History.{Entries, IsPrefix}
 use Rattle.entailment.specs.Views.{IsLogBeginning}
 use Rattle.user_log.specs.Examining.{IsExamined}
@@ -48,5 +47,5 @@ pub examined_later : {D : Type 0} (kept fixed : Fixed D) (pairs later : Entries 
     → IsPrefix pairs later → IfSome examined (IsExaminedBehind kept pairs text)
     → IfSome examined (IsExamined fixed.schema fixed.user (history_of later) text)
 examined_later kept fixed pairs later text None same prefix found = tt
-examined_later kept fixed pairs later text (Some examined) same prefix found =
-    subst (λ (f : Fixed _). IsExamined f.schema f.user (history_of later) text examined) (sym same) (found later prefix)
+examined_later {D = D} kept fixed pairs later text (Some examined) same prefix found =
+    subst (λ (f : Fixed D). IsExamined f.schema f.user (history_of later) text examined) (sym same) (found later prefix)

@@ -29,7 +29,8 @@ settle-reply-requires-clause-examined g c =
 pub returns-clause-used : goal.returns-clause-used
 returns-clause-used g c =
     let before = c.examined-examined.ensures in
-    let behind = turns_used (kept_by c.args.self.now) _ _ _ c.enter-turn.ensures.view c.leave.ensures.view in
+    let behind = turns_used (kept_by c.args.self.now) (view_of c.examined-examined.new.pass) (view_of c.leave.new.pass) _ c.enter-turn.result.ticket
+    (pairs_in c.enter-turn.result.value) (pairs_in c.settle-reply.new.self) c.enter-turn.ensures.view c.leave.ensures.view in
     (behind.0 ∙ before.looked.same_shares, omega (arith, behind.1, before.used, c.requires.turns))
 
 pub leave-requires-clause-grows : goal.leave-requires-clause-grows

@@ -1,4 +1,4 @@
-use Rattle.std.proofs.Common.{◌≡◌, ◌≤◌, ◌+◌, [], ◌∷◌, ◌++◌, sym, ap, ◌∙◌, subst, arith}
+use Rattle.std.proofs.Common.{◌≤◌, ◌+◌, sym, ◌∙◌, subst}
 use Rattle.cqe_base.specs.Formula.{nodes}
 use Rattle.cqe_base.specs.History.{log}
 use Rattle.entailment.specs.Logs.{log_nodes}
@@ -6,7 +6,6 @@ use Rattle.entailment.specs.Views.{log_of, IsLogBeginning}
 use Rattle.entailment.specs.GroundSentences.{sentence_of}
 use Rattle.turnstile.specs.Passes.{seen}
 use Rattle.user_log.specs.Examiners.{examiner_schema, examiner_user}
-use Rattle.user_log.specs.Examining.{IsExamined}
 use Rattle.desk_counter.specs.Items.{history_of}
 use Rattle.desk_counter.specs.Counters.{kept_by}
 use Rattle.desk_counter.proofs.Asking.{looked_not}

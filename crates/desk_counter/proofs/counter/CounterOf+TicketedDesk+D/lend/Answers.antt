@@ -1,7 +1,6 @@
 use Rattle.std.proofs.Common.{ap, sym, ◌∙◌, subst, ◌≡◌, inl, arith}
 use Rattle.std.specs.Prelude.{IfSome}
 use Rattle.turnstile.specs.declared.view.View.{View}
-use Rattle.turnstile.specs.History.{AddsAtMostOne}
 use Rattle.turnstile.specs.Passes.{view_of, seen}
 use Rattle.entailment.specs.GroundSentences.{sentence_of}
 use Rattle.user_log.specs.Examining.{IsLent}
@@ -20,7 +19,8 @@ leave-requires-clause-grows g c =
 
 pub returns-clause-used : goal.returns-clause-used
 returns-clause-used g c =
-    let behind = turns_used (kept_by c.args.self.now) _ _ _ c.enter-turn.ensures.view c.leave.ensures.view in
+    let behind = turns_used (kept_by c.args.self.now) (view_of c.args.pass.now) (view_of c.leave.new.pass) _ c.enter-turn.result.ticket
+    (pairs_in c.enter-turn.result.value) (pairs_in c.lend-view.new.self) c.enter-turn.ensures.view c.leave.ensures.view in
     omega (arith, behind.1, c.requires.turns)
 
 pub returns-clause-looked : goal.returns-clause-looked

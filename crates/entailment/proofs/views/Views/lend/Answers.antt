@@ -1,6 +1,6 @@
-use Rattle.std.proofs.Common.{◌≡◌, sym, ap, subst, ◌∙◌}
+use Rattle.std.proofs.Common.{sym, ap, subst, ◌∙◌}
 use Rattle.entailment.specs.Logs.{IsSmallLog, told_log}
-use Rattle.entailment.specs.Views.{schema_of, log_of, IsLogBeginning, IsViewWithin}
+use Rattle.entailment.specs.Views.{schema_of, log_of, IsLogBeginning}
 use Rattle.entailment.proofs.views.Views.lend.Goals as goal
 
 pub follow-requires-clause-small : goal.follow-requires-clause-small

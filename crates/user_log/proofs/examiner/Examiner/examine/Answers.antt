@@ -3,7 +3,7 @@ use Rattle.cqe_base.specs.Formula.{nodes, is_sentence_of}
 use Rattle.cqe_base.specs.Limits.{KeepsLimits}
 use Rattle.cqe_base.specs.History.{log}
 use Rattle.entailment.specs.Logs.{log_nodes}
-use Rattle.entailment.specs.Views.{LogView, schema_of, log_of, IsLogBeginning, IsViewWithin}
+use Rattle.entailment.specs.Views.{LogView, schema_of, log_of, IsLogBeginning}
 use Rattle.entailment.specs.GroundSentences.{sentence_of, IsGroundOver}
 use Rattle.censors.specs.Found.{HasFindings}
 use Rattle.user_log.specs.Examiners.{examiner_schema, examiner_user}

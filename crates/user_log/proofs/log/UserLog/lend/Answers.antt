@@ -1,4 +1,4 @@
-use Rattle.std.proofs.Common.{true, sym, ◌∙◌}
+use Rattle.std.proofs.Common.{true, ◌∙◌}
 use Rattle.entailment.specs.GroundSentences.{sentence_of}
 use Rattle.user_log.specs.UserLogs.{kept_schema, kept_user, kept_history}
 use Rattle.user_log.proofs.SameLogs.{kept_with, same_log}

@@ -3,7 +3,7 @@ use Rattle.std.proofs.lemmas.Bool.{eqb-true}
 use Rattle.entailment.specs.Views.{log_of, IsViewWithin}
 use Rattle.entailment.specs.GroundSentences.{sentence_of}
 use Rattle.censors.specs.Found.{HasFindings}
-use Rattle.user_log.specs.UserLogs.{kept_schema, kept_user}
+use Rattle.user_log.specs.UserLogs.{kept_schema, kept_world, kept_user, kept_history}
 use Rattle.user_log.proofs.Asking.{answer_weighed}
 use Rattle.user_log.proofs.Examining.{whole-log}
 use Rattle.user_log.proofs.SameLogs.{kept_with, same_log}
@@ -51,4 +51,6 @@ returns-clause-same c = c.mark_with.ensures.same ∙ same_log c.args.self.now c.
 
 pub returns-clause-weighed : goal.returns-clause-weighed
 returns-clause-weighed c =
-    answer_weighed _ _ _ _ _ _ c.requires.examined.read _ c.in_default.ensures.room c.in_default.ensures.small c.in_ok-mark.ensures.rule
+    let self = c.args.self.now in
+    answer_weighed (kept_schema self) (kept_world self) (kept_user self) (kept_history self) c.args.text.now (sentence_of c.args.examined.query)
+    c.requires.examined.read _ c.in_default.ensures.room c.in_default.ensures.small c.in_ok-mark.ensures.rule
