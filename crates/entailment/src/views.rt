@@ -108,9 +108,10 @@ impl<'s> Views<'s> {
         requires { IsViewWithin (schema_of self.old) (log_of self.old) view }
         ensures { self.new ≡ self.old }
     {
-        if self.spares.len() < SPARES {
-            let _kept = self.spares.push(view);
+        if self.spares.len() >= SPARES {
+            return;
         }
+        let _kept = self.spares.push(view);
     }
 }
 

@@ -22,6 +22,16 @@ invariant_of-self c =
     let log = told_log c.self.inside.log.items in
     record { small = c.self.invariant.small; spares = c.take_view.ensures.left log c.self.invariant.spares }
 
+pub invariant_of-self-2 : goal.invariant_of-self-2
+invariant_of-self-2 c =
+    let log = told_log c.self.inside.log.items in
+    record { small = c.self.invariant.small; spares = c.take_view.ensures.left log c.self.invariant.spares }
+
+pub invariant_of-self-3 : goal.invariant_of-self-3
+invariant_of-self-3 c =
+    let log = told_log c.self.inside.log.items in
+    record { small = c.self.invariant.small; spares = c.take_view.ensures.left log c.self.invariant.spares }
+
 pub returns-clause-schema : goal.returns-clause-schema
 returns-clause-schema c =
     let within = c.in_ok-view.ensures.within (told_log c.self.inside.log.items) c.self.invariant.spares in
