@@ -1,5 +1,5 @@
 use Rattle.std.proofs.Common.{◌≡◌, ◌≤◌, ◌+◌, [], ◌∷◌, ◌++◌, true, length, take, refl, sym, ap, subst, ◌∙◌, arith, length-append}
-use Rattle.std.proofs.Math.Seq.{take-append_seam}
+use Rattle.std.proofs.Math.Seq.{take-append_seam, take-length}
 use Rattle.std.proofs.lemmas.List.{length-map}
 use Rattle.cqe_base.specs.Formula.{formula_of, nodes, is_sentence_of}
 use Rattle.cqe_base.specs.Entailment.{Signed}
@@ -53,3 +53,11 @@ loop-number-preserved c =
       log = c.in_ok-add.ensures.added ∙ ap (λ log. log ++ next ∷ []) c.loop-number.invariant.log
           ∙ sym (item-more c.args.sentences.now c.loop-number.number told c.loop-number-test.true c.index-sentences-number.is);
     }
+
+pub returns-clause-log : goal.returns-clause-log
+returns-clause-log c =
+    let whole = told_log c.args.sentences.now in
+    let within = c.loop-number.invariant.within in
+    let count = length-map c.args.sentences.now (λ t. (formula_of t.sentence, t.yes)) in
+    let all : c.loop-number.number ≡ length whole = omega (arith, c.loop-number-test.false, within, count) in
+    c.loop-number.invariant.log ∙ ap (λ n. take n whole) all ∙ take-length whole
