@@ -6,8 +6,8 @@
 //! for all of his queries. `examine` makes every probe of a query and looks at no world; its
 //! findings say what the log entails over all worlds. `decide` gives the mark from them and the
 //! query's truth, by the rule of the user's method. `admit` says whether a user can be served in a
-//! world, and else which test fails first. `safe_with` says whether he can be given one more secret.
-//! Read `guards`, then `examination`, `marks`, `admittance` and `additions`.
+//! world, and else which test fails first. `safe_with` says whether he can be given one more
+//! secret. Read `guards`, then `examination`, `marks`, `admittance` and `additions`.
 #![tactic(auto)]
 
 mod additions;
