@@ -1,5 +1,5 @@
 pub mod Replies
--- definitions, and proofs, which ghost fields name: IsConsistentLog-prop, AreGuardsOf-prop
+-- definitions, and proofs, which ghost fields name: IsConsistentLog-prop, IsAmended-prop
 pub mod Kept
 pub mod Asked
 pub mod UserLogs

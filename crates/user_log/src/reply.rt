@@ -1,10 +1,10 @@
-//! Replies to an ask.
+//! Replies to a call.
 
 use cqe_base::sentence::Sentence;
 use cqe_base::text::TextError;
 use cqe_base::user::Mark;
 
-/// The reply to an ask: a mark, or a code.
+/// The reply to a call: a mark, or a code. The mark `Protected` tells that a secret was added.
 #[derive(Clone, Copy, Debug, PartialEq, Eq)]
 pub enum Reply {
     Mark(Mark),
@@ -12,7 +12,7 @@ pub enum Reply {
     Syntax(TextError),
     /// 22: the history is full.
     Full,
-    /// 21: the query, or the view with it, is too large.
+    /// 21: the sentence, or the view or the secrets with it, are too large.
     Size,
     /// 24: the user isn't admitted.
     Closed,
@@ -22,6 +22,10 @@ pub enum Reply {
     Broken,
     /// 50: memory is wanting.
     Memory,
+    /// 27: a secret is to be added, and there are 16.
+    Secrets,
+    /// A secret is to be added that isn't safe.
+    Unsafe,
 }
 
 /// A text that was weighed and not yet added.
@@ -29,6 +33,6 @@ pub enum Reply {
 pub enum Weighed {
     /// It is answered by a code and adds nothing.
     Code(Reply),
-    /// It is this query, and this mark answers it.
+    /// It is this sentence, and this mark answers the call.
     Answer(Sentence, Mark),
 }
