@@ -32,8 +32,8 @@ abbrev pub IsSomeAnswer : DatabaseSchema → FactSet → UserProfile → History
 IsSomeAnswer schema world user entries text query mark =
     (purpose : Purpose) × IsAnswer schema world user entries purpose text query mark
 
--- what was weighed is this sentence with the mark that the reply is, or a code that is the reply and
--- adds no item
+-- what was weighed is this sentence with the mark that the reply is, or a code that is the reply
+-- and adds no item
 abbrev pub WeighsAs : Formula → Run.Reply → Weighed → Type 0
 WeighsAs sentence told (Code code) = (reply_of code ≡ told)
     × ((text : Text) → entry_added text (Ok sentence) (reply_of code) ≡ None)

@@ -67,7 +67,8 @@ pub struct UserLog<'w> {
         (map answered_query_of entries.items) (schema_of view) (log_of view)
         text_bytes view_nodes } by { IsConsistentLog-prop _ _ _ _ _ _ _ _ },
     ghost amended: { IsAmended schema.now (profile_of user.now)
-        (map answered_query_of entries.items) (profile_of now) guards } by { IsAmended-prop _ _ _ _ _ },
+        (map answered_query_of entries.items) (profile_of now)
+        guards } by { IsAmended-prop _ _ _ _ _ },
 }
 
 impl<'w> UserLog<'w> {
@@ -280,7 +281,7 @@ impl<'w> UserLog<'w> {
         law_undecided_is_cost();
         let findings = examine(alloc, &mut self.view, &self.guards, &self.now, query)?;
         let truth = holds(self.schema, self.world, &query.sentence);
-        Ok(decide(self.now.method, &findings, truth))
+        Ok(decide(self.user.method, &findings, truth))
     }
 
     /// Takes all that adding the item of a text that was weighed takes, with the mark that answers
@@ -293,8 +294,8 @@ impl<'w> UserLog<'w> {
         mark: Mark,
     ) -> Result<Prepared<'w>, AllocError>
         requires few { length text.now ≤ 4096 }
-        requires answer { IsSomeAnswer (kept_schema self.old) (kept_world self.old) (kept_user self.old)
-            (kept_history self.old) text.now (formula_of query) mark }
+        requires answer { IsSomeAnswer (kept_schema self.old) (kept_world self.old)
+            (kept_user self.old) (kept_history self.old) text.now (formula_of query) mark }
         ensures same { IsOfSame self.old self.new }
         ensures unchanged { kept_history self.new ≡ kept_history self.old }
         ensures prepared { IfOk result (IsPrepared self.new) }
@@ -390,8 +391,8 @@ impl<'w> UserLog<'w> {
         mark: Mark,
     ) -> Result<(), AllocError>
         requires few { length text.now ≤ 4096 }
-        requires answer { IsSomeAnswer (kept_schema self.old) (kept_world self.old) (kept_user self.old)
-            (kept_history self.old) text.now (formula_of query) mark }
+        requires answer { IsSomeAnswer (kept_schema self.old) (kept_world self.old)
+            (kept_user self.old) (kept_history self.old) text.now (formula_of query) mark }
         ensures same { IsOfSame self.old self.new }
         ensures added { OnOk result (kept_history self.new
             ≡ kept_history self.old
