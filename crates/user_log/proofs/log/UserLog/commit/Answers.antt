@@ -37,8 +37,8 @@ invariant_of-self c =
     let before = c.args.self.now in
     let entry = prepared_entry c.args.prepared in
     record {
-      kept = kept_push _ _ _ _ _ entry _ _ _ _ _ _ _ _ before.kept c.law_legal_grows.ensures.grows c.law_logs.ensures.grows c.requires.sizes
-          c.requires.mark
+      kept = kept_push _ _ _ _ _ entry _ _ _ _ _ _ _ _ before.kept c.law_legal_grows.ensures.grows c.law_logs.ensures.grows
+          c.law_added_secrets.ensures.grows c.requires.sizes c.requires.legal
           (grind (arith, common_steps)) c.tell.ensures.schema
           (c.tell.ensures.told ∙ ap (λ q. log_of before.view ++ told_by entry.mark q) c.requires.told) c.from.ensures c.requires.nodes;
       guarding = before.guarding;

@@ -1,7 +1,8 @@
-use Rattle.std.proofs.Common.{◌≤◌, ◌+◌, true, map, sym, ap, subst, ◌∙◌}
+use Rattle.std.proofs.Common.{◌≡◌, ◌≤◌, ◌+◌, true, map, sym, ap, subst, ◌∙◌}
 use Rattle.cqe_base.specs.Formula.{nodes}
-use Rattle.cqe_base.specs.History.{profile_of, answered_query_of}
-use Rattle.cqe_base.specs.Censor.{mark_by}
+use Rattle.cqe_base.specs.History.{profile_of, answered_query_of, log}
+use Rattle.cqe_base.specs.Limits.{FitsProbes}
+use Rattle.cqe_base.specs.Censor.{mark_by, rule}
 use Rattle.entailment.specs.Logs.{log_nodes}
 use Rattle.entailment.specs.Views.{log_of}
 use Rattle.entailment.specs.GroundSentences.{sentence_of, IsGroundOver}
@@ -21,14 +22,21 @@ examine-requires-clause-all_nodes c =
     subst (λ s. log_nodes s (log_of c.args.self.now.view) + nodes s query ≤ 60000) (sym kept.schema_is)
     (subst (λ told. log_nodes schema told + nodes schema query ≤ 60000) (sym kept.log_is) (fits.log_nodes true))
 
+pub examine-requires-clause-fits : goal.examine-requires-clause-fits
+examine-requires-clause-fits c =
+    let self = c.args.self.now in
+    subst (λ s. FitsProbes s (profile_of self.now)) (sym self.kept.schema_is)
+    (subst (FitsProbes (kept_schema self)) (sym self.amended.now_is)
+    (c.law_amended_limits.ensures.probes (kept_schema self) (kept_user self) (kept_history self) self.kept.limits self.kept.sizes))
+
 pub examine-requires-clause-guards_schema : goal.examine-requires-clause-guards_schema
-examine-requires-clause-guards_schema c = c.args.self.now.guarding.schema_is ∙ sym c.args.self.now.kept.schema_is
+examine-requires-clause-guards_schema c = c.args.self.now.amended.schema_is ∙ sym c.args.self.now.kept.schema_is
 
 pub examine-requires-clause-grounded : goal.examine-requires-clause-grounded
 examine-requires-clause-grounded c = subst (λ s. IsGroundOver s c.args.query.now) (sym c.args.self.now.kept.schema_is) c.requires.grounded
 
 pub invariant_of-self : goal.invariant_of-self
-invariant_of-self c = record { kept = kept_with c.args.self.now c.examine.new.view c.examine.ensures.same; guarding = c.args.self.now.guarding }
+invariant_of-self c = record { kept = kept_with c.args.self.now c.examine.new.view c.examine.ensures.same; amended = c.args.self.now.amended }
 
 pub returns-in_err-findings-clause-same : goal.returns-in_err-findings-clause-same
 returns-in_err-findings-clause-same c = same_log c.args.self.now c.examine.new.view c.examine.ensures.same _ _
@@ -39,10 +47,12 @@ returns-clause-same c = same_log c.args.self.now c.examine.new.view c.examine.en
 pub returns-clause-rule : goal.returns-clause-rule
 returns-clause-rule c =
     let found = c.in_ok-findings.findings in
-    let kept = c.args.self.now.kept in
+    let self = c.args.self.now in
+    let method : self.user.now.method ≡ self.now.method = sym (ap (λ u. u.method) self.amended.now_is) in
     c.decide.ensures
-    ∙ ap (λ truth. mark_by c.args.self.now.user.now.method found.spent found.implied found.yes_harm found.no_harm truth) c.holds-truth.ensures
-    ∙ decided _ _ _ _ _ _ _ _ _ _ _ kept.schema_is kept.log_is c.law_findings_decide.ensures c.in_ok-findings.ensures.findings
+    ∙ (λ k. mark_by (method k) found.spent found.implied found.yes_harm found.no_harm (c.holds-truth.ensures k))
+    ∙ decided _ _ _ _ _ _ _ _ _ _ _ self.kept.schema_is self.kept.log_is c.law_findings_decide.ensures c.in_ok-findings.ensures.findings
+    ∙ (λ k. rule (kept_schema self) (kept_world self) (self.amended.now_is k) (log (kept_user self) (kept_history self)) (sentence_of c.args.query.now))
 
 pub returns-clause-undecided : goal.returns-clause-undecided
 returns-clause-undecided c =
