@@ -25,7 +25,8 @@ append_none entries added none = grind (arith, common_steps)
 pub code_asked : (schema : DatabaseSchema) (world : FactSet) (user : UserProfile) (entries : History) (purpose : Purpose) (text : Text)
     (code : Reply) → (reply_of code ≡ open_reply schema world user entries purpose text) × (entry_added text (reading schema text) (reply_of code) ≡ None)
     → IsAsked schema world user entries entries purpose text (reply_of code)
-code_asked schema world user entries purpose text code is = answered is.0 (append_none entries (entry_added text (reading schema text) (reply_of code)) is.1)
+code_asked schema world user entries purpose text code is =
+    answered is.0 (append_none entries (entry_added text (reading schema text) (reply_of code)) is.1)
 
 pub mark_asked : (schema : DatabaseSchema) (world : FactSet) (user : UserProfile) (old new : History) (purpose : Purpose) (text : Text)
     (query : Formula) (mark : Mark) → IsAnswer schema world user old purpose text query mark → new ≡ old ++ record { query = query; mark = mark; length = length text } ∷ []

@@ -1,11 +1,11 @@
 -- What is kept of a user, from the empty history and item by item.
-use Rattle.std.proofs.Common.{◌≡◌, ℕ, ◌+◌, Bool, true, false, List, [], ◌∷◌, ◌++◌, length, refl, sym, ap, ◌∙◌, subst, arith}
+use Rattle.std.proofs.Common.{◌≡◌, ℕ, ◌+◌, Bool, true, false, List, [], ◌∷◌, ◌++◌, length, refl, sym, ap, ◌∙◌, subst, append-nil, arith}
 use Rattle.std.specs.Prelude.{◌⊎◌, sum_by, Option, Ok, if◌then◌else◌}
 use Rattle.std.proofs.Common.{inl, inr}
 use Rattle.std.proofs.lemmas.Bool.{both_ways, or_parts}
 use Rattle.std.proofs.lemmas.Grind.{common_steps}
 use Rattle.cqe_base.specs.declared.user.Mark.{Mark}
-use Rattle.cqe_base.specs.declared.user.Mark.TheVariants.{Protected}
+use Rattle.cqe_base.specs.declared.user.Mark.TheVariants.{Yes, No, Refused, Undecided, Protected}
 use Rattle.cqe_base.specs.declared.user.Purpose.TheVariants.{Asking, Protecting}
 use Rattle.cqe_base.specs.Schema.{DatabaseSchema, Text}
 use Rattle.cqe_base.specs.Reading.{ReadingsAreSentences}
@@ -17,11 +17,12 @@ use Rattle.cqe_base.specs.Formula.{Formula}
 use Rattle.cqe_base.specs.Truth.{true_in}
 use Rattle.cqe_base.specs.Entailment.{Signed}
 use Rattle.cqe_base.specs.History.{UserProfile, AnsweredQuery, History, EmptyLogIsKnown, LogsGrow, SecretsGrow, told_by, is_added, user_at, log, view_size}
-use Rattle.cqe_base.specs.History.{known}
+use Rattle.cqe_base.specs.History.{known, with_secrets, secrets_by}
 use Rattle.cqe_base.specs.Censor.{AreFindings, FindingsDecide, RulesAddNone, IsLegalItem, EmptyHistoryIsLegal, LegalHistoriesGrow, mark_by, rule}
 use Rattle.cqe_base.specs.Censor.{mark_after, safe_after}
 use Rattle.cqe_base.specs.Limits.{KeepsLimits, KeepsSizes, KeepsSizesAt}
-use Rattle.user_log.specs.Kept.{IsConsistentLog}
+use Rattle.censors.specs.Guards.{GuardedSentences}
+use Rattle.user_log.specs.Kept.{IsConsistentLog, IsAmended}
 use Rattle.user_log.specs.Nodes.{told_nodes}
 use Rattle.user_log.proofs.Sizes.{view_size-push}
 
@@ -183,3 +184,33 @@ answer_fits schema world user entries text query mark sentences none (Protecting
       },
       record { has_mark = λ asked. absurd (both_ways (is_added mark) asked (ap is_added means.4)); is_safe = λ _. means.3 },
     )
+
+-- ---- the user behind one more item
+
+asked_adds : (mark : Mark) (sentence : Formula) → is_added mark ≡ false → secrets_by mark sentence ≡ []
+asked_adds Yes sentence asked = refl
+asked_adds No sentence asked = refl
+asked_adds Refused sentence asked = refl
+asked_adds Undecided sentence asked = refl
+asked_adds Protected sentence asked = absurd cc
+
+-- behind one that was asked he is as he was
+pub amended_asked : (schema : DatabaseSchema) (user : UserProfile) (entries entries' : History) (item : AnsweredQuery) (now : UserProfile)
+    (guards : GuardedSentences) → SecretsGrow → entries' ≡ entries ++ item ∷ [] → is_added item.mark ≡ false
+    → IsAmended schema user entries now guards → IsAmended schema user entries' now guards
+amended_asked schema user entries entries' item now guards secrets pushed asked was = record {
+  now_is = was.now_is
+      ∙ ap (with_secrets user) (sym (secrets user entries item ∙ ap (λ more. (user_at user entries).secrets ++ more) (asked_adds item.mark item.query asked)
+      ∙ append-nil (user_at user entries).secrets))
+      ∙ ap (user_at user) (sym pushed);
+  schema_is = was.schema_is;
+  guarded_are = was.guarded_are;
+}
+
+-- behind one that was added he has its sentence behind his secrets
+pub amended_added : (user : UserProfile) (entries : History) (item : AnsweredQuery) (now made : UserProfile) → SecretsGrow → item.mark ≡ Protected
+    → now ≡ user_at user entries → made ≡ with_secrets now (now.secrets ++ item.query ∷ []) → made ≡ user_at user (entries ++ item ∷ [])
+amended_added user entries item now made secrets added now_is made_is =
+    made_is
+    ∙ (λ k. with_secrets (now_is k) ((now_is k).secrets ++ item.query ∷ []))
+    ∙ ap (with_secrets user) (sym (secrets user entries item ∙ ap (λ m. (user_at user entries).secrets ++ secrets_by m item.query) added))

@@ -17,8 +17,8 @@ invariant_of-result c =
     let small = c.requires.view in
     let same : c.view_nodes-view_nodes.result ≡ view_size c.args.schema.now (profile_of c.args.user.now) [] = omega (arith, counted, small) in
     record {
-      kept = kept_empty _ _ _ _ _ _ _ (ap (map answered_query_of) c.new-entries.ensures.items) c.requires c.law_legal_grows.ensures.empty c.law_logs.ensures.empty
-          c.in_ok-view.ensures.schema c.in_ok-view.ensures.log same;
+      kept = kept_empty _ _ _ _ _ _ _ (ap (map answered_query_of) c.new-entries.ensures.items) c.requires c.law_legal_grows.ensures.empty
+          c.law_logs.ensures.empty c.in_ok-view.ensures.schema c.in_ok-view.ensures.log same;
       amended = record {
         now_is = c.in_ok-now.ensures ∙ ap (λ es. user_at (profile_of c.args.user.now) (map answered_query_of es)) c.as_slice-entries.ensures.value;
         schema_is = c.in_ok-guards.ensures.schema;
