@@ -29,7 +29,8 @@ code_asked schema world user entries purpose text code is =
     answered is.0 (append_none entries (entry_added text (reading schema text) (reply_of code)) is.1)
 
 pub mark_asked : (schema : DatabaseSchema) (world : FactSet) (user : UserProfile) (old new : History) (purpose : Purpose) (text : Text)
-    (query : Formula) (mark : Mark) → IsAnswer schema world user old purpose text query mark → new ≡ old ++ record { query = query; mark = mark; length = length text } ∷ []
+    (query : Formula) (mark : Mark) → IsAnswer schema world user old purpose text query mark
+    → new ≡ old ++ record { query = query; mark = mark; length = length text } ∷ []
     → IsAsked schema world user old new purpose text (marked mark)
 mark_asked schema world user old new purpose text query mark is added =
     answered (sym is.answer) (added ∙ ap (λ read. old ++ option_to_list (entry_added text read (marked mark))) (sym is.read))
