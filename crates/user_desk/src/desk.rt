@@ -230,8 +230,8 @@ impl<'w, D: Disk> Desk<'w, D> {
         ensures same { IsOfSame self.old self.new }
         ensures opening { IsOfOneOpening self.old self.new }
         ensures settled { Settles (desk_schema self.old) (desk_world self.old) (desk_user self.old)
-            (λ state. state ≡ state_of self.new) (state_of self.old) purpose text.now (reply_of result)
-            (D.faults (desk_disk self.old)) (D.faults (desk_disk self.new)) }
+            (λ state. state ≡ state_of self.new) (state_of self.old) purpose text.now
+            (reply_of result) (D.faults (desk_disk self.old)) (D.faults (desk_disk self.new)) }
         ensures broken { (result ≡ Reply.Broken) ↔ IsTrue (is_broken_desk self.new) }
         ensures untouched { HasNoWrite result → desk_disk self.new ≡ desk_disk self.old }
         ensures count { D.faults (desk_disk self.old) ≤ D.faults (desk_disk self.new) }
