@@ -18,10 +18,13 @@ use Rattle.user_desk.proofs.Sizes.{size_added}
 use Rattle.user_desk.proofs.Since.{split_moments, since_added, since_flying, some_not_none}
 use Rattle.user_desk.proofs.desk.Desk.record.Goals as goal
 
+pub prepare-requires-clause-answer : goal.prepare-requires-clause-answer
+prepare-requires-clause-answer g c = (c.args.purpose, c.requires.answer)
+
 pub returns-then-is_err-clause-moments : goal.returns-then-is_err-clause-moments
 returns-then-is_err-clause-moments g c told c' here =
     let desk = c.args.self.now in
-    still_holds _ _ _ _ _ _ _ _ _ _ _ desk.kept c.known.ensures.legal c.known.ensures.sizes c.args.text.now
+    still_holds _ _ _ _ _ _ _ _ _ _ _ desk.kept c.known.ensures.legal c.known.ensures.sizes c.args.purpose c.args.text.now
     (ap is_sealed c.requires.opened) c.requires.whole told c'
     (g.met.D.Disk.only_now (stored_disk desk.store) c'
     (subst (λ d. g.D.Disk.image_since d (g.D.Disk.moment (stored_disk desk.store)) c') c.reserve.ensures.disk here))
@@ -119,7 +122,7 @@ returns-in-Ok-append-clause-moments g c told c' here =
     let grows = growing _ _ _ _ _ _ _ _ _ _ _ entry next bytes desk.kept c.requires.opened c.requires.whole c.known.ensures.legal c.known.ensures.sizes legal
     sizes read is in
     let since = subst (λ d. g.D.Disk.image_since (stored_disk c.append.new.self) (g.D.Disk.moment d) c') (sym c.reserve.ensures.disk) here in
-    moment_holds _ _ _ _ _ _ _ _ _ entry next bytes grows c.args.text.now (formula_of c.args.query) c.args.mark c.requires.answer refl told c'
+    moment_holds _ _ _ _ _ _ _ _ _ entry next bytes grows c.args.purpose c.args.text.now (formula_of c.args.query) c.args.mark c.requires.answer refl told c'
     (c.append.ensures.moments told c' since)
 
 pub returns-in-Err-clause-settled : goal.returns-in-Err-clause-settled
@@ -130,7 +133,7 @@ returns-in-Err-clause-settled g c =
     let rose = subst (λ d. Rose (g.D.Disk.faults d) (g.D.Disk.faults (stored_disk c.append.new.self))) c.reserve.ensures.disk c.in-Err.ensures.cause in
     let flies = ap (λ (h : History). shown h standing (Some (prepared_entry c.in-Ok.prepared))) c.in-Ok.ensures.unchanged
     ∙ ap (λ (e : AnsweredQuery). shown (kept_history desk.log) standing (Some e)) c.in-Ok.ensures.entry in
-    failure_settles (kept_schema desk.log) (kept_world desk.log) (kept_user desk.log) (state_of desk) _ c.args.text.now
+    failure_settles (kept_schema desk.log) (kept_world desk.log) (kept_user desk.log) (state_of desk) _ c.args.purpose c.args.text.now
     (formula_of c.args.query) c.args.mark _ _
     (ap standing_of c.requires.opened) (ap (λ (o : Option AnsweredQuery). is_some o) c.requires.whole) c.requires.answer rose
     (ap (λ (e : AnsweredQuery). shown (kept_history c.prepare.new.self) standing (Some e)) c.into_entry.ensures ∙ flies)
@@ -153,7 +156,7 @@ returns-in-Err-clause-moments g c told c' here =
     let grows = growing _ _ _ _ _ _ _ _ _ _ _ entry next bytes desk.kept c.requires.opened c.requires.whole c.known.ensures.legal c.known.ensures.sizes legal
     sizes read is in
     let since = subst (λ d. g.D.Disk.image_since (stored_disk c.append.new.self) (g.D.Disk.moment d) c') (sym c.reserve.ensures.disk) here in
-    moment_holds _ _ _ _ _ _ _ _ _ entry next bytes grows c.args.text.now (formula_of c.args.query) c.args.mark c.requires.answer refl told c'
+    moment_holds _ _ _ _ _ _ _ _ _ entry next bytes grows c.args.purpose c.args.text.now (formula_of c.args.query) c.args.mark c.requires.answer refl told c'
     (c.append.ensures.moments told c' since)
 
 pub returns-in-Ok-append-clause-opening : goal.returns-in-Ok-append-clause-opening
