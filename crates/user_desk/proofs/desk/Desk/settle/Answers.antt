@@ -15,5 +15,6 @@ returns-in-Some-clause-moments g c told served c' here =
 pub returns-in-Err-clause-moments : goal.returns-in-Err-clause-moments
 returns-in-Err-clause-moments g c told served c' here =
     let desk = c.args.self.now in
-    still_holds _ _ _ _ _ _ _ _ _ _ _ desk.kept c.known.ensures.legal c.known.ensures.sizes c.args.purpose c.args.text.now served c.in_default.ensures.whole told c'
+    still_holds _ _ _ _ _ _ _ _ _ _ _ desk.kept c.known.ensures.legal c.known.ensures.sizes c.args.purpose c.args.text.now served
+    c.in_default.ensures.whole told c'
     (g.met.D.Disk.only_now (stored_disk desk.store) c' here)
