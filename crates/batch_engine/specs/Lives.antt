@@ -62,7 +62,8 @@ module _ (schema : DatabaseSchema) (world : FactSet) (user : UserProfile) where
   abbrev pub IsCaused : UserState → Event → Type 0
   IsCaused state (call purpose text want) = Unit {0}
   IsCaused state (call purpose text kept) = Unit {0}
-  IsCaused state (call purpose text failed) = is_some (entry_at schema world user state purpose text) ≡ true
+  IsCaused state (call purpose text failed) =
+      is_some (entry_at schema world user state purpose text) ≡ true
   IsCaused state (stop purpose text) = ⊥
   IsCaused state (restart found opened) = found ≡ true → is_some state.pending ≡ true
 
