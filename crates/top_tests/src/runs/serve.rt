@@ -53,6 +53,7 @@ fn serve_by(
     )
 }
 
+/// `serve` with these further words on this shelf; each ask passes at once.
 pub(super) fn serve(
     rt: &(impl Threads + Wait + Sync),
     alloc: Global,
@@ -66,7 +67,7 @@ pub(super) fn serve(
     serve_by(rt, alloc, numbers, shelf, links, &OpenGate)
 }
 
-// Clients who send these texts.
+/// Clients who send these texts.
 pub(super) fn clients(alloc: Global, texts: &[&str]) -> Result<Vec<Connection>, AllocError> {
     let mut clients = Vec::new(alloc);
     for text in texts {
@@ -76,7 +77,7 @@ pub(super) fn clients(alloc: Global, texts: &[&str]) -> Result<Vec<Connection>, 
     Ok(clients)
 }
 
-// How many clients were served; each who sent the text of a row has got its answer.
+/// How many clients were served; each who sent the text of a row has got its answer.
 pub(super) fn served(rt: &impl Abort, links: &MemoryLinks, rows: &[(&str, &str)]) -> usize {
     let mut count: usize = 0;
     for door in links.doors_back() {
@@ -92,8 +93,8 @@ pub(super) fn served(rt: &impl Abort, links: &MemoryLinks, rows: &[(&str, &str)]
     count
 }
 
-// What clients of the ward send, in any order, and what they get: eve is told no of what is true
-// and would give her secret away, and no of what is false; ron has no token.
+/// What clients of the ward send, in any order, and what they get: eve is told no of what is true
+/// and would give her secret away, and no of what is false; ron has no token.
 pub(super) const CLIENTS: [(&str, &str); 5] = [
     (
         "login eve abc\nask drug(ann)\nask hiv(bob)\nquit\nask true\n",
@@ -111,6 +112,7 @@ pub(super) const CLIENTS: [(&str, &str); 5] = [
     ("", ""),
 ];
 
+/// These clients, in this order.
 pub(super) fn ward_clients(alloc: Global) -> Result<Vec<Connection>, AllocError> {
     clients(
         alloc,
