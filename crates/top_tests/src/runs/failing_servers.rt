@@ -21,7 +21,8 @@ fn one_client(
     source: MemorySource,
     sink: MemorySink,
 ) -> Result<MemoryLinks, AllocError> {
-    let connections = Vec::from_array(alloc, [Connection::new(source, sink)])?;
+    let mut connections = Vec::new(alloc);
+    connections.push(Connection::new(source, sink))?;
     Ok(MemoryLinks::new(alloc, connections))
 }
 
@@ -46,7 +47,8 @@ fn a_door_may_fail_at_any_call(rt: HostRuntime) -> Result<(), Fail> {
     let alloc = rt.alloc();
     for call in 0..CALLS {
         let mut shelf = ward_by(alloc, Plan::Never)?;
-        let plans = Vec::from_array(alloc, [failing(alloc, call)?])?;
+        let mut plans = Vec::new(alloc);
+        plans.push(failing(alloc, call)?)?;
         let mut links = MemoryLinks::with_plans(alloc, ward_clients(alloc)?, Plan::Never, plans);
         let run = serve(&rt, alloc, &["--workers=1"], &mut shelf, &mut links)?;
         let (status, complaint) = if call < 6 {
@@ -57,7 +59,7 @@ fn a_door_may_fail_at_any_call(rt: HostRuntime) -> Result<(), Fail> {
         run.check(&rt, status, "", complaint, "a door that fails");
         let given = (call as usize).min(5);
         assert_eq!(rt; served(&rt, &links, &CLIENTS), given, "call {call}");
-        assert_eq!(rt; links.left(), 5usize.saturating_sub(given), "call {call}");
+        assert_eq!(rt; links.left().saturating_add(given), 5, "call {call}");
         let kept = after_clients(alloc, given)?;
         assert_eq!(rt;
             journal_bytes(&shelf, "d/eve.log"),

@@ -178,6 +178,21 @@ fn kims_journal(alloc: Global, first: bool, second: bool) -> Result<Vec<u8>, All
     Ok(bytes)
 }
 
+// What kim is told of her two asks where her disk fails every call from this one on, with the
+// status and the complaint.
+fn told_before(stop: u64) -> (u8, &'static str, &'static str) {
+    match stop {
+        0..4 => (
+            10,
+            "kim 1 error 41\nkim 1 error 41\n",
+            "cqe: journal kim disk fault\n",
+        ),
+        4..8 => (11, "kim 1 error 40\nkim 1 error 40\n", "cqe: disk fault\n"),
+        8..12 => (11, "kim 1 yes\nkim 1 error 40\n", "cqe: disk fault\n"),
+        _ => (0, "kim 1 yes\nkim 1 refused\n", ""),
+    }
+}
+
 // A stop at each call of an opening and of two asks. Who has been told that one of both has hiv is
 // refused whether it is ann; who hasn't is told no. So a new life shows what it found: behind a
 // reply that was told its entry, and none that was never written.
@@ -190,25 +205,20 @@ fn a_new_life_answers_by_what_it_finds(rt: HostRuntime) -> Result<(), Fail> {
         let disk = MemoryDisk::with_plan(alloc, journal(alloc, &[0])?, Plan::From(stop))?;
         shelf.put_disk(alloc, "d/kim.log", disk)?;
         let run = batch(&rt, alloc, &mut shelf, script)?;
-        let (status, output, complaint) = match stop {
-            0..4 => (
-                10,
-                "kim 1 error 41\nkim 1 error 41\n",
-                "cqe: journal kim disk fault\n",
-            ),
-            4..8 => (11, "kim 1 error 40\nkim 1 error 40\n", "cqe: disk fault\n"),
-            8..12 => (11, "kim 1 yes\nkim 1 error 40\n", "cqe: disk fault\n"),
-            _ => (0, "kim 1 yes\nkim 1 refused\n", ""),
-        };
+        let (status, output, complaint) = told_before(stop);
         run.check(&rt, status, output, complaint, output);
         for picked in 0..12 {
             let image = image_of(alloc, &shelf, "d/kim.log", picked)?;
             let first = image.get(72) == Some(&1);
             let second = first && image.get(96) == Some(&1);
-            assert!(rt; stop >= 6 || !first, "stop {stop}, image {picked}");
-            assert!(rt; stop < 8 || first, "stop {stop}, image {picked}");
-            assert!(rt; stop >= 10 || !second, "stop {stop}, image {picked}");
-            assert!(rt; stop < 12 || second, "stop {stop}, image {picked}");
+            assert!(rt;
+                if first { stop >= 6 } else { stop < 8 },
+                "stop {stop}, {picked}"
+            );
+            assert!(rt;
+                if second { stop >= 10 } else { stop < 12 },
+                "stop {stop}, {picked}"
+            );
             let mut life = ward(&rt, alloc)?;
             put_journal(alloc, &mut life, "d/kim.log", image)?;
             let run = batch(&rt, alloc, &mut life, "kim 1 ask hiv(ann)\n")?;
@@ -220,7 +230,7 @@ fn a_new_life_answers_by_what_it_finds(rt: HostRuntime) -> Result<(), Fail> {
             run.check(&rt, 0, reply, "", "a new life");
             let kept = kims_journal(alloc, first, second)?;
             let found = journal_bytes(&life, "d/kim.log").get(..kept.len());
-            assert_eq!(rt; found, Some(kept.as_slice()), "stop {stop}, image {picked}");
+            assert_eq!(rt; found, Some(kept.as_slice()), "stop {stop}, {picked}");
         }
     }
     Ok(())
