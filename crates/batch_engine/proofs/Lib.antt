@@ -6,3 +6,4 @@ pub mod Shorts
 pub mod Running
 pub mod Ending
 pub mod Failing
+pub mod Joining
