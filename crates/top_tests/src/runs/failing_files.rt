@@ -3,7 +3,7 @@
 use super::failing::{CALLS, are_empty, failing, told, ward_by};
 use super::serve::SERVE;
 use super::ward::{BATCH, FACTS, INIT, JOURNALS, POLICY, init, journal_bytes, shelf_of};
-use super::{Run, joined, run_over};
+use super::{Run, run_over};
 use outside::{MemoryDisk, MemoryShelf, MemorySink, MemorySource, Pieces, Plan};
 use std::test::Fail;
 
