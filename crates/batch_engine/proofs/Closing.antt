@@ -129,6 +129,8 @@ module _ (schema : DatabaseSchema) (world : FactSet) (users : List NamedUser) (h
         size = λ told. left.is_closed.size s;
         shut = left.is_closed.shut;
         still = left.is_closed.still;
+        since = λ told. left.is_closed.since s;
+        time = left.is_closed.time;
       } in
       let running = close_at schema world header directory T reads image faults t read_is_image (bytes_of reads directory disk) (count_of directory count)
       (images_of image directory disk) user (own_events user.name script) seat left.closed seated closed in

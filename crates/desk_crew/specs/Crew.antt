@@ -1,7 +1,10 @@
 -- Users at their desks, and what an ask, a close and an opening make of a desk and of its disk.
 use Rattle.std.specs.Prelude.{◌≡◌, ℕ, ◌≤◌, ◌*◌, ◌^◌, Bool, true, false, List, [], ◌∷◌, ◌++◌}
-use Rattle.std.specs.Prelude.{bytes_eq, Option, Some, None, Result, Ok, Err, string_bytes}
+use Rattle.std.specs.Prelude.{bytes_eq, length, Option, Some, None, Result, Ok, Err, string_bytes}
+use Rattle.std.specs.Prelude.{option_to_list}
+use Rattle.outside.specs.Disk.{Elapses}
 use Rattle.outside.specs.Faults.{Rose}
+use Rattle.outside.specs.declared.disk.Disk.{Ghosts as DiskGhosts}
 use Rattle.cqe_base.specs.Schema.{Text, DatabaseSchema}
 use Rattle.cqe_base.specs.Facts.{FactSet}
 use Rattle.cqe_base.specs.History.{History, profile_of}
@@ -12,7 +15,7 @@ use Rattle.censors.specs.Admitting.{admission_of}
 use Rattle.user_desk.specs.Causes.{IsStanding}
 use Rattle.cqe_base.specs.Censor.{IsLegal}
 use Rattle.user_desk.specs.Standings.{is_open, is_sealed}
-use Rattle.user_desk.specs.Entries.{IsNoLonger}
+use Rattle.user_desk.specs.Entries.{IsNoLonger, StandsWithin}
 use Rattle.user_desk.specs.Lives.{Holds, Restarts}
 use Rattle.user_desk.specs.declared.standing.DeskError.{DeskError}
 use Rattle.user_desk.specs.declared.standing.Standing.{Standing}
@@ -115,8 +118,9 @@ pub record IsLeft {D : Type 0} (reads : D → List ℕ) (image : D → List ℕ 
 -- state that the desk showed, whose history is legal, and is what was put under the counter and
 -- then what the pass has of its own; only of a user who is served has it any; the count rose where
 -- an append failed; where none did, the disk has grown for the entries alone; and where nothing was
--- appended it is as it was at the opening.
-pub record IsClosed {D : Type 0} {g h : _} (told : Type 0) (reads : D → List ℕ)
+-- appended it is as it was at the opening. Since the opening each image stood for a beginning of
+-- the history, with the entry in flight, that has all entries at the opening.
+pub record IsClosed {D : Type 0} {g : DiskGhosts D} {h : _} (told : Type 0) (reads : D → List ℕ)
     (image : D → List ℕ → Type 0) (faults : D → ℕ)
     (desk : SoleOf (TicketedDesk D g) TurnItem (Fixed D) h) (disk : D) : Type 0 where
   pub holds : told → is_sealed (kept_in desk).standing ≡ false → (c : List ℕ) → image disk c
@@ -134,6 +138,12 @@ pub record IsClosed {D : Type 0} {g h : _} (told : Type 0) (reads : D → List �
       → IsNoLonger (reads (kept_in desk).disk) (history_of (pairs_of_sole desk)) (reads disk)
   pub shut : is_sealed (kept_in desk).standing ≡ true → disk ≡ (kept_in desk).disk
   pub still : IsAsOpened (kept_in desk) (pairs_of_sole desk) → disk ≡ (kept_in desk).disk
+  pub since : told → is_sealed (kept_in desk).standing ≡ false → (c : List ℕ)
+      → g.image_since disk (g.moment (kept_in desk).disk) c
+      → StandsWithin (kept_in desk).schema (kept_in desk).header (length (kept_in desk).opening)
+      (history_of (pairs_of_sole desk) ++ option_to_list (flying (pairs_of_sole desk))) c
+  pub time : Elapses (g.moment (kept_in desk).disk) (g.moment disk)
+      (g.image_since (kept_in desk).disk) (g.image_since disk)
 
 -- a desk was closed, and an opening left its disk as this one
 pub record IsLeftBy {D : Type 0} {g h : _} (told : Type 0) (reads : D → List ℕ)
