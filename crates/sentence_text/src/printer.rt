@@ -6,7 +6,7 @@ ghost use Rattle.cqe_base.specs.Formula.{formula_of, nesting, is_sentence_of};
 ghost use Rattle.cqe_base.specs.Reading.{reading};
 ghost use Rattle.cqe_base.specs.Canonical.{canonical, enclosing_constructs, domain_name};
 ghost use Rattle.cqe_base.specs.Canonical.{canonical_within, term_text, terms_text, more_terms};
-ghost use Rattle.cqe_base.specs.Canonical.{relation_name, variable_name};
+ghost use Rattle.cqe_base.specs.Canonical.{variable_name};
 
 use crate::names::{constant_name, domain_name, relation_name};
 use cqe_base::laws::law_nesting;
@@ -123,88 +123,7 @@ impl Printer<'_> {
         self.push(" . ")
     }
 
-    /// A relation and its terms.
-    #[tactic(auto, using(crate::proofs::Appended::appended))]
-    fn atom(&mut self, relation: u32, terms: &[Term]) -> Result<(), AllocError>
-        ensures text { OnOk result (string_bytes self.new.text
-            ≡ string_bytes self.old.text
-            ++ (relation_name self.old.schema.now relation ++ codes "("
-            ++ terms_text self.old.schema.now terms.now ++ codes ")")) }
-        ensures same { self.new.schema ≡ self.old.schema }
-    {
-        let schema = self.schema;
-        self.push(relation_name(schema, relation))?;
-        self.push("(")?;
-        self.terms(terms)?;
-        self.push(")")
-    }
-
-    /// Two terms with a sign between them.
-    #[tactic(auto, using(crate::proofs::Appended::appended))]
-    fn comparison(&mut self, left: Term, sign: &str, right: Term) -> Result<(), AllocError>
-        ensures text { OnOk result (string_bytes self.new.text
-            ≡ string_bytes self.old.text
-            ++ (term_text self.old.schema.now left ++ sign.now
-            ++ term_text self.old.schema.now right)) }
-        ensures same { self.new.schema ≡ self.old.schema }
-    {
-        self.term(left)?;
-        self.push(sign)?;
-        self.term(right)
-    }
-
-    /// Two sentences with a connective between them, in parentheses.
-    #[cycle(printer)]
-    #[tactic(auto, using(crate::proofs::Appended::appended))]
-    fn joined(
-        &mut self,
-        left: &Sentence,
-        connective: &str,
-        right: &Sentence,
-        depth: u8,
-    ) -> Result<(), AllocError>
-        requires left { depth + nesting (formula_of left.now) ≤ 8 }
-        requires right { depth + nesting (formula_of right.now) ≤ 8 }
-        ensures text { OnOk result (string_bytes self.new.text
-            ≡ string_bytes self.old.text
-            ++ (codes "(" ++ canonical_within self.old.schema.now depth (formula_of left.now)
-            ++ connective.now
-            ++ canonical_within self.old.schema.now depth (formula_of right.now) ++ codes ")")) }
-        ensures same { self.new.schema ≡ self.old.schema }
-    {
-        self.push("(")?;
-        self.sentence(left, depth)?;
-        self.push(connective)?;
-        self.sentence(right, depth)?;
-        self.push(")")
-    }
-
-    /// A quantifier and its body, within so many quantifiers.
-    #[cycle(printer)]
-    #[tactic(auto, using(crate::proofs::Appended::appended))]
-    fn quantified(
-        &mut self,
-        opening: &str,
-        domain: u32,
-        body: &Sentence,
-        depth: u8,
-    ) -> Result<(), AllocError>
-        requires { depth + 1 + nesting (formula_of body.now) ≤ 8 }
-        ensures text { OnOk result (string_bytes self.new.text
-            ≡ string_bytes self.old.text
-            ++ (opening.now ++ variable_name depth ++ codes ": "
-            ++ domain_name self.old.schema.now domain ++ codes " . "
-            ++ canonical_within self.old.schema.now (depth + 1) (formula_of body.now)
-            ++ codes ")")) }
-        ensures same { self.new.schema ≡ self.old.schema }
-    {
-        self.quantifier(opening, depth, domain)?;
-        self.sentence(body, depth + 1)?;
-        self.push(")")
-    }
-
-    /// A sentence within so many quantifiers.
-    #[cycle(printer)]
+    /// A sentence within so many quantifiers. The function is long by its arms, one for each form.
     #[tactic(auto, using(crate::proofs::Appended::appended))]
     fn sentence(&mut self, sentence: &Sentence, depth: u8) -> Result<(), AllocError>
         requires { depth + nesting (formula_of sentence.now) ≤ 8 }
@@ -216,19 +135,65 @@ impl Printer<'_> {
         match sentence {
             Sentence::True => self.push("true"),
             Sentence::False => self.push("false"),
-            Sentence::Atom(relation, terms) => self.atom(*relation, terms.as_slice()),
-            Sentence::Equal(left, right) => self.comparison(*left, " = ", *right),
-            Sentence::Differs(left, right) => self.comparison(*left, " != ", *right),
+            Sentence::Atom(relation, terms) => {
+                let schema = self.schema;
+                self.push(relation_name(schema, *relation))?;
+                self.push("(")?;
+                self.terms(terms.as_slice())?;
+                self.push(")")
+            }
+            Sentence::Equal(left, right) => {
+                self.term(*left)?;
+                self.push(" = ")?;
+                self.term(*right)
+            }
+            Sentence::Differs(left, right) => {
+                self.term(*left)?;
+                self.push(" != ")?;
+                self.term(*right)
+            }
             Sentence::Not(operand) => {
                 self.push("not ")?;
                 self.sentence(operand, depth)
             }
-            Sentence::And(left, right) => self.joined(left, " and ", right, depth),
-            Sentence::Or(left, right) => self.joined(left, " or ", right, depth),
-            Sentence::Implies(left, right) => self.joined(left, " -> ", right, depth),
-            Sentence::Iff(left, right) => self.joined(left, " <-> ", right, depth),
-            Sentence::Forall(domain, body) => self.quantified("(forall ", *domain, body, depth),
-            Sentence::Exists(domain, body) => self.quantified("(exists ", *domain, body, depth),
+            Sentence::And(left, right) => {
+                self.push("(")?;
+                self.sentence(left, depth)?;
+                self.push(" and ")?;
+                self.sentence(right, depth)?;
+                self.push(")")
+            }
+            Sentence::Or(left, right) => {
+                self.push("(")?;
+                self.sentence(left, depth)?;
+                self.push(" or ")?;
+                self.sentence(right, depth)?;
+                self.push(")")
+            }
+            Sentence::Implies(left, right) => {
+                self.push("(")?;
+                self.sentence(left, depth)?;
+                self.push(" -> ")?;
+                self.sentence(right, depth)?;
+                self.push(")")
+            }
+            Sentence::Iff(left, right) => {
+                self.push("(")?;
+                self.sentence(left, depth)?;
+                self.push(" <-> ")?;
+                self.sentence(right, depth)?;
+                self.push(")")
+            }
+            Sentence::Forall(domain, body) => {
+                self.quantifier("(forall ", depth, *domain)?;
+                self.sentence(body, depth + 1)?;
+                self.push(")")
+            }
+            Sentence::Exists(domain, body) => {
+                self.quantifier("(exists ", depth, *domain)?;
+                self.sentence(body, depth + 1)?;
+                self.push(")")
+            }
         }
     }
 }
