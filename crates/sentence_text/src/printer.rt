@@ -6,7 +6,7 @@ ghost use Rattle.cqe_base.specs.Formula.{formula_of, nesting, is_sentence_of};
 ghost use Rattle.cqe_base.specs.Reading.{reading};
 ghost use Rattle.cqe_base.specs.Canonical.{canonical, enclosing_constructs, domain_name};
 ghost use Rattle.cqe_base.specs.Canonical.{canonical_within, term_text, terms_text, more_terms};
-ghost use Rattle.cqe_base.specs.Canonical.{variable_name};
+ghost use Rattle.cqe_base.specs.Canonical.{relation_name, variable_name};
 
 use crate::names::{constant_name, domain_name, relation_name};
 use cqe_base::laws::law_nesting;
@@ -123,7 +123,68 @@ impl Printer<'_> {
         self.push(" . ")
     }
 
-    /// A sentence within so many quantifiers. The function is long by its arms, one for each form.
+    /// A relation and its terms.
+    #[tactic(auto, using(crate::proofs::Appended::appended))]
+    fn atom(&mut self, relation: u32, terms: &[Term]) -> Result<(), AllocError>
+        ensures text { OnOk result (string_bytes self.new.text
+            ≡ string_bytes self.old.text
+            ++ (relation_name self.old.schema.now relation ++ codes "("
+            ++ terms_text self.old.schema.now terms.now ++ codes ")")) }
+        ensures same { self.new.schema ≡ self.old.schema }
+    {
+        let schema = self.schema;
+        self.push(relation_name(schema, relation))?;
+        self.push("(")?;
+        self.terms(terms)?;
+        self.push(")")
+    }
+
+    /// Two terms with a sign between them.
+    #[tactic(auto, using(crate::proofs::Appended::appended))]
+    fn comparison(&mut self, left: Term, sign: &str, right: Term) -> Result<(), AllocError>
+        ensures text { OnOk result (string_bytes self.new.text
+            ≡ string_bytes self.old.text
+            ++ (term_text self.old.schema.now left ++ sign.now
+            ++ term_text self.old.schema.now right)) }
+        ensures same { self.new.schema ≡ self.old.schema }
+    {
+        self.term(left)?;
+        self.push(sign)?;
+        self.term(right)
+    }
+
+    /// The left one of two sentences, in parentheses.
+    #[cycle(printer)]
+    #[tactic(auto, using(crate::proofs::Appended::appended))]
+    fn opened(&mut self, left: &Sentence, depth: u8) -> Result<(), AllocError>
+        requires { depth + nesting (formula_of left.now) ≤ 8 }
+        ensures text { OnOk result (string_bytes self.new.text
+            ≡ string_bytes self.old.text
+            ++ (codes "(" ++ canonical_within self.old.schema.now depth (formula_of left.now))) }
+        ensures same { self.new.schema ≡ self.old.schema }
+    {
+        self.push("(")?;
+        self.sentence(left, depth)
+    }
+
+    /// What stands before the last sentence in parentheses, and that sentence.
+    #[cycle(printer)]
+    #[tactic(auto, using(crate::proofs::Appended::appended))]
+    fn closed(&mut self, before: &str, last: &Sentence, depth: u8) -> Result<(), AllocError>
+        requires { depth + nesting (formula_of last.now) ≤ 8 }
+        ensures text { OnOk result (string_bytes self.new.text
+            ≡ string_bytes self.old.text
+            ++ (before.now ++ canonical_within self.old.schema.now depth (formula_of last.now)
+            ++ codes ")")) }
+        ensures same { self.new.schema ≡ self.old.schema }
+    {
+        self.push(before)?;
+        self.sentence(last, depth)?;
+        self.push(")")
+    }
+
+    /// A sentence within so many quantifiers.
+    #[cycle(printer)]
     #[tactic(auto, using(crate::proofs::Appended::appended))]
     fn sentence(&mut self, sentence: &Sentence, depth: u8) -> Result<(), AllocError>
         requires { depth + nesting (formula_of sentence.now) ≤ 8 }
@@ -135,54 +196,28 @@ impl Printer<'_> {
         match sentence {
             Sentence::True => self.push("true"),
             Sentence::False => self.push("false"),
-            Sentence::Atom(relation, terms) => {
-                let schema = self.schema;
-                self.push(relation_name(schema, *relation))?;
-                self.push("(")?;
-                self.terms(terms.as_slice())?;
-                self.push(")")
-            }
-            Sentence::Equal(left, right) => {
-                self.term(*left)?;
-                self.push(" = ")?;
-                self.term(*right)
-            }
-            Sentence::Differs(left, right) => {
-                self.term(*left)?;
-                self.push(" != ")?;
-                self.term(*right)
-            }
+            Sentence::Atom(relation, terms) => self.atom(*relation, terms.as_slice()),
+            Sentence::Equal(left, right) => self.comparison(*left, " = ", *right),
+            Sentence::Differs(left, right) => self.comparison(*left, " != ", *right),
             Sentence::Not(operand) => {
                 self.push("not ")?;
                 self.sentence(operand, depth)
             }
             Sentence::And(left, right) => {
-                self.push("(")?;
-                self.sentence(left, depth)?;
-                self.push(" and ")?;
-                self.sentence(right, depth)?;
-                self.push(")")
+                self.opened(left, depth)?;
+                self.closed(" and ", right, depth)
             }
             Sentence::Or(left, right) => {
-                self.push("(")?;
-                self.sentence(left, depth)?;
-                self.push(" or ")?;
-                self.sentence(right, depth)?;
-                self.push(")")
+                self.opened(left, depth)?;
+                self.closed(" or ", right, depth)
             }
             Sentence::Implies(left, right) => {
-                self.push("(")?;
-                self.sentence(left, depth)?;
-                self.push(" -> ")?;
-                self.sentence(right, depth)?;
-                self.push(")")
+                self.opened(left, depth)?;
+                self.closed(" -> ", right, depth)
             }
             Sentence::Iff(left, right) => {
-                self.push("(")?;
-                self.sentence(left, depth)?;
-                self.push(" <-> ")?;
-                self.sentence(right, depth)?;
-                self.push(")")
+                self.opened(left, depth)?;
+                self.closed(" <-> ", right, depth)
             }
             Sentence::Forall(domain, body) => {
                 self.quantifier("(forall ", depth, *domain)?;
