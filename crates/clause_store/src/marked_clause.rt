@@ -1,7 +1,7 @@
 //! A clause with a mark for each of its literals, so that a resolution looks at each literal of
 //! both clauses once.
 
-ghost use Rattle.std.specs.Prelude.{◌≡◌, ◌<◌, ◌^◌, ◌++◌, ◌∷◌, [], false, length, slice_set};
+ghost use Rattle.std.specs.Prelude.{◌≡◌, ◌<◌, ℕ, ◌^◌, ◌++◌, ◌∷◌, [], false, length, slice_set};
 ghost use Rattle.std.specs.Prelude.{slice_index_or, if◌then◌else◌, IfOk, OnErr};
 ghost use Rattle.cqe_base.specs.Literal.{Literal, variable_of, has_literal, union, ClauseBelow};
 ghost use Rattle.cqe_base.specs.Refutation.{without_variable, resolvent};
@@ -102,6 +102,17 @@ impl MarkedClause {
         Ok(())
     }
 
+    /// So many variables, where there is no literal. What it costs goes by the difference alone.
+    pub fn set_variables(&mut self, variables: u32) -> Result<(), AllocError>
+        requires fits { variables < 2 ^ 31 }
+        requires none { self.old.clause ≡ [] }
+        ensures { IfOk result (λ _. self.new ≡ record self.old { variables = variables }) }
+    {
+        resize(&mut self.marks, 2 * variables as usize)?;
+        self.variables = variables;
+        Ok(())
+    }
+
     /// Appends a clause to it.
     pub fn append(&mut self, clause: &[Lit]) -> Result<(), AllocError>
         requires { ClauseBelow self.old.variables clause.now }
@@ -151,6 +162,21 @@ impl MarkedClause {
         unmark_all(&mut self.marks, &self.literals);
         self.literals.clear();
     }
+}
+
+/// So many marks: those at the end go, or more are put there for literals that aren't marked.
+fn resize(marks: &mut Vec<bool>, size: usize) -> Result<(), AllocError>
+    ensures length { IfOk result (λ _. length marks.new.items ≡ size) }
+    ensures none { ((i : ℕ) → slice_index_or marks.old.items i false ≡ false)
+        → (i : ℕ) → slice_index_or marks.new.items i false ≡ false }
+    ensures refused { OnErr result (marks.new.items ≡ marks.old.items) }
+{
+    if marks.len() < size {
+        marks.resize(size, false)?;
+    } else {
+        marks.truncate(size);
+    }
+    Ok(())
 }
 
 /// The mark of a literal goes.

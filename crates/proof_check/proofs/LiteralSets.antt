@@ -105,6 +105,31 @@ pub more_step : (a b s r : Bool) → b ≡ (a || s) → (b || r) ≡ (a || (s ||
 more_step true b s r e = ap (λ x. x || r) e
 more_step false b s r e = ap (λ x. x || r) e
 
+-- the same but for one
+pub more_step_without : (a b s r n : Bool) → b ≡ (a || (s && n)) → (b || (r && n)) ≡ (a || ((s || r) && n))
+more_step_without true b s r n e = ap (λ x. x || (r && n)) e
+more_step_without false b true r true e = ap (λ x. x || (r && true)) e
+more_step_without false b true r false e = ap (λ x. x || (r && false)) e ∙ and_false r
+more_step_without false b false r n e = ap (λ x. x || (r && n)) e
+
+-- a literal that is left out
+pub is_left_out : (a : Bool) (l m o : Literal) → same_literal l o ≡ true → a ≡ (a || (same_literal m l && not (same_literal m o)))
+is_left_out a l m o e =
+    let same : l ≡ o = same_literal-true l o e in
+    sym (ap (λ x. a || (same_literal m l && not (same_literal m x))) (sym same) ∙ none (same_literal m l))
+  where
+    none : (b : Bool) → (a || (b && not b)) ≡ a
+    none true = or_false a
+    none false = or_false a
+
+-- one that isn't
+pub is_no_other : (l m o : Literal) → same_literal l o ≡ false → same_literal m l ≡ (same_literal m l && not (same_literal m o))
+is_no_other l m o e = by (same_literal m l) refl
+  where
+    by : (b : Bool) → same_literal m l ≡ b → b ≡ (b && not (same_literal m o))
+    by true is = sym (ap (λ x. not (same_literal x o)) (same_literal-true m l is) ∙ ap not e)
+    by false is = refl
+
 -- ---- which literals were touched
 
 -- what is no longer marked may stay
@@ -203,35 +228,25 @@ not_opposite : (l : Literal) → same_literal l (opposite l) ≡ false
 not_opposite (Positive v) = refl
 not_opposite (Negative v) = refl
 
-both_or_first : (x y n : Bool) → (n ≡ false → x ≡ false) → ((x || y) && n) ≡ (x || (y && n))
-both_or_first true y true h = refl
-both_or_first true y false h = absurd (both_ways true (h refl) refl)
-both_or_first false y n h = refl
-
--- a literal goes, the other clause's literals join, and the literal's opposite goes
-module _ (set removed joined after c d : List Literal) (l : Literal) (same : IsSetOf set c) (is : Some l ≡ only (clashes c d))
+-- a literal goes, and the other clause's literals join without the literal's opposite
+module _ (set removed after c d : List Literal) (l : Literal) (same : IsSetOf set c) (is : Some l ≡ only (clashes c d))
     (none : has_literal c (opposite l) ≡ false) (gone : (m : Literal) → has_literal removed m ≡ (has_literal set m && not (same_literal m l)))
-    (more : (m : Literal) → has_literal joined m ≡ (has_literal removed m || has_literal d m))
-    (less : (m : Literal) → has_literal after m ≡ (has_literal joined m && not (same_literal m (opposite l)))) where
+    (more : (m : Literal) → has_literal after m ≡ (has_literal removed m || (has_literal d m && not (same_literal m (opposite l))))) where
   left_of : (m : Literal) → has_literal removed m ≡ has_literal (without_variable (variable_of l) c) m
   left_of m = gone m ∙ ap (λ b. b && not (same_literal m l)) (same m) ∙ sym (without_single l c none m)
 
   -- the literal is there again exactly where the other clause has it
   again : has_literal after l ≡ has_literal d l
   again =
-      less l ∙ ap (λ b. has_literal joined l && not b) (not_opposite l) ∙ and_true (has_literal joined l) ∙ more l
+      more l ∙ ap (λ b. has_literal removed l || (has_literal d l && not b)) (not_opposite l)
+      ∙ ap (λ b. has_literal removed l || b) (and_true (has_literal d l))
       ∙ ap (λ b. b || has_literal d l) (gone l ∙ ap (λ b. has_literal set l && not b) (same_literal-same l) ∙ and_false (has_literal set l))
-
-  not_first : (m : Literal) → not (same_literal m (opposite l)) ≡ false → has_literal removed m ≡ false
-  not_first m e =
-      gone m ∙ and_left _ _ (same m ∙ ap (has_literal c) (same_literal-true m (opposite l) (is_yes _ e)) ∙ none)
 
   pub resolved_by : (resolved : Bool) → resolved ≡ not (has_literal after l) → IsSetOfResult resolved after (single_resolvent c d)
   resolved_by true e =
       let without : has_literal d l ≡ false = sym again ∙ is_not (has_literal after l) (sym e) in
       resolved_on after c d l is (or_from _ _ none without) (λ m.
-      less m ∙ ap (λ b. b && not (same_literal m (opposite l))) (more m)
-      ∙ both_or_first (has_literal removed m) (has_literal d m) (not (same_literal m (opposite l))) (not_first m)
+      more m
       ∙ ap (λ b. b || (has_literal d m && not (same_literal m (opposite l)))) (left_of m)
       ∙ ap (λ b. has_literal (without_variable (variable_of l) c) m || b) (sym (without_other l d without m))
       ∙ sym (has_union (without_variable (variable_of l) c) (without_variable (variable_of l) d) m))

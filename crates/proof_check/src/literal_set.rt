@@ -67,7 +67,7 @@ impl LiteralSet {
 
     /// The same, without a look whether the set has the literal.
     #[inline(never)]
-    fn insert(&mut self, literal: Lit) -> Result<(), AllocError>
+    pub fn insert(&mut self, literal: Lit) -> Result<(), AllocError>
         ensures { IfOk result (λ _. (l : Literal)
             → has_literal self.new l ≡ (has_literal self.old l || same_literal l literal)) }
     {

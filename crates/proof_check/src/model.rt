@@ -3,18 +3,31 @@
 ghost use Rattle.std.specs.Prelude.{◌≡◌, length, nat_lt};
 ghost use Rattle.std.specs.List.{list_all};
 ghost use Rattle.cqe_base.specs.Literal.{variable_of, sign_at, literal_true, clause_true};
-ghost use Rattle.cqe_base.specs.Literal.{clauses_true};
-ghost use Rattle.cqe_base.specs.Refutation.{covers, is_model};
+ghost use Rattle.cqe_base.specs.Refutation.{is_model};
 
 use clause_store::clauses::Clauses;
 use clause_store::literal::Lit;
 use clause_store::refutation::Signs;
 
-/// Whether there is a sign for every variable and each clause has a true literal.
+/// Whether there is a sign for every variable and each clause has a true literal. It goes over the
+/// clauses once.
 pub fn check_model(clauses: &Clauses, model: &Signs) -> bool
     ensures { result ≡ is_model clauses.now model.now.values.items }
 {
-    covers(&model.values, clauses) && clauses_true(&model.values, clauses)
+    are_true(&model.values, clauses)
+}
+
+/// The same, of plain signs.
+fn are_true(signs: &[bool], clauses: &Clauses) -> bool
+    ensures { result ≡ is_model clauses.now signs.now }
+{
+    for i in 0..clauses.len() {
+        let clause = clauses.clause(i);
+        if !covers_clause(signs, clause) || !clause_true(signs, clause) {
+            return false;
+        }
+    }
+    true
 }
 
 /// Whether there is a sign for every variable of a clause.
@@ -22,30 +35,6 @@ fn covers_clause(signs: &[bool], clause: &[Lit]) -> bool
     ensures { result ≡ list_all (λ l. nat_lt (variable_of l) (length signs.now)) clause.now }
 {
     clause.iter().all(|l| (l.variable() as usize) < signs.len())
-}
-
-/// Whether there is a sign for every variable of the clauses.
-fn covers(signs: &[bool], clauses: &Clauses) -> bool
-    ensures { result ≡ covers signs.now clauses.now }
-{
-    for i in 0..clauses.len() {
-        if !covers_clause(signs, clauses.clause(i)) {
-            return false;
-        }
-    }
-    true
-}
-
-/// Whether every clause has a true literal.
-fn clauses_true(signs: &[bool], clauses: &Clauses) -> bool
-    ensures { result ≡ clauses_true (sign_at signs.now) clauses.now }
-{
-    for i in 0..clauses.len() {
-        if !clause_true(signs, clauses.clause(i)) {
-            return false;
-        }
-    }
-    true
 }
 
 /// The truth of a literal under signs.

@@ -1,8 +1,9 @@
 //! Refutations, and when they are right.
 
-ghost use Rattle.std.specs.Prelude.{◌≡◌, ◌++◌, ◌||◌, map, IfOk, IsTrue, slice_get, Some, List};
+ghost use Rattle.std.specs.Prelude.{◌≡◌, ◌++◌, ◌||◌, ◌&&◌, not, map, IfOk, IsTrue, Some, List};
+ghost use Rattle.std.specs.Prelude.{slice_get};
 ghost use Rattle.std.specs.Option.{option_copied};
-ghost use Rattle.cqe_base.specs.Literal.{Literal, has_literal};
+ghost use Rattle.cqe_base.specs.Literal.{Literal, same_literal, has_literal};
 ghost use Rattle.cqe_base.specs.Refutation.{clashes, single_resolvent, chain_from, chain_result};
 ghost use Rattle.cqe_base.specs.Refutation.{is_result, ends_empty, is_refutation};
 ghost use Rattle.cqe_base.specs.MachineLaws.{HaveNoModel};
@@ -132,8 +133,7 @@ fn resolve_single(set: &mut LiteralSet, second: &[Lit]) -> Result<bool, AllocErr
         return Ok(false);
     }
     set.remove(l);
-    join(set, second)?;
-    set.remove(l.opposite());
+    join_without(set, second, l.opposite())?;
     // It is there again only where the second clause has it too.
     Ok(!set.has(l))
 }
@@ -146,6 +146,35 @@ fn join(set: &mut LiteralSet, clause: &[Lit]) -> Result<(), AllocError>
     for literal in clause {
         set.add(*literal)?;
     }
+    Ok(())
+}
+
+/// The literals of a clause join the set, but for one.
+// One that joins and goes again would be among those that were added until the line's end.
+fn join_without(set: &mut LiteralSet, clause: &[Lit], left_out: Lit) -> Result<(), AllocError>
+    ensures { IfOk result (λ _. (l : Literal)
+        → has_literal set.new l ≡ (has_literal set.old l
+        || (has_literal clause.now l && not (same_literal l left_out)))) }
+{
+    for literal in clause {
+        add_unless(set, *literal, left_out)?;
+    }
+    Ok(())
+}
+
+/// A literal joins the set, unless it is this one.
+fn add_unless(set: &mut LiteralSet, literal: Lit, left_out: Lit) -> Result<(), AllocError>
+    ensures { IfOk result (λ _. (l : Literal)
+        → has_literal set.new l ≡ (has_literal set.old l
+        || (same_literal l literal && not (same_literal l left_out)))) }
+{
+    if literal.is(left_out) {
+        return Ok(());
+    }
+    if set.has(literal) {
+        return Ok(());
+    }
+    set.insert(literal)?;
     Ok(())
 }
 
