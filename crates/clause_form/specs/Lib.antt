@@ -1,4 +1,5 @@
 pub mod Forms
 pub mod Inside
+pub mod Models
 pub mod Prefixes
 pub mod Walks

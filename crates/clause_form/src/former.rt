@@ -9,9 +9,11 @@ ghost use Rattle.cqe_base.specs.SignedGround.{SignedGround};
 ghost use Rattle.cqe_base.specs.Literal.{sign_at};
 ghost use Rattle.cqe_base.specs.ClauseForm.{world_of};
 ghost use Rattle.clause_form.specs.Forms.{form_of, with_formula, size_of, IsSizeWithin, first_of};
+ghost use Rattle.clause_form.specs.Models.{ModelsOfFormAreWorlds};
 
 mod walk;
 
+use crate::laws::law_models_are_worlds_of_schema;
 use crate::worlds::{add_fact, sign_of};
 use clause_store::clauses::Clauses;
 use clause_store::literal::Lit;
@@ -156,7 +158,8 @@ impl Former {
         self.variables = mark.variables;
     }
 
-    /// The world of the numbered facts whose sign is true.
+    /// The world of the numbered facts whose sign is true. Where the form is that of sentences of
+    /// the schema, its clauses have a model exactly where some world of the schema makes them true.
     pub fn world_of(
         &self,
         alloc: Global,
@@ -166,9 +169,12 @@ impl Former {
         requires few { length self.now.numbering.facts ≤ 100000 }
         requires of_schema { list_all (λ e. is_fact_of schema.now e.fact) self.now.numbering.facts
             ≡ true }
-        ensures { IfOk result (λ world. world
+        ensures world { IfOk result (λ world. world
             ≡ world_of self.now.numbering.facts (sign_at model.now.values.items)) }
+        ensures models { IfOk result (λ world. ModelsOfFormAreWorlds schema.now self.now) }
     {
+        law_models_are_worlds_of_schema();
+        schema.known();
         let mut world = World::new(alloc);
         for (fact, number) in self.facts.iter() {
             if sign_of(model, *number) {

@@ -6,6 +6,5 @@ mod ViewForms
 mod OpenViews
 mod KeptClauses
 mod CostBounds
-mod ModelWorlds
 mod Verdicts
 pub mod Crossing

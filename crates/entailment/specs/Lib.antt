@@ -6,5 +6,4 @@ pub mod Probes
 pub mod Forms
 pub mod Inside
 pub mod Budgets
-pub mod Models
 pub mod Verdicts

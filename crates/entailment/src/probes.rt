@@ -1,17 +1,18 @@
-//! Probes: the clause form of what is asked, the search, and the check of what it found.
+//! Probes: the clause form of what is asked, the search, and the check of what is told of it.
 ghost use Rattle.std.specs.Prelude.{◌≡◌, ◌≤◌, ◌+◌, true, ◌++◌, map, Some, IfOk};
 ghost use Rattle.cqe_base.specs.Formula.{nodes, is_sentence_of};
 ghost use Rattle.cqe_base.specs.Entailment.{are_sentences_of};
+ghost use Rattle.cqe_base.specs.Refutation.{is_model};
 ghost use Rattle.cqe_base.specs.Machine.{Model, Refuted};
 ghost use Rattle.cqe_base.specs.Outcome.{outcome, grounded_signed};
 ghost use Rattle.clause_store.specs.PlainLines.{lines_of};
+ghost use Rattle.clause_form.specs.Models.{HaveModelsInWorlds};
 ghost use Rattle.clause_solver.specs.Beginnings.{IsBeginning};
 ghost use Rattle.entailment.specs.Logs.{log_nodes, sentence_nodes};
 ghost use Rattle.entailment.specs.Forms.{with_negated, IsSearchable, IsForProbe, GoesOn};
 ghost use Rattle.entailment.specs.Forms.{StaysOrEmpty};
 ghost use Rattle.entailment.specs.Views.{schema_of, log_of};
 ghost use Rattle.entailment.specs.Budgets.{IsSpentByCost};
-ghost use Rattle.entailment.specs.Models.{HaveModelsInWorlds};
 ghost use Rattle.entailment.specs.Verdicts.{verdict_of_probe, checked_verdict, searched_verdict};
 ghost use Rattle.entailment.specs.Verdicts.{as_wanted, IsCheckedOf};
 ghost use Rattle.entailment.specs.GroundSentences.{IsGroundOver};
@@ -20,10 +21,10 @@ ghost use Rattle.entailment.specs.Probes.{IsTrueOutcome, IsTrueVerdict, IsGround
 ghost use Rattle.entailment.specs.Probes.{added_by};
 
 use crate::forms::{add_probe, form_rest};
-use crate::laws::law_models_are_worlds_of_schema;
 use crate::sentences::GroundSentence;
 use crate::view::View;
 use clause_form::former::Former;
+use clause_form::laws::law_models_are_worlds_of_schema;
 use clause_solver::{Found, KeptSearch};
 use clause_store::refutation::{Refutation, Signs};
 use cqe_base::laws::law_grounded_nodes;
@@ -79,8 +80,8 @@ enum Wanted {
 }
 
 /// Runs a probe of the view's log with a budget. The clause form of the log, of the premise and of
-/// the negated goal is searched, and what the search found is checked before it is told. Each end
-/// of the machine is right, so the check never fails: a probe is spent for its cost alone.
+/// the negated goal is searched, and what the search found is checked again before it is told. Each
+/// end of the machine is right, so the check never fails: a probe is spent for its cost alone.
 pub fn test(
     alloc: Global,
     view: &mut View<'_>,
@@ -113,8 +114,9 @@ pub fn test(
     run(alloc, view, probe, budget, Wanted::World)
 }
 
-/// The outcome of a probe, by the same search and the same check. No world is made, which for an
-/// open probe takes longer than all else.
+/// The outcome of a probe, by the same search. A refutation is checked again; of a model the
+/// search's clause says that it is right. No world is made and no model checked, which for an open
+/// probe take longer than all else.
 pub fn probe_outcome(
     alloc: Global,
     view: &mut View<'_>,
@@ -245,7 +247,7 @@ fn probed(
     verdict_of(alloc, schema, former, kept, budget, wanted)
 }
 
-/// Searches a form, and checks what was found.
+/// Searches a form, and tells what was found.
 fn verdict_of(
     alloc: Global,
     schema: &Schema,
@@ -263,7 +265,7 @@ fn verdict_of(
 {
     match kept.search(alloc, former.clauses(), former.variables(), budget)? {
         Found::Refuted(refutation) => checked_refutation(alloc, former, &refutation),
-        Found::Model(signs) => checked_model(alloc, schema, former, &signs, wanted),
+        Found::Model(signs) => model_verdict(alloc, schema, former, &signs, wanted),
         Found::Spent => Ok(Verdict::Spent),
     }
 }
@@ -284,23 +286,39 @@ fn checked_refutation(
     }
 }
 
-/// What a model shows, once it was found right.
-fn checked_model(
+/// What a model shows that the search found right. It is checked again where its world is told.
+fn model_verdict(
     alloc: Global,
     schema: &Schema,
     former: &Former,
     signs: &Signs,
     wanted: Wanted,
 ) -> Result<Verdict, AllocError>
-    requires { IsSearchable schema.now former.now }
+    requires searchable { IsSearchable schema.now former.now }
+    requires right { is_model former.now.clauses signs.now.values.items ≡ true }
     ensures { IfOk result (λ verdict. verdict ≡ as_wanted wanted
         (checked_verdict former.now (Some (Model signs.now.values.items)))) }
 {
-    if !check_model(former.clauses(), signs) {
-        return Ok(Verdict::Spent);
-    }
     match wanted {
         Wanted::Outcome => Ok(Verdict::Open(World::new(alloc))),
-        Wanted::World => Ok(Verdict::Open(former.world_of(alloc, schema, signs)?)),
+        Wanted::World => checked_model(alloc, schema, former, signs),
+    }
+}
+
+/// What a model shows with its world, once it was checked.
+fn checked_model(
+    alloc: Global,
+    schema: &Schema,
+    former: &Former,
+    signs: &Signs,
+) -> Result<Verdict, AllocError>
+    requires { IsSearchable schema.now former.now }
+    ensures { IfOk result (λ verdict. verdict
+        ≡ checked_verdict former.now (Some (Model signs.now.values.items))) }
+{
+    if check_model(former.clauses(), signs) {
+        Ok(Verdict::Open(former.world_of(alloc, schema, signs)?))
+    } else {
+        Ok(Verdict::Spent)
     }
 }

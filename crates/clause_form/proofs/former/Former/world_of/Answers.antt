@@ -12,6 +12,7 @@ use Rattle.cqe_base.specs.ClauseForm.{world_of}
 use Rattle.clause_form.specs.Forms.{Form}
 use Rattle.clause_form.specs.Inside.{numbered_facts}
 use Rattle.clause_form.proofs.FactSigns.{true_facts, HasFacts, fact_joins, len_joins, world_has, passes_at}
+use Rattle.clause_form.proofs.ModelWorlds.{models-of-form}
 use Rattle.clause_form.proofs.former.Former.world_of.Goals as goal
 
 pub loop-fact-init : goal.loop-fact-init
@@ -47,11 +48,15 @@ loop-fact-preserved-in-Continue-1 c =
           omega arith;
     }
 
-pub returns : goal.returns
-returns c =
+pub returns-clause-world : goal.returns-clause-world
+returns-clause-world c =
     let entries = c.self.inside.facts.entries in
     let signs = sign_at c.args.model.now.values.items in
     let all : map deref_pair c.loop-fact.yielded ≡ entries = search (rules, iter_end) in
     world_has c.loop-fact.world (numbered_facts entries) signs
     (subst (λ (es : List (Fact × ℕ)). HasFacts c.loop-fact.world (true_facts (numbered_facts es) signs)) all c.loop-fact.invariant.members)
     ∙ ap (λ (f : Form). world_of f.numbering.facts signs) c.self.view_is
+
+pub returns-clause-models : goal.returns-clause-models
+returns-clause-models c =
+    models-of-form c.law_models_are_worlds_of_schema.ensures c.args.schema.now c.args.self.now c.known.ensures

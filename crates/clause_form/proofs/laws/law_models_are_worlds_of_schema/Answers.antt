@@ -1,5 +1,5 @@
-use Rattle.entailment.proofs.ModelWorlds.{models-are-worlds}
-use Rattle.entailment.proofs.laws.law_models_are_worlds_of_schema.Goals as goal
+use Rattle.clause_form.proofs.ModelWorlds.{models-are-worlds}
+use Rattle.clause_form.proofs.laws.law_models_are_worlds_of_schema.Goals as goal
 
 pub returns : goal.returns
 returns c =

@@ -1,11 +1,12 @@
 -- Models of the clauses of sentences are worlds of the schema, and worlds are models.
-use Rattle.std.proofs.Common.{◌≡◌, ℕ, Bool, true, false, cond, ◌&&◌, ◌||◌, List, [], ◌∷◌, map, filter, refl, sym, ap, ◌∙◌}
+use Rattle.std.proofs.Common.{◌≡◌, ℕ, Bool, true, false, cond, ◌&&◌, ◌||◌, List, [], ◌∷◌, map, filter, refl, sym, ap, subst, ◌∙◌}
+use Rattle.std.specs.Prelude.{◌↔◌}
 use Rattle.std.specs.List.{list_any, list_all}
 use Rattle.std.specs.Ordering.{eq_by_cmp}
 use Rattle.std.specs.FinSet as set
 use Rattle.std.proofs.lemmas.Bool.{and_parts, both_ways}
 use Rattle.cqe_base.specs.declared.world.Fact.{Fact}
-use Rattle.cqe_base.specs.Schema.{DatabaseSchema}
+use Rattle.cqe_base.specs.Schema.{DatabaseSchema, is_valid_schema}
 use Rattle.cqe_base.specs.Facts.{FactSet, IsWorldOf, fact_cmp, is_fact_of}
 use Rattle.cqe_base.specs.Truth.{true_in, same_truth}
 use Rattle.cqe_base.specs.Ground.{GroundingKeepsTruth}
@@ -13,9 +14,10 @@ use Rattle.cqe_base.specs.SignedGround.{true_signed, all_signed_true}
 use Rattle.cqe_base.specs.Entailment.{Signed, holds_in, all_hold_in}
 use Rattle.cqe_base.specs.ClauseForm.{NumberedFact, numbering_of, world_of}
 use Rattle.cqe_base.specs.Outcome.{grounded_signed}
-use Rattle.cqe_base.specs.MachineLaws.{ModelsAreWorlds, ModelGivesWorld, NumberedFactsAreOfSchema}
+use Rattle.cqe_base.specs.MachineLaws.{HaveModel, ModelsAreWorlds, ModelGivesWorld, NumberedFactsAreOfSchema}
 use Rattle.cqe_base.proofs.Worlds.{fact_cmp_total, tied_is}
-use Rattle.entailment.specs.Models.{ModelsAreWorldsOfSchema}
+use Rattle.clause_form.specs.Forms.{Form}
+use Rattle.clause_form.specs.Models.{AreTrueSomewhere, ModelsAreWorldsOfSchema, ModelsOfFormAreWorlds}
 
 -- ---- the truth of sentences and that of their ground formulas
 
@@ -90,3 +92,11 @@ models-are-worlds keeps models gives numbered schema sentences valid all =
       λ found. (models formulas).1
           (set.contains found.0, all-grounded-hold keeps schema found.0 sentences ∙ found.2),
     )
+
+-- so it is for a form of a valid schema
+pub models-of-form :
+    ModelsAreWorldsOfSchema → (schema : DatabaseSchema) (form : Form) → is_valid_schema schema ≡ true
+    → ModelsOfFormAreWorlds schema form
+models-of-form law schema form valid sentences is all =
+    subst (λ (f : Form). HaveModel f.clauses ↔ AreTrueSomewhere schema sentences) (sym is)
+    (law schema sentences valid all)
