@@ -1,3 +1,4 @@
+-- definitions, and a proof, which a ghost member of `TrailEntry` names: parts_same
 pub mod Entries
 pub mod PlainStates
 pub mod Assigning

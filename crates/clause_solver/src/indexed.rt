@@ -53,7 +53,7 @@ impl Indexed {
         }
         self.assignment.set_variables(variables)?;
         self.watches.set_variables(alloc, variables)?;
-        self.resolvent = MarkedClause::new(alloc, variables)?;
+        self.resolvent.set_variables(variables)?;
         Ok(())
     }
 

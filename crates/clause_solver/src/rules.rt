@@ -121,12 +121,13 @@ fn conflict_step(alloc: Global, state: &mut Indexed, number: usize) -> Result<Ad
 
 /// The signs of the variables.
 fn signs_of(alloc: Global, assignment: &Assignment, variables: u32) -> Result<Vec<bool>, AllocError>
-    requires { variables < 2 ^ 31 }
+    requires variables { variables < 2 ^ 31 }
+    requires same { assignment.now.variables ≡ variables }
     ensures { IfOk result (λ signs. signs.items ≡ signs_of assignment.now.trail variables) }
 {
     let mut signs = Vec::with_capacity(alloc, variables as usize)?;
     for v in 0..variables {
-        signs.push(assignment.is_true(Lit::positive(v)))?;
+        signs.push_reserved(assignment.holds(Lit::positive(v)));
     }
     Ok(signs)
 }

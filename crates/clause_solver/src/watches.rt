@@ -1,7 +1,7 @@
 //! Two watched literals of each clause, and the clauses that became unit or falsified since the
 //! last decision.
 
-ghost use Rattle.std.specs.List.{find};
+ghost use Rattle.std.specs.List.{find, list_all};
 ghost use Rattle.std.specs.List.Sorted.{IsPermutation};
 ghost use Rattle.cqe_base.specs.Literal.{Literal, variable_of, same_literal, ClauseBelow};
 ghost use Rattle.cqe_base.specs.Literal.{ClausesBelow};
@@ -15,6 +15,7 @@ ghost use Rattle.clause_solver.specs.WatchesInside.{AreWatches, lists_of, units_
 ghost use Rattle.clause_solver.specs.WatchesInside.{AreWatchedUnder, KeepsWatched};
 ghost use Rattle.std.specs.Prelude.{true, false, not, ◌&&◌, ◌||◌, ◌==◌, List, None, map, replicate};
 ghost use Rattle.std.specs.Prelude.{take, drop, slice_set, slice_index_or, ◌≡◌, ℕ, ◌<◌, ◌≤◌, ◌+◌};
+ghost use Rattle.std.specs.Prelude.{nat_lt};
 ghost use Rattle.std.specs.Prelude.{◌*◌, ◌^◌, [], ◌∷◌, ◌++◌, length, IfOk, IfSome, IfNone};
 
 use crate::assignment::Assignment;
@@ -442,7 +443,18 @@ fn keep_below(lists: &mut Vec<Vec<Watch>>, clauses: usize)
 fn keep_list_below(list: &mut Vec<Watch>, clauses: usize)
     ensures { list.new.items ≡ watches_below clauses list.old.items }
 {
+    // Most lists have nothing to lose, and to look is cheaper than to move.
+    if is_below(list, clauses) {
+        return;
+    }
     list.retain(|w| (w.clause as usize) < clauses);
+}
+
+/// Whether all watches of a list are of the first clauses, so many.
+fn is_below(list: &[Watch], clauses: usize) -> bool
+    ensures { result ≡ list_all (λ w. nat_lt w.clause clauses) list.now }
+{
+    list.iter().all(|w| (w.clause as usize) < clauses)
 }
 
 /// So many lists: those at the end go, or empty ones are put there.

@@ -14,7 +14,7 @@ code_of (Negative v) = 2 * v + 1
 abbrev pub literal_of_code : ℕ → Literal
 literal_of_code k = if k % 2 == 0 then Positive (k / 2) else Negative (k / 2)
 
--- a number is the code of its literal
+-- a proof: a number is the code of its literal
 pub code_of-literal_of_code : (k : ℕ) → code_of (literal_of_code k) ≡ k
 code_of-literal_of_code k = at (k % 2) (mod-lt k (zero-lt-suc 1)) (div-add-mod k 2)
   where
