@@ -139,9 +139,7 @@ impl Growing {
         if !is_searchable(&self.list, self.variables, budget) {
             return String::from_str(alloc, "not searchable");
         }
-        let found = self
-            .kept
-            .search(alloc, &self.list, self.variables, budget)?;
+        let found = self.kept.search(alloc, &self.list, self.variables, budget)?;
         found_text(alloc, &found)
     }
 
@@ -159,7 +157,9 @@ impl Growing {
         let (cost, searched) = self.searched(alloc, budget)?;
         let found = self.found(alloc, budget)?;
         let plain = self.found_plainly(alloc, budget)?;
-        if cost == budget && searched.as_str() == plain.as_str() && found.as_str() == plain.as_str()
+        if cost == budget
+            && searched.as_str() == plain.as_str()
+            && found.as_str() == plain.as_str()
         {
             format!(in alloc; "{budget} {plain}")
         } else {
