@@ -13,7 +13,7 @@ use std::marker::Model;
 use std::mem;
 
 /// How many orders are played of each list.
-const ORDERS: u32 = 4;
+const ORDERS: u32 = 2;
 
 /// How many steps an order has.
 const STEPS: u32 = 30;
