@@ -122,6 +122,7 @@ module _ (schema : DatabaseSchema) (world : FactSet) (users : List NamedUser) (h
         holds = λ told. left.is_closed.holds s;
         legal = left.is_closed.legal;
         added = left.is_closed.added;
+        items = left.is_closed.items;
         idle = left.is_closed.idle;
         later =
             left.is_closed.later;

@@ -72,6 +72,7 @@ module _ (schema : DatabaseSchema) (world : FactSet) (header : List ℕ) {D : Ty
         holds = λ t. closed.holds (tells t);
         legal = closed.legal;
         added = closed.added;
+        items = closed.items;
         idle = closed.idle;
         later = closed.later;
         cause =

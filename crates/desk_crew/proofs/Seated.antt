@@ -19,7 +19,7 @@ use Rattle.desk_counter.specs.declared.item.Fixed.{Fixed}
 use Rattle.desk_counter.specs.Desks.{fixed_of}
 use Rattle.desk_counter.specs.Items.{flying}
 use Rattle.turnstile.specs.Passes.{mine, turns}
-use Rattle.desk_counter.specs.Counters.{first_history}
+use Rattle.desk_counter.specs.Counters.{first_pairs}
 use Rattle.desk_counter.specs.Sole.{counter_in, pass_in, pairs_of_sole}
 use Rattle.censors.specs.Admitting.{admission_of}
 use Rattle.desk_crew.specs.Crew.{first_refusal, seat_user, seat_kept, seat_standing, seat_history, seat_state, seat_disk, IsOpenedFrom}
@@ -28,7 +28,7 @@ use Rattle.desk_crew.specs.Seats.{DeskSeat}
 module _ {D : Type 0} {g h : _} (schema : DatabaseSchema) (world : FactSet) (header : List ℕ) (told : Type 0) (reads : D → List ℕ) (image : D → List ℕ → Type 0)
     (faults : D → ℕ) (desk : Desk D g) (seat : DeskSeat D g h)
     (kept : seat_kept seat ≡ fixed_of desk) (entries : seat_history seat ≡ desk_history desk) (flies : flying (pairs_of_sole seat.desk) ≡ entry_in_flight desk)
-    (first : first_history (counter_in seat.desk) ≡ desk_history desk) (none_own : mine (pass_in seat.desk) ≡ [])
+    (first : first_pairs (counter_in seat.desk) ≡ pairs_of_sole seat.desk) (none_own : mine (pass_in seat.desk) ≡ [])
     (all_turns : turns (pass_in seat.desk) ≡ 65 * 2 ^ 57) where
   standing_is : seat_standing seat ≡ desk_standing desk
   standing_is = ap (λ (f : Fixed D). f.standing) kept
@@ -89,7 +89,7 @@ module _ {D : Type 0} {g h : _} (schema : DatabaseSchema) (world : FactSet) (hea
             (subst (λ w. IsLegal (desk_schema desk) w (profile_of (seat_user seat)) (seat_history seat)) world_is
             (subst (λ p. IsLegal (desk_schema desk) (desk_world desk) p (seat_history seat)) user_is
             (subst (λ (e : History). IsLegal (desk_schema desk) (desk_world desk) (desk_user desk) e) (sym entries) legal)));
-        first_is = first ∙ sym entries;
+        first_is = first;
         mine_is = none_own;
         turns_are = all_turns;
         holds = λ t served c here.

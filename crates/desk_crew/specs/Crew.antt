@@ -19,9 +19,9 @@ use Rattle.user_desk.specs.declared.standing.Standing.{Standing}
 use Rattle.user_desk.specs.declared.standing.Standing.TheVariants.{Open, Closed, Sealed}
 use Rattle.desk_counter.specs.declared.item.Fixed.{Fixed}
 use Rattle.desk_counter.specs.Lives.{IsAskOf}
-use Rattle.desk_counter.specs.Items.{history_of, flying, has_broke}
+use Rattle.desk_counter.specs.Items.{history_of, flying, has_broke, items_of, items_with}
 use Rattle.turnstile.specs.Passes.{mine, turns}
-use Rattle.desk_counter.specs.Counters.{first_history}
+use Rattle.desk_counter.specs.Counters.{first_pairs}
 use Rattle.desk_counter.specs.Sole.{counter_in, pass_in, kept_in, pairs_of_sole, sole_state}
 use Rattle.desk_counter.specs.Sole.{IsSoleIn, IsAsOpened}
 use Rattle.desk_counter.specs.declared.sole.SoleOf.{SoleOf}
@@ -112,10 +112,10 @@ pub record IsLeft {D : Type 0} (reads : D → List ℕ) (image : D → List ℕ 
   pub later : faults old ≤ faults new
 
 -- A desk leaves this disk as it is closed: unless its journal was refused, each image holds the
--- state that the desk showed, whose history is legal, and is what was put under the counter and
--- then what the pass has of its own; only of a user who is served has it any; the count rose where
--- an append failed; where none did, the disk has grown for the entries alone; and where nothing was
--- appended it is as it was at the opening.
+-- state that the desk showed, whose history is legal; its pairs are what was put under the counter
+-- and then what the pass has of its own, with one entry in flight at most; only of a user who is
+-- served has it any; the count rose where an append failed; where none did, the disk has grown for
+-- the entries alone; and where nothing was appended it is as it was at the opening.
 pub record IsClosed {D : Type 0} {g h : _} (told : Type 0) (reads : D → List ℕ)
     (image : D → List ℕ → Type 0) (faults : D → ℕ)
     (desk : SoleOf (TicketedDesk D g) TurnItem (Fixed D) h) (disk : D) : Type 0 where
@@ -124,8 +124,9 @@ pub record IsClosed {D : Type 0} {g h : _} (told : Type 0) (reads : D → List �
       (sole_state desk) c
   pub legal : IsLegal (kept_in desk).schema (kept_in desk).world (kept_in desk).user
       (history_of (pairs_of_sole desk))
-  pub added : history_of (pairs_of_sole desk)
-      ≡ first_history (counter_in desk) ++ history_of (mine (pass_in desk))
+  pub added : pairs_of_sole desk ≡ first_pairs (counter_in desk) ++ mine (pass_in desk)
+  pub items : items_of (pairs_of_sole desk)
+      ≡ items_with (history_of (pairs_of_sole desk)) (flying (pairs_of_sole desk))
   pub idle : is_open (kept_in desk).standing ≡ false → (history_of (pairs_of_sole desk) ≡ [])
       × (flying (pairs_of_sole desk) ≡ None)
   pub later : faults (kept_in desk).disk ≤ faults disk
@@ -195,9 +196,9 @@ module _ (schema : DatabaseSchema) (world : FactSet) (header : List ℕ) where
       pub fresh : IsFresh seat
       pub opening_is : (seat_kept seat).opening ≡ seat_history seat
       pub legal : IsLegal schema world (profile_of (seat_user seat)) (seat_history seat)
-      -- what was put under its counter is that history, and its pass has all turns and nothing of
-      -- its own
-      pub first_is : first_history (counter_in seat.desk) ≡ seat_history seat
+      -- what was put under its counter is what its pass has seen, which has all turns and nothing
+      -- of its own
+      pub first_is : first_pairs (counter_in seat.desk) ≡ pairs_of_sole seat.desk
       pub mine_is : mine (pass_in seat.desk) ≡ []
       pub turns_are : turns (pass_in seat.desk) ≡ 65 * 2 ^ 57
       -- each image of its disk holds the state that its desk shows, unless its journal was refused

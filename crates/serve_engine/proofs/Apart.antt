@@ -5,7 +5,6 @@ use Rattle.std.specs.List.{AllByRecursion, AllZip}
 use Rattle.std.proofs.lemmas.List.Elements.{All-head, All-tail}
 use Rattle.cqe_base.specs.Schema.{DatabaseSchema}
 use Rattle.cqe_base.specs.Facts.{FactSet}
-use Rattle.cqe_base.specs.History.{AnsweredQuery}
 use Rattle.cqe_base.specs.declared.user.User.{User}
 use Rattle.outside.specs.Visits.{Visit}
 use Rattle.turnstile.specs.declared.pass.Pass.{Pass}
@@ -15,8 +14,8 @@ use Rattle.desk_counter.specs.declared.item.TurnItem.{TurnItem}
 use Rattle.desk_counter.specs.declared.item.Fixed.{Fixed}
 use Rattle.desk_counter.specs.declared.counter.CounterOf.{CounterOf}
 use Rattle.desk_counter.specs.declared.ticketed_desk.TicketedDesk.{TicketedDesk}
-use Rattle.desk_counter.specs.Counters.{kept_by, first_history, IsPassOf}
-use Rattle.desk_counter.specs.Items.{history_of}
+use Rattle.desk_counter.specs.Counters.{kept_by, first_pairs, IsPassOf}
+use Rattle.desk_counter.specs.Items.{items_of}
 use Rattle.desk_crew.specs.Crew.{seat_kept, IsFresh}
 use Rattle.desk_crew.specs.Seats.{DeskSeat}
 use Rattle.session_core.specs.Members.{ArePasses}
@@ -126,11 +125,11 @@ module _ {D : Type 0} {g h : _} where
       (omega (arith, this), apart_opened seats (All-tail IsFresh seat seats all))
 
   -- and nothing of their own
-  pub apart_own : (seats : List (DeskSeat D g h)) → All (λ seat. mine (seat_pass seat) ≡ []) seats → (weight : AnsweredQuery → ℕ) (place : ℕ)
+  pub apart_own : (seats : List (DeskSeat D g h)) → All (λ seat. mine (seat_pass seat) ≡ []) seats → (weight : TurnItem → ℕ) (place : ℕ)
       → own_weight weight place (map seat_pass seats) ≡ 0
   apart_own [] all weight place = refl
   apart_own (seat ∷ seats) all weight zero =
-      ap (λ ps. sum_by weight (history_of ps)) (All-head (λ (s : DeskSeat D g h). mine (seat_pass s) ≡ []) seat seats all)
+      ap (λ ps. sum_by weight (items_of ps)) (All-head (λ (s : DeskSeat D g h). mine (seat_pass s) ≡ []) seat seats all)
   apart_own (seat ∷ seats) all weight (suc place) = apart_own seats (All-tail (λ (s : DeskSeat D g h). mine (seat_pass s) ≡ []) seat seats all) weight place
 
   -- seats that were put together of the same, by passes that have seen more
@@ -145,7 +144,7 @@ module _ {D : Type 0} {g h : _} where
           journal_is = ap (λ (k : Keeper). string_bytes k.journal) keeper.0;
           refusal_is = ap (λ (k : Keeper). k.refusal) keeper.0;
           kept_is = ap kept_by counter.0;
-          first_is = ap first_history counter.0;
+          first_is = ap first_pairs counter.0;
           on = on.0;
         },
         seats_on olds news keeper.1 counter.1 on.1,

@@ -1,9 +1,9 @@
 -- Each user's one history, from the opening of his journal to the disk that is back.
 use Rattle.std.proofs.Common.{◌≡◌, ◌⊎◌, inl, inr, ℕ, suc, ◌+◌, ◌*◌, ◌^◌, ◌≤◌, Bool, true, false, List, [], ◌∷◌, ◌++◌, length, map, refl, sym, ap, subst, ◌∙◌}
 use Rattle.std.proofs.Common.{◌<◌, arith}
-use Rattle.std.specs.Prelude.{Option, Some, None, Vec, is_some, ◌||◌, string_bytes, All}
+use Rattle.std.specs.Prelude.{Option, Some, None, Vec, is_some, option_to_list, ◌||◌, string_bytes, All}
 use Rattle.std.specs.declared.alloc.Global.{Global}
-use Rattle.std.specs.List.{AllByRecursion, list_any, sum_by}
+use Rattle.std.specs.List.{AllByRecursion, list_any, sum_by, flat_map}
 use Rattle.std.proofs.lemmas.List.Sums.{sum_by-append}
 use Rattle.std.proofs.lemmas.List.Elements.{All-head, All-tail, All-from_recursion}
 use Rattle.outside.proofs.Rises.{rose_wide}
@@ -27,17 +27,19 @@ use Rattle.user_desk.specs.declared.standing.DeskError.TheVariants.{Journal, Sta
 use Rattle.user_desk.specs.declared.standing.Standing.{Standing}
 use Rattle.user_desk.specs.declared.standing.Standing.TheVariants.{Open, Closed, Sealed}
 use Rattle.desk_counter.specs.declared.item.Fixed.{Fixed}
-use Rattle.desk_counter.specs.Items.{history_of, flying}
+use Rattle.desk_counter.specs.declared.item.TurnItem.{TurnItem}
+use Rattle.desk_counter.specs.Items.{history_of, flying, items_of, items_with}
 use Rattle.desk_counter.specs.Sole.{pairs_of_sole}
-use Rattle.desk_counter.proofs.Pairs.{history_all}
-use Rattle.turnstile.specs.Passes.{mine, turns}
-use Rattle.desk_counter.specs.Counters.{first_history}
+use Rattle.desk_counter.proofs.Pairs.{history_all, items_all}
+use Rattle.turnstile.specs.Passes.{seen, mine, turns}
+use Rattle.desk_counter.specs.Counters.{first_pairs}
 use Rattle.desk_crew.specs.Crew.{IsFresh, IsClosed, refusal_of, seat_user, seat_journal, seat_kept, seat_standing, seat_history, seat_disk, seat_broke}
 use Rattle.desk_crew.specs.Crew.{seat_state}
 use Rattle.desk_crew.specs.Seats.{DeskSeat}
 use Rattle.desk_crew.specs.Shelved.{Journals, journals, journals_on, AreLater, IsSeatOf, AreSeatsOf, IsBack, AreBack}
 use Rattle.session_core.specs.Members.{AreDesksOf, HasSeenLegal, HaveSeenLegal}
-use Rattle.serve_engine.specs.Served.{Member, SessionMarks, entries_told}
+use Rattle.session_core.proofs.Replying.{last_none}
+use Rattle.serve_engine.specs.Served.{Member, member_broke, SessionMarks, entries_told, failures_told, items_told}
 use Rattle.serve_engine.specs.Members.{OwnMore, own_at}
 use Rattle.serve_engine.specs.Doors.{AreServedDoors, SomeFailed, HasOutcome}
 use Rattle.serve_engine.specs.Serving.{HasServed, HaveServed, AreAllTold, ServesDoors, EndsDoors, IsDone, IsBroken, end_of}
@@ -45,6 +47,7 @@ use Rattle.serve_engine.specs.declared.serving.Outcome.{Outcome}
 use Rattle.serve_engine.specs.declared.serving.Outcome.TheVariants as outcome
 use Rattle.serve_engine.specs.declared.run.ServeEnd.TheVariants.{LinksFault}
 use Rattle.serve_engine.proofs.Owning.{own_weight, told_weight, weigh_more}
+use Rattle.serve_engine.proofs.Weighing.{kept_weight, failed_weight, kept_pairs_weigh, none_failed, failed_last, kept_told, failed_told}
 use Rattle.serve_engine.specs.Sharing.{seat_counter, seat_pass, seat_member, IsSeatOn, AreSeatsOn, AreAllIn}
 
 module _ (schema : DatabaseSchema) (world : FactSet) (user : UserProfile) (header bytes : List ℕ) (T : Type 0) (t : T) where
@@ -157,8 +160,6 @@ module _ (schema : DatabaseSchema) (world : FactSet) (header directory : List �
           hides = λ admits.
               hide schema world (seat_kept new).user (seat_history new) valid
               (subst (λ (p : UserProfile). is_user_of schema p ≡ true) (sym user_is) limits.sentences) admits legal;
-          in_flight = flying (pairs_of_sole new.desk);
-          broke_is = refl;
           reads = λ served.
               subst (λ o. Holds schema world (seat_kept new).user header (seat_state new) (bytes_on reads o)) (sym held)
               (holds served (reads back.now) (left.images (reads back.now) (read_is_image back.now t)));
@@ -202,16 +203,50 @@ module _ (schema : DatabaseSchema) (world : FactSet) (header directory : List �
   module _ (told : List SessionMarks) where
     -- what the passes at seats have of their own was told from a place on
     abbrev OwnFrom : ℕ → List (DeskSeat D g h) → Type 0
-    OwnFrom place seats = (weight : AnsweredQuery → ℕ) (k : ℕ) → own_weight weight k (map seat_pass seats) ≡ told_weight weight (place + k) told
+    OwnFrom place seats = (weight : TurnItem → ℕ) (k : ℕ) → own_weight weight k (map seat_pass seats) ≡ told_weight weight (place + k) told
 
     -- as they do from the first place on, where they had nothing as the seats were opened
-    pub own_from : (olds news : List (DeskSeat D g h)) → ((weight : AnsweredQuery → ℕ) (k : ℕ) → own_weight weight k (map seat_pass olds) ≡ 0)
+    pub own_from : (olds news : List (DeskSeat D g h)) → ((weight : TurnItem → ℕ) (k : ℕ) → own_weight weight k (map seat_pass olds) ≡ 0)
         → OwnMore (map seat_pass olds) (map seat_pass news) told → OwnFrom 0 news
     own_from olds news none more weight k =
         let before = none weight k in
-        let after = more k weight ∙ weigh_more weight (own_at k (map seat_pass olds)) (entries_told k) told in
+        let after = more k weight ∙ weigh_more weight (own_at k (map seat_pass olds)) (items_told k) told in
         let same = ap (λ n. told_weight weight n told) (let e : 0 + k ≡ k = omega arith in e) in
         omega (arith, before, after, same)
+
+    -- so each user's pairs are what they were as his journal was opened, and what he was told
+    module _ (place : ℕ) (user : User) (old new : DeskSeat D g h) (opened : Opened user old) (on : IsSeatOn old new) (back : Back new)
+        (own : (weight : TurnItem → ℕ) → sum_by weight (items_of (mine (seat_pass new))) ≡ told_weight weight place told) where
+      pairs_weigh : (weight : TurnItem → ℕ)
+          → sum_by weight (items_of (pairs_of_sole new.desk)) ≡ sum_by weight (items_of (pairs_of_sole old.desk)) + told_weight weight place told
+      pairs_weigh weight =
+          let added = ap items_of back.left.is_closed.added ∙ items_all (first_pairs (seat_counter new)) (mine (seat_pass new)) in
+          let whole = ap (sum_by weight) added ∙ sum_by-append weight (items_of (first_pairs (seat_counter new))) (items_of (mine (seat_pass new))) in
+          let first = ap (λ ps. sum_by weight (items_of ps)) (on.first_is ∙ opened.opened.first_is) in
+          let here = own weight in
+          omega (arith, whole, first, here)
+
+      entries_same : (weight : AnsweredQuery → ℕ)
+          → sum_by weight (seat_history new) ≡ sum_by weight ((seat_kept new).opening ++ flat_map (entries_told place) told)
+      entries_same weight =
+          let opening : (seat_kept new).opening ≡ seat_history old = ap (λ (f : Fixed D). f.opening) on.kept_is ∙ opened.opened.opening_is in
+          let first = ap (sum_by weight) opening in
+          let all = pairs_weigh (kept_weight weight) in
+          let now = kept_pairs_weigh weight (pairs_of_sole new.desk) in
+          let was = kept_pairs_weigh weight (pairs_of_sole old.desk) in
+          let marks = kept_told weight place told in
+          let more = weigh_more weight (seat_kept new).opening (entries_told place) told in
+          omega (arith, first, all, now, was, marks, more)
+
+      failures_same : (weight : AnsweredQuery → ℕ)
+          → sum_by weight (option_to_list (flying (pairs_of_sole new.desk))) ≡ sum_by weight (flat_map (failures_told place) told)
+      failures_same weight =
+          let all = pairs_weigh (failed_weight weight) in
+          let now = ap (sum_by (failed_weight weight)) back.left.is_closed.items ∙ failed_last weight (seat_history new) (flying (pairs_of_sole new.desk)) in
+          let was = none_failed weight (pairs_of_sole old.desk) opened.opened.fresh.none in
+          let marks = failed_told weight place told in
+          let more = weigh_more weight [] (failures_told place) told in
+          omega (arith, all, now, was, marks, more)
 
     -- so behind each user's opening history there is what he was told
     pub all_told : (place : ℕ) (users : List User) (olds news : List (DeskSeat D g h))
@@ -220,15 +255,10 @@ module _ (schema : DatabaseSchema) (world : FactSet) (header directory : List �
         → OwnFrom place news → AreAllTold place (map seat_member news) told
     all_told place [] [] [] opened on back own = tt
     all_told place (user ∷ users) (old ∷ olds) (new ∷ news) opened on back own =
-        let added : seat_history new ≡ first_history (seat_counter new) ++ history_of (mine (seat_pass new)) = back.0.left.is_closed.added in
-        let opening : first_history (seat_counter new) ≡ (seat_kept new).opening =
-        on.0.first_is ∙ opened.0.opened.first_is ∙ sym opened.0.opened.opening_is ∙ ap (λ (f : Fixed D). f.opening) (sym on.0.kept_is) in (
-          λ weight.
-              (let whole = ap (sum_by weight) added ∙ sum_by-append weight (first_history (seat_counter new)) (history_of (mine (seat_pass new))) in
-              let first = ap (sum_by weight) opening in
-              let here = own weight 0 ∙ ap (λ k. told_weight weight k told) (let e : place + 0 ≡ place = omega arith in e) in
-              let all = weigh_more weight (seat_kept new).opening (entries_told place) told in
-              omega (arith, whole, first, here, all)),
+        let here : (weight : TurnItem → ℕ) → sum_by weight (items_of (mine (seat_pass new))) ≡ told_weight weight place told =
+        λ weight. own weight 0 ∙ ap (λ k. told_weight weight k told) (let e : place + 0 ≡ place = omega arith in e) in (
+          entries_same place user old new opened.0 on.0 back.0 here,
+          failures_same place user old new opened.0 on.0 back.0 here,
           all_told (suc place) users olds news opened.1 on.1 back.1 (λ weight k. own weight (suc k)
               ∙ ap (λ n. told_weight weight n told) (let e : place + suc k ≡ suc place + k = omega arith in e)),
         )
@@ -254,7 +284,7 @@ module _ (schema : DatabaseSchema) (world : FactSet) (header directory : List �
 
 module _ {D : Type 0} {g h : _} where
   -- whether an append failed at one of the seats is whether one failed for one of the users
-  pub broke_at : (seats : List (DeskSeat D g h)) → list_any seat_broke seats ≡ list_any (λ (m : Member). m.broke) (map seat_member seats)
+  pub broke_at : (seats : List (DeskSeat D g h)) → list_any seat_broke seats ≡ list_any member_broke (map seat_member seats)
   broke_at [] = refl
   broke_at (seat ∷ seats) = ap (λ b. seat_broke seat || b) (broke_at seats)
 
@@ -424,6 +454,7 @@ module _ {D : Type 0} {g h : _} (told disk_told : Type 0) (reads : D → List �
           legal = subst (λ s. IsLegal s kept.world kept.user (seat_history seat)) (sym served.schema_is)
               (subst (λ w. IsLegal schema w kept.user (seat_history seat)) (sym served.world_is)
               (subst (λ p. IsLegal schema world p (seat_history seat)) (sym served.user_is) is.opened.legal));
+          last = last_none (seen (seat_pass seat)) is.opened.fresh.none;
         }
 
     pub seats_legal : (users : List User) (seats : List (DeskSeat D g h)) → All (λ user. KeepsLimits schema (profile_of user)) users

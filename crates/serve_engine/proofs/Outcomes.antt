@@ -10,14 +10,13 @@ use Rattle.outside.specs.Faults.{Rose}
 use Rattle.outside.specs.Visits.{Visit, one_if_any}
 use Rattle.cqe_base.specs.Schema.{DatabaseSchema}
 use Rattle.cqe_base.specs.Facts.{FactSet}
-use Rattle.cqe_base.specs.History.{AnsweredQuery}
 use Rattle.turnstile.specs.declared.pass.Pass.{Pass}
 use Rattle.desk_counter.specs.declared.item.TurnItem.{TurnItem}
 use Rattle.desk_counter.specs.declared.item.Fixed.{Fixed}
 use Rattle.desk_counter.specs.declared.ticketed_desk.TicketedDesk.{TicketedDesk}
 use Rattle.session_core.specs.declared.counters.CountersOf.{CountersOf}
 use Rattle.session_core.specs.declared.counters.Passes.{Passes}
-use Rattle.session_core.specs.Members.{users_of, fixeds_of, passes_in}
+use Rattle.session_core.specs.Members.{users_of, fixeds_of, passes_in, HaveSeenLegal}
 use Rattle.worker_pool.specs.declared.worker.Worker.{Worker}
 use Rattle.worker_pool.specs.declared.worker.WorkerEnd.{WorkerEnd}
 use Rattle.worker_pool.specs.declared.worker.WorkerEnd.TheVariants.{LinksEnded, LimitReached, LinksFailed as LinksHaveFailed}
@@ -27,7 +26,7 @@ use Rattle.serve_engine.specs.declared.job.SessionJobOf.{SessionJobOf}
 use Rattle.serve_engine.specs.declared.serving.Outcome.{Outcome}
 use Rattle.serve_engine.specs.declared.serving.Outcome.TheVariants.{Served, LinksFailed}
 use Rattle.serve_engine.specs.Jobs.{job_counters, job_passes, job_runs}
-use Rattle.serve_engine.specs.Served.{SessionMarks, entries_told}
+use Rattle.serve_engine.specs.Served.{SessionMarks, items_told}
 use Rattle.serve_engine.specs.Members.{AreIn, IsServedBy, AreServedBy, IsPassLater, ArePassesLater, OwnMore, members_of, own_at, room_in}
 use Rattle.serve_engine.specs.Doors.{IsServedDoor, AreServedDoors, SomeFailed, HasOutcome, has_failed, outcome_of}
 use Rattle.serve_engine.specs.Passing.{AreOn, IsFresh, IsBack}
@@ -48,14 +47,14 @@ module _ {D : Type 0} where
   module _ {g h : _} (counters : CountersOf (TicketedDesk D g) TurnItem (Fixed D) h) where
     -- what was served by some passes is served by those that have seen more
     stay : (at : CountersOf (TicketedDesk D g) TurnItem (Fixed D) h) (passes final : Passes D) (visits : List Visit) (marks : List SessionMarks) → at ≡ counters
-        → AreOn passes final
+        → AreOn passes final → HaveSeenLegal (fixeds_of counters) (passes_in final)
         → AllZip (IsServedBy at passes) visits marks → AllZip (IsServedBy counters final) visits marks
-    stay at passes final visits marks same on stand =
+    stay at passes final visits marks same on legal stand =
         let still = λ (visit : Visit) (mark : SessionMarks) (stood : IsServedBy at passes visit mark)
         (schema : DatabaseSchema) (world : FactSet) (within : AreIn schema world (fixeds_of counters)).
         served_later schema world (users_of counters) (members_of (fixeds_of counters) (passes_in passes))
         (members_of (fixeds_of counters) (passes_in final)) visit mark
-        (members_later (fixeds_of counters) (passes_in passes) (passes_in final) on)
+        (members_later (fixeds_of counters) (passes_in passes) (passes_in final) on legal)
         (subst (λ c. IsServedBy c passes visit mark) same stood schema world within) in
         zip_still (IsServedBy at passes) (IsServedBy counters final) still visits marks stand
 
@@ -129,7 +128,7 @@ module _ {D G O : Type 0} {g h : _} (told : Type 0) (given_of left_of ends_of fa
   all_told t (b ∷ before) [] was = []
 
   -- are what the passes of workers have of their own that hadn't begun
-  all_own : (counters : CountersOf (TicketedDesk D g) TurnItem (Fixed D) h) (first : Passes D) (t : told) (weight : AnsweredQuery → ℕ) (place : ℕ)
+  all_own : (counters : CountersOf (TicketedDesk D g) TurnItem (Fixed D) h) (first : Passes D) (t : told) (weight : TurnItem → ℕ) (place : ℕ)
       (before after : List (Worker (SessionJobOf (TicketedDesk D g) D G h) O)) → AllByRecursion (IsFresh counters first) before
       → (was : AllZip Was before after)
       → sum_by (λ worker. own_weight weight place (passes_in (job_passes worker.job))) after ≡ told_weight weight place (all_told t before after was)
@@ -138,11 +137,11 @@ module _ {D G O : Type 0} {g h : _} (told : Type 0) (given_of left_of ends_of fa
       let stand = (was.0.back t).stand in
       let none : own_weight weight place (passes_in (job_passes b.job)) ≡ 0 = ap (sum_by weight) (fresh.0.parts.none_own place) in
       let here = stand.own place weight
-      ∙ weigh_more weight (own_at place (passes_in (job_passes b.job))) (entries_told place) stand.visit_marks in
+      ∙ weigh_more weight (own_at place (passes_in (job_passes b.job))) (items_told place) stand.visit_marks in
       let rest = all_own counters first t weight place before after fresh.1 was.1 in
       let one =
       sum_by-cons (λ (worker : Worker (SessionJobOf (TicketedDesk D g) D G h) O). own_weight weight place (passes_in (job_passes worker.job))) a after in
-      let both = sum_by-append (λ marks. sum_by weight (entries_told place marks)) (was.0.back t).stand.visit_marks (all_told t before after was.1) in
+      let both = sum_by-append (λ marks. sum_by weight (items_told place marks)) (was.0.back t).stand.visit_marks (all_told t before after was.1) in
       omega (arith, none, here, rest, one, both)
   all_own counters first t weight place [] (a ∷ after) fresh was = absurd was
   all_own counters first t weight place (b ∷ before) [] fresh was = absurd was
@@ -167,10 +166,10 @@ module _ {D G O : Type 0} {g h : _} (told : Type 0) (given_of left_of ends_of fa
     -- ---- the doors
 
     one_served : (first final : Passes D) (before after : Worker (SessionJobOf (TicketedDesk D g) D G h) O) → IsFresh counters first before
-        → AreOn (job_passes after.job) final → (was : Was before after)
+        → AreOn (job_passes after.job) final → HaveSeenLegal (fixeds_of counters) (passes_in final) → (was : Was before after)
         → IsServedDoor told given_of left_of faults_of back_of (IsServedBy counters final) (job_runs after.job)
         (λ t. (was.back t).stand.visit_marks) before.door after.door
-    one_served first final before after fresh on was = record {
+    one_served first final before after fresh on legal was = record {
       given = was.given;
       left = was.left;
       back = λ t. let v = was.back t in record {
@@ -178,7 +177,8 @@ module _ {D G O : Type 0} {g h : _} (told : Type 0) (given_of left_of ends_of fa
         behind = v.behind;
         many = v.many;
         stand =
-            stay counters (job_counters after.job) (job_passes after.job) final v.visits v.stand.visit_marks (was.keeps.0 ∙ fresh.counters_are) on v.stand.each;
+            stay counters (job_counters after.job) (job_passes after.job) final v.visits v.stand.visit_marks (was.keeps.0 ∙ fresh.counters_are) on legal
+            v.stand.each;
       };
       faults = was.faults;
     }
@@ -186,22 +186,23 @@ module _ {D G O : Type 0} {g h : _} (told : Type 0) (given_of left_of ends_of fa
     -- the doors' connections are served by the passes that are joined in the end
     pub all_served : (first final : Passes D) (before after : List (Worker (SessionJobOf (TicketedDesk D g) D G h) O))
         → AllByRecursion (IsFresh counters first) before
-        → AllByRecursion (λ worker. AreOn (job_passes worker.job) final) after → (was : AllZip Was before after)
+        → AllByRecursion (λ worker. AreOn (job_passes worker.job) final) after → HaveSeenLegal (fixeds_of counters) (passes_in final)
+        → (was : AllZip Was before after)
         → AreServedDoors told given_of left_of faults_of back_of (IsServedBy counters final) (sum_by (λ worker. job_runs worker.job) after)
         (λ t. all_told t before after was) (map (λ worker. worker.door) before) (map (λ worker. worker.door) after)
-    all_served first final [] [] fresh on was = (refl, λ t. refl)
-    all_served first final (b ∷ before) (a ∷ after) fresh on was = (
+    all_served first final [] [] fresh on legal was = (refl, λ t. refl)
+    all_served first final (b ∷ before) (a ∷ after) fresh on legal was = (
       job_runs a.job,
       sum_by (λ worker. job_runs worker.job) after,
       sum_by-cons (λ (worker : Worker (SessionJobOf (TicketedDesk D g) D G h) O). job_runs worker.job) a after,
       λ t. (was.0.back t).stand.visit_marks,
       λ t. all_told t before after was.1,
       λ t. refl,
-      one_served first final b a fresh.0 on.0 was.0,
-      all_served first final before after fresh.1 on.1 was.1,
+      one_served first final b a fresh.0 on.0 legal was.0,
+      all_served first final before after fresh.1 on.1 legal was.1,
     )
-    all_served first final [] (a ∷ after) fresh on was = absurd was
-    all_served first final (b ∷ before) [] fresh on was = absurd was
+    all_served first final [] (a ∷ after) fresh on legal was = absurd was
+    all_served first final (b ∷ before) [] fresh on legal was = absurd was
 
   -- ---- the outcome
 
@@ -312,20 +313,22 @@ module _ {D G O : Type 0} {g h : _} (told : Type 0) (given_of left_of ends_of fa
       → map (λ worker. worker.door) before ≡ doors → others ≡ map (λ worker. worker.door) after → outcome ≡ outcome_of after
       → All (λ door. faults_of door ≡ 0) doors → All (λ door. ends_of door ≡ 0) doors
       → All (IsFresh counters first) before → All (λ worker. AreOn (job_passes worker.job) final) after
+      → HaveSeenLegal (fixeds_of counters) (passes_in final)
       → All (λ worker. worker.ended ≡ Some LimitReached → limit ≤ sum_by (λ other. job_runs other.job) after + sum_by (λ other. lost other.ended) after) after
       → AllZip Was before after → sum_by (λ other. job_runs other.job) after ≤ limit
-      → ((weight : AnsweredQuery → ℕ) (place : ℕ)
+      → ((weight : TurnItem → ℕ) (place : ℕ)
       → own_weight weight place (passes_in final)
       ≡ own_weight weight place (passes_in first) + sum_by (λ worker. own_weight weight place (passes_in (job_passes worker.job))) after)
       → (total : ℕ) × (marks : told → List SessionMarks)
       × AreServedDoors told given_of left_of faults_of back_of (IsServedBy counters final) total marks doors others
       × HasOutcome told left_of ends_of faults_of limit outcome total others × (total ≤ limit)
       × ((t : told) → OwnMore (passes_in first) (passes_in final) (marks t))
-  served_together counters first final limit outcome doors others before after doors_are others_are outcome_is whole unended fresh on reached was below own =
+  served_together counters first final limit outcome doors others before after doors_are others_are outcome_is whole unended fresh on legal reached was below
+      own =
       let total = sum_by (λ (worker : Worker (SessionJobOf (TicketedDesk D g) D G h) O). job_runs worker.job) after in
       let marks : told → List SessionMarks = λ t. all_told t before after was in
       let served = all_served counters first final before after (recursion_from_All (IsFresh counters first) before fresh)
-      (recursion_from_All (λ worker. AreOn (job_passes worker.job) final) after on) was in
+      (recursion_from_All (λ worker. AreOn (job_passes worker.job) final) after on) legal was in
       let ended = has_outcome limit before after (by_door faults_of whole) (by_door ends_of unended)
       (recursion_from_All (λ worker. worker.ended ≡ Some LimitReached
       → limit ≤ sum_by (λ other. job_runs other.job) after + sum_by (λ other. lost other.ended) after) after reached) was in (
@@ -340,7 +343,7 @@ module _ {D G O : Type 0} {g h : _} (told : Type 0) (given_of left_of ends_of fa
         λ t place weight.
             let all = own weight place in
             let here = all_own counters first t weight place before after (recursion_from_All (IsFresh counters first) before fresh) was in
-            let told = weigh_more weight (own_at place (passes_in first)) (entries_told place) (all_told t before after was) in
+            let told = weigh_more weight (own_at place (passes_in first)) (items_told place) (all_told t before after was) in
             omega (arith, all, here, told),
       )
     where

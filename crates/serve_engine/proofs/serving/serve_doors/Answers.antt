@@ -8,7 +8,7 @@ use Rattle.session_core.specs.Members.{passes_in, fixeds_of}
 use Rattle.serve_engine.specs.Doors.{AreServedDoors}
 use Rattle.serve_engine.specs.Jobs.{job_passes, job_runs}
 use Rattle.serve_engine.specs.Members.{HaveSeenOpenings, IsServedBy, own_at, room_in}
-use Rattle.serve_engine.specs.Served.{entries_told}
+use Rattle.serve_engine.specs.Served.{items_told}
 use Rattle.serve_engine.proofs.Owning.{own_weight, weigh_more}
 use Rattle.serve_engine.specs.Passing.{AreParts, IsFresh, IsBack}
 use Rattle.serve_engine.proofs.Crossing.{job_send}
@@ -33,7 +33,7 @@ returns-in_default-clause-served g c = (
       (IsServedBy c.args.counters.now c.args.passes.now) c.args.doors.items,
   refl,
   omega arith,
-  λ t place weight. let none = weigh_more weight (own_at place (passes_in c.args.passes.now)) (entries_told place) [] in omega (arith, none),
+  λ t place weight. let none = weigh_more weight (own_at place (passes_in c.args.passes.now)) (items_told place) [] in omega (arith, none),
 )
 
 pub returns-in_default-split_all-clause-served : goal.returns-in_default-split_all-clause-served
@@ -46,7 +46,7 @@ returns-in_default-split_all-clause-served g c = (
   omega arith,
   λ t place weight.
       let same = c.split_all.ensures.own place weight in
-      let none = weigh_more weight (own_at place (passes_in c.args.passes.now)) (entries_told place) [] in
+      let none = weigh_more weight (own_at place (passes_in c.args.passes.now)) (items_told place) [] in
       omega (arith, same, none),
 )
 
@@ -139,7 +139,8 @@ returns-in-Ok-clause-served g c =
     served_together g.O.Door.tells g.O.Door.given g.O.Door.left g.O.Door.ends g.O.Door.faults g.O.Door.back c.args.counters.now first c.dismiss.new.passes
     c.args.limit c.outcome_of-outcome.result c.args.doors.items c.dismiss.result.items
     c.crew_of-crew.result.items c.in-Ok.crew.items c.crew_of-crew.ensures.doors c.dismiss.ensures.doors (search rules) c.requires.whole c.requires.unended
-    (c.crew_of-crew.ensures.fresh first c.in-Some.ensures.parts) c.dismiss.ensures.all_on c.in-Ok.ensures.reached c.in-Ok.ensures.served
+    (c.crew_of-crew.ensures.fresh first c.in-Some.ensures.parts) c.dismiss.ensures.all_on c.dismiss.ensures.these.legal c.in-Ok.ensures.reached
+    c.in-Ok.ensures.served
     c.in-Ok.ensures.limit
     (λ weight place.
     let all = c.dismiss.ensures.own place weight
@@ -169,7 +170,7 @@ returns-in-Err-clause-served g c =
           ∙ weigh_more weight (own_at place (passes_in c.split_all.new.passes)) (λ worker. own_at place (passes_in (job_passes worker.job)))
           c.in-Err.crew.items in
           let rest = c.split_all.ensures.own place weight in
-          let told = weigh_more weight (own_at place (passes_in c.args.passes.now)) (entries_told place) [] in
+          let told = weigh_more weight (own_at place (passes_in c.args.passes.now)) (items_told place) [] in
           let none = sum_none (λ worker. own_weight weight place (passes_in (job_passes worker.job))) c.in-Err.crew.items
           (All-same (λ worker. own_weight weight place (passes_in (job_passes worker.job)) ≡ 0) c.in-Err.crew.items c.crew_of-crew.result.items same
           (All-weaker (IsFresh c.args.counters.now c.args.passes.now) (λ worker. own_weight weight place (passes_in (job_passes worker.job))
