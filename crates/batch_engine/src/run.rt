@@ -127,10 +127,10 @@ fn carry_out<'w, R: Wait, G: Gate, F: Shelf>(
     requires later { AreLater F.D.faults (F.disk_faults shelf.old) seats.items }
     requires short { is_short_item (item_in item.now) ≡ true }
     ensures carried { IfSome result (λ r. Carries registry.now.schema.now registry.now.world.now
-        (header_bytes registry.now.header.now) F.D.tells F.D.reads F.D.image F.D.faults
+        (header_bytes registry.now.header.now) F.D.tells F.D.Disk
         (item_in item.now) seats.entry.items r.0.items r.1 r.2) }
     ensures untouched { OnSome result (shelf.new ≡ shelf.old) }
-    ensures back { IfNone result (AreBack F.tells F.D.reads F.D.image F.D.faults (F.disk shelf.new)
+    ensures back { IfNone result (AreBack F.tells F.D.Disk (F.disk shelf.new)
         (F.disk_faults shelf.new) seats.entry.items) }
     ensures inside { IfNone result (AllIn (journals seats.entry.items) (F.is_out shelf.new)) }
     ensures restart { IfNone result (item_in item.now ≡ restarted) }
@@ -176,8 +176,8 @@ fn answer_all<'w, R: Wait, G: Gate, F: Shelf, K: Sink>(
     requires out { AllOut (journals seats.items) (F.is_out shelf.old) }
     requires later { AreLater F.D.faults (F.disk_faults shelf.old) seats.items }
     ensures answered { IsAnswered registry.now.schema.now registry.now.world.now
-        (header_bytes registry.now.header.now) F.D.tells F.D.reads F.D.image F.D.faults K.tells
-        (λ left. AreBack F.tells F.D.reads F.D.image F.D.faults (F.disk shelf.new)
+        (header_bytes registry.now.header.now) F.D.tells F.D.Disk K.tells
+        (λ left. AreBack F.tells F.D.Disk (F.disk shelf.new)
         (F.disk_faults shelf.new) left)
         (items_of batch.now) seats.entry.items (K.written sink.old) (K.written sink.new) result }
     ensures untouched { HasSeats result → shelf.new ≡ shelf.old }

@@ -2,6 +2,7 @@
 use Rattle.std.specs.Prelude.{◌≡◌, ℕ, ◌≤◌, false, List, [], ◌∷◌, Option, Some, None, map}
 use Rattle.std.specs.Prelude.{string_bytes}
 use Rattle.outside.specs.Shelf.{IsTaken, bytes_on, image_on, is_among}
+use Rattle.outside.specs.declared.disk.Disk.{Ghosts as DiskGhosts}
 use Rattle.cqe_base.specs.Schema.{Text, DatabaseSchema}
 use Rattle.cqe_base.specs.Facts.{FactSet}
 use Rattle.cqe_base.specs.declared.user.User.{User}
@@ -57,15 +58,14 @@ AreLater faults count [] = Unit {0}
 AreLater faults count (seat ∷ seats) =
     (count (seat_journal seat) ≤ faults (seat_disk seat)) × AreLater faults count seats
 
-module _ {D : Type 0} (told : Type 0) (reads : D → List ℕ) (image : D → List ℕ → Type 0)
-    (faults : D → ℕ) where
+module _ {D : Type 0} (told : Type 0) (Disk : DiskGhosts D) where
   -- a seat's disk is back, as its desk left it or as one more opening did
   pub record IsBack {g h : _} (disk : Text → Option D) (count : Text → ℕ) (seat : DeskSeat D g h) :
       Type 0 where
     pub now : D
-    pub left : IsLeftBy told reads image faults seat.desk now
+    pub left : IsLeftBy told Disk seat.desk now
     pub held : told → disk (seat_journal seat) ≡ Some now
-    pub counted : count (seat_journal seat) ≡ faults now
+    pub counted : count (seat_journal seat) ≡ Disk.faults now
 
   -- all are
   abbrev pub AreBack : {g h : _} → (Text → Option D) → (Text → ℕ) → List (DeskSeat D g h) → Type 0
@@ -80,10 +80,10 @@ module _ {D : Type 0} (told : Type 0) (reads : D → List ℕ) (image : D → Li
       pub user_is : seat_user seat ≡ user
       pub journal_is : seat_journal seat ≡ journal_name directory (string_bytes user.name)
       pub taken : D
-      pub from : told → IsTaken reads image (disk (seat_journal seat)) taken
-      pub counted : faults taken ≡ count (seat_journal seat)
-      pub opened : IsOpenedFrom schema world header disk_told reads image faults taken None seat
-      pub left : IsLeft reads image faults taken (seat_disk seat)
+      pub from : told → IsTaken Disk.reads Disk.image (disk (seat_journal seat)) taken
+      pub counted : Disk.faults taken ≡ count (seat_journal seat)
+      pub opened : IsOpenedFrom schema world header disk_told Disk taken None seat
+      pub left : IsLeft Disk taken (seat_disk seat)
 
     -- those of all users were
     abbrev pub AreSeatsOf : {g h : _} → (Text → Option D) → (Text → ℕ) → List User

@@ -59,7 +59,7 @@ pub fn give_back<F: Shelf>(shelf: &mut F, seats: Vec<DeskSeat<'_, F::D>>) -> boo
     requires out { AllOut (journals seats.items) (F.is_out shelf.old) }
     requires later { AreLater F.D.faults (F.disk_faults shelf.old) seats.items }
     ensures broke { result ≡ list_any seat_broke seats.entry.items }
-    ensures back { AreBack F.tells F.D.reads F.D.image F.D.faults (F.disk shelf.new)
+    ensures back { AreBack F.tells F.D.Disk (F.disk shelf.new)
         (F.disk_faults shelf.new) seats.entry.items }
     ensures inside { AllIn (journals seats.entry.items) (F.is_out shelf.new) }
     ensures others_out { SameBeside (journals seats.entry.items) (F.is_out shelf.old)
@@ -97,11 +97,11 @@ pub fn reopen_all<'w, F: Shelf>(
     requires later { AreLater F.D.faults (F.disk_faults shelf.old) seats.items }
     ensures reopened { IfSome result (λ reopened.
         AreReopened registry.now.schema.now registry.now.world.now
-        (header_bytes registry.now.header.now) F.D.tells F.D.reads F.D.image F.D.faults
+        (header_bytes registry.now.header.now) F.D.tells F.D.Disk
         seats.entry.items
         reopened.items) }
     ensures untouched { OnSome result (shelf.new ≡ shelf.old) }
-    ensures back { IfNone result (AreBack F.tells F.D.reads F.D.image F.D.faults (F.disk shelf.new)
+    ensures back { IfNone result (AreBack F.tells F.D.Disk (F.disk shelf.new)
         (F.disk_faults shelf.new) seats.entry.items) }
     ensures inside { IfNone result (AllIn (journals seats.entry.items) (F.is_out shelf.new)) }
     ensures others_out { SameBeside (journals seats.entry.items) (F.is_out shelf.old)
@@ -148,7 +148,7 @@ fn open_seat<'w, F: Shelf>(
         (journal_name registry.now.directory.now (string_bytes user.now.name))
         ≡ false }
     ensures opened { IfOk result
-        (IsSeatOf F.tells F.D.reads F.D.image F.D.faults F.D.tells registry.now.schema.now
+        (IsSeatOf F.tells F.D.Disk F.D.tells registry.now.schema.now
         registry.now.world.now (header_bytes registry.now.header.now) registry.now.directory.now
         (F.disk shelf.old)
         (F.disk_faults shelf.old) user.now) }
@@ -212,7 +212,7 @@ pub fn open_all<'w, F: Shelf>(
         (map (λ user. user.name) (map named_user registry.now.users.now)) ≡ false }
     requires inside { NoneOut (F.is_out shelf.old) }
     ensures opened { IfOk result (λ seats.
-        AreSeatsOf F.tells F.D.reads F.D.image F.D.faults F.D.tells
+        AreSeatsOf F.tells F.D.Disk F.D.tells
         registry.now.schema.now registry.now.world.now
         (header_bytes registry.now.header.now) registry.now.directory.now
         (F.disk shelf.old) (F.disk_faults shelf.old) registry.now.users.now seats.items) }

@@ -10,6 +10,7 @@ use Rattle.outside.proofs.Rises.{rose_wide}
 use Rattle.outside.proofs.Taken.{taken_reads, taken_images}
 use Rattle.outside.specs.Shelf.{bytes_on, image_on}
 use Rattle.outside.specs.Visits.{Visit, one_if_any}
+use Rattle.outside.specs.declared.disk.Disk.{Ghosts as DiskGhosts}
 use Rattle.cqe_base.specs.Schema.{Text, DatabaseSchema, is_valid_schema}
 use Rattle.cqe_base.specs.Facts.{FactSet}
 use Rattle.cqe_base.specs.History.{UserProfile, AnsweredQuery, History, is_user_of, profile_of}
@@ -79,17 +80,16 @@ open_admits schema world user T header bytes entries before now Open is serves =
 open_admits schema world user T header bytes entries before now (Closed admission) is serves = absurd cc
 open_admits schema world user T header bytes entries before now (Sealed why) is serves = absurd cc
 
-module _ (schema : DatabaseSchema) (world : FactSet) (header directory : List ℕ) {D : Type 0} {g h : _} (T S : Type 0) (t : T) (s : S) (reads : D → List ℕ)
-    (image : D → List ℕ → Type 0) (faults : D → ℕ)
-    (read_is_image : (d : D) → T → image d (reads d)) (disk disk' : Text → Option D) (count count' : Text → ℕ) where
+module _ (schema : DatabaseSchema) (world : FactSet) (header directory : List ℕ) {D : Type 0} {g h : _} (T S : Type 0) (t : T) (s : S) (Disk : DiskGhosts D)
+    (read_is_image : (d : D) → T → Disk.image d (Disk.reads d)) (disk disk' : Text → Option D) (count count' : Text → ℕ) where
   abbrev Opened : User → DeskSeat D g h → Type 0
-  Opened user seat = IsSeatOf S reads image faults T schema world header directory disk count user seat
+  Opened user seat = IsSeatOf S Disk T schema world header directory disk count user seat
 
   abbrev Back : DeskSeat D g h → Type 0
-  Back seat = IsBack S reads image faults disk' count' seat
+  Back seat = IsBack S Disk disk' count' seat
 
   -- a desk whose journal was refused, or at which nothing was appended, leaves the disk of its opening
-  left_alone : (seat : DeskSeat D g h) (after : D) → IsClosed S reads image faults seat.desk after → (is_sealed (seat_standing seat) ≡ true)
+  left_alone : (seat : DeskSeat D g h) (after : D) → IsClosed S Disk seat.desk after → (is_sealed (seat_standing seat) ≡ true)
       ⊎ ((seat_history seat ≡ (seat_kept seat).opening) × (seat_broke seat ≡ false)) → after ≡ (seat_kept seat).disk
   left_alone seat after closed (inl sealed) = closed.shut sealed
   left_alone seat after closed (inr (same, unbroken)) =
@@ -102,7 +102,7 @@ module _ (schema : DatabaseSchema) (world : FactSet) (header directory : List �
   module _ (valid : is_valid_schema schema ≡ true) (hide : LegalHistoriesHide) where
     -- one user
     has_served : (user : User) (old new : DeskSeat D g h) → KeepsLimits schema (profile_of user) → Opened user old → IsSeatOn old new → Back new
-        → HasServed schema world header (journals_on reads image directory disk disk' count count') user (seat_member new) old.refusal
+        → HasServed schema world header (journals_on Disk.reads Disk.image directory disk disk' count count') user (seat_member new) old.refusal
     has_served user old new limits opened on back =
         let name : Text = journal_name directory (string_bytes user.name) in
         let is = opened.opened in
@@ -115,21 +115,22 @@ module _ (schema : DatabaseSchema) (world : FactSet) (header directory : List �
         let header_is : (seat_kept new).header ≡ header = ap (λ (f : Fixed D). f.header) kept ∙ is.served.header_is in
         let user_is : (seat_kept new).user ≡ profile_of user = ap (λ (f : Fixed D). f.user) kept ∙ is.served.user_is ∙ ap profile_of opened.user_is in
         let held : disk' name ≡ Some back.now = ap disk' (sym journal) ∙ back.held s in
-        let counted : count' name ≡ faults back.now = ap count' (sym journal) ∙ back.counted in
-        let before : faults opened.taken ≡ count name = opened.counted ∙ ap count opened.journal_is in
-        let begins : faults opened.taken ≤ faults (seat_disk old) = opened.left.later in
-        let while : faults (seat_kept new).disk ≤ faults back.left.closed = closed.later in
-        let disks : faults (seat_kept new).disk ≡ faults (seat_disk old) = ap (λ (f : Fixed D). faults f.disk) kept in
-        let ends : faults back.left.closed ≤ faults back.now = left.later in
-        let read_was : reads opened.taken ≡ bytes_on reads (disk name) =
-        taken_reads reads image (disk (seat_journal old)) opened.taken (opened.from s) ∙ ap (λ n. bytes_on reads (disk n)) opened.journal_is in
+        let counted : count' name ≡ Disk.faults back.now = ap count' (sym journal) ∙ back.counted in
+        let before : Disk.faults opened.taken ≡ count name = opened.counted ∙ ap count opened.journal_is in
+        let begins : Disk.faults opened.taken ≤ Disk.faults (seat_disk old) = opened.left.later in
+        let while : Disk.faults (seat_kept new).disk ≤ Disk.faults back.left.closed = closed.later in
+        let disks : Disk.faults (seat_kept new).disk ≡ Disk.faults (seat_disk old) = ap (λ (f : Fixed D). Disk.faults f.disk) kept in
+        let ends : Disk.faults back.left.closed ≤ Disk.faults back.now = left.later in
+        let read_was : Disk.reads opened.taken ≡ bytes_on Disk.reads (disk name) =
+        taken_reads Disk.reads Disk.image (disk (seat_journal old)) opened.taken (opened.from s) ∙ ap (λ n. bytes_on Disk.reads (disk n)) opened.journal_is in
         let standing : Standing = seat_standing new in
         let standing_is : seat_standing old ≡ standing = ap (λ (f : Fixed D). f.standing) (sym kept) in
         let opening : seat_history old ≡ (seat_kept new).opening = sym is.opening_is ∙ ap (λ (f : Fixed D). f.opening) (sym kept) in
         let legal : IsLegal schema world (seat_kept new).user (seat_history new) =
         subst (λ w. IsLegal schema w (seat_kept new).user (seat_history new)) world_is
         (subst (λ d. IsLegal d (seat_kept new).world (seat_kept new).user (seat_history new)) schema_is closed.legal) in
-        let holds : is_sealed standing ≡ false → (c : List ℕ) → image back.left.closed c → Holds schema world (seat_kept new).user header (seat_state new) c =
+        let holds : is_sealed standing ≡ false → (c : List ℕ) → Disk.image back.left.closed c
+        → Holds schema world (seat_kept new).user header (seat_state new) c =
         λ served c here.
         subst (λ hd. Holds schema world (seat_kept new).user hd (seat_state new) c) header_is
         (subst (λ w. Holds schema w (seat_kept new).user (seat_kept new).header (seat_state new) c) world_is
@@ -139,18 +140,20 @@ module _ (schema : DatabaseSchema) (world : FactSet) (header directory : List �
           standing = standing;
           standing_is = refl;
           refusal_is = is.refusal ∙ ap refusal_of standing_is;
-          cause = standing_wide schema world (seat_kept new).user header (bytes_on reads (disk name)) T t (seat_kept new).opening (count name)
-              (faults opened.taken) (faults (seat_disk old)) (count' name) (omega (arith, before)) (omega (arith, while, disks, ends, counted)) standing
+          cause = standing_wide schema world (seat_kept new).user header (bytes_on Disk.reads (disk name)) T t (seat_kept new).opening (count name)
+              (Disk.faults opened.taken) (Disk.faults (seat_disk old)) (count' name) (omega (arith, before)) (omega
+              (arith, while, disks, ends, counted)) standing
               (subst (λ (st : Standing).
-              IsStanding schema world (seat_kept new).user T header (bytes_on reads (disk name)) (seat_kept new).opening (faults opened.taken)
-              (faults (seat_disk old)) st) standing_is
+              IsStanding schema world (seat_kept new).user T header (bytes_on Disk.reads (disk name)) (seat_kept new).opening (Disk.faults opened.taken)
+              (Disk.faults (seat_disk old)) st) standing_is
               (subst (λ (e : History).
-              IsStanding schema world (seat_kept new).user T header (bytes_on reads (disk name)) e (faults opened.taken) (faults (seat_disk old))
+              IsStanding schema world (seat_kept new).user T header (bytes_on Disk.reads (disk name)) e (Disk.faults opened.taken) (Disk.faults (seat_disk old))
               (seat_standing old)) opening
-              (subst (λ b. IsStanding schema world (seat_kept new).user T header b (seat_history old) (faults opened.taken) (faults (seat_disk old))
+              (subst (λ b. IsStanding schema world (seat_kept new).user T header b (seat_history old) (Disk.faults opened.taken) (Disk.faults (seat_disk old))
               (seat_standing old)) read_was
               (subst (λ (p : UserProfile).
-              IsStanding schema world p T header (reads opened.taken) (seat_history old) (faults opened.taken) (faults (seat_disk old)) (seat_standing old))
+              IsStanding schema world p T header (Disk.reads opened.taken) (seat_history old) (Disk.faults opened.taken) (Disk.faults (seat_disk old))
+              (seat_standing old))
               (ap profile_of opened.user_is ∙ sym user_is) is.standing))));
           goes_on = (
             history_of on.on.0,
@@ -161,34 +164,35 @@ module _ (schema : DatabaseSchema) (world : FactSet) (header directory : List �
               hide schema world (seat_kept new).user (seat_history new) valid
               (subst (λ (p : UserProfile). is_user_of schema p ≡ true) (sym user_is) limits.sentences) admits legal;
           reads = λ served.
-              subst (λ o. Holds schema world (seat_kept new).user header (seat_state new) (bytes_on reads o)) (sym held)
-              (holds served (reads back.now) (left.images (reads back.now) (read_is_image back.now t)));
-          stands = λ served c here. holds served c (left.images c (subst (λ o. image_on image o c) held here));
+              subst (λ o. Holds schema world (seat_kept new).user header (seat_state new) (bytes_on Disk.reads o)) (sym held)
+              (holds served (Disk.reads back.now) (left.images (Disk.reads back.now) (read_is_image back.now t)));
+          stands = λ served c here. holds served c (left.images c (subst (λ o. image_on Disk.image o c) held here));
           size = λ whole.
               let grown = closed.size s whole in
-              let read_now = ap length (ap (bytes_on reads) held ∙ left.reads_same) in
-              let read_first = ap length (ap (λ (f : Fixed D). reads f.disk) kept ∙ opened.left.reads_same ∙ read_was) in
+              let read_now = ap length (ap (bytes_on Disk.reads) held ∙ left.reads_same) in
+              let read_first = ap length (ap (λ (f : Fixed D). Disk.reads f.disk) kept ∙ opened.left.reads_same ∙ read_was) in
               omega (arith, grown, read_now, read_first);
           idle = λ shut. let none = closed.idle shut in (none.0, ap (λ (o : Option AnsweredQuery). is_some o) none.1);
           kept = λ why. (
-            ap (bytes_on reads) held ∙ left.reads_same ∙ ap reads (left_alone new back.left.closed closed why) ∙ ap (λ (f : Fixed D). reads f.disk) kept
+            ap (bytes_on Disk.reads) held ∙ left.reads_same ∙ ap Disk.reads (left_alone new back.left.closed closed why)
+                ∙ ap (λ (f : Fixed D). Disk.reads f.disk) kept
                 ∙ opened.left.reads_same ∙ read_was,
-            λ c here. subst (λ n. image_on image (disk n) c) opened.journal_is
-                (taken_images reads image (disk (seat_journal old)) opened.taken c (opened.from s)
+            λ c here. subst (λ n. image_on Disk.image (disk n) c) opened.journal_is
+                (taken_images Disk.reads Disk.image (disk (seat_journal old)) opened.taken c (opened.from s)
                 (opened.left.images c
-                (subst (λ (f : Fixed D). image f.disk c) kept
-                (subst (λ d. image d c) (left_alone new back.left.closed closed why) (left.images c (subst (λ o. image_on image o c) held here)))))),
+                (subst (λ (f : Fixed D). Disk.image f.disk c) kept
+                (subst (λ d. Disk.image d c) (left_alone new back.left.closed closed why) (left.images c (subst (λ o. image_on Disk.image o c) held here)))))),
           );
           failed = λ broke.
-              rose_wide (count name) (faults (seat_kept new).disk) (faults back.left.closed) (count' name) (omega (arith, before, begins, disks))
+              rose_wide (count name) (Disk.faults (seat_kept new).disk) (Disk.faults back.left.closed) (count' name) (omega (arith, before, begins, disks))
               (omega (arith, ends, counted)) (closed.cause broke);
         }
 
     -- all users
     pub have_served : (users : List User) (olds news : List (DeskSeat D g h)) → All (λ user. KeepsLimits schema (profile_of user)) users
-        → AreSeatsOf S reads image faults T schema world header directory disk count users olds → AreSeatsOn olds news
-        → AreBack S reads image faults disk' count' news
-        → HaveServed schema world header (journals_on reads image directory disk disk' count count') users (map seat_member news)
+        → AreSeatsOf S Disk T schema world header directory disk count users olds → AreSeatsOn olds news
+        → AreBack S Disk disk' count' news
+        → HaveServed schema world header (journals_on Disk.reads Disk.image directory disk disk' count count') users (map seat_member news)
         (map (λ seat. seat.refusal) olds)
     have_served [] [] [] limits opened on back = tt
     have_served (user ∷ users) (old ∷ olds) (new ∷ news) limits opened on back = (
@@ -250,8 +254,8 @@ module _ (schema : DatabaseSchema) (world : FactSet) (header directory : List �
 
     -- so behind each user's opening history there is what he was told
     pub all_told : (place : ℕ) (users : List User) (olds news : List (DeskSeat D g h))
-        → AreSeatsOf S reads image faults T schema world header directory disk count users olds → AreSeatsOn olds news
-        → AreBack S reads image faults disk' count' news
+        → AreSeatsOf S Disk T schema world header directory disk count users olds → AreSeatsOn olds news
+        → AreBack S Disk disk' count' news
         → OwnFrom place news → AreAllTold place (map seat_member news) told
     all_told place [] [] [] opened on back own = tt
     all_told place (user ∷ users) (old ∷ olds) (new ∷ news) opened on back own =
@@ -269,7 +273,7 @@ module _ (schema : DatabaseSchema) (world : FactSet) (header directory : List �
 
   -- all desks are in the one world
   pub all_in_world : (users : List User) (olds news : List (DeskSeat D g h))
-      → AreSeatsOf S reads image faults T schema world header directory disk count users olds → AreSeatsOn olds news → AreAllIn schema world news
+      → AreSeatsOf S Disk T schema world header directory disk count users olds → AreSeatsOn olds news → AreAllIn schema world news
   all_in_world [] [] [] opened on = tt
   all_in_world (user ∷ users) (old ∷ olds) (new ∷ news) opened on =
       let served = opened.0.opened.served in (
@@ -395,31 +399,31 @@ module _ (schema : DatabaseSchema) (world : FactSet) (header : List ℕ) (journa
   ends_at ends_of outcome.LinksFailed refusals is_broken serves limit has = inr (refusals.items, is_broken, serves)
   ends_at ends_of outcome.Memory refusals is_broken serves limit has = inr (refusals.items, is_broken, serves, has)
 
-module _ {D : Type 0} {g h : _} (told disk_told : Type 0) (reads : D → List ℕ) (image : D → List ℕ → Type 0) (faults : D → ℕ) (schema : DatabaseSchema)
+module _ {D : Type 0} {g h : _} (told disk_told : Type 0) (Disk : DiskGhosts D) (schema : DatabaseSchema)
     (world : FactSet) (header directory : List ℕ) (disk : Text → Option D) (count : Text → ℕ) where
   -- what holds of each seat that was just opened holds of all
   each : (P : DeskSeat D g h → Type 0)
-      → ((user : User) (seat : DeskSeat D g h) → IsSeatOf told reads image faults disk_told schema world header directory disk count user seat → P seat)
+      → ((user : User) (seat : DeskSeat D g h) → IsSeatOf told Disk disk_told schema world header directory disk count user seat → P seat)
       → (users : List User) (seats : List (DeskSeat D g h))
-      → AreSeatsOf told reads image faults disk_told schema world header directory disk count users seats → AllByRecursion P seats
+      → AreSeatsOf told Disk disk_told schema world header directory disk count users seats → AllByRecursion P seats
   each P holds [] [] opened = tt
   each P holds (user ∷ users) (seat ∷ seats) opened = (holds user seat opened.0, each P holds users seats opened.1)
   each P holds [] (seat ∷ seats) opened = absurd opened
   each P holds (user ∷ users) [] opened = absurd opened
 
   pub seats_fresh : (users : List User) (seats : List (DeskSeat D g h))
-      → AreSeatsOf told reads image faults disk_told schema world header directory disk count users seats → All IsFresh seats
+      → AreSeatsOf told Disk disk_told schema world header directory disk count users seats → All IsFresh seats
   seats_fresh users seats opened = All-from_recursion IsFresh seats (each IsFresh (λ user seat is. is.opened.fresh) users seats opened)
 
   pub seats_turns : (users : List User) (seats : List (DeskSeat D g h))
-      → AreSeatsOf told reads image faults disk_told schema world header directory disk count users seats
+      → AreSeatsOf told Disk disk_told schema world header directory disk count users seats
       → All (λ (seat : DeskSeat D g h). turns (seat_pass seat) ≡ 65 * 2 ^ 57) seats
   seats_turns users seats opened =
       All-from_recursion (λ (seat : DeskSeat D g h). turns (seat_pass seat) ≡ 65 * 2 ^ 57) seats
       (each (λ (seat : DeskSeat D g h). turns (seat_pass seat) ≡ 65 * 2 ^ 57) (λ user seat is. is.opened.turns_are) users seats opened)
 
   pub seats_own : (users : List User) (seats : List (DeskSeat D g h))
-      → AreSeatsOf told reads image faults disk_told schema world header directory disk count users seats
+      → AreSeatsOf told Disk disk_told schema world header directory disk count users seats
       → All (λ (seat : DeskSeat D g h). mine (seat_pass seat) ≡ []) seats
   seats_own users seats opened =
       All-from_recursion (λ (seat : DeskSeat D g h). mine (seat_pass seat) ≡ []) seats
@@ -427,7 +431,7 @@ module _ {D : Type 0} {g h : _} (told disk_told : Type 0) (reads : D → List �
 
   -- each seat's desk is that of the user at its place
   pub seats_desks : (users : List User) (seats : List (DeskSeat D g h))
-      → AreSeatsOf told reads image faults disk_told schema world header directory disk count users seats → AreDesksOf users (map seat_kept seats)
+      → AreSeatsOf told Disk disk_told schema world header directory disk count users seats → AreDesksOf users (map seat_kept seats)
   seats_desks [] [] opened = refl
   seats_desks (user ∷ users) (seat ∷ seats) opened =
       let this : (seat_kept seat).user ≡ profile_of user = opened.0.opened.served.user_is ∙ ap profile_of opened.0.user_is in
@@ -439,7 +443,7 @@ module _ {D : Type 0} {g h : _} (told disk_told : Type 0) (reads : D → List �
   module _ (valid : is_valid_schema schema ≡ true) where
     -- what the pass of a seat that was just opened has seen is legal
     seat_legal : (user : User) (seat : DeskSeat D g h) → KeepsLimits schema (profile_of user)
-        → IsSeatOf told reads image faults disk_told schema world header directory disk count user seat → HasSeenLegal (seat_kept seat) (seat_pass seat)
+        → IsSeatOf told Disk disk_told schema world header directory disk count user seat → HasSeenLegal (seat_kept seat) (seat_pass seat)
     seat_legal user seat limits is =
         let kept = seat_kept seat in
         let served = is.opened.served in
@@ -449,8 +453,8 @@ module _ {D : Type 0} {g h : _} (told disk_told : Type 0) (reads : D → List �
           user_of = ap (λ s. is_user_of s kept.user) served.schema_is ∙ ap (is_user_of schema) user_is ∙ limits.sentences;
           admits = λ serves. ap (λ s. admitted s kept.world kept.user) served.schema_is ∙ ap (λ w. admitted schema w kept.user) served.world_is
               ∙ ap (admitted schema world) served.user_is
-              ∙ open_admits schema world (profile_of (seat_user seat)) disk_told header (reads is.taken) (seat_history seat) (faults is.taken)
-              (faults (seat_disk seat)) kept.standing is.opened.standing serves;
+              ∙ open_admits schema world (profile_of (seat_user seat)) disk_told header (Disk.reads is.taken) (seat_history seat) (Disk.faults is.taken)
+              (Disk.faults (seat_disk seat)) kept.standing is.opened.standing serves;
           legal = subst (λ s. IsLegal s kept.world kept.user (seat_history seat)) (sym served.schema_is)
               (subst (λ w. IsLegal schema w kept.user (seat_history seat)) (sym served.world_is)
               (subst (λ p. IsLegal schema world p (seat_history seat)) (sym served.user_is) is.opened.legal));
@@ -458,7 +462,7 @@ module _ {D : Type 0} {g h : _} (told disk_told : Type 0) (reads : D → List �
         }
 
     pub seats_legal : (users : List User) (seats : List (DeskSeat D g h)) → All (λ user. KeepsLimits schema (profile_of user)) users
-        → AreSeatsOf told reads image faults disk_told schema world header directory disk count users seats
+        → AreSeatsOf told Disk disk_told schema world header directory disk count users seats
         → HaveSeenLegal (map seat_kept seats) (map seat_pass seats)
     seats_legal [] [] limits opened = tt
     seats_legal (user ∷ users) (seat ∷ seats) limits opened = (
