@@ -23,7 +23,7 @@ use Rattle.desk_crew.specs.Openings.{OpensNone, IsOpening}
 use Rattle.batch_engine.specs.Lives.{RoseBy, is_opened, failures}
 use Rattle.batch_engine.specs.Batch.{ServesUser, AnswersBatch, AreRefusals, AppendsAll, AppendsSome, line_bytes, unopened, with_opening}
 use Rattle.desk_crew.specs.Crew.{named_user, seat_standing, seat_state, IsLeft, IsClosed}
-use Rattle.desk_crew.specs.Shelved.{journals_on, IsBack, AreBack}
+use Rattle.desk_crew.specs.Shelved.{journals_by, IsBack, AreBack}
 use Rattle.desk_crew.specs.Seats.{DeskSeat}
 use Rattle.batch_engine.proofs.Courses.{Course, course_on, Fits, Stays, stays_on, IsRunning}
 use Rattle.batch_engine.proofs.Seating.{names, IsSeated, AreSeated, close_at}
@@ -156,7 +156,7 @@ module _ (schema : DatabaseSchema) (world : FactSet) (users : List NamedUser) (h
     serves : (user : NamedUser) (script : List ScriptEvent) (seat : DeskSeat D g h) → Finds users user → KeepsLimits schema user.profile
         → IsOpening schema world user.profile header (bytes_of Disk.reads directory disk user.name) user.opened
         → Seated user script seat → IsBack S Disk disk' count' seat
-        → ServesUser schema world header (journals_on Disk.reads Disk.image directory disk disk' count count') users script user
+        → ServesUser schema world header (journals_by Disk.reads Disk.image directory disk disk' count count') users script user
     serves user script seat found limits opening_is seated is =
         let at : Back user script seat = back user script seat seated is in
         let legal = legal_opening schema world header (bytes_of Disk.reads directory disk user.name) user empty opening_is in
@@ -201,7 +201,7 @@ module _ (schema : DatabaseSchema) (world : FactSet) (users : List NamedUser) (h
         → AllByRecursion (λ (u : NamedUser). KeepsLimits schema u.profile) us
         → AllByRecursion (λ (u : NamedUser). IsOpening schema world u.profile header (bytes_of Disk.reads directory disk u.name) u.opened) us
         → AllSeated script us seats → AreBack S Disk disk' count' seats
-        → AllByRecursion (ServesUser schema world header (journals_on Disk.reads Disk.image directory disk disk' count count') users script) us
+        → AllByRecursion (ServesUser schema world header (journals_by Disk.reads Disk.image directory disk disk' count count') users script) us
     serves_all [] script [] found limits openings seated is = tt
     serves_all [] script (seat ∷ seats) found limits openings seated is = tt
     serves_all (user ∷ us) script [] found limits openings seated is = absurd seated
@@ -210,7 +210,7 @@ module _ (schema : DatabaseSchema) (world : FactSet) (users : List NamedUser) (h
 
     refusals_all : (us : List NamedUser) (script : List ScriptEvent) (seats : List (DeskSeat D g h)) → AllSeated script us seats
         → AreBack S Disk disk' count' seats
-        → AreRefusals schema world header (journals_on Disk.reads Disk.image directory disk disk' count count') script us (map (λ
+        → AreRefusals schema world header (journals_by Disk.reads Disk.image directory disk disk' count count') script us (map (λ
         (s : DeskSeat D g h). s.refusal) seats)
     refusals_all [] script [] seated is = tt
     refusals_all [] script (seat ∷ seats) seated is = absurd seated
@@ -231,7 +231,7 @@ module _ (schema : DatabaseSchema) (world : FactSet) (users : List NamedUser) (h
           → SoFar schema world users header directory T Disk t read_is_image (bytes_of Disk.reads directory disk) (count_of directory count)
           (images_of Disk.image directory disk) found opened items output seats is_broken
           → AreBack S Disk disk' count' seats
-          → AnswersBatch schema world header (journals_on Disk.reads Disk.image directory disk disk' count count') policy items output
+          → AnswersBatch schema world header (journals_by Disk.reads Disk.image directory disk disk' count count') policy items output
       answers items output seats is_broken so_far is = record {
         users = users;
         of_policy = of_policy;
@@ -246,7 +246,7 @@ module _ (schema : DatabaseSchema) (world : FactSet) (users : List NamedUser) (h
       -- all items were answered
       pub answered_all : (items : List BatchItem) (old new : List ℕ) (seats : List (DeskSeat D g h)) (is_broken : Bool) → Told items old new seats is_broken
           → AreBack S Disk disk' count' seats
-          → AppendsAll schema world header (journals_on Disk.reads Disk.image directory disk disk' count count') policy items old new
+          → AppendsAll schema world header (journals_by Disk.reads Disk.image directory disk disk' count count') policy items old new
           (map (λ (s : DeskSeat D g h). s.refusal) seats) is_broken
       answered_all items old new seats is_broken (output, written, so_far) is = record {
         written = output;
@@ -261,7 +261,7 @@ module _ (schema : DatabaseSchema) (world : FactSet) (users : List NamedUser) (h
           → LastLine schema world users header directory T Disk t read_is_image (bytes_of Disk.reads directory disk) (count_of directory count)
           (images_of Disk.image directory disk) found opened front output line seats
           → AreBack S Disk disk' count' seats → new ≡ (old ++ output) ++ take n line → all ≡ front ++ back
-          → AppendsSome schema world header (journals_on Disk.reads Disk.image directory disk disk' count count') policy all old new
+          → AppendsSome schema world header (journals_by Disk.reads Disk.image directory disk disk' count count') policy all old new
       answered_some front back all n old output line new seats told is appended split = record {
         front = front;
         back = back;

@@ -19,7 +19,7 @@ use Rattle.user_desk.specs.declared.standing.DeskError.{DeskError}
 use Rattle.desk_crew.specs.Openings.{OpensNone, IsOpening}
 use Rattle.batch_engine.specs.Batch.{AppendsAll, AppendsSome, AppendsTo, unopened}
 use Rattle.desk_crew.specs.Crew.{named_user}
-use Rattle.desk_crew.specs.Shelved.{Journals, journals_on, AreBack, AreSeatsOf}
+use Rattle.desk_crew.specs.Shelved.{Journals, journals_by, AreBack, AreSeatsOf}
 use Rattle.batch_engine.specs.Steps.{Runs, nothing, more, RunsAll, RunsSome, RunsTo, IsLastLine}
 use Rattle.desk_crew.specs.Seats.{DeskSeat}
 use Rattle.batch_engine.proofs.Courses.{IsExclusive}
@@ -137,7 +137,7 @@ module _ (schema : DatabaseSchema) (world : FactSet) (header directory : List �
   pub finish_all : (wrote : Type 0) → wrote → (items : List BatchItem) (new : List (DeskSeat D g h)) (is_broken : Bool) (before after : List ℕ)
       → RunsAll schema world header T Disk wrote items seats new is_broken before after
       → AreBack S Disk disk' count' new
-      → AppendsAll schema world header (journals_on Disk.reads Disk.image directory disk disk' count count') (map named_user users) items before after
+      → AppendsAll schema world header (journals_by Disk.reads Disk.image directory disk disk' count count') (map named_user users) items before after
       (map (λ (x : DeskSeat D g h). x.refusal) new) is_broken
   finish_all wrote w items new is_broken before after all back =
       let st = start in
@@ -153,7 +153,7 @@ module _ (schema : DatabaseSchema) (world : FactSet) (header directory : List �
   pub finish_to : (wrote : Type 0) → wrote → (items : List BatchItem) (new : List (DeskSeat D g h)) (before after : List ℕ)
       → RunsTo schema world header T Disk wrote items seats new before after
       → AreBack S Disk disk' count' new
-      → AppendsTo schema world header (journals_on Disk.reads Disk.image directory disk disk' count count') (map named_user users) items before after
+      → AppendsTo schema world header (journals_by Disk.reads Disk.image directory disk disk' count count') (map named_user users) items before after
   finish_to wrote w items new before after to back =
       let all = finish_all wrote w to.front new to.is_broken before after to.all back in
       record { front = to.front; rest = to.rest; split = to.split; written = all.written; appended = all.appended; answers = all.answers }
@@ -179,7 +179,7 @@ module _ (schema : DatabaseSchema) (world : FactSet) (header directory : List �
   pub finish_some : (wrote : Type 0) → wrote → (items : List BatchItem) (new : List (DeskSeat D g h)) (before after : List ℕ)
       → RunsSome schema world header T Disk wrote items seats new before after
       → AreBack S Disk disk' count' new
-      → AppendsSome schema world header (journals_on Disk.reads Disk.image directory disk disk' count count') (map named_user users) items before after
+      → AppendsSome schema world header (journals_by Disk.reads Disk.image directory disk disk' count count') (map named_user users) items before after
   finish_some wrote w items new before after some back =
       let st = start in
       let part = some.appended w in

@@ -14,7 +14,7 @@ use Rattle.batch_engine.specs.Batch as batch
 use Rattle.batch_engine.specs.declared.run.BatchEnd.{BatchEnd}
 use Rattle.command_words.specs.Readings.{FileNames}
 use Rattle.desk_crew.specs.Crew.{named_user}
-use Rattle.desk_crew.specs.Shelved.{Journals, journals_on}
+use Rattle.desk_crew.specs.Shelved.{Journals, journals_by}
 use Rattle.init_engine.specs.Disks as init
 use Rattle.init_engine.specs.Ends.{Change, EndsInit}
 use Rattle.init_engine.specs.declared.end.InitEnd.{InitEnd}
@@ -44,7 +44,7 @@ module _ {F D : Type 0} (Shelf : ShelfGhosts F D) (Disk : DiskGhosts D) (old mid
     -- the journals are the same
     pub same_journals : journals_of (shelf_of Shelf Disk mid new) files ≡ journals_of (shelf_of Shelf Disk old new) files
     same_journals =
-        λ i. journals_on Disk.reads Disk.image files.journals (λ name. disks name i) (Shelf.disk new) (λ name. counts name i) (Shelf.disk_faults new)
+        λ i. journals_by Disk.reads Disk.image files.journals (λ name. disks name i) (Shelf.disk new) (λ name. counts name i) (Shelf.disk_faults new)
 
     -- no disk but the journals of the policy's users was touched
     pub touches_over : (policy : Policy) (users : List User) → users ≡ policy.users.items

@@ -7,7 +7,7 @@ use Rattle.cqe_base.specs.Facts.{FactSet}
 use Rattle.cqe_base.specs.Schema.{Text}
 use Rattle.cqe_base.specs.Transcript.{NamedUser}
 use Rattle.command_words.specs.Readings.{FileNames}
-use Rattle.desk_crew.specs.Shelved.{Journals, journals_on}
+use Rattle.desk_crew.specs.Shelved.{Journals, journals_by}
 use Rattle.log_journal.specs.Names.{journal_name}
 use Rattle.log_journal.specs.Opening.{first_eight}
 use Rattle.policy_files.specs.declared.error.PolicyError.{PolicyError}
@@ -120,7 +120,7 @@ module _ (shelf : ShelfScene) (files : FileNames) where
   -- the journals before the call and behind it
   abbrev pub journals_of : Journals
   journals_of =
-      journals_on shelf.Disk.reads shelf.Disk.image files.journals shelf.disk shelf.disk'
+      journals_by shelf.Disk.reads shelf.Disk.image files.journals shelf.disk shelf.disk'
       shelf.disk_faults shelf.disk_faults'
 
   -- no disk but the journals of a policy's users was touched

@@ -3,6 +3,7 @@ use Rattle.std.specs.Prelude.{◌≡◌, ℕ, ◌≤◌, false, List, [], ◌∷
 use Rattle.std.specs.Prelude.{string_bytes}
 use Rattle.outside.specs.Shelf.{IsTaken, bytes_on, image_on, is_among}
 use Rattle.outside.specs.declared.disk.Disk.{Ghosts as DiskGhosts}
+use Rattle.outside.specs.declared.shelf.Shelf.{Ghosts as ShelfGhosts}
 use Rattle.cqe_base.specs.Schema.{Text, DatabaseSchema}
 use Rattle.cqe_base.specs.Facts.{FactSet}
 use Rattle.cqe_base.specs.declared.user.User.{User}
@@ -21,10 +22,11 @@ pub record Journals : Type 1 where
   pub reads : Text → List ℕ
   pub image : Text → List ℕ → Type 0
 
--- the journals of users in a directory, by what a shelf held as a call began and as it ended
-abbrev pub journals_on : {D : Type 0} → (D → List ℕ) → (D → List ℕ → Type 0) → Text
+-- the journals of users in a directory, by the disks and the counts under their names as a call
+-- began and as it ended
+abbrev pub journals_by : {D : Type 0} → (D → List ℕ) → (D → List ℕ → Type 0) → Text
     → (Text → Option D) → (Text → Option D) → (Text → ℕ) → (Text → ℕ) → Journals
-journals_on reads image directory disk disk' count count' = record {
+journals_by reads image directory disk disk' count count' = record {
   bytes = λ name. bytes_on reads (disk (journal_name directory name));
   image_before = λ name. image_on image (disk (journal_name directory name));
   before = λ name. count (journal_name directory name);
@@ -32,6 +34,12 @@ journals_on reads image directory disk disk' count count' = record {
   reads = λ name. bytes_on reads (disk' (journal_name directory name));
   image = λ name. image_on image (disk' (journal_name directory name));
 }
+
+-- the same by a shelf as a call began and as it ended
+abbrev pub journals_on : {F D : Type 0} → ShelfGhosts F D → DiskGhosts D → Text → F → F → Journals
+journals_on Shelf Disk directory old new =
+    journals_by Disk.reads Disk.image directory (Shelf.disk old) (Shelf.disk new)
+    (Shelf.disk_faults old) (Shelf.disk_faults new)
 
 -- the journal of this name reads as it did, and no crash leaves anything new of it
 abbrev pub KeepsJournal : Journals → Text → Type 0

@@ -37,7 +37,7 @@ use Rattle.desk_counter.specs.Counters.{first_pairs}
 use Rattle.desk_crew.specs.Crew.{IsFresh, IsClosed, refusal_of, seat_user, seat_journal, seat_kept, seat_standing, seat_history, seat_disk, seat_broke}
 use Rattle.desk_crew.specs.Crew.{seat_state}
 use Rattle.desk_crew.specs.Seats.{DeskSeat}
-use Rattle.desk_crew.specs.Shelved.{Journals, journals, journals_on, AreLater, IsSeatOf, AreSeatsOf, IsBack, AreBack}
+use Rattle.desk_crew.specs.Shelved.{Journals, journals, journals_by, AreLater, IsSeatOf, AreSeatsOf, IsBack, AreBack}
 use Rattle.session_core.specs.Members.{AreDesksOf, HasSeenLegal, HaveSeenLegal}
 use Rattle.session_core.proofs.Replying.{last_none}
 use Rattle.serve_engine.specs.Served.{Member, member_broke, SessionMarks, entries_told, failures_told, items_told}
@@ -102,7 +102,7 @@ module _ (schema : DatabaseSchema) (world : FactSet) (header directory : List �
   module _ (valid : is_valid_schema schema ≡ true) (hide : LegalHistoriesHide) where
     -- one user
     has_served : (user : User) (old new : DeskSeat D g h) → KeepsLimits schema (profile_of user) → Opened user old → IsSeatOn old new → Back new
-        → HasServed schema world header (journals_on Disk.reads Disk.image directory disk disk' count count') user (seat_member new) old.refusal
+        → HasServed schema world header (journals_by Disk.reads Disk.image directory disk disk' count count') user (seat_member new) old.refusal
     has_served user old new limits opened on back =
         let name : Text = journal_name directory (string_bytes user.name) in
         let is = opened.opened in
@@ -192,7 +192,7 @@ module _ (schema : DatabaseSchema) (world : FactSet) (header directory : List �
     pub have_served : (users : List User) (olds news : List (DeskSeat D g h)) → All (λ user. KeepsLimits schema (profile_of user)) users
         → AreSeatsOf S Disk T schema world header directory disk count users olds → AreSeatsOn olds news
         → AreBack S Disk disk' count' news
-        → HaveServed schema world header (journals_on Disk.reads Disk.image directory disk disk' count count') users (map seat_member news)
+        → HaveServed schema world header (journals_by Disk.reads Disk.image directory disk disk' count count') users (map seat_member news)
         (map (λ seat. seat.refusal) olds)
     have_served [] [] [] limits opened on back = tt
     have_served (user ∷ users) (old ∷ olds) (new ∷ news) limits opened on back = (

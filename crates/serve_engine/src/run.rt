@@ -82,17 +82,14 @@ where
     // Each connection that was given is served, and each journal is as its user's one history says.
     ensures ends { F.tells → L.tells → EndsServing registry.now.schema.now registry.now.world.now
         (header_bytes registry.now.header.now)
-        (journals_on F.D.reads F.D.image registry.now.directory.now (F.disk shelf.old)
-        (F.disk shelf.new)
-        (F.disk_faults shelf.old) (F.disk_faults shelf.new))
+        (journals_on F.Shelf F.D.Disk registry.now.directory.now shelf.old shelf.new)
         registry.now.users.now (L.given links.old) (L.given links.new) (L.back links.old)
         (L.back links.new) result }
 
     // The same of the journals alone, where the connections aren't told.
     ensures journals { F.tells → LeavesJournals registry.now.schema.now registry.now.world.now
         (header_bytes registry.now.header.now)
-        (journals_on F.D.reads F.D.image registry.now.directory.now
-        (F.disk shelf.old) (F.disk shelf.new) (F.disk_faults shelf.old) (F.disk_faults shelf.new))
+        (journals_on F.Shelf F.D.Disk registry.now.directory.now shelf.old shelf.new)
         registry.now.users.now result }
 
     // It listens at that address alone, with a door for each worker, and before it opens a journal.
@@ -179,9 +176,7 @@ where
     requires unended { All (λ door. O.ends door ≡ 0) doors.items }
     ensures ends { F.tells → EndsDoors registry.now.schema.now registry.now.world.now
         (header_bytes registry.now.header.now)
-        (journals_on F.D.reads F.D.image registry.now.directory.now (F.disk shelf.old)
-        (F.disk shelf.new)
-        (F.disk_faults shelf.old) (F.disk_faults shelf.new))
+        (journals_on F.Shelf F.D.Disk registry.now.directory.now shelf.old shelf.new)
         registry.now.users.now O.tells O.given O.left O.faults O.back doors.items result.1.items
         result.0 }
     ensures ended { O.tells → IsDone result.0

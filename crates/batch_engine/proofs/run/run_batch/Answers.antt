@@ -6,7 +6,7 @@ use Rattle.batch_engine.specs.BatchOf.{items_of}
 use Rattle.batch_engine.specs.Batch.{AppendsAll}
 use Rattle.desk_crew.specs.Crew.{named_user}
 use Rattle.outside.specs.Shelf.{is_among, SameBeside, AllOut, AreOut}
-use Rattle.desk_crew.specs.Shelved.{journals, journals_on, AreLater}
+use Rattle.desk_crew.specs.Shelved.{journals, journals_by, AreLater}
 use Rattle.batch_engine.proofs.Running.{stay_run}
 use Rattle.batch_engine.proofs.Failing.{run_broken, all_weaker}
 use Rattle.desk_crew.proofs.Rising.{some_rose}
@@ -146,7 +146,7 @@ returns-in-All-clause-journals g c =
       items_of c.in-Whole.batch,
       all.output,
       subst (λ l. AppendsAll c.args.registry.now.schema.now c.args.registry.now.world.now (header_bytes c.args.registry.now.header.now)
-          (journals_on g.F.D.Disk.reads g.F.D.Disk.image c.args.registry.now.directory.now (g.F.Shelf.disk c.args.shelf.now)
+          (journals_by g.F.D.Disk.reads g.F.D.Disk.image c.args.registry.now.directory.now (g.F.Shelf.disk c.args.shelf.now)
           (g.F.Shelf.disk c.give_back.new.shelf) (g.F.Shelf.disk_faults c.args.shelf.now) (g.F.Shelf.disk_faults c.give_back.new.shelf))
           (map named_user c.args.registry.now.users.now) (items_of c.in-Whole.batch) [] all.output l c.in-All.is_broken)
           (sym (c.refusals_of-refusals.ensures ∙ ap (map (λ x. x.refusal)) c.as_slice.ensures.value))
@@ -180,7 +180,7 @@ returns-in-All-clause-ends g c =
       items_of c.in-Whole.batch,
       sym (batch_begins _ _ c.new.ensures) ∙ reads.0,
       told_all c.args.registry.now.schema.now c.args.registry.now.world.now (header_bytes c.args.registry.now.header.now)
-          (journals_on g.F.D.Disk.reads g.F.D.Disk.image c.args.registry.now.directory.now (g.F.Shelf.disk c.args.shelf.now)
+          (journals_by g.F.D.Disk.reads g.F.D.Disk.image c.args.registry.now.directory.now (g.F.Shelf.disk c.args.shelf.now)
           (g.F.Shelf.disk c.give_back.new.shelf) (g.F.Shelf.disk_faults c.args.shelf.now) (g.F.Shelf.disk_faults c.give_back.new.shelf))
           (map named_user c.args.registry.now.users.now) (items_of c.in-Whole.batch) all.output _ _ _ _ alone.2 (all.appended sink_told),
     )
