@@ -19,7 +19,7 @@ use Rattle.user_desk.specs.Causes.{Opens}
 use Rattle.user_desk.specs.Entries.{IsNoLonger}
 use Rattle.log_journal.specs.Names.{journal_name}
 use Rattle.batch_engine.specs.BatchLines.{BatchItem}
-use Rattle.desk_crew.specs.Openings.{OpensNone, IsOpening}
+use Rattle.desk_crew.specs.Openings.{OpensNone, OpensWith}
 use Rattle.batch_engine.specs.Lives.{RoseBy, is_opened, failures}
 use Rattle.batch_engine.specs.Batch.{ServesUser, AnswersBatch, AreRefusals, AppendsAll, AppendsSome, line_bytes, unopened, with_opening}
 use Rattle.desk_crew.specs.Crew.{named_user, seat_standing, seat_state, IsLeft, IsClosed}
@@ -81,7 +81,7 @@ abbrev pub images_of : {D : Type 0} → (D → List ℕ → Type 0) → Text →
 images_of image directory disk name = image_on image (disk (journal_name directory name))
 
 legal_opening : (schema : DatabaseSchema) (world : FactSet) (header c : List ℕ) (user : NamedUser) → EmptyHistoryIsLegal
-    → IsOpening schema world user.profile header c user.opened → IsLegal schema world user.profile user.opened
+    → OpensWith schema world user.profile header c user.opened → IsLegal schema world user.profile user.opened
 legal_opening schema world header c user empty (inl opens) = opens.legal
 legal_opening schema world header c user empty (inr (none, is)) = subst (IsLegal schema world user.profile) (sym is) (empty schema world user.profile)
 
@@ -154,7 +154,7 @@ module _ (schema : DatabaseSchema) (world : FactSet) (users : List NamedUser) (h
 
   module _ (empty : EmptyHistoryIsLegal) (runs : RunsStayLegal) (hide : ScriptsHide) (alone : TranscriptIsPrivate) (valid : is_valid_schema schema ≡ true) where
     serves : (user : NamedUser) (script : List ScriptEvent) (seat : DeskSeat D g h) → Finds users user → KeepsLimits schema user.profile
-        → IsOpening schema world user.profile header (bytes_of Disk.reads directory disk user.name) user.opened
+        → OpensWith schema world user.profile header (bytes_of Disk.reads directory disk user.name) user.opened
         → Seated user script seat → IsBack S Disk disk' count' seat
         → ServesUser schema world header (journals_by Disk.reads Disk.image directory disk disk' count count') users script user
     serves user script seat found limits opening_is seated is =
@@ -199,7 +199,7 @@ module _ (schema : DatabaseSchema) (world : FactSet) (users : List NamedUser) (h
 
     serves_all : (us : List NamedUser) (script : List ScriptEvent) (seats : List (DeskSeat D g h)) → AllByRecursion (Finds users) us
         → AllByRecursion (λ (u : NamedUser). KeepsLimits schema u.profile) us
-        → AllByRecursion (λ (u : NamedUser). IsOpening schema world u.profile header (bytes_of Disk.reads directory disk u.name) u.opened) us
+        → AllByRecursion (λ (u : NamedUser). OpensWith schema world u.profile header (bytes_of Disk.reads directory disk u.name) u.opened) us
         → AllSeated script us seats → AreBack S Disk disk' count' seats
         → AllByRecursion (ServesUser schema world header (journals_by Disk.reads Disk.image directory disk disk' count count') users script) us
     serves_all [] script [] found limits openings seated is = tt
@@ -220,7 +220,7 @@ module _ (schema : DatabaseSchema) (world : FactSet) (users : List NamedUser) (h
 
     module _ (policy : List NamedUser) (of_policy : map unopened users ≡ policy) (distinct : has_duplicate (names users) ≡ false)
         (limits : AllByRecursion (λ (u : NamedUser). KeepsLimits schema u.profile) users)
-        (openings : AllByRecursion (λ (u : NamedUser). IsOpening schema world u.profile header (bytes_of Disk.reads directory disk u.name) u.opened) users)
+        (openings : AllByRecursion (λ (u : NamedUser). OpensWith schema world u.profile header (bytes_of Disk.reads directory disk u.name) u.opened) users)
         (found opened : Text → Bool) where
       abbrev pub Told : List BatchItem → List ℕ → List ℕ → List (DeskSeat D g h) → Bool → Type 0
       Told items old new seats is_broken = (output : List ℕ) × (new ≡ old ++ output)

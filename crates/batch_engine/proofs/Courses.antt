@@ -32,7 +32,7 @@ use Rattle.user_desk.specs.declared.standing.Standing.{Standing}
 use Rattle.user_desk.specs.declared.standing.Standing.TheVariants.{Open, Closed, Sealed}
 use Rattle.desk_crew.specs.Crew.{first_refusal}
 use Rattle.desk_crew.specs.Openings.{OpensNone}
-use Rattle.batch_engine.specs.Lives.{RoseBy, is_ask, is_opened, is_failed, is_refused, failures_in, failures, IsCaused, AreCaused, IsRefusal}
+use Rattle.batch_engine.specs.Lives.{RoseBy, is_ask, is_opened, is_failed, is_refused, failures_in, failures, IsCaused, AreCaused, IsFirstRefusal}
 
 -- ---- counts and lists
 
@@ -172,7 +172,7 @@ module _ (schema : DatabaseSchema) (world : FactSet) (user : UserProfile) where
       pub later : before ≤ now
       pub caused : AreCaused schema world user (opening schema world user opened) events
       pub fits : Fits opened events reads now
-      pub refused : IsRefusal schema world user header bytes before now events refusal
+      pub refused : IsFirstRefusal schema world user header bytes before now events refusal
 
     -- a disk reads as it did first, and has no image that it hadn't
     abbrev pub IsStill : (List ℕ → Type 0) → List ℕ → Type 0
@@ -220,15 +220,15 @@ module _ (schema : DatabaseSchema) (world : FactSet) (user : UserProfile) where
     sealed_on now later on (NotAdmitted admission) is = is
 
     refused_later : (now later : ℕ) → now ≤ later → (events : List Event) (refusal : Option DeskError)
-        → IsRefusal schema world user header bytes before now events refusal
-        → IsRefusal schema world user header bytes before later events refusal
+        → IsFirstRefusal schema world user header bytes before now events refusal
+        → IsFirstRefusal schema world user header bytes before later events refusal
     refused_later now later on events None none = none
     refused_later now later on events (Some why) is = (is.0, sealed_on now later on why is.1)
 
     -- a refusal is still the first behind an event that is none
     refusal_on : (now later : ℕ) → now ≤ later → (events : List Event) (event : Event) → is_refused event ≡ false → (refusal : Option DeskError)
-        → IsRefusal schema world user header bytes before now events refusal
-        → IsRefusal schema world user header bytes before later (events ++ event ∷ []) refusal
+        → IsFirstRefusal schema world user header bytes before now events refusal
+        → IsFirstRefusal schema world user header bytes before later (events ++ event ∷ []) refusal
     refusal_on now later on events event isnt None none = any-push is_refused events event ∙ ap (λ b. b || is_refused event) none ∙ isnt
     refusal_on now later on events event isnt (Some why) is =
         (any-push is_refused events event ∙ or_left (list_any is_refused events) (is_refused event) is.0, sealed_on now later on why is.1)
@@ -308,7 +308,7 @@ module _ (schema : DatabaseSchema) (world : FactSet) (user : UserProfile) where
       pub is_in : IsState standing state (after_events schema world user (opening schema world user opened) events)
       pub later : before ≤ now
       pub caused : AreCaused schema world user (opening schema world user opened) events
-      pub refused : IsRefusal schema world user header bytes before now events refusal
+      pub refused : IsFirstRefusal schema world user header bytes before now events refusal
       pub shut : OpensNone schema world user header bytes → is_sealed standing ≡ true
       pub fits : FitsLiving opened events standing state reads now
       pub held : is_sealed standing ≡ false → list_any is_opened events ≡ true
@@ -571,8 +571,8 @@ module _ (schema : DatabaseSchema) (world : FactSet) (user : UserProfile) where
     refusal_next : (now later : ℕ) → now ≤ later → (events : List Event) (found opens : Bool) (standing : Standing)
         → (is_sealed standing ≡ true → opens ≡ false) → (is_sealed standing ≡ false → opens ≡ true)
         → ((why : DeskError) → standing ≡ Sealed why → IsSealedBy schema world user (Unit {0}) header bytes before later why)
-        → (refusal : Option DeskError) → IsRefusal schema world user header bytes before now events refusal
-        → IsRefusal schema world user header bytes before later (events ++ restart found opens ∷ []) (first_refusal refusal standing)
+        → (refusal : Option DeskError) → IsFirstRefusal schema world user header bytes before now events refusal
+        → IsFirstRefusal schema world user header bytes before later (events ++ restart found opens ∷ []) (first_refusal refusal standing)
     refusal_next now later on events found opens standing shut held cause (Some why) is = (
       any-push is_refused events (restart found opens) ∙ or_left (list_any is_refused events) (is_refused (restart found opens)) is.0,
       sealed_on now later on why is.1,

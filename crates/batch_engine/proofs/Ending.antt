@@ -16,7 +16,7 @@ use Rattle.cqe_base.specs.declared.user.User.{User}
 use Rattle.user_desk.specs.Causes.{Opens}
 use Rattle.batch_engine.specs.BatchLines.{BatchItem, with_line, batch_of}
 use Rattle.user_desk.specs.declared.standing.DeskError.{DeskError}
-use Rattle.desk_crew.specs.Openings.{OpensNone, IsOpening}
+use Rattle.desk_crew.specs.Openings.{OpensNone, OpensWith}
 use Rattle.batch_engine.specs.Batch.{AppendsAll, AppendsSome, AppendsTo, unopened}
 use Rattle.desk_crew.specs.Crew.{named_user}
 use Rattle.desk_crew.specs.Shelved.{Journals, journals_by, AreBack, AreSeatsOf}
@@ -93,7 +93,7 @@ module _ (schema : DatabaseSchema) (world : FactSet) (header directory : List �
   record Start : Type 0 where
     named : List NamedUser
     of_policy : map unopened named ≡ map named_user users
-    openings : AllByRecursion (λ (u : NamedUser). IsOpening schema world u.profile header (bytes_of Disk.reads directory disk u.name) u.opened) named
+    openings : AllByRecursion (λ (u : NamedUser). OpensWith schema world u.profile header (bytes_of Disk.reads directory disk u.name) u.opened) named
     differ : has_duplicate (names named) ≡ false
     found : Text → Bool
     opened : Text → Bool

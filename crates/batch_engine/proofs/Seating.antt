@@ -25,12 +25,12 @@ use Rattle.desk_counter.specs.Items.{flying}
 use Rattle.desk_counter.specs.Lives.{IsAskOf}
 use Rattle.desk_counter.specs.Sole.{pairs_of_sole}
 use Rattle.log_journal.specs.Names.{journal_name}
-use Rattle.desk_crew.specs.Openings.{OpensNone, IsOpening}
+use Rattle.desk_crew.specs.Openings.{OpensNone, OpensWith}
 use Rattle.batch_engine.specs.Batch.{unopened}
 use Rattle.batch_engine.specs.Lives.{is_ask}
 use Rattle.desk_crew.specs.Shelved.{IsSeatOf, AreSeatsOf}
 use Rattle.desk_crew.specs.Crew.{named_user, first_refusal, seat_user, seat_name, seat_journal, seat_kept, seat_standing, seat_history, seat_state, seat_disk}
-use Rattle.desk_crew.specs.Crew.{IsSeatIn, IsFresh, is_named, IsClosed, IsSeatServed, IsToldAt, IsReopened, AreReopened, Tells, nobody, here, further}
+use Rattle.desk_crew.specs.Crew.{IsSeatIn, IsSeatAsOpened, is_named, IsClosed, IsSeatServed, IsToldAt, IsReopened, AreReopened, Tells, nobody, here, further}
 use Rattle.desk_crew.proofs.Asking.{still_served}
 use Rattle.desk_crew.specs.Seats.{DeskSeat}
 use Rattle.batch_engine.proofs.Courses.{any-push, Course, course_on, stays_on, IsRunning, IsLiving, live, closing, Asked, ask_step, Restarted, IsExclusive}
@@ -64,7 +64,7 @@ module _ (event : (Text → Bool) → (Text → Bool) → ScriptEvent) (own : (n
 -- the course of a user whose journal wasn't opened yet
 module _ (schema : DatabaseSchema) (world : FactSet) (header : List ℕ) (bytes : Text → List ℕ) (before : Text → ℕ) (images : Text → List ℕ → Type 0) where
   first_course : (user : UserProfile) (name : Text) (opened : History) (now : ℕ) (c : List ℕ) → now ≡ before name → c ≡ bytes name
-      → IsOpening schema world user header (bytes name) opened
+      → OpensWith schema world user header (bytes name) opened
       → Course schema world user header (bytes name) (before name) (images name) opened [] c now None
   first_course user name opened now c counted same (inl opens) = record {
     later = omega (arith, counted);
@@ -90,7 +90,7 @@ module _ (schema : DatabaseSchema) (world : FactSet) (header directory : List �
     pub served : IsSeatServed schema world header seat
     pub living : IsLiving schema world user.profile header (bytes user.name) (before user.name) (images user.name) user.opened events (seat_standing seat)
         (seat_state seat) (Disk.image (seat_disk seat)) (Disk.reads (seat_disk seat)) (Disk.faults (seat_disk seat)) seat.refusal
-    pub fresh : list_any is_ask events ≡ false → IsFresh seat
+    pub fresh : list_any is_ask events ≡ false → IsSeatAsOpened seat
 
   -- all do, behind the events of a script
   abbrev pub AreSeated : List ScriptEvent → List NamedUser → List (DeskSeat D g h) → Type 0
@@ -365,11 +365,11 @@ module _ (schema : DatabaseSchema) (world : FactSet) (header directory : List �
       -- a user with the history with which his journal is opened
       pub record Begun (user : User) (seat : DeskSeat D g h) : Type 0 where
         pub opened : History
-        pub opening : IsOpening schema world (profile_of user) header (bytes (string_bytes user.name)) opened
+        pub opening : OpensWith schema world (profile_of user) header (bytes (string_bytes user.name)) opened
         pub choice : Choice (record { name = string_bytes user.name; profile = profile_of user; opened = opened }) [] seat
 
       begin_with : (user : User) (seat : DeskSeat D g h) (opened : History)
-          → IsOpening schema world (profile_of user) header (bytes (string_bytes user.name)) opened
+          → OpensWith schema world (profile_of user) header (bytes (string_bytes user.name)) opened
           → IsSeatOf S Disk T schema world header directory disk count user seat → Begun user seat
       begin_with user seat opened opening is =
           let name = string_bytes user.name in
@@ -449,7 +449,7 @@ module _ (schema : DatabaseSchema) (world : FactSet) (header directory : List �
         pub record AreBegun (users : List User) (seats : List (DeskSeat D g h)) : Type 0 where
           pub begun : List NamedUser
           pub of_policy : map unopened begun ≡ map named_user users
-          pub openings : AllByRecursion (λ user. IsOpening schema world user.profile header (bytes user.name) user.opened) begun
+          pub openings : AllByRecursion (λ user. OpensWith schema world user.profile header (bytes user.name) user.opened) begun
           pub choices : Choices [] begun seats
 
         pub begin_all : (users : List User) (seats : List (DeskSeat D g h))

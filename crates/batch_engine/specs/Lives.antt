@@ -75,7 +75,7 @@ module _ (schema : DatabaseSchema) (world : FactSet) (user : UserProfile) where
   module _ (header : List ℕ) where
     -- the first refusal among a user's openings, by the bytes that his journal had and by the count
     -- of its disk's faults before and now
-    abbrev pub IsRefusal : List ℕ → ℕ → ℕ → List Event → Option DeskError → Type 0
-    IsRefusal bytes before now events None = list_any is_refused events ≡ false
-    IsRefusal bytes before now events (Some why) = (list_any is_refused events ≡ true)
+    abbrev pub IsFirstRefusal : List ℕ → ℕ → ℕ → List Event → Option DeskError → Type 0
+    IsFirstRefusal bytes before now events None = list_any is_refused events ≡ false
+    IsFirstRefusal bytes before now events (Some why) = (list_any is_refused events ≡ true)
         × IsSealedBy schema world user (Unit {0}) header bytes before now why

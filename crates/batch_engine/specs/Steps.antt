@@ -98,7 +98,7 @@ HasSeats (Cut seats) = Unit {0}
 HasSeats Memory = ⊥
 
 -- a write failed
-abbrev pub IsCut : {D : Type 0} {g h : _} → DeskAnswered D g h → Type 0
-IsCut (All seats is_broken) = ⊥
-IsCut (Cut seats) = Unit {0}
-IsCut Memory = ⊥
+abbrev pub FailsToWrite : {D : Type 0} {g h : _} → DeskAnswered D g h → Type 0
+FailsToWrite (All seats is_broken) = ⊥
+FailsToWrite (Cut seats) = Unit {0}
+FailsToWrite Memory = ⊥

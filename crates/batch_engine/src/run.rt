@@ -21,7 +21,8 @@ ghost use Rattle.desk_crew.specs.Shelved.{journals, journals_on};
 ghost use Rattle.desk_crew.specs.Shelved.{AreLater, AreBack};
 ghost use Rattle.batch_engine.specs.BatchOf.{items_of};
 ghost use Rattle.batch_engine.specs.AnswerTexts.{answer_text};
-ghost use Rattle.batch_engine.specs.Steps.{Carries, is_broken_reply, IsAnswered, HasSeats, IsCut};
+ghost use Rattle.batch_engine.specs.Steps.{Carries, is_broken_reply, IsAnswered, HasSeats};
+ghost use Rattle.batch_engine.specs.Steps.{FailsToWrite};
 ghost use Rattle.batch_engine.specs.Batch.{EndsBatch, LeavesJournals, IsUnopened, IsBroken};
 ghost use Rattle.batch_engine.specs.declared.run.BatchEnd.{BatchEnd};
 
@@ -192,7 +193,7 @@ fn answer_all<'w, R: Wait, G: Gate, F: Shelf, K: Sink>(
     ensures files { SameNames (F.file shelf.old) (F.file shelf.new) }
     ensures looked { F.looked shelf.new ≡ F.looked shelf.old }
     ensures sink_later { K.faults sink.old ≤ K.faults sink.new }
-    ensures cause { IsCut result → Rose (K.faults sink.old) (K.faults sink.new) }
+    ensures cause { FailsToWrite result → Rose (K.faults sink.old) (K.faults sink.new) }
 {
     let mut seats = seats;
     let mut is_broken = false;

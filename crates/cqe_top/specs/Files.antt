@@ -139,17 +139,17 @@ module _ (shelf : ShelfScene) (files : FileNames) where
   -- Why they weren't read: the first of them that isn't there, is refused, or at which the shelf
   -- failed. Where it failed at the policy, the facts weren't looked at; where it failed at the
   -- facts, the policy is there and isn't refused; and memory may always be wanting.
-  abbrev pub Refuses : FilesEnd → Type 0
-  Refuses (Missing name) = IsMissing said_on files name.now
-  Refuses (ShelfFault kind.Policy) = Looks files.policy shelf.looked shelf.looked'
-  Refuses (ShelfFault kind.Facts) = HasPolicy said_on
-  Refuses (Policy why) = said_on ≡ bad_policy why
-  Refuses (Facts why) = said_on ≡ bad_facts why
-  Refuses Memory = Unit {0}
+  abbrev pub IsWhyUnread : FilesEnd → Type 0
+  IsWhyUnread (Missing name) = IsMissing said_on files name.now
+  IsWhyUnread (ShelfFault kind.Policy) = Looks files.policy shelf.looked shelf.looked'
+  IsWhyUnread (ShelfFault kind.Facts) = HasPolicy said_on
+  IsWhyUnread (Policy why) = said_on ≡ bad_policy why
+  IsWhyUnread (Facts why) = said_on ≡ bad_facts why
+  IsWhyUnread Memory = Unit {0}
 
   -- the files weren't read: why, and no disk was touched
   pub record IsUnread (end : FilesEnd) : Type 0 where
-    pub refused : shelf.tells → Refuses end
+    pub refused : shelf.tells → IsWhyUnread end
     pub looks : shelf.tells → LooksAt
     pub disks : SameDisks shelf
 

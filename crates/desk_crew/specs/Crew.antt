@@ -87,8 +87,8 @@ abbrev pub seat_disk : {D : Type 0} {g h : _} → DeskSeat D g h → D
 seat_disk seat = (seat_kept seat).disk
 
 -- nothing was appended since its desk was opened
-abbrev pub IsFresh : {D : Type 0} {g h : _} → DeskSeat D g h → Type 0
-IsFresh seat = IsAsOpened (seat_kept seat) (pairs_of_sole seat.desk)
+abbrev pub IsSeatAsOpened : {D : Type 0} {g h : _} → DeskSeat D g h → Type 0
+IsSeatAsOpened seat = IsAsOpened (seat_kept seat) (pairs_of_sole seat.desk)
 
 -- whether its user has this name
 abbrev pub is_named : {D : Type 0} {g h : _} → Text → DeskSeat D g h → Bool
@@ -195,7 +195,7 @@ module _ (schema : DatabaseSchema) (world : FactSet) (header : List ℕ) where
           (Disk.faults disk)
           (Disk.faults (seat_disk seat))
       pub refusal : seat.refusal ≡ first_refusal before (seat_standing seat)
-      pub fresh : IsFresh seat
+      pub fresh : IsSeatAsOpened seat
       pub opening_is : (seat_kept seat).opening ≡ seat_history seat
       pub legal : IsLegal schema world (profile_of (seat_user seat)) (seat_history seat)
       -- what was put under its counter is what its pass has seen, which has all turns and nothing

@@ -16,7 +16,7 @@ use Rattle.desk_counter.specs.declared.counter.CounterOf.{CounterOf}
 use Rattle.desk_counter.specs.declared.ticketed_desk.TicketedDesk.{TicketedDesk}
 use Rattle.desk_counter.specs.Counters.{kept_by, first_pairs, IsPassOf}
 use Rattle.desk_counter.specs.Items.{items_of}
-use Rattle.desk_crew.specs.Crew.{seat_kept, IsFresh}
+use Rattle.desk_crew.specs.Crew.{seat_kept, IsSeatAsOpened}
 use Rattle.desk_crew.specs.Seats.{DeskSeat}
 use Rattle.session_core.specs.Members.{ArePasses}
 use Rattle.serve_engine.specs.declared.sharing.Keeper.{Keeper}
@@ -118,11 +118,11 @@ module _ {D : Type 0} {g h : _} where
   kept_apart [] = refl
   kept_apart (seat ∷ seats) = ap (λ (fs : List (Fixed D)). seat_kept seat ∷ fs) (kept_apart seats)
 
-  pub apart_opened : (seats : List (DeskSeat D g h)) → All IsFresh seats → HaveSeenOpenings (map kept_by (map seat_counter seats)) (map seat_pass seats)
+  pub apart_opened : (seats : List (DeskSeat D g h)) → All IsSeatAsOpened seats → HaveSeenOpenings (map kept_by (map seat_counter seats)) (map seat_pass seats)
   apart_opened [] all = tt
   apart_opened (seat ∷ seats) all =
-      let this = (All-head IsFresh seat seats all).count in
-      (omega (arith, this), apart_opened seats (All-tail IsFresh seat seats all))
+      let this = (All-head IsSeatAsOpened seat seats all).count in
+      (omega (arith, this), apart_opened seats (All-tail IsSeatAsOpened seat seats all))
 
   -- and nothing of their own
   pub apart_own : (seats : List (DeskSeat D g h)) → All (λ seat. mine (seat_pass seat) ≡ []) seats → (weight : TurnItem → ℕ) (place : ℕ)

@@ -34,7 +34,7 @@ use Rattle.desk_counter.specs.Sole.{pairs_of_sole}
 use Rattle.desk_counter.proofs.Pairs.{history_all, items_all}
 use Rattle.turnstile.specs.Passes.{seen, mine, turns}
 use Rattle.desk_counter.specs.Counters.{first_pairs}
-use Rattle.desk_crew.specs.Crew.{IsFresh, IsClosed, refusal_of, seat_user, seat_journal, seat_kept, seat_standing, seat_history, seat_disk, seat_broke}
+use Rattle.desk_crew.specs.Crew.{IsSeatAsOpened, IsClosed, refusal_of, seat_user, seat_journal, seat_kept, seat_standing, seat_history, seat_disk, seat_broke}
 use Rattle.desk_crew.specs.Crew.{seat_state}
 use Rattle.desk_crew.specs.Seats.{DeskSeat}
 use Rattle.desk_crew.specs.Shelved.{Journals, journals, journals_by, AreLater, IsSeatOf, AreSeatsOf, IsBack, AreBack}
@@ -412,8 +412,8 @@ module _ {D : Type 0} {g h : _} (told disk_told : Type 0) (Disk : DiskGhosts D) 
   each P holds (user ∷ users) [] opened = absurd opened
 
   pub seats_fresh : (users : List User) (seats : List (DeskSeat D g h))
-      → AreSeatsOf told Disk disk_told schema world header directory disk count users seats → All IsFresh seats
-  seats_fresh users seats opened = All-from_recursion IsFresh seats (each IsFresh (λ user seat is. is.opened.fresh) users seats opened)
+      → AreSeatsOf told Disk disk_told schema world header directory disk count users seats → All IsSeatAsOpened seats
+  seats_fresh users seats opened = All-from_recursion IsSeatAsOpened seats (each IsSeatAsOpened (λ user seat is. is.opened.fresh) users seats opened)
 
   pub seats_turns : (users : List User) (seats : List (DeskSeat D g h))
       → AreSeatsOf told Disk disk_told schema world header directory disk count users seats

@@ -28,8 +28,8 @@ use Rattle.serve_engine.specs.declared.serving.Outcome.TheVariants.{Served, Link
 use Rattle.serve_engine.specs.Jobs.{job_counters, job_passes, job_runs}
 use Rattle.serve_engine.specs.Served.{SessionMarks, items_told}
 use Rattle.serve_engine.specs.Members.{AreIn, IsServedBy, AreServedBy, IsPassLater, ArePassesLater, OwnMore, members_of, own_at, room_in}
-use Rattle.serve_engine.specs.Doors.{IsServedDoor, AreServedDoors, SomeFailed, HasOutcome, has_failed, outcome_of}
-use Rattle.serve_engine.specs.Passing.{AreOn, IsFresh, IsBack}
+use Rattle.serve_engine.specs.Doors.{IsServedDoor, AreServedDoors, SomeFailed, HasOutcome, has_links_failed, crew_outcome}
+use Rattle.serve_engine.specs.Passing.{AreOn, IsWorkerFresh, IsWorkerBack}
 use Rattle.serve_engine.proofs.Growing.{served_later}
 use Rattle.serve_engine.proofs.Later.{members_later}
 use Rattle.serve_engine.proofs.Owning.{own_weight, told_weight, weigh_more}
@@ -129,7 +129,7 @@ module _ {D G O : Type 0} {g h : _} (told : Type 0) (given_of left_of ends_of fa
 
   -- are what the passes of workers have of their own that hadn't begun
   all_own : (counters : CountersOf (TicketedDesk D g) TurnItem (Fixed D) h) (first : Passes D) (t : told) (weight : TurnItem → ℕ) (place : ℕ)
-      (before after : List (Worker (SessionJobOf (TicketedDesk D g) D G h) O)) → AllByRecursion (IsFresh counters first) before
+      (before after : List (Worker (SessionJobOf (TicketedDesk D g) D G h) O)) → AllByRecursion (IsWorkerFresh counters first) before
       → (was : AllZip Was before after)
       → sum_by (λ worker. own_weight weight place (passes_in (job_passes worker.job))) after ≡ told_weight weight place (all_told t before after was)
   all_own counters first t weight place [] [] fresh was = refl
@@ -150,8 +150,9 @@ module _ {D G O : Type 0} {g h : _} (told : Type 0) (given_of left_of ends_of fa
     -- ---- the jobs
 
     -- the workers' passes can be joined again
-    pub are_back : (first : Passes D) (before after : List (Worker (SessionJobOf (TicketedDesk D g) D G h) O)) → AllByRecursion (IsFresh counters first) before
-        → AllZip Was before after → AllByRecursion (IsBack counters) after
+    pub are_back : (first : Passes D) (before after : List (Worker (SessionJobOf (TicketedDesk D g) D G h) O))
+        → AllByRecursion (IsWorkerFresh counters first) before
+        → AllZip Was before after → AllByRecursion (IsWorkerBack counters) after
     are_back first [] [] fresh was = tt
     are_back first (b ∷ before) (a ∷ after) fresh was = (
       record {
@@ -165,7 +166,7 @@ module _ {D G O : Type 0} {g h : _} (told : Type 0) (given_of left_of ends_of fa
 
     -- ---- the doors
 
-    one_served : (first final : Passes D) (before after : Worker (SessionJobOf (TicketedDesk D g) D G h) O) → IsFresh counters first before
+    one_served : (first final : Passes D) (before after : Worker (SessionJobOf (TicketedDesk D g) D G h) O) → IsWorkerFresh counters first before
         → AreOn (job_passes after.job) final → HaveSeenLegal (fixeds_of counters) (passes_in final) → (was : Was before after)
         → IsServedDoor told given_of left_of faults_of back_of (IsServedBy counters final) (job_runs after.job)
         (λ t. (was.back t).stand.visit_marks) before.door after.door
@@ -185,7 +186,7 @@ module _ {D G O : Type 0} {g h : _} (told : Type 0) (given_of left_of ends_of fa
 
     -- the doors' connections are served by the passes that are joined in the end
     pub all_served : (first final : Passes D) (before after : List (Worker (SessionJobOf (TicketedDesk D g) D G h) O))
-        → AllByRecursion (IsFresh counters first) before
+        → AllByRecursion (IsWorkerFresh counters first) before
         → AllByRecursion (λ worker. AreOn (job_passes worker.job) final) after → HaveSeenLegal (fixeds_of counters) (passes_in final)
         → (was : AllZip Was before after)
         → AreServedDoors told given_of left_of faults_of back_of (IsServedBy counters final) (sum_by (λ worker. job_runs worker.job) after)
@@ -209,7 +210,7 @@ module _ {D G O : Type 0} {g h : _} (told : Type 0) (given_of left_of ends_of fa
   have_ended : (at_limit : Type 0) (before after : List (Worker (SessionJobOf (TicketedDesk D g) D G h) O))
       → AllByRecursion (λ worker. faults_of worker.door ≡ 0) before
       → AllByRecursion (λ worker. worker.ended ≡ Some LimitReached → at_limit) after → AllZip Was before after
-      → Ended told left_of faults_of at_limit (list_any (λ worker. has_failed worker.ended) after) (map (λ worker. worker.door) after)
+      → Ended told left_of faults_of at_limit (list_any (λ worker. has_links_failed worker.ended) after) (map (λ worker. worker.door) after)
   have_ended at_limit [] [] whole reached was = inl (λ t. tt)
   have_ended at_limit (b ∷ before) (a ∷ after) whole reached was = by_end a.ended refl was.0.ended (have_ended at_limit before after whole.1 reached.1 was.1)
     where
@@ -217,19 +218,19 @@ module _ {D G O : Type 0} {g h : _} (told : Type 0) (given_of left_of ends_of fa
       doors = map (λ worker. worker.door) after
 
       any : Bool
-      any = list_any (λ worker. has_failed worker.ended) after
+      any = list_any (λ worker. has_links_failed worker.ended) after
 
       by_end : (end : Option WorkerEnd) → a.ended ≡ end → IsSome a.ended → Ended told left_of faults_of at_limit any doors
-          → Ended told left_of faults_of at_limit (has_failed a.ended || any) (a.door ∷ doors)
+          → Ended told left_of faults_of at_limit (has_links_failed a.ended || any) (a.door ∷ doors)
       by_end None is some rest = absurd (none_isnt a.ended is some)
       by_end (Some LinksEnded) is some rest =
-          subst (λ end. Ended told left_of faults_of at_limit (has_failed end || any) (a.door ∷ doors)) (sym is)
+          subst (λ end. Ended told left_of faults_of at_limit (has_links_failed end || any) (a.door ∷ doors)) (sym is)
           (at_end told left_of faults_of at_limit any a.door doors (was.0.at_end is).1 rest)
       by_end (Some LimitReached) is some rest =
-          subst (λ end. Ended told left_of faults_of at_limit (has_failed end || any) (a.door ∷ doors)) (sym is)
+          subst (λ end. Ended told left_of faults_of at_limit (has_links_failed end || any) (a.door ∷ doors)) (sym is)
           (at_most told left_of faults_of at_limit any a.door doors (reached.0 is) rest)
       by_end (Some LinksHaveFailed) is some rest =
-          subst (λ end. Ended told left_of faults_of at_limit (has_failed end || any) (a.door ∷ doors)) (sym is)
+          subst (λ end. Ended told left_of faults_of at_limit (has_links_failed end || any) (a.door ∷ doors)) (sym is)
           (inl (rose (faults_of b.door) (faults_of a.door) whole.0 (was.0.at_failure is)))
   have_ended at_limit [] (a ∷ after) whole reached was = absurd was
   have_ended at_limit (b ∷ before) [] whole reached was = absurd was
@@ -237,18 +238,18 @@ module _ {D G O : Type 0} {g h : _} (told : Type 0) (given_of left_of ends_of fa
   -- where no links failed, each number that was lost was drawn at a door that answered that no further connection comes
   lost_at_ends : (before after : List (Worker (SessionJobOf (TicketedDesk D g) D G h) O)) → AllByRecursion (λ worker. ends_of worker.door ≡ 0) before
       → AllZip Was before after
-      → list_any (λ worker. has_failed worker.ended) after ≡ false
+      → list_any (λ worker. has_links_failed worker.ended) after ≡ false
       → sum_by (λ worker. lost worker.ended) after ≤ sum_by (λ door. one_if_any (ends_of door)) (map (λ worker. worker.door) after)
   lost_at_ends [] [] unended was none = omega arith
   lost_at_ends (b ∷ before) (a ∷ after) unended was none =
-      let two = neither (has_failed a.ended) (list_any (λ worker. has_failed worker.ended) after) none in
+      let two = neither (has_links_failed a.ended) (list_any (λ worker. has_links_failed worker.ended) after) none in
       let here = by_end a.ended refl in
       let others = lost_at_ends before after unended.1 was.1 two.1 in
       let first = sum_by-cons (λ (worker : Worker (SessionJobOf (TicketedDesk D g) D G h) O). lost worker.ended) a after in
       let second = sum_by-cons (λ (door : O). one_if_any (ends_of door)) a.door (map (λ worker. worker.door) after) in
       omega (arith, here two.0, others, first, second)
     where
-      by_end : (end : Option WorkerEnd) → a.ended ≡ end → has_failed end ≡ false → lost end ≤ one_if_any (ends_of a.door)
+      by_end : (end : Option WorkerEnd) → a.ended ≡ end → has_links_failed end ≡ false → lost end ≤ one_if_any (ends_of a.door)
       by_end None is whole = omega arith
       by_end (Some LinksEnded) is whole = once (ends_of a.door) (rose (ends_of b.door) (ends_of a.door) unended.0 (was.0.at_end is).0)
       by_end (Some LimitReached) is whole = omega arith
@@ -286,9 +287,9 @@ module _ {D G O : Type 0} {g h : _} (told : Type 0) (given_of left_of ends_of fa
       → AllByRecursion (λ worker. faults_of worker.door ≡ 0) before → AllByRecursion (λ worker. ends_of worker.door ≡ 0) before
       → AllByRecursion (λ worker. worker.ended ≡ Some LimitReached
       → limit ≤ sum_by (λ other. job_runs other.job) after + sum_by (λ other. lost other.ended) after) after → AllZip Was before after
-      → HasOutcome told left_of ends_of faults_of limit (outcome_of after) (sum_by (λ worker. job_runs worker.job) after) (map (λ worker. worker.door) after)
+      → HasOutcome told left_of ends_of faults_of limit (crew_outcome after) (sum_by (λ worker. job_runs worker.job) after) (map (λ worker. worker.door) after)
   has_outcome limit before after whole unended reached was =
-      of_any (list_any (λ worker. has_failed worker.ended) after) refl
+      of_any (list_any (λ worker. has_links_failed worker.ended) after) refl
       (have_ended (AtLimit limit after) before after whole
       (every_both (λ worker. worker.ended ≡ Some LimitReached → limit ≤ sum_by (λ other. job_runs other.job) after + sum_by (λ other. lost other.ended) after)
       (λ worker. worker.ended ≡ Some LimitReached → 0 + sum_by (λ other. lost other.ended) after < 0 + length after)
@@ -296,7 +297,7 @@ module _ {D G O : Type 0} {g h : _} (told : Type 0) (given_of left_of ends_of fa
       (fewer_lost 0 0 (omega arith) after).1)
       was)
     where
-      of_any : (any : Bool) → list_any (λ worker. has_failed worker.ended) after ≡ any
+      of_any : (any : Bool) → list_any (λ worker. has_links_failed worker.ended) after ≡ any
           → Ended told left_of faults_of (AtLimit limit after) any (map (λ worker. worker.door) after)
           → HasOutcome told left_of ends_of faults_of limit (if any then LinksFailed else Served) (sum_by (λ worker. job_runs worker.job) after)
           (map (λ worker. worker.door) after)
@@ -310,9 +311,9 @@ module _ {D G O : Type 0} {g h : _} (told : Type 0) (given_of left_of ends_of fa
   -- all that is said of doors whose workers served them
   pub served_together : (counters : CountersOf (TicketedDesk D g) TurnItem (Fixed D) h) (first final : Passes D) (limit : ℕ) (outcome : Outcome)
       (doors others : List O) (before after : List (Worker (SessionJobOf (TicketedDesk D g) D G h) O))
-      → map (λ worker. worker.door) before ≡ doors → others ≡ map (λ worker. worker.door) after → outcome ≡ outcome_of after
+      → map (λ worker. worker.door) before ≡ doors → others ≡ map (λ worker. worker.door) after → outcome ≡ crew_outcome after
       → All (λ door. faults_of door ≡ 0) doors → All (λ door. ends_of door ≡ 0) doors
-      → All (IsFresh counters first) before → All (λ worker. AreOn (job_passes worker.job) final) after
+      → All (IsWorkerFresh counters first) before → All (λ worker. AreOn (job_passes worker.job) final) after
       → HaveSeenLegal (fixeds_of counters) (passes_in final)
       → All (λ worker. worker.ended ≡ Some LimitReached → limit ≤ sum_by (λ other. job_runs other.job) after + sum_by (λ other. lost other.ended) after) after
       → AllZip Was before after → sum_by (λ other. job_runs other.job) after ≤ limit
@@ -327,7 +328,7 @@ module _ {D G O : Type 0} {g h : _} (told : Type 0) (given_of left_of ends_of fa
       own =
       let total = sum_by (λ (worker : Worker (SessionJobOf (TicketedDesk D g) D G h) O). job_runs worker.job) after in
       let marks : told → List SessionMarks = λ t. all_told t before after was in
-      let served = all_served counters first final before after (recursion_from_All (IsFresh counters first) before fresh)
+      let served = all_served counters first final before after (recursion_from_All (IsWorkerFresh counters first) before fresh)
       (recursion_from_All (λ worker. AreOn (job_passes worker.job) final) after on) legal was in
       let ended = has_outcome limit before after (by_door faults_of whole) (by_door ends_of unended)
       (recursion_from_All (λ worker. worker.ended ≡ Some LimitReached
@@ -338,11 +339,11 @@ module _ {D G O : Type 0} {g h : _} (told : Type 0) (given_of left_of ends_of fa
             (subst (λ ds. AreServedDoors told given_of left_of faults_of back_of (IsServedBy counters final) total marks
             (map (λ worker. worker.door) before) ds) (sym others_are) served),
         subst (λ o. HasOutcome told left_of ends_of faults_of limit o total others) (sym outcome_is)
-            (subst (λ ds. HasOutcome told left_of ends_of faults_of limit (outcome_of after) total ds) (sym others_are) ended),
+            (subst (λ ds. HasOutcome told left_of ends_of faults_of limit (crew_outcome after) total ds) (sym others_are) ended),
         below,
         λ t place weight.
             let all = own weight place in
-            let here = all_own counters first t weight place before after (recursion_from_All (IsFresh counters first) before fresh) was in
+            let here = all_own counters first t weight place before after (recursion_from_All (IsWorkerFresh counters first) before fresh) was in
             let told = weigh_more weight (own_at place (passes_in first)) (items_told place) (all_told t before after was) in
             omega (arith, all, here, told),
       )

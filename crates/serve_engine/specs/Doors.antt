@@ -53,12 +53,13 @@ module _ {O : Type 0} (told : Type 0) (left_of ends_of faults_of : O → ℕ) (l
   HasOutcome Memory total doors = total ≡ 0
 
 -- whether a worker's links failed
-abbrev pub has_failed : Option WorkerEnd → Bool
-has_failed None = false
-has_failed (Some LinksEnded) = false
-has_failed (Some LimitReached) = false
-has_failed (Some LinksHaveFailed) = true
+abbrev pub has_links_failed : Option WorkerEnd → Bool
+has_links_failed None = false
+has_links_failed (Some LinksEnded) = false
+has_links_failed (Some LimitReached) = false
+has_links_failed (Some LinksHaveFailed) = true
 
 -- how workers served that have ended
-abbrev pub outcome_of : {J O : Type 0} → List (Worker J O) → Outcome
-outcome_of crew = if list_any (λ worker. has_failed worker.ended) crew then LinksFailed else Served
+abbrev pub crew_outcome : {J O : Type 0} → List (Worker J O) → Outcome
+crew_outcome crew =
+    if list_any (λ worker. has_links_failed worker.ended) crew then LinksFailed else Served

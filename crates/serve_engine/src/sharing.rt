@@ -3,7 +3,7 @@ ghost use Rattle.std.specs.Prelude.{◌≡◌, ◌≤◌, ◌*◌, ◌^◌, ℕ,
 ghost use Rattle.std.specs.Prelude.{vec_capacity, IfOk};
 ghost use Rattle.std.specs.List.{AllByRecursion};
 ghost use Rattle.turnstile.specs.Passes.{shares, turns};
-ghost use Rattle.desk_crew.specs.Crew.{seat_user, seat_kept, IsFresh};
+ghost use Rattle.desk_crew.specs.Crew.{seat_user, seat_kept, IsSeatAsOpened};
 ghost use Rattle.session_core.specs.Members.{AreDesksOf, HaveSeenLegal, ArePasses};
 ghost use Rattle.serve_engine.specs.Doors.{AreServedDoors, HasOutcome};
 ghost use Rattle.serve_engine.specs.Served.{SessionMarks};
@@ -125,7 +125,7 @@ pub(crate) fn serve_seats<
 ) -> (Outcome, Vec<DeskSeat<'w, D>>, Vec<O>)
     requires desks { AreDesksOf users.now (map seat_kept seats.items) }
     requires legal { HaveSeenLegal (map seat_kept seats.items) (map seat_pass seats.items) }
-    requires fresh { All IsFresh seats.items }
+    requires fresh { All IsSeatAsOpened seats.items }
     requires turns { All (λ seat. turns (seat_pass seat) ≡ 65 * 2 ^ 57) seats.items }
     requires some { 1 ≤ length doors.items }
     requires few { length doors.items ≤ 64 }
