@@ -6,19 +6,18 @@ ghost use Rattle.std.specs.List.{AllByRecursion};
 ghost use Rattle.outside.specs.Faults.{Rose};
 ghost use Rattle.outside.specs.Shelf.{SameNames};
 ghost use Rattle.cqe_base.specs.Schema.{has_duplicate};
-ghost use Rattle.cqe_base.specs.History.{profile_of};
-ghost use Rattle.cqe_base.specs.Limits.{KeepsLimits};
 ghost use Rattle.cqe_base.specs.Transcript.{reply_line, line_text};
 ghost use Rattle.log_journal.specs.Opening.{header_bytes};
-ghost use Rattle.log_journal.specs.Names.{journal_name};
 ghost use Rattle.user_log.specs.Replies.{reply_of};
 ghost use Rattle.batch_engine.specs.Said.{is_short_ask, is_short_item};
 ghost use Rattle.batch_engine.specs.Batches.{ask_in, item_in};
 ghost use Rattle.batch_engine.specs.BatchLines.{restarted};
-ghost use Rattle.desk_crew.specs.Crew.{named_user, seat_user, IsSeatServed};
+ghost use Rattle.desk_crew.specs.Crew.{named_user, IsSeatServed};
 ghost use Rattle.outside.specs.Shelf.{AllOut, AllIn, NoneOut, NoneFell, SomeRose, SameBeside};
 ghost use Rattle.desk_crew.specs.Shelved.{journals, journals_on};
 ghost use Rattle.desk_crew.specs.Shelved.{AreLater, AreBack};
+ghost use Rattle.desk_crew.specs.Registered.{AllKeepLimits, SeatsKeepLimits};
+ghost use Rattle.desk_crew.specs.Registered.{registered_journals, HaveOwnNames};
 ghost use Rattle.batch_engine.specs.BatchOf.{items_of};
 ghost use Rattle.batch_engine.specs.AnswerTexts.{answer_text};
 ghost use Rattle.batch_engine.specs.Steps.{Carries, is_broken_reply, IsAnswered, HasSeats};
@@ -119,8 +118,7 @@ fn carry_out<'w, R: Wait, G: Gate, F: Shelf>(
     item: &BatchItem,
     gate: &G,
 ) -> Option<(Vec<DeskSeat<'w, F::D>>, LineText, bool)>
-    requires limits { AllByRecursion (λ seat. KeepsLimits registry.now.schema.now
-        (profile_of (seat_user seat))) seats.items }
+    requires limits { SeatsKeepLimits registry.now.schema.now seats.items }
     requires served { AllByRecursion (IsSeatServed registry.now.schema.now registry.now.world.now
         (header_bytes registry.now.header.now)) seats.items }
     requires distinct { has_duplicate (journals seats.items) ≡ false }
@@ -169,8 +167,7 @@ fn answer_all<'w, R: Wait, G: Gate, F: Shelf, K: Sink>(
     sink: &mut K,
     gate: &G,
 ) -> Answered<'w, TicketedDesk<'w, F::D>>
-    requires limits { AllByRecursion (λ seat. KeepsLimits registry.now.schema.now
-        (profile_of (seat_user seat))) seats.items }
+    requires limits { SeatsKeepLimits registry.now.schema.now seats.items }
     requires served { AllByRecursion (IsSeatServed registry.now.schema.now registry.now.world.now
         (header_bytes registry.now.header.now)) seats.items }
     requires distinct { has_duplicate (journals seats.items) ≡ false }
@@ -227,10 +224,8 @@ pub fn run_batch<R: Wait, F: Shelf, S: Source, K: Sink, G: Gate>(
     sink: &mut K,
     gate: &G,
 ) -> BatchEnd
-    requires limits { All
-        (λ user. KeepsLimits registry.now.schema.now (profile_of user)) registry.now.users.now }
-    requires names { has_duplicate (map (λ user. user.name) (map named_user registry.now.users.now))
-        ≡ false }
+    requires limits { AllKeepLimits registry.now.schema.now registry.now.users.now }
+    requires names { HaveOwnNames registry.now.users.now }
     requires inside { NoneOut (F.is_out shelf.old) }
     ensures ends { F.tells → S.tells → K.tells
         → EndsBatch registry.now.schema.now registry.now.world.now
@@ -247,8 +242,8 @@ pub fn run_batch<R: Wait, F: Shelf, S: Source, K: Sink, G: Gate>(
         (map named_user registry.now.users.now) result }
 
     // No disk but the users' journals is touched, and all are back.
-    ensures disks { SameBeside (map (journal_name registry.now.directory.now)
-        (map (λ user. user.name) (map named_user registry.now.users.now))) (F.disk shelf.old)
+    ensures disks { SameBeside
+        (registered_journals registry.now.directory.now registry.now.users.now) (F.disk shelf.old)
         (F.disk shelf.new) }
     ensures inside { NoneOut (F.is_out shelf.new) }
     ensures files { SameNames (F.file shelf.old) (F.file shelf.new) }
