@@ -1,5 +1,5 @@
 -- Users as a registry has them: what is asked of them, and the names of their journals.
-use Rattle.std.specs.Prelude.{◌≡◌, ℕ, false, List, All, map}
+use Rattle.std.specs.Prelude.{◌≡◌, false, List, All, map}
 use Rattle.std.specs.List.{AllByRecursion}
 use Rattle.cqe_base.specs.Schema.{DatabaseSchema, Text, has_duplicate}
 use Rattle.cqe_base.specs.History.{profile_of}

@@ -29,7 +29,7 @@ use Rattle.user_desk.specs.declared.standing.Standing.{Standing}
 use Rattle.user_desk.specs.declared.standing.Standing.TheVariants.{Open, Closed, Sealed}
 use Rattle.desk_counter.specs.declared.item.Fixed.{Fixed}
 use Rattle.desk_counter.specs.declared.item.TurnItem.{TurnItem}
-use Rattle.desk_counter.specs.Items.{history_of, flying, items_of, items_with}
+use Rattle.desk_counter.specs.Items.{history_of, flying, items_of}
 use Rattle.desk_counter.specs.Sole.{pairs_of_sole}
 use Rattle.desk_counter.proofs.Pairs.{history_all, items_all}
 use Rattle.turnstile.specs.Passes.{seen, mine, turns}
@@ -40,7 +40,7 @@ use Rattle.desk_crew.specs.Seats.{DeskSeat}
 use Rattle.desk_crew.specs.Shelved.{Journals, journals, journals_by, AreLater, IsSeatOf, AreSeatsOf, IsBack, AreBack}
 use Rattle.session_core.specs.Members.{AreDesksOf, HasSeenLegal, HaveSeenLegal}
 use Rattle.session_core.proofs.Replying.{last_none}
-use Rattle.serve_engine.specs.Served.{Member, member_broke, SessionMarks, entries_told, failures_told, items_told}
+use Rattle.serve_engine.specs.Served.{member_broke, SessionMarks, entries_told, failures_told, items_told}
 use Rattle.serve_engine.specs.Members.{OwnMore, own_at}
 use Rattle.serve_engine.specs.Doors.{AreServedDoors, SomeFailed, HasOutcome}
 use Rattle.serve_engine.specs.Serving.{HasServed, HaveServed, AreAllTold, ServesDoors, EndsDoors, IsDone, IsBroken, end_of}

@@ -1,7 +1,7 @@
 -- What the entries of the journal among items weigh, and what those in flight do.
-use Rattle.std.proofs.Common.{◌≡◌, ℕ, ◌+◌, Bool, true, false, List, [], ◌∷◌, ◌++◌, map, sum_by, refl, ap, ◌∙◌, arith}
+use Rattle.std.proofs.Common.{◌≡◌, ℕ, Bool, true, false, List, [], ◌∷◌, sum_by, refl, arith}
 use Rattle.std.specs.Prelude.{Option, Some, None, option_to_list, if◌then◌else◌}
-use Rattle.std.proofs.lemmas.List.Sums.{sum_by-append, sum_by-cons}
+use Rattle.std.proofs.lemmas.List.Sums.{sum_by-cons}
 use Rattle.cqe_base.specs.History.{AnsweredQuery, History}
 use Rattle.turnstile.specs.History.{Entries}
 use Rattle.desk_counter.specs.declared.item.TurnItem.{TurnItem}
