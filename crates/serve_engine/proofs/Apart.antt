@@ -3,6 +3,7 @@ use Rattle.std.proofs.Common.{◌≡◌, ℕ, zero, suc, ◌*◌, ◌^◌, ◌�
 use Rattle.std.specs.Prelude.{All, string_bytes}
 use Rattle.std.specs.List.{AllByRecursion, AllZip}
 use Rattle.std.proofs.lemmas.List.Elements.{All-head, All-tail}
+use Rattle.outside.specs.declared.links.Door.{Ghosts as DoorGhosts}
 use Rattle.cqe_base.specs.Schema.{DatabaseSchema}
 use Rattle.cqe_base.specs.Facts.{FactSet}
 use Rattle.cqe_base.specs.declared.user.User.{User}
@@ -33,12 +34,12 @@ first_same x y xs ys same = (cc, cc)
 
 -- ---- doors
 
-module _ {O : Type 0} (told : Type 0) (given_of left_of faults_of : O → ℕ) (back_of : O → List Visit) where
+module _ {O S K : Type 0} (Door : DoorGhosts O S K) where
   -- connections that stand in one way and so in another
   pub served_still : (stands stands' : Visit → SessionMarks → Type 0) → ((visit : Visit) (marks : SessionMarks) → stands visit marks → stands' visit marks)
-      → (total : ℕ) (marks : told → List SessionMarks) (doors others : List O)
-      → AreServedDoors told given_of left_of faults_of back_of stands total marks doors others
-      → AreServedDoors told given_of left_of faults_of back_of stands' total marks doors others
+      → (total : ℕ) (marks : Door.tells → List SessionMarks) (doors others : List O)
+      → AreServedDoors Door stands total marks doors others
+      → AreServedDoors Door stands' total marks doors others
   served_still stands stands' still total marks [] [] is = is
   served_still stands stands' still total marks (d ∷ doors) (e ∷ others) is =
       let door = is.6 in (
@@ -68,7 +69,7 @@ module _ {O : Type 0} (told : Type 0) (given_of left_of faults_of : O → ℕ) (
 
   -- doors that gave nothing
   pub none_served : (stands : Visit → SessionMarks → Type 0) (doors : List O)
-      → AreServedDoors told given_of left_of faults_of back_of stands 0 (λ t. []) doors doors
+      → AreServedDoors Door stands 0 (λ t. []) doors doors
   none_served stands [] = (refl, λ t. refl)
   none_served stands (d ∷ doors) = (
     0,
@@ -80,7 +81,7 @@ module _ {O : Type 0} (told : Type 0) (given_of left_of faults_of : O → ℕ) (
     record {
       given = λ t. omega arith;
       left = λ t. omega arith;
-      back = λ t. record { visits = []; behind = sym (append-nil (back_of d)); many = refl; stand = tt };
+      back = λ t. record { visits = []; behind = sym (append-nil (Door.back d)); many = refl; stand = tt };
       faults = omega arith;
     },
     none_served stands doors,

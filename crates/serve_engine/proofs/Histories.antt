@@ -11,6 +11,7 @@ use Rattle.outside.proofs.Taken.{taken_reads, taken_images}
 use Rattle.outside.specs.Shelf.{bytes_on, image_on}
 use Rattle.outside.specs.Visits.{Visit, one_if_any}
 use Rattle.outside.specs.declared.disk.Disk.{Ghosts as DiskGhosts}
+use Rattle.outside.specs.declared.links.Door.{Ghosts as DoorGhosts}
 use Rattle.cqe_base.specs.Schema.{Text, DatabaseSchema, is_valid_schema}
 use Rattle.cqe_base.specs.Facts.{FactSet}
 use Rattle.cqe_base.specs.History.{UserProfile, AnsweredQuery, History, is_user_of, profile_of}
@@ -313,74 +314,74 @@ module _ {D : Type 0} {g h : _} where
 
 -- ---- ends
 
-module _ {O : Type 0} (told : Type 0) (given_of left_of faults_of : O → ℕ) (back_of : O → List Visit) (stands : Visit → SessionMarks → Type 0) where
+module _ {O S K : Type 0} (Door : DoorGhosts O S K) (stands : Visit → SessionMarks → Type 0) where
   -- as many doors come back
-  pub doors_many : (total : ℕ) (marks : told → List SessionMarks) (doors others : List O)
-      → AreServedDoors told given_of left_of faults_of back_of stands total marks doors others → length others ≡ length doors
+  pub doors_many : (total : ℕ) (marks : Door.tells → List SessionMarks) (doors others : List O)
+      → AreServedDoors Door stands total marks doors others → length others ≡ length doors
   doors_many total marks [] [] is = refl
   doors_many total marks (d ∷ doors) (e ∷ others) is = ap suc (doors_many is.1 is.4 doors others is.7)
   doors_many total marks [] (e ∷ others) is = absurd is
   doors_many total marks (d ∷ doors) [] is = absurd is
 
   -- together they have given so many more
-  pub doors_gave : told → (total : ℕ) (marks : told → List SessionMarks) (doors others : List O)
-      → AreServedDoors told given_of left_of faults_of back_of stands total marks doors others → sum_by given_of others ≡ sum_by given_of doors + total
+  pub doors_gave : Door.tells → (total : ℕ) (marks : Door.tells → List SessionMarks) (doors others : List O)
+      → AreServedDoors Door stands total marks doors others → sum_by Door.given others ≡ sum_by Door.given doors + total
   doors_gave t total marks [] [] is = let none = is.0 in omega (arith, none)
   doors_gave t total marks (d ∷ doors) (e ∷ others) is =
       let rest = doors_gave t is.1 is.4 doors others is.7 in
       let here = is.6.given t in
       let both = is.2 in
-      let first = sum_by-append given_of (d ∷ []) doors in
-      let second = sum_by-append given_of (e ∷ []) others in
+      let first = sum_by-append Door.given (d ∷ []) doors in
+      let second = sum_by-append Door.given (e ∷ []) others in
       omega (arith, rest, here, both, first, second)
   doors_gave t total marks [] (e ∷ others) is = absurd is
   doors_gave t total marks (d ∷ doors) [] is = absurd is
 
   -- each connection that was left is left, or was given
-  pub doors_left : told → (total : ℕ) (marks : told → List SessionMarks) (doors others : List O)
-      → AreServedDoors told given_of left_of faults_of back_of stands total marks doors others
-      → sum_by left_of doors + sum_by given_of doors ≡ sum_by left_of others + sum_by given_of others
+  pub doors_left : Door.tells → (total : ℕ) (marks : Door.tells → List SessionMarks) (doors others : List O)
+      → AreServedDoors Door stands total marks doors others
+      → sum_by Door.left doors + sum_by Door.given doors ≡ sum_by Door.left others + sum_by Door.given others
   doors_left t total marks [] [] is = refl
   doors_left t total marks (d ∷ doors) (e ∷ others) is =
       let rest = doors_left t is.1 is.4 doors others is.7 in
       let given = is.6.given t in
       let left = is.6.left t in
-      let lefts = sum_by-append left_of (d ∷ []) doors in
-      let lefts' = sum_by-append left_of (e ∷ []) others in
-      let gave = sum_by-append given_of (d ∷ []) doors in
-      let gave' = sum_by-append given_of (e ∷ []) others in
+      let lefts = sum_by-append Door.left (d ∷ []) doors in
+      let lefts' = sum_by-append Door.left (e ∷ []) others in
+      let gave = sum_by-append Door.given (d ∷ []) doors in
+      let gave' = sum_by-append Door.given (e ∷ []) others in
       omega (arith, rest, given, left, lefts, lefts', gave, gave')
   doors_left t total marks [] (e ∷ others) is = absurd is
   doors_left t total marks (d ∷ doors) [] is = absurd is
 
   -- where serving came to its end, no door has a connection left, or the limit was reached
-  pub ended_at : told
-      → (ends_of : O → ℕ) (limit total : ℕ) (marks : told → List SessionMarks) (doors others : List O) (went : Outcome)
-      (refusals : Vec (Option DeskError) Global) (is_broken : Bool) → AreServedDoors told given_of left_of faults_of back_of stands total marks doors others
-      → HasOutcome told left_of ends_of faults_of limit went total others → IsDone (end_of went refusals is_broken)
-      → All (λ door. left_of door ≡ 0) others
-      ⊎ ((sum_by given_of doors + limit ≤ sum_by given_of others + sum_by (λ door. one_if_any (ends_of door)) others)
-      × (sum_by given_of doors + limit < sum_by given_of others + length others))
-  ended_at t ends_of limit total marks doors others outcome.Served refusals is_broken served has done = by (has t)
+  pub ended_at : Door.tells
+      → (limit total : ℕ) (marks : Door.tells → List SessionMarks) (doors others : List O) (went : Outcome)
+      (refusals : Vec (Option DeskError) Global) (is_broken : Bool) → AreServedDoors Door stands total marks doors others
+      → HasOutcome Door limit went total others → IsDone (end_of went refusals is_broken)
+      → All (λ door. Door.left door ≡ 0) others
+      ⊎ ((sum_by Door.given doors + limit ≤ sum_by Door.given others + sum_by (λ door. one_if_any (Door.ends door)) others)
+      × (sum_by Door.given doors + limit < sum_by Door.given others + length others))
+  ended_at t limit total marks doors others outcome.Served refusals is_broken served has done = by (has t)
     where
-      by : All (λ door. left_of door ≡ 0) others
-          ⊎ ((limit ≤ total + sum_by (λ door. one_if_any (ends_of door)) others) × (limit < total + length others))
-          → All (λ door. left_of door ≡ 0) others
-          ⊎ ((sum_by given_of doors + limit ≤ sum_by given_of others + sum_by (λ door. one_if_any (ends_of door)) others)
-          × (sum_by given_of doors + limit < sum_by given_of others + length others))
+      by : All (λ door. Door.left door ≡ 0) others
+          ⊎ ((limit ≤ total + sum_by (λ door. one_if_any (Door.ends door)) others) × (limit < total + length others))
+          → All (λ door. Door.left door ≡ 0) others
+          ⊎ ((sum_by Door.given doors + limit ≤ sum_by Door.given others + sum_by (λ door. one_if_any (Door.ends door)) others)
+          × (sum_by Door.given doors + limit < sum_by Door.given others + length others))
       by (inl none) = inl none
       by (inr (most, more)) =
           let gave = doors_gave t total marks doors others served in
           inr (omega (arith, most, gave), omega (arith, more, gave))
-  ended_at t ends_of limit total marks doors others outcome.LinksFailed refusals is_broken served has done = absurd done
-  ended_at t ends_of limit total marks doors others outcome.Memory refusals is_broken served has done = absurd done
+  ended_at t limit total marks doors others outcome.LinksFailed refusals is_broken served has done = absurd done
+  ended_at t limit total marks doors others outcome.Memory refusals is_broken served has done = absurd done
 
-  pub failed_at : (ends_of : O → ℕ) (limit total : ℕ) (others : List O) (went : Outcome) (refusals : Vec (Option DeskError) Global) (is_broken : Bool)
-      → HasOutcome told left_of ends_of faults_of limit went total others → end_of went refusals is_broken ≡ LinksFault
-      → SomeFailed faults_of others
-  failed_at ends_of limit total others outcome.Served refusals is_broken has is = absurd cc
-  failed_at ends_of limit total others outcome.LinksFailed refusals is_broken has is = has
-  failed_at ends_of limit total others outcome.Memory refusals is_broken has is = absurd cc
+  pub failed_at : (limit total : ℕ) (others : List O) (went : Outcome) (refusals : Vec (Option DeskError) Global) (is_broken : Bool)
+      → HasOutcome Door limit went total others → end_of went refusals is_broken ≡ LinksFault
+      → SomeFailed Door.faults others
+  failed_at limit total others outcome.Served refusals is_broken has is = absurd cc
+  failed_at limit total others outcome.LinksFailed refusals is_broken has is = has
+  failed_at limit total others outcome.Memory refusals is_broken has is = absurd cc
 
 -- an end that says that an append failed came of desks of which one says so
 pub broken_end : (went : Outcome) (refusals : Vec (Option DeskError) Global) (is_broken : Bool) → IsBroken (end_of went refusals is_broken) → is_broken ≡ true
@@ -388,16 +389,16 @@ broken_end outcome.Served refusals is_broken is = is
 broken_end outcome.LinksFailed refusals is_broken is = absurd is
 broken_end outcome.Memory refusals is_broken is = absurd is
 
-module _ (schema : DatabaseSchema) (world : FactSet) (header : List ℕ) (journals : Journals) (users : List User) {O : Type 0} (told : Type 0)
-    (given_of left_of faults_of : O → ℕ) (back_of : O → List Visit) (doors doors' : List O) where
+module _ (schema : DatabaseSchema) (world : FactSet) (header : List ℕ) (journals : Journals) (users : List User) {O S K : Type 0} (Door : DoorGhosts O S K)
+    (doors doors' : List O) where
   -- each end of desks that were opened
-  pub ends_at : (ends_of : O → ℕ) (went : Outcome) (refusals : Vec (Option DeskError) Global) (is_broken : Bool)
-      (serves : ServesDoors schema world header journals users told given_of left_of faults_of back_of doors doors' refusals.items is_broken) (limit : ℕ)
-      → HasOutcome told left_of ends_of faults_of limit went serves.total doors'
-      → EndsDoors schema world header journals users told given_of left_of faults_of back_of doors doors' (end_of went refusals is_broken)
-  ends_at ends_of outcome.Served refusals is_broken serves limit has = serves
-  ends_at ends_of outcome.LinksFailed refusals is_broken serves limit has = inr (refusals.items, is_broken, serves)
-  ends_at ends_of outcome.Memory refusals is_broken serves limit has = inr (refusals.items, is_broken, serves, has)
+  pub ends_at : (went : Outcome) (refusals : Vec (Option DeskError) Global) (is_broken : Bool)
+      (serves : ServesDoors schema world header journals users Door doors doors' refusals.items is_broken) (limit : ℕ)
+      → HasOutcome Door limit went serves.total doors'
+      → EndsDoors schema world header journals users Door doors doors' (end_of went refusals is_broken)
+  ends_at outcome.Served refusals is_broken serves limit has = serves
+  ends_at outcome.LinksFailed refusals is_broken serves limit has = inr (refusals.items, is_broken, serves)
+  ends_at outcome.Memory refusals is_broken serves limit has = inr (refusals.items, is_broken, serves, has)
 
 module _ {D : Type 0} {g h : _} (told disk_told : Type 0) (Disk : DiskGhosts D) (schema : DatabaseSchema)
     (world : FactSet) (header directory : List ℕ) (disk : Text → Option D) (count : Text → ℕ) where

@@ -8,6 +8,7 @@ use Rattle.std.proofs.lemmas.List.Sums.{sum_by-cons, sum_by-append}
 use Rattle.std.proofs.lemmas.List.Elements.{All-from_recursion, recursion_from_All, length_all_zip}
 use Rattle.outside.specs.Faults.{Rose}
 use Rattle.outside.specs.Visits.{Visit, one_if_any}
+use Rattle.outside.specs.declared.links.Door.{Ghosts as DoorGhosts}
 use Rattle.cqe_base.specs.Schema.{DatabaseSchema}
 use Rattle.cqe_base.specs.Facts.{FactSet}
 use Rattle.turnstile.specs.declared.pass.Pass.{Pass}
@@ -58,13 +59,13 @@ module _ {D : Type 0} where
         (subst (λ c. IsServedBy c passes visit mark) same stood schema world within) in
         zip_still (IsServedBy at passes) (IsServedBy counters final) still visits marks stand
 
-module _ {O : Type 0} (told : Type 0) (left_of faults_of : O → ℕ) where
+module _ {O S K : Type 0} (Door : DoorGhosts O S K) where
   -- Workers that ended: where links of one failed, a door has; else no door has a connection left, or one came to the limit.
   abbrev Ended : Type 0 → Bool → List O → Type 0
-  Ended at_limit true doors = SomeFailed faults_of doors
-  Ended at_limit false doors = (told → AllByRecursion (λ door. left_of door ≡ 0) doors) ⊎ at_limit
+  Ended at_limit true doors = SomeFailed Door.faults doors
+  Ended at_limit false doors = (Door.tells → AllByRecursion (λ door. Door.left door ≡ 0) doors) ⊎ at_limit
 
-  at_end : (at_limit : Type 0) (any : Bool) (door : O) (doors : List O) → (told → left_of door ≡ 0) → Ended at_limit any doors
+  at_end : (at_limit : Type 0) (any : Bool) (door : O) (doors : List O) → (Door.tells → Door.left door ≡ 0) → Ended at_limit any doors
       → Ended at_limit any (door ∷ doors)
   at_end at_limit true door doors none others = inr others
   at_end at_limit false door doors none (inl all) = inl (λ t. (none t, all t))
@@ -110,10 +111,10 @@ neither : (a b : Bool) → a || b ≡ false → (a ≡ false) × (b ≡ false)
 neither true b is = absurd cc
 neither false b is = (refl, is)
 
-module _ {D G O : Type 0} {g h : _} (told : Type 0) (given_of left_of ends_of faults_of : O → ℕ) (back_of : O → List Visit) where
+module _ {D G O S K : Type 0} {g h : _} (Door : DoorGhosts O S K) where
   -- a worker before he served and after he ended
   abbrev pub Was : Worker (SessionJobOf (TicketedDesk D g) D G h) O → Worker (SessionJobOf (TicketedDesk D g) D G h) O → Type 0
-  Was = IsServed told given_of left_of ends_of faults_of back_of (λ job. room_in (passes_in (job_passes job))) job_runs (λ first job visits.
+  Was = IsServed Door.tells Door.given Door.left Door.ends Door.faults Door.back (λ job. room_in (passes_in (job_passes job))) job_runs (λ first job visits.
       AreServedBy (job_counters job) (job_passes first) (job_passes job) visits)
       (λ before after. (job_counters after ≡ job_counters before) × ArePassesLater (job_passes before) (job_passes after))
 
@@ -121,14 +122,14 @@ module _ {D G O : Type 0} {g h : _} (told : Type 0) (given_of left_of ends_of fa
   as_long before after was = length_all_zip Was before after was
 
   -- the marks of all their connections
-  abbrev all_told : told → (before after : List (Worker (SessionJobOf (TicketedDesk D g) D G h) O)) → AllZip Was before after → List SessionMarks
+  abbrev all_told : Door.tells → (before after : List (Worker (SessionJobOf (TicketedDesk D g) D G h) O)) → AllZip Was before after → List SessionMarks
   all_told t [] [] was = []
   all_told t (b ∷ before) (a ∷ after) was = (was.0.back t).stand.visit_marks ++ all_told t before after was.1
   all_told t [] (a ∷ after) was = []
   all_told t (b ∷ before) [] was = []
 
   -- are what the passes of workers have of their own that hadn't begun
-  all_own : (counters : CountersOf (TicketedDesk D g) TurnItem (Fixed D) h) (first : Passes D) (t : told) (weight : TurnItem → ℕ) (place : ℕ)
+  all_own : (counters : CountersOf (TicketedDesk D g) TurnItem (Fixed D) h) (first : Passes D) (t : Door.tells) (weight : TurnItem → ℕ) (place : ℕ)
       (before after : List (Worker (SessionJobOf (TicketedDesk D g) D G h) O)) → AllByRecursion (IsWorkerFresh counters first) before
       → (was : AllZip Was before after)
       → sum_by (λ worker. own_weight weight place (passes_in (job_passes worker.job))) after ≡ told_weight weight place (all_told t before after was)
@@ -168,7 +169,7 @@ module _ {D G O : Type 0} {g h : _} (told : Type 0) (given_of left_of ends_of fa
 
     one_served : (first final : Passes D) (before after : Worker (SessionJobOf (TicketedDesk D g) D G h) O) → IsWorkerFresh counters first before
         → AreOn (job_passes after.job) final → HaveSeenLegal (fixeds_of counters) (passes_in final) → (was : Was before after)
-        → IsServedDoor told given_of left_of faults_of back_of (IsServedBy counters final) (job_runs after.job)
+        → IsServedDoor Door (IsServedBy counters final) (job_runs after.job)
         (λ t. (was.back t).stand.visit_marks) before.door after.door
     one_served first final before after fresh on legal was = record {
       given = was.given;
@@ -189,7 +190,7 @@ module _ {D G O : Type 0} {g h : _} (told : Type 0) (given_of left_of ends_of fa
         → AllByRecursion (IsWorkerFresh counters first) before
         → AllByRecursion (λ worker. AreOn (job_passes worker.job) final) after → HaveSeenLegal (fixeds_of counters) (passes_in final)
         → (was : AllZip Was before after)
-        → AreServedDoors told given_of left_of faults_of back_of (IsServedBy counters final) (sum_by (λ worker. job_runs worker.job) after)
+        → AreServedDoors Door (IsServedBy counters final) (sum_by (λ worker. job_runs worker.job) after)
         (λ t. all_told t before after was) (map (λ worker. worker.door) before) (map (λ worker. worker.door) after)
     all_served first final [] [] fresh on legal was = (refl, λ t. refl)
     all_served first final (b ∷ before) (a ∷ after) fresh on legal was = (
@@ -208,9 +209,9 @@ module _ {D G O : Type 0} {g h : _} (told : Type 0) (given_of left_of ends_of fa
   -- ---- the outcome
 
   have_ended : (at_limit : Type 0) (before after : List (Worker (SessionJobOf (TicketedDesk D g) D G h) O))
-      → AllByRecursion (λ worker. faults_of worker.door ≡ 0) before
+      → AllByRecursion (λ worker. Door.faults worker.door ≡ 0) before
       → AllByRecursion (λ worker. worker.ended ≡ Some LimitReached → at_limit) after → AllZip Was before after
-      → Ended told left_of faults_of at_limit (list_any (λ worker. has_links_failed worker.ended) after) (map (λ worker. worker.door) after)
+      → Ended Door at_limit (list_any (λ worker. has_links_failed worker.ended) after) (map (λ worker. worker.door) after)
   have_ended at_limit [] [] whole reached was = inl (λ t. tt)
   have_ended at_limit (b ∷ before) (a ∷ after) whole reached was = by_end a.ended refl was.0.ended (have_ended at_limit before after whole.1 reached.1 was.1)
     where
@@ -220,38 +221,38 @@ module _ {D G O : Type 0} {g h : _} (told : Type 0) (given_of left_of ends_of fa
       any : Bool
       any = list_any (λ worker. has_links_failed worker.ended) after
 
-      by_end : (end : Option WorkerEnd) → a.ended ≡ end → IsSome a.ended → Ended told left_of faults_of at_limit any doors
-          → Ended told left_of faults_of at_limit (has_links_failed a.ended || any) (a.door ∷ doors)
+      by_end : (end : Option WorkerEnd) → a.ended ≡ end → IsSome a.ended → Ended Door at_limit any doors
+          → Ended Door at_limit (has_links_failed a.ended || any) (a.door ∷ doors)
       by_end None is some rest = absurd (none_isnt a.ended is some)
       by_end (Some LinksEnded) is some rest =
-          subst (λ end. Ended told left_of faults_of at_limit (has_links_failed end || any) (a.door ∷ doors)) (sym is)
-          (at_end told left_of faults_of at_limit any a.door doors (was.0.at_end is).1 rest)
+          subst (λ end. Ended Door at_limit (has_links_failed end || any) (a.door ∷ doors)) (sym is)
+          (at_end Door at_limit any a.door doors (was.0.at_end is).1 rest)
       by_end (Some LimitReached) is some rest =
-          subst (λ end. Ended told left_of faults_of at_limit (has_links_failed end || any) (a.door ∷ doors)) (sym is)
-          (at_most told left_of faults_of at_limit any a.door doors (reached.0 is) rest)
+          subst (λ end. Ended Door at_limit (has_links_failed end || any) (a.door ∷ doors)) (sym is)
+          (at_most Door at_limit any a.door doors (reached.0 is) rest)
       by_end (Some LinksHaveFailed) is some rest =
-          subst (λ end. Ended told left_of faults_of at_limit (has_links_failed end || any) (a.door ∷ doors)) (sym is)
-          (inl (rose (faults_of b.door) (faults_of a.door) whole.0 (was.0.at_failure is)))
+          subst (λ end. Ended Door at_limit (has_links_failed end || any) (a.door ∷ doors)) (sym is)
+          (inl (rose (Door.faults b.door) (Door.faults a.door) whole.0 (was.0.at_failure is)))
   have_ended at_limit [] (a ∷ after) whole reached was = absurd was
   have_ended at_limit (b ∷ before) [] whole reached was = absurd was
 
   -- where no links failed, each number that was lost was drawn at a door that answered that no further connection comes
-  lost_at_ends : (before after : List (Worker (SessionJobOf (TicketedDesk D g) D G h) O)) → AllByRecursion (λ worker. ends_of worker.door ≡ 0) before
+  lost_at_ends : (before after : List (Worker (SessionJobOf (TicketedDesk D g) D G h) O)) → AllByRecursion (λ worker. Door.ends worker.door ≡ 0) before
       → AllZip Was before after
       → list_any (λ worker. has_links_failed worker.ended) after ≡ false
-      → sum_by (λ worker. lost worker.ended) after ≤ sum_by (λ door. one_if_any (ends_of door)) (map (λ worker. worker.door) after)
+      → sum_by (λ worker. lost worker.ended) after ≤ sum_by (λ door. one_if_any (Door.ends door)) (map (λ worker. worker.door) after)
   lost_at_ends [] [] unended was none = omega arith
   lost_at_ends (b ∷ before) (a ∷ after) unended was none =
       let two = neither (has_links_failed a.ended) (list_any (λ worker. has_links_failed worker.ended) after) none in
       let here = by_end a.ended refl in
       let others = lost_at_ends before after unended.1 was.1 two.1 in
       let first = sum_by-cons (λ (worker : Worker (SessionJobOf (TicketedDesk D g) D G h) O). lost worker.ended) a after in
-      let second = sum_by-cons (λ (door : O). one_if_any (ends_of door)) a.door (map (λ worker. worker.door) after) in
+      let second = sum_by-cons (λ (door : O). one_if_any (Door.ends door)) a.door (map (λ worker. worker.door) after) in
       omega (arith, here two.0, others, first, second)
     where
-      by_end : (end : Option WorkerEnd) → a.ended ≡ end → has_links_failed end ≡ false → lost end ≤ one_if_any (ends_of a.door)
+      by_end : (end : Option WorkerEnd) → a.ended ≡ end → has_links_failed end ≡ false → lost end ≤ one_if_any (Door.ends a.door)
       by_end None is whole = omega arith
-      by_end (Some LinksEnded) is whole = once (ends_of a.door) (rose (ends_of b.door) (ends_of a.door) unended.0 (was.0.at_end is).0)
+      by_end (Some LinksEnded) is whole = once (Door.ends a.door) (rose (Door.ends b.door) (Door.ends a.door) unended.0 (was.0.at_end is).0)
       by_end (Some LimitReached) is whole = omega arith
       by_end (Some LinksHaveFailed) is whole = absurd cc
   lost_at_ends [] (a ∷ after) unended was none = absurd was
@@ -284,10 +285,10 @@ module _ {D G O : Type 0} {g h : _} (told : Type 0) (given_of left_of ends_of fa
 
   -- how the workers served together
   pub has_outcome : (limit : ℕ) (before after : List (Worker (SessionJobOf (TicketedDesk D g) D G h) O))
-      → AllByRecursion (λ worker. faults_of worker.door ≡ 0) before → AllByRecursion (λ worker. ends_of worker.door ≡ 0) before
+      → AllByRecursion (λ worker. Door.faults worker.door ≡ 0) before → AllByRecursion (λ worker. Door.ends worker.door ≡ 0) before
       → AllByRecursion (λ worker. worker.ended ≡ Some LimitReached
       → limit ≤ sum_by (λ other. job_runs other.job) after + sum_by (λ other. lost other.ended) after) after → AllZip Was before after
-      → HasOutcome told left_of ends_of faults_of limit (crew_outcome after) (sum_by (λ worker. job_runs worker.job) after) (map (λ worker. worker.door) after)
+      → HasOutcome Door limit (crew_outcome after) (sum_by (λ worker. job_runs worker.job) after) (map (λ worker. worker.door) after)
   has_outcome limit before after whole unended reached was =
       of_any (list_any (λ worker. has_links_failed worker.ended) after) refl
       (have_ended (AtLimit limit after) before after whole
@@ -298,11 +299,11 @@ module _ {D G O : Type 0} {g h : _} (told : Type 0) (given_of left_of ends_of fa
       was)
     where
       of_any : (any : Bool) → list_any (λ worker. has_links_failed worker.ended) after ≡ any
-          → Ended told left_of faults_of (AtLimit limit after) any (map (λ worker. worker.door) after)
-          → HasOutcome told left_of ends_of faults_of limit (if any then LinksFailed else Served) (sum_by (λ worker. job_runs worker.job) after)
+          → Ended Door (AtLimit limit after) any (map (λ worker. worker.door) after)
+          → HasOutcome Door limit (if any then LinksFailed else Served) (sum_by (λ worker. job_runs worker.job) after)
           (map (λ worker. worker.door) after)
       of_any true is failed = failed
-      of_any false is (inl all) = λ t. inl (All-from_recursion (λ door. left_of door ≡ 0) (map (λ worker. worker.door) after) (all t))
+      of_any false is (inl all) = λ t. inl (All-from_recursion (λ door. Door.left door ≡ 0) (map (λ worker. worker.door) after) (all t))
       of_any false is (inr (most, fewer)) = λ t.
           let ends = lost_at_ends before after unended was is in
           let many = length-map after (λ (worker : Worker (SessionJobOf (TicketedDesk D g) D G h) O). worker.door) in
@@ -312,7 +313,7 @@ module _ {D G O : Type 0} {g h : _} (told : Type 0) (given_of left_of ends_of fa
   pub served_together : (counters : CountersOf (TicketedDesk D g) TurnItem (Fixed D) h) (first final : Passes D) (limit : ℕ) (outcome : Outcome)
       (doors others : List O) (before after : List (Worker (SessionJobOf (TicketedDesk D g) D G h) O))
       → map (λ worker. worker.door) before ≡ doors → others ≡ map (λ worker. worker.door) after → outcome ≡ crew_outcome after
-      → All (λ door. faults_of door ≡ 0) doors → All (λ door. ends_of door ≡ 0) doors
+      → All (λ door. Door.faults door ≡ 0) doors → All (λ door. Door.ends door ≡ 0) doors
       → All (IsWorkerFresh counters first) before → All (λ worker. AreOn (job_passes worker.job) final) after
       → HaveSeenLegal (fixeds_of counters) (passes_in final)
       → All (λ worker. worker.ended ≡ Some LimitReached → limit ≤ sum_by (λ other. job_runs other.job) after + sum_by (λ other. lost other.ended) after) after
@@ -320,26 +321,26 @@ module _ {D G O : Type 0} {g h : _} (told : Type 0) (given_of left_of ends_of fa
       → ((weight : TurnItem → ℕ) (place : ℕ)
       → own_weight weight place (passes_in final)
       ≡ own_weight weight place (passes_in first) + sum_by (λ worker. own_weight weight place (passes_in (job_passes worker.job))) after)
-      → (total : ℕ) × (marks : told → List SessionMarks)
-      × AreServedDoors told given_of left_of faults_of back_of (IsServedBy counters final) total marks doors others
-      × HasOutcome told left_of ends_of faults_of limit outcome total others × (total ≤ limit)
-      × ((t : told) → OwnMore (passes_in first) (passes_in final) (marks t))
+      → (total : ℕ) × (marks : Door.tells → List SessionMarks)
+      × AreServedDoors Door (IsServedBy counters final) total marks doors others
+      × HasOutcome Door limit outcome total others × (total ≤ limit)
+      × ((t : Door.tells) → OwnMore (passes_in first) (passes_in final) (marks t))
   served_together counters first final limit outcome doors others before after doors_are others_are outcome_is whole unended fresh on legal reached was below
       own =
       let total = sum_by (λ (worker : Worker (SessionJobOf (TicketedDesk D g) D G h) O). job_runs worker.job) after in
-      let marks : told → List SessionMarks = λ t. all_told t before after was in
+      let marks : Door.tells → List SessionMarks = λ t. all_told t before after was in
       let served = all_served counters first final before after (recursion_from_All (IsWorkerFresh counters first) before fresh)
       (recursion_from_All (λ worker. AreOn (job_passes worker.job) final) after on) legal was in
-      let ended = has_outcome limit before after (by_door faults_of whole) (by_door ends_of unended)
+      let ended = has_outcome limit before after (by_door Door.faults whole) (by_door Door.ends unended)
       (recursion_from_All (λ worker. worker.ended ≡ Some LimitReached
       → limit ≤ sum_by (λ other. job_runs other.job) after + sum_by (λ other. lost other.ended) after) after reached) was in (
         total,
         marks,
-        subst (λ ds. AreServedDoors told given_of left_of faults_of back_of (IsServedBy counters final) total marks ds others) doors_are
-            (subst (λ ds. AreServedDoors told given_of left_of faults_of back_of (IsServedBy counters final) total marks
+        subst (λ ds. AreServedDoors Door (IsServedBy counters final) total marks ds others) doors_are
+            (subst (λ ds. AreServedDoors Door (IsServedBy counters final) total marks
             (map (λ worker. worker.door) before) ds) (sym others_are) served),
-        subst (λ o. HasOutcome told left_of ends_of faults_of limit o total others) (sym outcome_is)
-            (subst (λ ds. HasOutcome told left_of ends_of faults_of limit (crew_outcome after) total ds) (sym others_are) ended),
+        subst (λ o. HasOutcome Door limit o total others) (sym outcome_is)
+            (subst (λ ds. HasOutcome Door limit (crew_outcome after) total ds) (sym others_are) ended),
         below,
         λ t place weight.
             let all = own weight place in

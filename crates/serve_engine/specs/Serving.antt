@@ -5,6 +5,7 @@ use Rattle.std.specs.declared.alloc.Global.{Global}
 use Rattle.std.specs.List.{AllZip, list_any, flat_map}
 use Rattle.outside.specs.Faults.{Rose}
 use Rattle.outside.specs.Visits.{Visit}
+use Rattle.outside.specs.declared.links.Door.{Ghosts as DoorGhosts}
 use Rattle.cqe_base.specs.Schema.{DatabaseSchema}
 use Rattle.cqe_base.specs.Facts.{FactSet}
 use Rattle.cqe_base.specs.History.{History, profile_of}
@@ -147,18 +148,18 @@ module _ (schema : DatabaseSchema) (world : FactSet) (header : List ℕ) (journa
   LeavesJournals users Memory = KeepsJournals journals ⊎ LeavesSome users
 
   -- The same of the doors through which they came.
-  module _ (users : List User) {O : Type 0} (told : Type 0) (given_of left_of faults_of : O → ℕ)
-      (back_of : O → List Visit) (doors doors' : List O) where
+  module _ (users : List User) {O S K : Type 0} (Door : DoorGhosts O S K)
+      (doors doors' : List O) where
     -- connections were served, each of the doors' among them
     pub record ServesDoors (refusals : List (Option DeskError)) (is_broken : Bool) : Type 0 where
       pub members : List Member
       pub each_user : HaveServed users members refusals
       pub broken_is : is_broken ≡ list_any member_broke members
       pub total : ℕ
-      pub marks : told → List SessionMarks
-      pub served : AreServedDoors told given_of left_of faults_of back_of
+      pub marks : Door.tells → List SessionMarks
+      pub served : AreServedDoors Door
           (Served schema world users members) total marks doors doors'
-      pub all_told : (t : told) → AreAllTold 0 members (marks t)
+      pub all_told : (t : Door.tells) → AreAllTold 0 members (marks t)
 
     -- the doors are as they were, and so are all journals
     pub record ServesNoDoor : Type 0 where

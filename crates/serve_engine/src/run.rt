@@ -169,7 +169,7 @@ where
     ensures ends { F.tells → EndsDoors registry.now.schema.now registry.now.world.now
         (header_bytes registry.now.header.now)
         (journals_on F.Shelf F.D.Disk registry.now.directory.now shelf.old shelf.new)
-        registry.now.users.now O.tells O.given O.left O.faults O.back doors.items result.1.items
+        registry.now.users.now O.Door doors.items result.1.items
         result.0 }
     ensures ended { O.tells → IsDone result.0
         → All (λ door. O.left door ≡ 0) result.1.items

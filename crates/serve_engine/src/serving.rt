@@ -196,9 +196,9 @@ pub(crate) fn serve_doors<
     ensures on { AreOn passes.old passes.new }
     ensures shares { HaveShares 65 passes.new }
     ensures served { (total : ℕ) × (marks : O.tells → List SessionMarks)
-        × AreServedDoors O.tells O.given O.left O.faults O.back
+        × AreServedDoors O.Door
         (IsServedBy counters.now passes.new) total marks doors.items result.1.items
-        × HasOutcome O.tells O.left O.ends O.faults limit result.0 total result.1.items
+        × HasOutcome O.Door limit result.0 total result.1.items
         × (total ≤ limit)
         × ((t : O.tells) → OwnMore (passes_in passes.old) (passes_in passes.new) (marks t)) }
 {

@@ -134,9 +134,9 @@ pub(crate) fn serve_seats<
     requires unended { All (λ door. O.ends door ≡ 0) doors.items }
     ensures on { AreSeatsOn seats.entry.items result.1.items }
     ensures served { (total : ℕ) × (marks : O.tells → List SessionMarks)
-        × AreServedDoors O.tells O.given O.left O.faults O.back
+        × AreServedDoors O.Door
         (IsServedAt users.now result.1.items) total marks doors.items result.2.items
-        × HasOutcome O.tells O.left O.ends O.faults limit result.0 total result.2.items
+        × HasOutcome O.Door limit result.0 total result.2.items
         × (total ≤ limit)
         × ((t : O.tells)
         → OwnMore (map seat_pass seats.entry.items) (map seat_pass result.1.items) (marks t)) }

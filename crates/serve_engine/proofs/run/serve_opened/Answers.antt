@@ -92,13 +92,13 @@ returns-clause-ends g c shelf_told =
     subst (EndsDoors c.args.registry.now.schema.now c.args.registry.now.world.now (header_bytes c.args.registry.now.header.now)
     (journals_by g.F.D.Disk.reads g.F.D.Disk.image c.args.registry.now.directory.now (g.F.Shelf.disk c.args.shelf.now)
     (g.F.Shelf.disk c.give_back-is_broken.new.shelf) (g.F.Shelf.disk_faults c.args.shelf.now) (g.F.Shelf.disk_faults c.give_back-is_broken.new.shelf))
-    c.args.registry.now.users.now g.O.Door.tells g.O.Door.given g.O.Door.left g.O.Door.faults g.O.Door.back c.args.doors.items
+    c.args.registry.now.users.now g.O.Door c.args.doors.items
     c.serve_seats-outcome.result.2.items) (sym c.end_of.ensures)
     (ends_at c.args.registry.now.schema.now c.args.registry.now.world.now (header_bytes c.args.registry.now.header.now)
     (journals_by g.F.D.Disk.reads g.F.D.Disk.image c.args.registry.now.directory.now (g.F.Shelf.disk c.args.shelf.now)
     (g.F.Shelf.disk c.give_back-is_broken.new.shelf) (g.F.Shelf.disk_faults c.args.shelf.now) (g.F.Shelf.disk_faults c.give_back-is_broken.new.shelf))
-    c.args.registry.now.users.now g.O.Door.tells g.O.Door.given g.O.Door.left g.O.Door.faults g.O.Door.back c.args.doors.items
-    c.serve_seats-outcome.result.2.items g.O.Door.ends c.serve_seats-outcome.result.0 c.refusals_of-refusals.result c.give_back-is_broken.result
+    c.args.registry.now.users.now g.O.Door c.args.doors.items
+    c.serve_seats-outcome.result.2.items c.serve_seats-outcome.result.0 c.refusals_of-refusals.result c.give_back-is_broken.result
     (record {
       members = map seat_member c.serve_seats-outcome.result.1.items;
       each_user = subst
@@ -110,7 +110,7 @@ returns-clause-ends g c shelf_told =
       broken_is = c.give_back-is_broken.ensures.broke ∙ broke_at c.serve_seats-outcome.result.1.items;
       total = served.0;
       marks = served.1;
-      served = served_still g.O.Door.tells g.O.Door.given g.O.Door.left g.O.Door.faults g.O.Door.back
+      served = served_still g.O.Door
           (IsServedAt c.args.registry.now.users.now c.serve_seats-outcome.result.1.items)
           (Served c.args.registry.now.schema.now c.args.registry.now.world.now c.args.registry.now.users.now
           (map seat_member c.serve_seats-outcome.result.1.items))
@@ -149,22 +149,22 @@ returns-clause-ends g c shelf_told =
 pub returns-clause-ended : goal.returns-clause-ended
 returns-clause-ended g c door_told done =
     let served = c.serve_seats-outcome.ensures.served in
-    ended_at g.O.Door.tells g.O.Door.given g.O.Door.left g.O.Door.faults g.O.Door.back
-    (IsServedAt c.args.registry.now.users.now c.serve_seats-outcome.result.1.items) door_told g.O.Door.ends c.args.limit served.0 served.1
+    ended_at g.O.Door
+    (IsServedAt c.args.registry.now.users.now c.serve_seats-outcome.result.1.items) door_told c.args.limit served.0 served.1
     c.args.doors.items c.serve_seats-outcome.result.2.items c.serve_seats-outcome.result.0 c.refusals_of-refusals.result c.give_back-is_broken.result
     served.2 served.3 (subst IsDone c.end_of.ensures done)
 
 pub returns-clause-left : goal.returns-clause-left
 returns-clause-left g c door_told =
     let served = c.serve_seats-outcome.ensures.served in
-    doors_left g.O.Door.tells g.O.Door.given g.O.Door.left g.O.Door.faults g.O.Door.back
+    doors_left g.O.Door
     (IsServedAt c.args.registry.now.users.now c.serve_seats-outcome.result.1.items) door_told served.0 served.1 c.args.doors.items
     c.serve_seats-outcome.result.2.items served.2
 
 pub returns-clause-limited : goal.returns-clause-limited
 returns-clause-limited g c door_told =
     let served = c.serve_seats-outcome.ensures.served in
-    let gave = doors_gave g.O.Door.tells g.O.Door.given g.O.Door.left g.O.Door.faults g.O.Door.back
+    let gave = doors_gave g.O.Door
     (IsServedAt c.args.registry.now.users.now c.serve_seats-outcome.result.1.items) door_told served.0 served.1 c.args.doors.items
     c.serve_seats-outcome.result.2.items served.2 in
     let most = served.4 in
@@ -173,14 +173,14 @@ returns-clause-limited g c door_told =
 pub returns-clause-failed : goal.returns-clause-failed
 returns-clause-failed g c is =
     let served = c.serve_seats-outcome.ensures.served in
-    failed_at g.O.Door.tells g.O.Door.given g.O.Door.left g.O.Door.faults g.O.Door.back
-    (IsServedAt c.args.registry.now.users.now c.serve_seats-outcome.result.1.items) g.O.Door.ends c.args.limit served.0 c.serve_seats-outcome.result.2.items
+    failed_at g.O.Door
+    (IsServedAt c.args.registry.now.users.now c.serve_seats-outcome.result.1.items) c.args.limit served.0 c.serve_seats-outcome.result.2.items
     c.serve_seats-outcome.result.0 c.refusals_of-refusals.result c.give_back-is_broken.result served.3 (sym c.end_of.ensures ∙ is)
 
 pub returns-clause-doors : goal.returns-clause-doors
 returns-clause-doors g c =
     let served = c.serve_seats-outcome.ensures.served in
-    doors_many g.O.Door.tells g.O.Door.given g.O.Door.left g.O.Door.faults g.O.Door.back
+    doors_many g.O.Door
     (IsServedAt c.args.registry.now.users.now c.serve_seats-outcome.result.1.items) served.0 served.1 c.args.doors.items
     c.serve_seats-outcome.result.2.items served.2
 

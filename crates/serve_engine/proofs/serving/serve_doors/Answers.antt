@@ -29,7 +29,7 @@ pub returns-in_default-clause-served : goal.returns-in_default-clause-served
 returns-in_default-clause-served g c = (
   0,
   λ t. [],
-  none_served g.O.Door.tells g.O.Door.given g.O.Door.left g.O.Door.faults g.O.Door.back
+  none_served g.O.Door
       (IsServedBy c.args.counters.now c.args.passes.now) c.args.doors.items,
   refl,
   omega arith,
@@ -40,7 +40,7 @@ pub returns-in_default-split_all-clause-served : goal.returns-in_default-split_a
 returns-in_default-split_all-clause-served g c = (
   0,
   λ t. [],
-  none_served g.O.Door.tells g.O.Door.given g.O.Door.left g.O.Door.faults g.O.Door.back
+  none_served g.O.Door
       (IsServedBy c.args.counters.now c.split_all.new.passes) c.args.doors.items,
   refl,
   omega arith,
@@ -80,7 +80,7 @@ dismiss-requires-clause-room g c κs within =
     let items = c.args.doors.ok.0 in
     let doors = ap length c.crew_of-crew.ensures.doors in
     let crew = length-map c.crew_of-crew.result.items (λ worker. worker.door) in
-    let same = as_long g.O.Door.tells g.O.Door.given g.O.Door.left g.O.Door.ends g.O.Door.faults g.O.Door.back c.crew_of-crew.result.items c.in-Ok.crew.items
+    let same = as_long g.O.Door c.crew_of-crew.result.items c.in-Ok.crew.items
     c.in-Ok.ensures.served in
     let space = c.in-Ok-Ok.ensures'.room in
     omega (arith, counted, items, doors, crew, same, space)
@@ -90,7 +90,7 @@ dismiss-requires-clause-crew g c κs within =
     let first = c.args.passes.now in
     let counters = c.args.counters.now in
     All-from_recursion (IsWorkerBack counters) c.in-Ok.crew.items
-    (are_back g.O.Door.tells g.O.Door.given g.O.Door.left g.O.Door.ends g.O.Door.faults g.O.Door.back counters first c.crew_of-crew.result.items
+    (are_back g.O.Door counters first c.crew_of-crew.result.items
     c.in-Ok.crew.items
     (recursion_from_All (IsWorkerFresh counters first) c.crew_of-crew.result.items (c.crew_of-crew.ensures.fresh first c.in-Some.ensures.parts))
     c.in-Ok.ensures.served)
@@ -101,7 +101,7 @@ dismiss-requires-clause-rest g c κs within =
     let items = c.args.doors.ok.0 in
     let doors = ap length c.crew_of-crew.ensures.doors in
     let crew = length-map c.crew_of-crew.result.items (λ worker. worker.door) in
-    let same = as_long g.O.Door.tells g.O.Door.given g.O.Door.left g.O.Door.ends g.O.Door.faults g.O.Door.back c.crew_of-crew.result.items c.in-Ok.crew.items
+    let same = as_long g.O.Door c.crew_of-crew.result.items c.in-Ok.crew.items
     c.in-Ok.ensures.served in
     let rest = c.in-Some.ensures.rest in
     let total = rest.2 in
@@ -136,7 +136,7 @@ returns-in-Ok-clause-on g c =
 pub returns-in-Ok-clause-served : goal.returns-in-Ok-clause-served
 returns-in-Ok-clause-served g c =
     let first = c.args.passes.now in
-    served_together g.O.Door.tells g.O.Door.given g.O.Door.left g.O.Door.ends g.O.Door.faults g.O.Door.back c.args.counters.now first c.dismiss.new.passes
+    served_together g.O.Door c.args.counters.now first c.dismiss.new.passes
     c.args.limit c.outcome_of-outcome.result c.args.doors.items c.dismiss.result.items
     c.crew_of-crew.result.items c.in-Ok.crew.items c.crew_of-crew.ensures.doors c.dismiss.ensures.doors (search rules) c.requires.whole c.requires.unended
     (c.crew_of-crew.ensures.fresh first c.in-Some.ensures.parts) c.dismiss.ensures.all_on c.dismiss.ensures.these.legal c.in-Ok.ensures.reached
@@ -161,8 +161,8 @@ returns-in-Err-clause-served g c =
     let fresh = c.crew_of-crew.ensures.fresh c.args.passes.now c.in-Some.ensures.parts in (
       0,
       λ t. [],
-      subst (λ ds. AreServedDoors g.O.Door.tells g.O.Door.given g.O.Door.left g.O.Door.faults g.O.Door.back stands 0 (λ t. []) c.args.doors.items ds) (sym back)
-          (none_served g.O.Door.tells g.O.Door.given g.O.Door.left g.O.Door.faults g.O.Door.back stands c.args.doors.items),
+      subst (λ ds. AreServedDoors g.O.Door stands 0 (λ t. []) c.args.doors.items ds) (sym back)
+          (none_served g.O.Door stands c.args.doors.items),
       refl,
       omega arith,
       λ t place weight.
