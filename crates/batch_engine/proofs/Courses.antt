@@ -32,7 +32,7 @@ use Rattle.user_desk.specs.declared.standing.Standing.{Standing}
 use Rattle.user_desk.specs.declared.standing.Standing.TheVariants.{Open, Closed, Sealed}
 use Rattle.desk_crew.specs.Crew.{first_refusal}
 use Rattle.desk_crew.specs.Openings.{OpensNone}
-use Rattle.batch_engine.specs.Lives.{RoseBy, is_ask, is_opened, is_failed, is_refused, failures_in, failures, IsCaused, AreCaused, IsFirstRefusal}
+use Rattle.batch_engine.specs.Lives.{RoseBy, is_ask, is_opened, is_failed_append, is_refused, failures_in, failures, IsCaused, AreCaused, IsFirstRefusal}
 
 -- ---- counts and lists
 
@@ -56,8 +56,8 @@ any-push test [] x = or-false (test x)
 any-push test (y ∷ xs) x = ap (λ b. test y || b) (any-push test xs x) ∙ sym (or_assoc (test y) (list_any test xs) (test x))
 
 -- what is behind an event that failed not, among those before
-unfailed-push : (events : List Event) (event : Event) → list_any is_failed (events ++ event ∷ []) ≡ false → list_any is_failed events ≡ false
-unfailed-push events event whole = or_first (list_any is_failed events) (is_failed event) (sym (any-push is_failed events event) ∙ whole)
+unfailed-push : (events : List Event) (event : Event) → list_any is_failed_append (events ++ event ∷ []) ≡ false → list_any is_failed_append events ≡ false
+unfailed-push events event whole = or_first (list_any is_failed_append events) (is_failed_append event) (sym (any-push is_failed_append events event) ∙ whole)
 
 -- more entries need more bytes
 no_longer_more : (before : List ℕ) (entries more : History) (reads : List ℕ) → IsNoLonger before entries reads → IsNoLonger before (entries ++ more) reads
@@ -65,14 +65,14 @@ no_longer_more before entries more reads is = omega (arith, is, sum_by-append (�
 
 module _ (schema : DatabaseSchema) (world : FactSet) (user : UserProfile) where
   -- where no append failed, none has failed
-  never_broken : (state : UserState) (events : List Event) → state.broken ≡ false → list_any is_failed events ≡ false
+  never_broken : (state : UserState) (events : List Event) → state.broken ≡ false → list_any is_failed_append events ≡ false
       → (after_events schema world user state events).broken ≡ false
   never_broken state [] whole none = whole
   never_broken state (event ∷ events) whole none =
-      never_broken (after_event schema world user state event) events (one event (or_first (is_failed event) (list_any is_failed events) none))
-      (or_second (is_failed event) (list_any is_failed events) none)
+      never_broken (after_event schema world user state event) events (one event (or_first (is_failed_append event) (list_any is_failed_append events) none))
+      (or_second (is_failed_append event) (list_any is_failed_append events) none)
     where
-      one : (e : Event) → is_failed e ≡ false → (after_event schema world user state e).broken ≡ false
+      one : (e : Event) → is_failed_append e ≡ false → (after_event schema world user state e).broken ≡ false
       one (ask text want) unfailed = whole
       one (ask text kept) unfailed = whole
       one (ask text failed) unfailed = absurd cc
@@ -182,7 +182,7 @@ module _ (schema : DatabaseSchema) (world : FactSet) (user : UserProfile) where
     pub record Stays (opened : History) (events : List Event) (image : List ℕ → Type 0) (reads : List ℕ) : Type 0 where
       pub stands : list_any is_opened events ≡ true → (c : List ℕ) → image c
           → Holds schema world user header (after_events schema world user (opening schema world user opened) events) c
-      pub size : list_any is_failed events ≡ false
+      pub size : list_any is_failed_append events ≡ false
           → IsNoLonger bytes (after_events schema world user (opening schema world user opened) events).entries reads
       pub kept : (list_any is_opened events && list_any is_ask events) ≡ false → IsStill image reads
 
@@ -314,7 +314,7 @@ module _ (schema : DatabaseSchema) (world : FactSet) (user : UserProfile) where
       pub held : is_sealed standing ≡ false → list_any is_opened events ≡ true
       pub stands : is_sealed standing ≡ true → list_any is_opened events ≡ true → (c : List ℕ) → image c
           → Holds schema world user header (after_events schema world user (opening schema world user opened) events) c
-      pub size : list_any is_failed events ≡ false
+      pub size : list_any is_failed_append events ≡ false
           → IsNoLonger bytes (after_events schema world user (opening schema world user opened) events).entries reads
       pub kept : (list_any is_opened events && list_any is_ask events) ≡ false → IsStill image reads
 
@@ -370,7 +370,7 @@ module _ (schema : DatabaseSchema) (world : FactSet) (user : UserProfile) where
         stands_by false served some c at =
             subst (λ s. Holds schema world user header s c) (sym (shown_is standing state _ served living.is_in)) (holds served c at)
 
-        size_by : list_any is_failed events ≡ false → (b : Bool) → is_sealed standing ≡ b
+        size_by : list_any is_failed_append events ≡ false → (b : Bool) → is_sealed standing ≡ b
             → IsNoLonger bytes (after_events schema world user (opening schema world user opened) events).entries reads'
         size_by whole true sealed =
             subst (λ r. IsNoLonger bytes (after_events schema world user (opening schema world user opened) events).entries r) (sym (same (inl sealed)).0)

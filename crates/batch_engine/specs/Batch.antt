@@ -18,7 +18,14 @@ use Rattle.desk_crew.specs.Shelved.{Journals, KeepsJournal, KeepsJournals}
 use Rattle.script_lines.specs.Read.{IsReadThrough}
 use Rattle.batch_engine.specs.BatchLines.{BatchItem, asked, restarted, batch_of}
 use Rattle.desk_crew.specs.Openings.{OpensNone, OpensWith}
-use Rattle.batch_engine.specs.Lives.{RoseBy, is_ask, is_opened, is_failed, failures, AreCaused}
+use Rattle.batch_engine.specs.Lives.{
+  RoseBy,
+  is_ask,
+  is_opened,
+  is_failed_append,
+  failures,
+  AreCaused,
+}
 use Rattle.batch_engine.specs.Lives.{IsFirstRefusal}
 use Rattle.batch_engine.specs.declared.run.BatchEnd.{BatchEnd}
 use Rattle.batch_engine.specs.declared.run.BatchEnd.TheVariants.{Done, Script as Refused, ReadFault}
@@ -87,7 +94,7 @@ module _ (schema : DatabaseSchema) (world : FactSet) (header : List ℕ) (journa
         → journals.image user.name c
         → Holds schema world user.profile header (state_after schema world user events) c
     -- where no append failed, his journal has no more bytes than it had, or than his history needs
-    pub size : list_any is_failed (own_events user.name events) ≡ false
+    pub size : list_any is_failed_append (own_events user.name events) ≡ false
         → IsNoLonger (journals.bytes user.name) (state_after schema world user events).entries
         (journals.reads user.name)
     -- and unless one held and he asked, his journal is as it was

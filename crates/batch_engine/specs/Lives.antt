@@ -35,12 +35,12 @@ is_refused (ask text ending) = false
 is_refused (stop text) = false
 
 -- whether it is an append that failed, or that a crash cut
-abbrev pub is_failed : Event → Bool
-is_failed (ask text failed) = true
-is_failed (ask text kept) = false
-is_failed (ask text want) = false
-is_failed (stop text) = true
-is_failed (restart found opened) = false
+abbrev pub is_failed_append : Event → Bool
+is_failed_append (ask text failed) = true
+is_failed_append (ask text kept) = false
+is_failed_append (ask text want) = false
+is_failed_append (stop text) = true
+is_failed_append (restart found opened) = false
 
 -- an append that failed and an opening that was refused count one each
 abbrev pub failures_in : Event → ℕ
