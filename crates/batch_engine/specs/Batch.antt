@@ -17,9 +17,16 @@ use Rattle.user_desk.specs.declared.standing.DeskError.{DeskError}
 use Rattle.desk_crew.specs.Shelved.{Journals, KeepsJournal, KeepsJournals}
 use Rattle.script_lines.specs.Read.{IsReadThrough}
 use Rattle.batch_engine.specs.BatchLines.{BatchItem, asked, restarted, batch_of}
-use Rattle.desk_crew.specs.Openings.{OpensNone, IsOpening}
-use Rattle.batch_engine.specs.Lives.{RoseBy, is_ask, is_opened, is_failed, failures, AreCaused}
-use Rattle.batch_engine.specs.Lives.{IsRefusal}
+use Rattle.desk_crew.specs.Openings.{OpensNone, OpensWith}
+use Rattle.batch_engine.specs.Lives.{
+  RoseBy,
+  is_ask,
+  is_opened,
+  is_failed_append,
+  failures,
+  AreCaused,
+}
+use Rattle.batch_engine.specs.Lives.{IsFirstRefusal}
 use Rattle.batch_engine.specs.declared.run.BatchEnd.{BatchEnd}
 use Rattle.batch_engine.specs.declared.run.BatchEnd.TheVariants.{Done, Script as Refused, ReadFault}
 use Rattle.batch_engine.specs.declared.run.BatchEnd.TheVariants.{WriteFault, ShelfFault, Memory}
@@ -60,7 +67,7 @@ module _ (schema : DatabaseSchema) (world : FactSet) (header : List ℕ) (journa
       Type 0 where
     -- his opening history is the legal one that his journal's bytes stand for, and the empty one
     -- where they open no desk
-    pub opening_is : IsOpening schema world user.profile header
+    pub opening_is : OpensWith schema world user.profile header
         (journals.bytes user.name) user.opened
     -- his replies are those of the run of his own events, whatever others are, ask or are told
     pub private : own_replies user.name (transcript schema world users events)
@@ -87,7 +94,7 @@ module _ (schema : DatabaseSchema) (world : FactSet) (header : List ℕ) (journa
         → journals.image user.name c
         → Holds schema world user.profile header (state_after schema world user events) c
     -- where no append failed, his journal has no more bytes than it had, or than his history needs
-    pub size : list_any is_failed (own_events user.name events) ≡ false
+    pub size : list_any is_failed_append (own_events user.name events) ≡ false
         → IsNoLonger (journals.bytes user.name) (state_after schema world user events).entries
         (journals.reads user.name)
     -- and unless one held and he asked, his journal is as it was
@@ -112,7 +119,7 @@ module _ (schema : DatabaseSchema) (world : FactSet) (header : List ℕ) (journa
   abbrev pub AreRefusals : List ScriptEvent → List NamedUser → List (Option DeskError) → Type 0
   AreRefusals events [] [] = Unit {0}
   AreRefusals events (user ∷ users) (refusal ∷ refusals) =
-      IsRefusal schema world user.profile header (journals.bytes user.name)
+      IsFirstRefusal schema world user.profile header (journals.bytes user.name)
       (journals.before user.name) (journals.now user.name) (own_events user.name events) refusal
       × AreRefusals events users refusals
   AreRefusals events users refusals = ⊥

@@ -39,11 +39,11 @@ use Rattle.cqe_top.specs.declared.report.Report.TheVariants as report
 use Rattle.cqe_top.specs.Audit.{NamesNobody, CanBeAudited, AuditsOverFiles, RunsAudit, FindsNobody, AuditSucceeds}
 use Rattle.cqe_top.specs.Batch.{AnswersOverFiles, RunsBatch, BatchSucceeds}
 use Rattle.cqe_top.specs.Case.{RunsCase}
-use Rattle.cqe_top.specs.Files.{FilesSay, both, Say, SayOn, said_on, IsUnread, Refuses as RefusesBoth, journals_of, new_user}
+use Rattle.cqe_top.specs.Files.{FilesSay, both, Say, SayOn, said_on, IsUnread, IsWhyUnread, journals_of, new_user}
 use Rattle.cqe_top.specs.Init.{Makes, RunsInit, InitSucceeds}
 use Rattle.cqe_top.specs.Promise.{OfReading}
 use Rattle.cqe_top.specs.Ready.{CanBeMade, CanBeOpened}
-use Rattle.cqe_top.specs.Reports.{answers_report, has_refusal, IsDoneUnlessMemory, HasCause}
+use Rattle.cqe_top.specs.Reports.{answers_report, has_refusal, IsDoneUnlessMemory, FaultsHaveCauses}
 use Rattle.cqe_top.specs.Scene.{Scene, IsUntouched, HasRisen, SameInput, SameOutput, SameLinks}
 use Rattle.cqe_top.specs.Tasks.{reading_over}
 use Rattle.cqe_top.specs.declared.over_files.Task.{Task}
@@ -68,7 +68,7 @@ IsBoth said = ⊥
 
 -- files that say both were read, or the shelf failed or memory was wanting
 module _ (s : Scene) (files : FileNames) where
-  pub read_succeeds : (P : PolicyValue → FactSet → List ℕ → Type 0) (end : FilesEnd) → RefusesBoth s.shelf files end → HasCause s (ends.Files end)
+  pub read_succeeds : (P : PolicyValue → FactSet → List ℕ → Type 0) (end : FilesEnd) → IsWhyUnread s.shelf files end → FaultsHaveCauses s (ends.Files end)
       → SayOn s.shelf files P → (HasRisen s.shelf.faults → ⊥) → IsDoneUnlessMemory (ends.Files end)
   read_succeeds P (files_end.Missing name) (inl (none, same)) cause (policy, world, header, says, can) shelf = absurd (subst IsBoth (sym says ∙ none) tt)
   read_succeeds P (files_end.Missing name) (inr (none, same)) cause (policy, world, header, says, can) shelf = absurd (subst IsBoth (sym says ∙ none) tt)
@@ -93,7 +93,8 @@ answers_done users refusals is_broken unrefused unbroken = by (has_refusal refus
 
 -- ---- a case and a run
 
-pub case_succeeds : (s : Scene) (end : CaseEnd) → RunsCase s end → HasCause s (ends.Case end) → s.input.tells → s.output.tells → IsOk (script_of s.input.left)
+pub case_succeeds : (s : Scene) (end : CaseEnd) → RunsCase s end → FaultsHaveCauses s (ends.Case end) → s.input.tells → s.output.tells
+    → IsOk (script_of s.input.left)
     → (HasRisen s.input.faults → ⊥) → (HasRisen s.output.faults → ⊥) → IsDoneUnlessMemory (ends.Case end)
 case_succeeds s case_end.Done ran cause told out_told script read write = inl refl
 case_succeeds s (case_end.Script refusal) ran cause told out_told script read write =
@@ -102,7 +103,8 @@ case_succeeds s case_end.ReadFault ran cause told out_told script read write = a
 case_succeeds s case_end.WriteFault ran cause told out_told script read write = absurd (write (cause.write refl))
 case_succeeds s case_end.Memory ran cause told out_told script read write = inr refl
 
-pub selfrun_succeeds : (s : Scene) (end : SelfrunEnd) → HasCause s (ends.Selfrun end) → (HasRisen s.output.faults → ⊥) → IsDoneUnlessMemory (ends.Selfrun end)
+pub selfrun_succeeds : (s : Scene) (end : SelfrunEnd) → FaultsHaveCauses s (ends.Selfrun end) → (HasRisen s.output.faults → ⊥)
+    → IsDoneUnlessMemory (ends.Selfrun end)
 selfrun_succeeds s selfrun_end.Done cause write = inl refl
 selfrun_succeeds s selfrun_end.WriteFault cause write = absurd (write (cause.write refl))
 selfrun_succeeds s selfrun_end.Memory cause write = inr refl
@@ -121,7 +123,8 @@ all_open policy world header journals (user ∷ users) (one ∷ known) are can =
     (subst (λ u. CanOpen policy.schema world header journals u) (sym same) can.0, all_open policy world header journals users known rest can.1)
 
 module _ (s : Scene) (files : FileNames) where
-  pub batch_succeeds : (users : Vec User Global) (end : BatchEnd) → RunsBatch s.shelf s.input s.output files users end → HasCause s (ends.Batch users end)
+  pub batch_succeeds : (users : Vec User Global) (end : BatchEnd) → RunsBatch s.shelf s.input s.output files users end
+      → FaultsHaveCauses s (ends.Batch users end)
       → BatchSucceeds s.shelf s.input s.output files (ends.Batch users end)
   batch_succeeds users (batch_end.Done refusals is_broken) ran cause told in_told out_told script says shelf read write =
       by (agree (AnswersOverFiles s.shelf s.input s.output files users (batch_end.Done refusals is_broken))
@@ -175,7 +178,7 @@ module _ (s : Scene) (files : FileNames) where
       ⊎ ((why : OpenError) → Refuses header (bytes_on s.shelf.Disk.reads (s.shelf.disk (journal_name files.journals name))) why → ⊥))
       × (Rose (s.shelf.disk_faults (journal_name files.journals name)) (s.shelf.disk_faults' (journal_name files.journals name)) → ⊥)
 
-  pub init_succeeds : (users : Vec User Global) (end : InitEnd) → RunsInit s.shelf files users end → HasCause s (ends.Init users end)
+  pub init_succeeds : (users : Vec User Global) (end : InitEnd) → RunsInit s.shelf files users end → FaultsHaveCauses s (ends.Init users end)
       → InitSucceeds s.shelf files (ends.Init users end)
   init_succeeds users init_end.Done ran cause told says shelf = inl refl
   init_succeeds users (init_end.Refused user why) ran cause told says shelf =
@@ -213,7 +216,8 @@ neither (inl one) some none = some one
 neither (inr two) some none = none two.0
 
 module _ (s : Scene) (files : FileNames) (user : Text) (json : Bool) where
-  pub audit_succeeds : (name : Bor (List ℕ)) (end : AuditEnd) → RunsAudit s.shelf s.output files user json name.now end → HasCause s (ends.Audit name end)
+  pub audit_succeeds : (name : Bor (List ℕ)) (end : AuditEnd) → RunsAudit s.shelf s.output files user json name.now end
+      → FaultsHaveCauses s (ends.Audit name end)
       → AuditSucceeds s.shelf s.output files user json (ends.Audit name end)
   audit_succeeds name audit_end.Done ran cause told out_told says shelf write = inl refl
   audit_succeeds name (audit_end.Refused why) ran cause told out_told says shelf write =
@@ -244,7 +248,8 @@ module _ (s : Scene) (files : FileNames) (user : Text) (json : Bool) where
 -- ---- files that weren't read
 
 -- whatever was to be done over them
-pub unread : (s : Scene) (files : FileNames) (task : Task) (end : FilesEnd) → IsUnread s.shelf files end → HasCause s (ends.Files end) → SameInput s.input
+pub unread : (s : Scene) (files : FileNames) (task : Task) (end : FilesEnd) → IsUnread s.shelf files end → FaultsHaveCauses s (ends.Files end)
+    → SameInput s.input
     → SameOutput s.output → SameLinks s.links
     → OfReading s (Some (reading_over files task)) (ends.Files end)
 unread s files task.Init end is cause input output links = record {

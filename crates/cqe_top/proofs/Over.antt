@@ -14,7 +14,7 @@ use Rattle.batch_engine.specs.Batch as batch
 use Rattle.batch_engine.specs.declared.run.BatchEnd.{BatchEnd}
 use Rattle.command_words.specs.Readings.{FileNames}
 use Rattle.desk_crew.specs.Crew.{named_user}
-use Rattle.desk_crew.specs.Shelved.{Journals, journals_on}
+use Rattle.desk_crew.specs.Shelved.{Journals, journals_by}
 use Rattle.init_engine.specs.Disks as init
 use Rattle.init_engine.specs.Ends.{Change, EndsInit}
 use Rattle.init_engine.specs.declared.end.InitEnd.{InitEnd}
@@ -26,7 +26,7 @@ use Rattle.policy_files.specs.declared.policy.Policy.{Policy}
 use Rattle.serve_engine.specs.Serving as serving
 use Rattle.serve_engine.specs.declared.run.ServeEnd.{ServeEnd}
 use Rattle.cqe_top.specs.Files.{TouchesJournals, journals_of, new_users}
-use Rattle.cqe_top.specs.Init.{change_on, IsOneOf}
+use Rattle.cqe_top.specs.Init.{change_on, NamesOneOf}
 use Rattle.cqe_top.specs.Scene.{shelf_of}
 use Rattle.cqe_top.proofs.Users.{names_are, batch_names_are, new_users_are}
 
@@ -44,7 +44,7 @@ module _ {F D : Type 0} (Shelf : ShelfGhosts F D) (Disk : DiskGhosts D) (old mid
     -- the journals are the same
     pub same_journals : journals_of (shelf_of Shelf Disk mid new) files ≡ journals_of (shelf_of Shelf Disk old new) files
     same_journals =
-        λ i. journals_on Disk.reads Disk.image files.journals (λ name. disks name i) (Shelf.disk new) (λ name. counts name i) (Shelf.disk_faults new)
+        λ i. journals_by Disk.reads Disk.image files.journals (λ name. disks name i) (Shelf.disk new) (λ name. counts name i) (Shelf.disk_faults new)
 
     -- no disk but the journals of the policy's users was touched
     pub touches_over : (policy : Policy) (users : List User) → users ≡ policy.users.items
@@ -145,7 +145,7 @@ is_within (user ∷ users) (suc number) name at = let less : number < length use
 
 pub one_of : {D : Type 0} (told : Type 0) (reads : D → List ℕ) (image : D → List ℕ → Type 0) (header directory : List ℕ) (users others : List User)
     (change : Change D) (made : InitEnd)
-    → users ≡ others → EndsInit told reads image header directory (init.user_names users) change made → IsOneOf others made
+    → users ≡ others → EndsInit told reads image header directory (init.user_names users) change made → NamesOneOf others made
 one_of told reads image header directory users others change (init_end.Refused user why) are ended =
     subst (λ us. user < length us) are (is_within users user ended.name ended.is)
 one_of told reads image header directory users others change init_end.Done are ended = tt

@@ -37,7 +37,7 @@ use Rattle.cqe_top.specs.declared.end.CommandEnd.TheVariants as ends
 use Rattle.cqe_top.specs.Files.{no_policy, bad_policy, no_facts, bad_facts, both, SayOn, said_on, header_for, with_world, with_facts, with_policy, files_say}
 use Rattle.cqe_top.specs.Files.{journals_of}
 use Rattle.cqe_top.specs.Ready.{CanBeOpened}
-use Rattle.cqe_top.specs.Reports.{has_refusal, HasCause, IsDoneUnlessMemory}
+use Rattle.cqe_top.specs.Reports.{has_refusal, FaultsHaveCauses, IsDoneUnlessMemory}
 use Rattle.cqe_top.specs.Scene.{Scene, LinksScene}
 use Rattle.cqe_top.specs.Serve.{ServesOverFiles, RunsServe, ServeSucceeds, IsServedOut}
 use Rattle.cqe_top.proofs.Good.{agree, answers_done}
@@ -143,7 +143,7 @@ module _ (schema : DatabaseSchema) (world : FactSet) (header : List ℕ) (journa
 
 module _ (law : OpensUnrefused) (s : Scene) (files : FileNames) (address : Text) (workers sessions : ℕ) where
   pub serve_succeeds : (users : Vec User Global) (end : ServeEnd) → RunsServe s.shelf s.links files address workers sessions users end
-      → HasCause s (ends.Serve users end)
+      → FaultsHaveCauses s (ends.Serve users end)
       → ServeSucceeds s.shelf s.links files address workers sessions (ends.Serve users end)
   serve_succeeds users (serve_end.Done refusals is_broken) ran cause told links_told says shelf links =
       by (agree (ServesOverFiles s.shelf s.links files address workers sessions users (serve_end.Done refusals is_broken))

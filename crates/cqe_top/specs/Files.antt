@@ -7,7 +7,7 @@ use Rattle.cqe_base.specs.Facts.{FactSet}
 use Rattle.cqe_base.specs.Schema.{Text}
 use Rattle.cqe_base.specs.Transcript.{NamedUser}
 use Rattle.command_words.specs.Readings.{FileNames}
-use Rattle.desk_crew.specs.Shelved.{Journals, journals_on}
+use Rattle.desk_crew.specs.Shelved.{Journals, journals_by}
 use Rattle.log_journal.specs.Names.{journal_name}
 use Rattle.log_journal.specs.Opening.{first_eight}
 use Rattle.policy_files.specs.declared.error.PolicyError.{PolicyError}
@@ -120,7 +120,7 @@ module _ (shelf : ShelfScene) (files : FileNames) where
   -- the journals before the call and behind it
   abbrev pub journals_of : Journals
   journals_of =
-      journals_on shelf.Disk.reads shelf.Disk.image files.journals shelf.disk shelf.disk'
+      journals_by shelf.Disk.reads shelf.Disk.image files.journals shelf.disk shelf.disk'
       shelf.disk_faults shelf.disk_faults'
 
   -- no disk but the journals of a policy's users was touched
@@ -139,17 +139,17 @@ module _ (shelf : ShelfScene) (files : FileNames) where
   -- Why they weren't read: the first of them that isn't there, is refused, or at which the shelf
   -- failed. Where it failed at the policy, the facts weren't looked at; where it failed at the
   -- facts, the policy is there and isn't refused; and memory may always be wanting.
-  abbrev pub Refuses : FilesEnd → Type 0
-  Refuses (Missing name) = IsMissing said_on files name.now
-  Refuses (ShelfFault kind.Policy) = Looks files.policy shelf.looked shelf.looked'
-  Refuses (ShelfFault kind.Facts) = HasPolicy said_on
-  Refuses (Policy why) = said_on ≡ bad_policy why
-  Refuses (Facts why) = said_on ≡ bad_facts why
-  Refuses Memory = Unit {0}
+  abbrev pub IsWhyUnread : FilesEnd → Type 0
+  IsWhyUnread (Missing name) = IsMissing said_on files name.now
+  IsWhyUnread (ShelfFault kind.Policy) = Looks files.policy shelf.looked shelf.looked'
+  IsWhyUnread (ShelfFault kind.Facts) = HasPolicy said_on
+  IsWhyUnread (Policy why) = said_on ≡ bad_policy why
+  IsWhyUnread (Facts why) = said_on ≡ bad_facts why
+  IsWhyUnread Memory = Unit {0}
 
   -- the files weren't read: why, and no disk was touched
   pub record IsUnread (end : FilesEnd) : Type 0 where
-    pub refused : shelf.tells → Refuses end
+    pub refused : shelf.tells → IsWhyUnread end
     pub looks : shelf.tells → LooksAt
     pub disks : SameDisks shelf
 

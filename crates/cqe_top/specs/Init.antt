@@ -30,9 +30,9 @@ change_on shelf = record {
 }
 
 -- a user whose journal is refused is one of these
-abbrev pub IsOneOf : List User → InitEnd → Type 0
-IsOneOf users (init_end.Refused user why) = user < length users
-IsOneOf users end = Unit {0}
+abbrev pub NamesOneOf : List User → InitEnd → Type 0
+NamesOneOf users (init_end.Refused user why) = user < length users
+NamesOneOf users end = Unit {0}
 
 module _ (shelf : ShelfScene) (files : FileNames) where
   -- the journals of these users of the policy were made, or it stopped at the first who can't be
@@ -47,7 +47,7 @@ module _ (shelf : ShelfScene) (files : FileNames) where
   pub record RunsInit (users : Vec User Global) (end : InitEnd) : Type 0 where
     pub over_files : shelf.tells → SayOn shelf files (Makes users end)
     pub looks : shelf.tells → LooksAtBoth shelf files
-    pub within : IsOneOf users.items end
+    pub within : NamesOneOf users.items end
 
   -- the ends that it may have
   abbrev pub InitEnds : CommandEnd → Type 0

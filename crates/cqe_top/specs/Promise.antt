@@ -12,8 +12,8 @@ use Rattle.cqe_top.specs.Batch.{OfBatch}
 use Rattle.cqe_top.specs.Case.{OfCase}
 use Rattle.cqe_top.specs.Complaints.{complaint_of}
 use Rattle.cqe_top.specs.Init.{OfInit}
-use Rattle.cqe_top.specs.Reports.{status_of, report_of, HasCause}
-use Rattle.cqe_top.specs.Scene.{Scene, ShelfScene, Output, HasRisen, IsLater, IsUntouched}
+use Rattle.cqe_top.specs.Reports.{status_of, report_of, FaultsHaveCauses}
+use Rattle.cqe_top.specs.Scene.{Scene, ShelfScene, Output, HasRisen, HasNotFallen, IsUntouched}
 use Rattle.cqe_top.specs.Selfrun.{OfSelfrun}
 use Rattle.cqe_top.specs.Serve.{OfServe}
 
@@ -40,16 +40,16 @@ pub record KeepsShelf (shelf : ShelfScene) : Type 0 where
   pub files : SameNames shelf.file shelf.file'
   pub inside : NoneOut shelf.is_out'
   pub counts : NoneFell shelf.disk_faults shelf.disk_faults'
-  pub later : IsLater shelf.faults
+  pub later : HasNotFallen shelf.faults
 
 -- whatever comes: all disks and doors are back, the input holds what it held, and no count fell
 pub record Always (s : Scene) : Type 0 where
   pub shelf : KeepsShelf s.shelf
   pub held : s.input.held' ≡ s.input.held
   pub doors : s.links.out' ≡ s.links.out
-  pub input_later : IsLater s.input.faults
-  pub output_later : IsLater s.output.faults
-  pub links_later : IsLater s.links.faults
+  pub input_later : HasNotFallen s.input.faults
+  pub output_later : HasNotFallen s.output.faults
+  pub links_later : HasNotFallen s.links.faults
 
 -- The status is that of an end, of which the complaints are told: one of the command of the words.
 -- A fault has its cause.
@@ -60,6 +60,6 @@ pub record Promise (words : List Text) (s : Scene) (complaints : Output) (status
   pub complaint : complaints.tells → AppendsUnless (complaint_of (report_of end))
       complaints.written complaints.written' (HasRisen complaints.faults)
   pub command : OfReading s (reading_of words) end
-  pub cause : HasCause s end
+  pub cause : FaultsHaveCauses s end
   pub always : Always s
-  pub complaints_later : IsLater complaints.faults
+  pub complaints_later : HasNotFallen complaints.faults

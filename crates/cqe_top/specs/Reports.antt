@@ -97,7 +97,7 @@ abbrev pub IsDoneUnlessMemory : CommandEnd → Type 0
 IsDoneUnlessMemory end = (report_of end ≡ Done) ⊎ (report_of end ≡ Memory)
 
 -- a fault is told only where its count rose in the call
-pub record HasCause (s : Scene) (end : CommandEnd) : Type 0 where
+pub record FaultsHaveCauses (s : Scene) (end : CommandEnd) : Type 0 where
   pub read : report_of end ≡ ReadFault → HasRisen s.input.faults
   pub write : report_of end ≡ WriteFault → HasRisen s.output.faults
   pub shelf : report_of end ≡ ShelfFault → HasRisen s.shelf.faults

@@ -179,8 +179,8 @@ abbrev pub HasRisen : Count → Type 0
 HasRisen count = Rose count.before count.now
 
 -- it didn't fall
-abbrev pub IsLater : Count → Type 0
-IsLater count = count.before ≤ count.now
+abbrev pub HasNotFallen : Count → Type 0
+HasNotFallen count = count.before ≤ count.now
 
 -- the object is the same in every respect
 abbrev pub SameInput : Input → Type 0

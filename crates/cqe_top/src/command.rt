@@ -4,7 +4,7 @@ ghost use Rattle.std.specs.Prelude.{◌≡◌, Option, map, string_bytes};
 ghost use Rattle.command_words.specs.Readings.{Reading, reading_of};
 ghost use Rattle.outside.specs.Shelf.{NoneOut};
 ghost use Rattle.cqe_top.specs.Promise.{Promise, OfReading, Always};
-ghost use Rattle.cqe_top.specs.Reports.{HasCause};
+ghost use Rattle.cqe_top.specs.Reports.{FaultsHaveCauses};
 ghost use Rattle.cqe_top.specs.Scene.{scene_of, shelf_of, input_of, output_of, links_of};
 
 use crate::complaint::complain;
@@ -87,7 +87,7 @@ where
         × OfReading (scene_of (shelf_of F.Shelf F.D.Disk shelf.old shelf.new)
         (input_of S.Source source.old source.new) (output_of K.Sink sink.old sink.new)
         (links_of L.Links links.old links.new)) read result }
-    ensures cause { HasCause (scene_of (shelf_of F.Shelf F.D.Disk shelf.old shelf.new)
+    ensures cause { FaultsHaveCauses (scene_of (shelf_of F.Shelf F.D.Disk shelf.old shelf.new)
         (input_of S.Source source.old source.new) (output_of K.Sink sink.old sink.new)
         (links_of L.Links links.old links.new)) result }
     ensures always { Always (scene_of (shelf_of F.Shelf F.D.Disk shelf.old shelf.new)

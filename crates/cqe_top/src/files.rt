@@ -12,7 +12,7 @@ ghost use Rattle.outside.specs.Shelf.{Looks, SameNames};
 ghost use Rattle.policy_files.specs.Memory.{policy_value_of};
 ghost use Rattle.policy_files.specs.Policy.{policy_in};
 ghost use Rattle.policy_files.specs.Facts.{facts_of};
-ghost use Rattle.cqe_top.specs.Files.{both, header_for, said_on, LooksAt, LooksAtBoth, Refuses};
+ghost use Rattle.cqe_top.specs.Files.{both, header_for, said_on, LooksAt, LooksAtBoth, IsWhyUnread};
 ghost use Rattle.cqe_top.specs.Files.{RefusesFile, RefusesPolicy, RefusesFacts, IsShelfFault};
 ghost use Rattle.cqe_top.specs.Scene.{shelf_of};
 
@@ -49,7 +49,7 @@ pub(crate) fn read_files<'w, F: Shelf>(
         has_duplicate (user_names inputs.policy.users.items) ≡ false) }
     ensures both { F.tells → OnOk result (LooksAtBoth
         (shelf_of F.Shelf F.D.Disk shelf.old shelf.new) (names_of_files files.now)) }
-    ensures refused { IfErr result (λ end. F.tells → Refuses
+    ensures refused { IfErr result (λ end. F.tells → IsWhyUnread
         (shelf_of F.Shelf F.D.Disk shelf.old shelf.new) (names_of_files files.now) end) }
     ensures looks { F.tells → LooksAt
         (shelf_of F.Shelf F.D.Disk shelf.old shelf.new) (names_of_files files.now) }

@@ -2,6 +2,8 @@
 use Rattle.std.specs.Prelude.{◌≡◌, ℕ, ◌≤◌, false, List, [], ◌∷◌, Option, Some, None, map}
 use Rattle.std.specs.Prelude.{string_bytes}
 use Rattle.outside.specs.Shelf.{IsTaken, bytes_on, image_on, is_among}
+use Rattle.outside.specs.declared.disk.Disk.{Ghosts as DiskGhosts}
+use Rattle.outside.specs.declared.shelf.Shelf.{Ghosts as ShelfGhosts}
 use Rattle.cqe_base.specs.Schema.{Text, DatabaseSchema}
 use Rattle.cqe_base.specs.Facts.{FactSet}
 use Rattle.cqe_base.specs.declared.user.User.{User}
@@ -20,10 +22,11 @@ pub record Journals : Type 1 where
   pub reads : Text → List ℕ
   pub image : Text → List ℕ → Type 0
 
--- the journals of users in a directory, by what a shelf held as a call began and as it ended
-abbrev pub journals_on : {D : Type 0} → (D → List ℕ) → (D → List ℕ → Type 0) → Text
+-- the journals of users in a directory, by the disks and the counts under their names as a call
+-- began and as it ended
+abbrev pub journals_by : {D : Type 0} → (D → List ℕ) → (D → List ℕ → Type 0) → Text
     → (Text → Option D) → (Text → Option D) → (Text → ℕ) → (Text → ℕ) → Journals
-journals_on reads image directory disk disk' count count' = record {
+journals_by reads image directory disk disk' count count' = record {
   bytes = λ name. bytes_on reads (disk (journal_name directory name));
   image_before = λ name. image_on image (disk (journal_name directory name));
   before = λ name. count (journal_name directory name);
@@ -31,6 +34,12 @@ journals_on reads image directory disk disk' count count' = record {
   reads = λ name. bytes_on reads (disk' (journal_name directory name));
   image = λ name. image_on image (disk' (journal_name directory name));
 }
+
+-- the same by a shelf as a call began and as it ended
+abbrev pub journals_on : {F D : Type 0} → ShelfGhosts F D → DiskGhosts D → Text → F → F → Journals
+journals_on Shelf Disk directory old new =
+    journals_by Disk.reads Disk.image directory (Shelf.disk old) (Shelf.disk new)
+    (Shelf.disk_faults old) (Shelf.disk_faults new)
 
 -- the journal of this name reads as it did, and no crash leaves anything new of it
 abbrev pub KeepsJournal : Journals → Text → Type 0
@@ -57,15 +66,14 @@ AreLater faults count [] = Unit {0}
 AreLater faults count (seat ∷ seats) =
     (count (seat_journal seat) ≤ faults (seat_disk seat)) × AreLater faults count seats
 
-module _ {D : Type 0} (told : Type 0) (reads : D → List ℕ) (image : D → List ℕ → Type 0)
-    (faults : D → ℕ) where
+module _ {D : Type 0} (told : Type 0) (Disk : DiskGhosts D) where
   -- a seat's disk is back, as its desk left it or as one more opening did
   pub record IsBack {g h : _} (disk : Text → Option D) (count : Text → ℕ) (seat : DeskSeat D g h) :
       Type 0 where
     pub now : D
-    pub left : IsLeftBy told reads image faults seat.desk now
+    pub left : IsLeftBy told Disk seat.desk now
     pub held : told → disk (seat_journal seat) ≡ Some now
-    pub counted : count (seat_journal seat) ≡ faults now
+    pub counted : count (seat_journal seat) ≡ Disk.faults now
 
   -- all are
   abbrev pub AreBack : {g h : _} → (Text → Option D) → (Text → ℕ) → List (DeskSeat D g h) → Type 0
@@ -80,10 +88,10 @@ module _ {D : Type 0} (told : Type 0) (reads : D → List ℕ) (image : D → Li
       pub user_is : seat_user seat ≡ user
       pub journal_is : seat_journal seat ≡ journal_name directory (string_bytes user.name)
       pub taken : D
-      pub from : told → IsTaken reads image (disk (seat_journal seat)) taken
-      pub counted : faults taken ≡ count (seat_journal seat)
-      pub opened : IsOpenedFrom schema world header disk_told reads image faults taken None seat
-      pub left : IsLeft reads image faults taken (seat_disk seat)
+      pub from : told → IsTaken Disk.reads Disk.image (disk (seat_journal seat)) taken
+      pub counted : Disk.faults taken ≡ count (seat_journal seat)
+      pub opened : IsOpenedFrom schema world header disk_told Disk taken None seat
+      pub left : IsLeft Disk taken (seat_disk seat)
 
     -- those of all users were
     abbrev pub AreSeatsOf : {g h : _} → (Text → Option D) → (Text → ℕ) → List User

@@ -4,15 +4,14 @@ use Rattle.user_desk.specs.Entries.{StandsWithin}
 use Rattle.user_desk.specs.Standings.{is_sealed}
 use Rattle.user_desk.specs.declared.desk.Desk.{Desk}
 use Rattle.user_desk.specs.Desks.{desk_history, desk_disk, entry_in_flight}
-use Rattle.turnstile.specs.Passes.{first_value, seen, mine}
+use Rattle.turnstile.specs.Passes.{seen}
 use Rattle.desk_counter.specs.declared.item.Fixed.{Fixed}
-use Rattle.desk_counter.specs.Items.{history_of, flying}
+use Rattle.desk_counter.specs.Items.{history_of, flying, items_of, items_with}
 use Rattle.desk_counter.specs.Desks.{fixed_of}
-use Rattle.desk_counter.specs.Tickets.{fixed_in, pairs_in}
+use Rattle.desk_counter.specs.Tickets.{fixed_in}
 use Rattle.desk_counter.specs.Counters.{kept_by}
 use Rattle.desk_counter.proofs.Asking.{one_fixed}
-use Rattle.desk_counter.proofs.Pairs.{history_all}
-use Rattle.desk_counter.proofs.DeskSettles.{history_in, flying_in}
+use Rattle.desk_counter.proofs.DeskSettles.{history_in, flying_in, items_in}
 use Rattle.desk_counter.proofs.Closing.{closed_legal, closed_sizes, closed_whole, closed_images, closed_since, closed_cause, closed_size, closed_idle}
 use Rattle.desk_counter.proofs.Closing.{closed_still}
 use Rattle.desk_counter.proofs.counter.CounterOf+TicketedDesk+D.close.Goals as goal
@@ -23,9 +22,10 @@ returns-clause-history g c =
     ∙ ap (λ ps. history_of ps) c.close.ensures.entries
 
 pub returns-clause-added : goal.returns-clause-added
-returns-clause-added g c =
-    ap (λ ps. history_of ps) (sym c.close.ensures.entries ∙ c.close.ensures.added)
-    ∙ history_all (pairs_in (first_value c.args.self.turnstile)) (mine c.args.pass)
+returns-clause-added g c = sym c.close.ensures.entries ∙ c.close.ensures.added
+
+pub returns-clause-items : goal.returns-clause-items
+returns-clause-items g c = subst (λ ps. items_of ps ≡ items_with (history_of ps) (flying ps)) c.close.ensures.entries (items_in c.close.result)
 
 pub returns-clause-in_flight : goal.returns-clause-in_flight
 returns-clause-in_flight g c =
