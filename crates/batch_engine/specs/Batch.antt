@@ -179,9 +179,10 @@ module _ (schema : DatabaseSchema) (world : FactSet) (header : List ℕ) (journa
     EndsBatch (Refused refusal) before after old new =
         (batch_of before ≡ Err refusal) × LeavesAll old new × IsReadThrough 1 before after
     EndsBatch ReadFault before after old new = LeavesAll old new
-    EndsBatch WriteFault before after old new = BreaksBatch before old new
-    EndsBatch ShelfFault before after old new = LeavesAll old new
-    EndsBatch Memory before after old new = LeavesAll old new ⊎ Stops before old new
+    EndsBatch WriteFault before after old new = (after ≡ []) × BreaksBatch before old new
+    EndsBatch ShelfFault before after old new = (after ≡ []) × LeavesAll old new
+    EndsBatch Memory before after old new =
+        LeavesAll old new ⊎ ((after ≡ []) × Stops before old new)
 
     -- what each end says of the journals alone, where neither the script nor the output is told:
     -- they are as they were, or as the answers to some items leave them

@@ -248,6 +248,7 @@ returns-in-Cut-clause-ends g c =
     λ shelf_told source_told sink_told.
     let reads = c.in-Whole.ensures.reads source_told in
     let is = sym (batch_begins _ _ c.new.ensures) ∙ reads.0 in (
+      reads.1,
       items_of c.in-Whole.batch,
       is,
       finish_some c.args.registry.now.schema.now c.args.registry.now.world.now
@@ -332,6 +333,7 @@ returns-clause-ends g c =
     let is = sym (batch_begins _ _ c.new.ensures) ∙ reads.0 in
     let left = c.in-Memory-answer_all.ensures.answered in
     inr (
+      reads.1,
       items_of c.in-Whole.batch,
       is,
       finish_to c.args.registry.now.schema.now c.args.registry.now.world.now
