@@ -8,3 +8,4 @@ pub mod Recording
 pub mod Since
 pub mod Deciding
 pub mod Sizes
+pub mod Joining
