@@ -1,4 +1,5 @@
 pub mod Courses
+pub mod Along
 pub mod Seating
 pub mod Telling
 pub mod Closing

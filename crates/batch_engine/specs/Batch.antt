@@ -12,9 +12,9 @@ use Rattle.cqe_base.specs.Transcript.{script_opening, Line, reply_line, own_even
 use Rattle.cqe_base.specs.Transcript.{state_after, transcript, line_text}
 use Rattle.user_desk.specs.Causes.{Opens}
 use Rattle.user_desk.specs.Entries.{IsNoLonger}
-use Rattle.user_desk.specs.Lives.{Holds}
+use Rattle.user_desk.specs.Lives.{Holds, HoldsAmid}
 use Rattle.user_desk.specs.declared.standing.DeskError.{DeskError}
-use Rattle.desk_crew.specs.Shelved.{Journals, KeepsJournal, KeepsJournals}
+use Rattle.desk_crew.specs.Shelved.{Journals, KeepsJournal, KeepsJournals, StandsAllAlong}
 use Rattle.script_lines.specs.Read.{IsReadThrough}
 use Rattle.batch_engine.specs.BatchLines.{BatchItem, asked, restarted, batch_of}
 use Rattle.desk_crew.specs.Openings.{OpensNone, IsOpening}
@@ -93,6 +93,13 @@ module _ (schema : DatabaseSchema) (world : FactSet) (header : List ℕ) (journa
     -- and unless one held and he asked, his journal is as it was
     pub kept : (list_any is_opened (own_events user.name events)
         && list_any is_ask (own_events user.name events)) ≡ false → KeepsJournal journals user.name
+    -- At each moment since his journal was first opened each crash leaves his history behind some
+    -- first of his events, or this and the entry in flight; before that, and where no opening held,
+    -- nothing new.
+    pub moments : StandsAllAlong journals user.name
+        (list_any is_opened (own_events user.name events))
+        (HoldsAmid schema world user.profile header
+        (opening schema world user.profile user.opened) (own_events user.name events))
 
   -- what was written answers these items: it is the lines of the transcript of a script in which
   -- all journals are opened, each ask has some ending, and each restart finds and opens what it may

@@ -234,9 +234,8 @@ pub fn run_batch<R: Wait, F: Shelf, S: Source, K: Sink, G: Gate>(
     ensures ends { F.tells → S.tells → K.tells
         → EndsBatch registry.now.schema.now registry.now.world.now
         (header_bytes registry.now.header.now)
-        (journals_on F.D.reads F.D.image registry.now.directory.now (F.disk shelf.old)
-        (F.disk shelf.new)
-        (F.disk_faults shelf.old) (F.disk_faults shelf.new))
+        (journals_on F.D.reads F.D.image F.D.moment F.D.image_since registry.now.directory.now
+        (F.disk shelf.old) (F.disk shelf.new) (F.disk_faults shelf.old) (F.disk_faults shelf.new))
         (map named_user registry.now.users.now) result (S.left source.old) (S.left source.new)
         (K.written sink.old)
         (K.written sink.new) }
@@ -244,7 +243,7 @@ pub fn run_batch<R: Wait, F: Shelf, S: Source, K: Sink, G: Gate>(
     // The same of the journals alone, where neither the script nor the output is told.
     ensures journals { F.tells → LeavesJournals registry.now.schema.now registry.now.world.now
         (header_bytes registry.now.header.now)
-        (journals_on F.D.reads F.D.image registry.now.directory.now
+        (journals_on F.D.reads F.D.image F.D.moment F.D.image_since registry.now.directory.now
         (F.disk shelf.old) (F.disk shelf.new) (F.disk_faults shelf.old) (F.disk_faults shelf.new))
         (map named_user registry.now.users.now) result }
 

@@ -3,6 +3,7 @@ use Rattle.std.proofs.Common.{◌≡◌, ℕ, ◌≤◌, Bool, true, false, List
 use Rattle.std.specs.Prelude.{Option, Some, ◌||◌, bytes_eq}
 use Rattle.std.specs.Cmp.Lexicographic.{same_text}
 use Rattle.outside.specs.Shelf.{SameOthers, is_among, SameBeside, AllOut, AllIn}
+use Rattle.outside.specs.declared.disk.Disk.{Ghosts as DiskGhosts}
 use Rattle.cqe_base.specs.Schema.{Text, DatabaseSchema, has_duplicate}
 use Rattle.cqe_base.specs.Facts.{FactSet}
 use Rattle.cqe_base.proofs.Truths.{or_first, or_second}
@@ -13,7 +14,7 @@ use Rattle.cqe_base.proofs.Lists.{text_is}
 use Rattle.desk_crew.proofs.Shelving.{Parts, parts, among-append, journals-append, back-append, back_on, later-first, later-second, later_on, left_on}
 use Rattle.desk_crew.proofs.Shelving.{among_first, among_second, among_none_first, among_none_second, beside_one}
 
-module _ (schema : DatabaseSchema) (world : FactSet) (header : List ℕ) {D : Type 0} {g h : _} (told shelf_told : Type 0) (reads : D → List ℕ)
+module _ (schema : DatabaseSchema) (world : FactSet) (header : List ℕ) {D : Type 0} {g : DiskGhosts D} {h : _} (told shelf_told : Type 0) (reads : D → List ℕ)
     (image : D → List ℕ → Type 0) (faults : D → ℕ) where
   -- these seats were closed and opened again, and those are still to be
   pub record Halfway (all seats reopened : List (DeskSeat D g h)) : Type 0 where
@@ -79,6 +80,8 @@ module _ (schema : DatabaseSchema) (world : FactSet) (header : List ℕ) {D : Ty
         size = λ t. closed.size (tells t);
         shut = closed.shut;
         still = closed.still;
+        since = λ t. closed.since (tells t);
+        time = closed.time;
       }
 
   -- where the disks of reopened seats are back, those of the seats before are
@@ -94,8 +97,8 @@ module _ (schema : DatabaseSchema) (world : FactSet) (header : List ℕ) {D : Ty
       left = record {
         closed = are.0.closed;
         is_closed = closed_told tells o are.0.closed are.0.is_closed;
-        left = left_on reads image faults are.0.closed (seat_disk n) back.0.now are.0.left
-            (subst (λ d. IsLeft reads image faults d back.0.now) (back.0.left.is_closed.still are.0.opened.fresh) back.0.left.left);
+        left = left_on reads image faults g.moment g.image_since are.0.closed (seat_disk n) back.0.now are.0.left
+            (subst (λ d. IsLeft reads image faults g.moment g.image_since d back.0.now) (back.0.left.is_closed.still are.0.opened.fresh) back.0.left.left);
       };
       held = λ t. ap disk (sym are.0.journal_is) ∙ back.0.held t;
       counted = ap count (sym are.0.journal_is) ∙ back.0.counted;

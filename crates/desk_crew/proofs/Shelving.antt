@@ -7,6 +7,8 @@ use Rattle.std.proofs.Math.Bool.{or-false}
 use Rattle.std.proofs.lemmas.Bool.{eqb-true, or_from, or_left, or_right}
 use Rattle.std.proofs.lemmas.List.{map-append}
 use Rattle.outside.specs.Shelf.{SameOthers, is_among, SameBeside, AllOut, AllIn}
+use Rattle.outside.specs.declared.disk.Disk.{Ghosts as DiskGhosts}
+use Rattle.outside.proofs.Moments.{elapses_none, elapses_then, over_both}
 use Rattle.cqe_base.specs.Schema.{Text, has_duplicate}
 use Rattle.cqe_base.proofs.Truths.{or_first, or_second}
 use Rattle.cqe_base.proofs.Lists.{or_assoc, text_is}
@@ -118,18 +120,29 @@ module _ {D : Type 0} {g h : _} where
       known ∙ ap (λ b. b || so_far) (ap (list_any seat_broke) is ∙ list_any-append seat_broke front (seat ∷ []))
       ∙ or_moved (list_any seat_broke front) (seat_broke seat) so_far ∙ ap (λ b. list_any seat_broke front || (so_far || b)) (sym here)
 
-module _ {D : Type 0} (reads : D → List ℕ) (image : D → List ℕ → Type 0) (faults : D → ℕ) where
-  left_same : (d : D) → IsLeft reads image faults d d
-  left_same d = record { reads_same = refl; images = λ c is. is; later = omega arith }
+module _ {D : Type 0} (reads : D → List ℕ) (image : D → List ℕ → Type 0) (faults moment : D → ℕ) (since : D → ℕ → List ℕ → Type 0) where
+  left_same : ((d : D) (t : ℕ) (c : List ℕ) → t ≤ moment d → image d c → since d t c) → ((d : D) (c : List ℕ) → since d (moment d) c → image d c)
+      → (d : D) → IsLeft reads image faults moment since d d
+  left_same counts_now only_now d = record {
+    reads_same = refl;
+    images = λ c is. is;
+    later = omega arith;
+    time = elapses_none (moment d) (since d) (image d) (counts_now d) (only_now d);
+    rests = only_now d;
+  }
 
-  pub left_on : (a b c : D) → IsLeft reads image faults a b → IsLeft reads image faults b c → IsLeft reads image faults a c
+  pub left_on : (a b c : D) → IsLeft reads image faults moment since a b → IsLeft reads image faults moment since b c
+      → IsLeft reads image faults moment since a c
   left_on a b c first second = record {
     reads_same = second.reads_same ∙ first.reads_same;
     images = λ bytes is. first.images bytes (second.images bytes is);
     later = omega (arith, first.later, second.later);
+    time = elapses_then (moment a) (moment b) (moment c) (since a) (since b) (since c) first.time second.time;
+    rests = over_both (moment a) (moment b) (moment c) (since b) (since c) (image a) first.time.later second.time first.rests
+        (λ bytes here. first.images bytes (second.rests bytes here));
   }
 
-module _ {D : Type 0} {g h : _} where
+module _ {D : Type 0} {g : DiskGhosts D} {h : _} where
   pub journals-append : (xs ys : List (DeskSeat D g h)) → journals (xs ++ ys) ≡ journals xs ++ journals ys
   journals-append xs ys = map-append seat_journal xs ys
 
@@ -231,13 +244,16 @@ module _ {D : Type 0} {g h : _} where
             subst (λ n. n ≤ faults (seat_disk seat)) (sym (so_far.counts (seat_journal seat) next.apart)) next.counted
 
         -- one more is back
-        pub given_more : (seats before : List (DeskSeat D g h)) (seat : DeskSeat D g h) (now : D) (closed : IsClosed told reads image faults seat.desk now)
+        pub given_more : (counts_now : (d : D) (t : ℕ) (c : List ℕ) → t ≤ g.moment d → image d c → g.image_since d t c)
+            (only_now : (d : D) (c : List ℕ) → g.image_since d (g.moment d) c → image d c)
+            (seats before : List (DeskSeat D g h)) (seat : DeskSeat D g h) (now : D) (closed : IsClosed told reads image faults seat.desk now)
             (disk disk' : Text → Option D) (is_out is_out' : Text → Bool) (count count' : Text → ℕ) (one : Text) → one ≡ seat_journal seat
             → before ≡ seats ++ seat ∷ [] → Given before disk is_out count
             → (told → disk' one ≡ Some now) → SameOthers one disk disk' → is_out' one ≡ false → SameOthers one is_out is_out' → count' one ≡ faults now
             → SameOthers one count count'
             → Given seats disk' is_out' count'
-        given_more seats before seat now closed disk disk' is_out is_out' count count' one named is so_far held disks inside outs counted counts =
+        given_more counts_now only_now seats before seat now closed disk disk' is_out is_out' count count' one named is so_far held disks inside outs counted
+            counts =
             let given = so_far.given in
             let split : all ≡ (seats ++ seat ∷ []) ++ given = so_far.split ∙ ap (λ l. l ++ given) is in
             let next : Next seats seat given = next_of seats seat given split in
@@ -248,7 +264,7 @@ module _ {D : Type 0} {g h : _} where
               back = (
                 record {
                   now = now;
-                  left = record { closed = now; is_closed = closed; left = left_same reads image faults now };
+                  left = record { closed = now; is_closed = closed; left = left_same reads image faults g.moment g.image_since counts_now only_now now };
                   held =
                       λ t. ap disk' (sym named) ∙ held t;
                   counted = ap count' (sym named) ∙ counted;

@@ -1,7 +1,10 @@
 -- Users at their desks, and what an ask, a close and an opening make of a desk and of its disk.
 use Rattle.std.specs.Prelude.{◌≡◌, ℕ, ◌≤◌, ◌*◌, ◌^◌, Bool, true, false, List, [], ◌∷◌, ◌++◌}
-use Rattle.std.specs.Prelude.{bytes_eq, Option, Some, None, Result, Ok, Err, string_bytes}
+use Rattle.std.specs.Prelude.{bytes_eq, length, Option, Some, None, Result, Ok, Err, string_bytes}
+use Rattle.std.specs.Prelude.{option_to_list}
+use Rattle.outside.specs.Disk.{Elapses}
 use Rattle.outside.specs.Faults.{Rose}
+use Rattle.outside.specs.declared.disk.Disk.{Ghosts as DiskGhosts}
 use Rattle.cqe_base.specs.Schema.{Text, DatabaseSchema}
 use Rattle.cqe_base.specs.Facts.{FactSet}
 use Rattle.cqe_base.specs.History.{History, profile_of}
@@ -9,7 +12,7 @@ use Rattle.cqe_base.specs.Run.{Reply, UserState}
 use Rattle.cqe_base.specs.Transcript.{NamedUser}
 use Rattle.cqe_base.specs.declared.user.User.{User}
 use Rattle.censors.specs.Admitting.{admission_of}
-use Rattle.user_desk.specs.Causes.{IsStanding}
+use Rattle.user_desk.specs.Causes.{IsStanding, OpensWithin}
 use Rattle.cqe_base.specs.Censor.{IsLegal}
 use Rattle.user_desk.specs.Standings.{is_open, is_sealed}
 use Rattle.user_desk.specs.Entries.{IsNoLonger}
@@ -103,20 +106,23 @@ abbrev pub journal_seated : {D : Type 0} {g h : _} → Result (DeskSeat D g h) (
 journal_seated (Ok seat) = seat_journal seat
 journal_seated (Err returned) = string_bytes returned.journal
 
--- an opening leaves a disk as it was: it reads the same, no crash leaves anything new, and its
--- count of faults didn't fall
+-- an opening leaves a disk as it was: it reads the same, no crash leaves anything new, at no moment
+-- of it either, and its count of faults didn't fall
 pub record IsLeft {D : Type 0} (reads : D → List ℕ) (image : D → List ℕ → Type 0) (faults : D → ℕ)
-    (old new : D) : Type 0 where
+    (moment : D → ℕ) (since : D → ℕ → List ℕ → Type 0) (old new : D) : Type 0 where
   pub reads_same : reads new ≡ reads old
   pub images : (c : List ℕ) → image new c → image old c
   pub later : faults old ≤ faults new
+  pub time : Elapses (moment old) (moment new) (since old) (since new)
+  pub rests : (c : List ℕ) → since new (moment old) c → image old c
 
 -- A desk leaves this disk as it is closed: unless its journal was refused, each image holds the
 -- state that the desk showed, whose history is legal, and is what was put under the counter and
 -- then what the pass has of its own; only of a user who is served has it any; the count rose where
 -- an append failed; where none did, the disk has grown for the entries alone; and where nothing was
--- appended it is as it was at the opening.
-pub record IsClosed {D : Type 0} {g h : _} (told : Type 0) (reads : D → List ℕ)
+-- appended it is as it was at the opening. Since the opening each image opens a desk with a
+-- beginning of the history, with the entry in flight, that has all entries at the opening.
+pub record IsClosed {D : Type 0} {g : DiskGhosts D} {h : _} (told : Type 0) (reads : D → List ℕ)
     (image : D → List ℕ → Type 0) (faults : D → ℕ)
     (desk : SoleOf (TicketedDesk D g) TurnItem (Fixed D) h) (disk : D) : Type 0 where
   pub holds : told → is_sealed (kept_in desk).standing ≡ false → (c : List ℕ) → image disk c
@@ -134,14 +140,21 @@ pub record IsClosed {D : Type 0} {g h : _} (told : Type 0) (reads : D → List �
       → IsNoLonger (reads (kept_in desk).disk) (history_of (pairs_of_sole desk)) (reads disk)
   pub shut : is_sealed (kept_in desk).standing ≡ true → disk ≡ (kept_in desk).disk
   pub still : IsAsOpened (kept_in desk) (pairs_of_sole desk) → disk ≡ (kept_in desk).disk
+  pub since : told → is_sealed (kept_in desk).standing ≡ false → (c : List ℕ)
+      → g.image_since disk (g.moment (kept_in desk).disk) c
+      → OpensWithin (kept_in desk).schema (kept_in desk).world (kept_in desk).user
+      (kept_in desk).header (length (kept_in desk).opening)
+      (history_of (pairs_of_sole desk) ++ option_to_list (flying (pairs_of_sole desk))) c
+  pub time : Elapses (g.moment (kept_in desk).disk) (g.moment disk)
+      (g.image_since (kept_in desk).disk) (g.image_since disk)
 
 -- a desk was closed, and an opening left its disk as this one
-pub record IsLeftBy {D : Type 0} {g h : _} (told : Type 0) (reads : D → List ℕ)
+pub record IsLeftBy {D : Type 0} {g : DiskGhosts D} {h : _} (told : Type 0) (reads : D → List ℕ)
     (image : D → List ℕ → Type 0) (faults : D → ℕ)
     (desk : SoleOf (TicketedDesk D g) TurnItem (Fixed D) h) (now : D) : Type 0 where
   pub closed : D
   pub is_closed : IsClosed told reads image faults desk closed
-  pub left : IsLeft reads image faults closed now
+  pub left : IsLeft reads image faults g.moment g.image_since closed now
 
 module _ (schema : DatabaseSchema) (world : FactSet) where
   -- a seat's user got this reply to a text, and all but his desk's state is as it was
@@ -206,13 +219,13 @@ module _ (schema : DatabaseSchema) (world : FactSet) (header : List ℕ) where
           → Holds schema world (profile_of (seat_user seat)) header (seat_state seat) c
 
     -- a seat was closed and opened again
-    pub record IsReopened {g h : _} (old new : DeskSeat D g h) : Type 0 where
+    pub record IsReopened {g : DiskGhosts D} {h : _} (old new : DeskSeat D g h) : Type 0 where
       pub user_is : seat_user new ≡ seat_user old
       pub journal_is : seat_journal new ≡ seat_journal old
       pub closed : D
       pub is_closed : IsClosed told reads image faults old.desk closed
       pub opened : IsOpenedFrom closed old.refusal new
-      pub left : IsLeft reads image faults closed (seat_disk new)
+      pub left : IsLeft reads image faults g.moment g.image_since closed (seat_disk new)
 
     -- all were
     abbrev pub AreReopened : {g h : _} → List (DeskSeat D g h) → List (DeskSeat D g h) → Type 0

@@ -75,7 +75,8 @@ pub(crate) fn seat_at<'w, D: Disk>(
         (header_bytes registry.now.header.now) D.tells D.reads D.image D.faults disk before) }
     ensures user { IfOk result (λ seat. seat_user seat ≡ user.now) }
     ensures journal { journal_seated result ≡ string_bytes journal }
-    ensures left { IsLeft D.reads D.image D.faults disk (disk_seated result) }
+    ensures left { IsLeft D.reads D.image D.faults D.moment D.image_since disk
+        (disk_seated result) }
 {
     match open_desk(
         alloc,

@@ -82,16 +82,15 @@ where
     // Each connection that was given is served, and each journal is as its user's one history says.
     ensures ends { F.tells → L.tells → EndsServing registry.now.schema.now registry.now.world.now
         (header_bytes registry.now.header.now)
-        (journals_on F.D.reads F.D.image registry.now.directory.now (F.disk shelf.old)
-        (F.disk shelf.new)
-        (F.disk_faults shelf.old) (F.disk_faults shelf.new))
+        (journals_on F.D.reads F.D.image F.D.moment F.D.image_since registry.now.directory.now
+        (F.disk shelf.old) (F.disk shelf.new) (F.disk_faults shelf.old) (F.disk_faults shelf.new))
         registry.now.users.now (L.given links.old) (L.given links.new) (L.back links.old)
         (L.back links.new) result }
 
     // The same of the journals alone, where the connections aren't told.
     ensures journals { F.tells → LeavesJournals registry.now.schema.now registry.now.world.now
         (header_bytes registry.now.header.now)
-        (journals_on F.D.reads F.D.image registry.now.directory.now
+        (journals_on F.D.reads F.D.image F.D.moment F.D.image_since registry.now.directory.now
         (F.disk shelf.old) (F.disk shelf.new) (F.disk_faults shelf.old) (F.disk_faults shelf.new))
         registry.now.users.now result }
 
@@ -179,9 +178,8 @@ where
     requires unended { All (λ door. O.ends door ≡ 0) doors.items }
     ensures ends { F.tells → EndsDoors registry.now.schema.now registry.now.world.now
         (header_bytes registry.now.header.now)
-        (journals_on F.D.reads F.D.image registry.now.directory.now (F.disk shelf.old)
-        (F.disk shelf.new)
-        (F.disk_faults shelf.old) (F.disk_faults shelf.new))
+        (journals_on F.D.reads F.D.image F.D.moment F.D.image_since registry.now.directory.now
+        (F.disk shelf.old) (F.disk shelf.new) (F.disk_faults shelf.old) (F.disk_faults shelf.new))
         registry.now.users.now O.tells O.given O.left O.faults O.back doors.items result.1.items
         result.0 }
     ensures ended { O.tells → IsDone result.0

@@ -1,5 +1,6 @@
 //! Laws of openings. Each function computes nothing: its clause is the law.
 ghost use Rattle.user_desk.specs.Causes.{OpensOnce, OpensOrNot, OpensUnrefused};
+ghost use Rattle.user_desk.specs.Causes.{OpensWhereStands};
 ghost use Rattle.user_desk.specs.Joining.{CallsJoin, LivesEndAsOne, LivesReplyAsOne};
 ghost use Rattle.user_desk.specs.Joining.{LivesStayHidden, SpansJoin};
 
@@ -9,6 +10,11 @@ pub fn law_openings()
     ensures decided { OpensOrNot }
     ensures once { OpensOnce }
     ensures unrefused { OpensUnrefused }
+{}
+
+/// Bytes that stand for a beginning of a legal history within the limits open a desk with it.
+pub fn law_beginnings()
+    ensures { OpensWhereStands }
 {}
 
 /// Lives of the program that follow one another, each over what the one before left, are one run:
