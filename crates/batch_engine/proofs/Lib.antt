@@ -7,3 +7,4 @@ pub mod Shorts
 pub mod Running
 pub mod Ending
 pub mod Failing
+pub mod Joining

@@ -12,3 +12,4 @@ pub mod Apart
 pub mod Backing
 pub mod Histories
 pub mod Connections
+pub mod Joining
