@@ -1,6 +1,6 @@
 -- What the lines of a batch mean for its users, once their disks are back.
 use Rattle.std.proofs.Common.{◌≡◌, inl, inr, ℕ, ◌≤◌, Bool, true, false, List, [], ◌∷◌, ◌++◌, take, map, refl, sym, ap, subst, ◌∙◌, append_assoc}
-use Rattle.std.specs.Prelude.{Option, Some, find, bytes_eq, All, if◌then◌else◌}
+use Rattle.std.specs.Prelude.{Option, Some, None, find, bytes_eq, All, if◌then◌else◌, option_map, IfSome, ◌⊎◌, ◌&&◌}
 use Rattle.std.specs.List.{list_any, AllByRecursion}
 use Rattle.std.proofs.lemmas.List.Elements.{All-head, All-tail}
 use Rattle.outside.specs.Shelf.{bytes_on, image_on}
@@ -20,13 +20,17 @@ use Rattle.user_desk.specs.Entries.{IsNoLonger}
 use Rattle.log_journal.specs.Names.{journal_name}
 use Rattle.batch_engine.specs.BatchLines.{BatchItem}
 use Rattle.desk_crew.specs.Openings.{OpensNone, OpensWith}
-use Rattle.batch_engine.specs.Lives.{RoseBy, is_opened, failures}
+use Rattle.batch_engine.specs.Lives.{RoseBy, is_opened, is_ask, failures}
 use Rattle.batch_engine.specs.Batch.{ServesUser, AnswersBatch, AreRefusals, AppendsAll, AppendsSome, line_bytes, unopened, with_opening}
 use Rattle.desk_crew.specs.Crew.{named_user, seat_standing, seat_state, IsLeft, IsClosed}
-use Rattle.desk_crew.specs.Shelved.{journals_by, IsBack, AreBack}
+use Rattle.cqe_base.specs.Run.{opening}
+use Rattle.user_desk.specs.Lives.{HoldsAmid}
+use Rattle.desk_crew.specs.Shelved.{since_on, journals_by, StandsAllAlong, IsBack, AreBack}
+use Rattle.batch_engine.proofs.Along.{Clock, IsAlong, along_on, amid_all}
+use Rattle.desk_crew.proofs.Lasting.{if_some_on}
 use Rattle.desk_crew.specs.Seats.{DeskSeat}
 use Rattle.batch_engine.proofs.Courses.{Course, course_on, Fits, Stays, stays_on, IsRunning}
-use Rattle.batch_engine.proofs.Seating.{names, IsSeated, AreSeated, close_at}
+use Rattle.batch_engine.proofs.Seating.{names, IsSeated, AreSeated, close_at, along_at}
 use Rattle.batch_engine.proofs.Telling.{SoFar, LastLine}
 
 -- ---- users by their names
@@ -80,6 +84,12 @@ count_of directory count name = count (journal_name directory name)
 abbrev pub images_of : {D : Type 0} → (D → List ℕ → Type 0) → Text → (Text → Option D) → Text → List ℕ → Type 0
 images_of image directory disk name = image_on image (disk (journal_name directory name))
 
+-- the clock of his disk
+abbrev pub clock_of : {D : Type 0} (Disk : DiskGhosts D) → ((d : D) (c : List ℕ) → Disk.image_since d (Disk.moment d) c → Disk.image d c) → Text
+    → (Text → Option D) → Clock Disk
+clock_of Disk only_now directory disk =
+    record { only_now = only_now; begins = λ name. option_map Disk.moment (disk (journal_name directory name)) }
+
 legal_opening : (schema : DatabaseSchema) (world : FactSet) (header c : List ℕ) (user : NamedUser) → EmptyHistoryIsLegal
     → OpensWith schema world user.profile header c user.opened → IsLegal schema world user.profile user.opened
 legal_opening schema world header c user empty (inl opens) = opens.legal
@@ -87,15 +97,18 @@ legal_opening schema world header c user empty (inr (none, is)) = subst (IsLegal
 
 module _ (schema : DatabaseSchema) (world : FactSet) (users : List NamedUser) (header directory : List ℕ) {D : Type 0} {g h : _} (T S : Type 0) (s : S)
     (Disk : DiskGhosts D) (t : T)
-    (read_is_image : (d : D) → T → Disk.image d (Disk.reads d)) (disk disk' : Text → Option D) (count count' : Text → ℕ) where
+    (read_is_image : (d : D) → T → Disk.image d (Disk.reads d)) (only_now : (d : D) (c : List ℕ) → Disk.image_since d (Disk.moment d) c → Disk.image d c)
+    (disk disk' : Text → Option D) (count count' : Text → ℕ) where
   abbrev Seated : NamedUser → List ScriptEvent → DeskSeat D g h → Type 0
   Seated user script seat =
-      IsSeated schema world header directory T Disk t read_is_image (bytes_of Disk.reads directory disk) (count_of directory count)
+      IsSeated schema world header directory T Disk t read_is_image
+      (clock_of Disk only_now directory disk) (bytes_of Disk.reads directory disk) (count_of directory count)
       (images_of Disk.image directory disk) user (own_events user.name script) seat
 
   abbrev AllSeated : List ScriptEvent → List NamedUser → List (DeskSeat D g h) → Type 0
   AllSeated script us seats =
-      AreSeated schema world header directory T Disk t read_is_image (bytes_of Disk.reads directory disk) (count_of directory count)
+      AreSeated schema world header directory T Disk t read_is_image
+      (clock_of Disk only_now directory disk) (bytes_of Disk.reads directory disk) (count_of directory count)
       (images_of Disk.image directory disk) script us seats
 
   -- the disk of a user's journal, which is back
@@ -112,6 +125,10 @@ module _ (schema : DatabaseSchema) (world : FactSet) (users : List NamedUser) (h
     course : Course schema world user.profile header (bytes_of Disk.reads directory disk user.name) (count_of directory count user.name)
         (images_of Disk.image directory disk user.name) user.opened (own_events user.name script) (Disk.reads now)
         (count' (journal_name directory user.name)) seat.refusal
+    began : ℕ
+    began_is : IfSome (option_map Disk.moment (disk (journal_name directory user.name))) (λ begun. begun ≡ began)
+    along : IsAlong schema world user.profile header (images_of Disk.image directory disk user.name) user.opened began (own_events user.name script)
+        (Disk.moment now) (Disk.image_since now)
 
   back : (user : NamedUser) (script : List ScriptEvent) (seat : DeskSeat D g h) → Seated user script seat → IsBack S Disk disk' count' seat
       → Back user script seat
@@ -131,8 +148,11 @@ module _ (schema : DatabaseSchema) (world : FactSet) (users : List NamedUser) (h
         size = λ told. left.is_closed.size s;
         shut = left.is_closed.shut;
         still = left.is_closed.still;
+        since = λ told. left.is_closed.since s;
+        time = left.is_closed.time;
       } in
-      let running = close_at schema world header directory T Disk t read_is_image (bytes_of Disk.reads directory disk) (count_of directory count)
+      let running = close_at schema world header directory T Disk t read_is_image
+      (clock_of Disk only_now directory disk) (bytes_of Disk.reads directory disk) (count_of directory count)
       (images_of Disk.image directory disk) user (own_events user.name script) seat left.closed seated closed in
       record {
         now = is.now;
@@ -150,13 +170,47 @@ module _ (schema : DatabaseSchema) (world : FactSet) (users : List NamedUser) (h
             (Disk.faults left.closed)
             (count' (journal_name directory user.name)) seat.refusal left.left.reads_same
             (subst (λ n. Disk.faults left.closed ≤ n) (sym counted) left.left.later) running.course;
+        began = seated.began;
+        began_is = seated.began_is;
+        along = along_on schema world user.profile header (images_of Disk.image directory disk user.name) user.opened seated.began (own_events user.name script)
+            (Disk.moment left.closed) (Disk.moment is.now) (Disk.image_since left.closed) (Disk.image_since is.now) left.left.time
+            (λ some c at. amid_all schema world user.profile header (opening schema world user.profile user.opened) (own_events user.name script) c
+            (running.stays.stands some c (left.left.rests c at)))
+            (λ none c at. (running.stays.kept (ap (λ b. b && list_any is_ask (own_events user.name script)) none)).1 c (left.left.rests c at))
+            (along_at schema world header directory T Disk t read_is_image
+            (clock_of Disk only_now directory disk) (bytes_of Disk.reads directory disk) (count_of directory count)
+            (images_of Disk.image directory disk) user (own_events user.name script) seat left.closed seated closed);
+      }
+
+  -- what each crash could leave at each moment
+  all_along : (user : NamedUser) (script : List ScriptEvent) (seat : DeskSeat D g h) → Back user script seat
+      → StandsAllAlong (journals_by Disk.reads Disk.image Disk.moment Disk.image_since directory disk disk' count count') user.name
+      (list_any is_opened (own_events user.name script))
+      (HoldsAmid schema world user.profile header (opening schema world user.profile user.opened) (own_events user.name script))
+  all_along user script seat at =
+      let along = at.along in
+      record {
+        opening = along.opens_at;
+        before = if_some_on (option_map Disk.moment (disk (journal_name directory user.name))) (λ begun. begun ≡ at.began)
+            (λ begun. (begun ≤ along.opens_at) × ((c : List ℕ) → since_on Disk.image_since (disk' (journal_name directory user.name)) begun c
+            → image_on Disk.image (disk (journal_name directory user.name)) c
+            ⊎ since_on Disk.image_since (disk' (journal_name directory user.name)) along.opens_at c))
+            (λ begun same. subst (λ b. (b ≤ along.opens_at) × ((c : List ℕ) → since_on Disk.image_since (disk' (journal_name directory user.name)) b c
+            → image_on Disk.image (disk (journal_name directory user.name)) c
+            ⊎ since_on Disk.image_since (disk' (journal_name directory user.name)) along.opens_at c)) (sym same) (
+              along.begun,
+              subst (λ o. (c : List ℕ) → since_on Disk.image_since o at.began c → image_on Disk.image (disk (journal_name directory user.name)) c
+                  ⊎ since_on Disk.image_since o along.opens_at c) (sym at.held) along.before,
+            )) at.began_is;
+        behind = λ some c here. along.behind some c (subst (λ o. since_on Disk.image_since o along.opens_at c) at.held here);
+        never = λ none c here. along.never none c (subst (λ o. since_on Disk.image_since o along.opens_at c) at.held here);
       }
 
   module _ (empty : EmptyHistoryIsLegal) (runs : RunsStayLegal) (hide : ScriptsHide) (alone : TranscriptIsPrivate) (valid : is_valid_schema schema ≡ true) where
     serves : (user : NamedUser) (script : List ScriptEvent) (seat : DeskSeat D g h) → Finds users user → KeepsLimits schema user.profile
         → OpensWith schema world user.profile header (bytes_of Disk.reads directory disk user.name) user.opened
         → Seated user script seat → IsBack S Disk disk' count' seat
-        → ServesUser schema world header (journals_by Disk.reads Disk.image directory disk disk' count count') users script user
+        → ServesUser schema world header (journals_by Disk.reads Disk.image Disk.moment Disk.image_since directory disk disk' count count') users script user
     serves user script seat found limits opening_is seated is =
         let at : Back user script seat = back user script seat seated is in
         let legal = legal_opening schema world header (bytes_of Disk.reads directory disk user.name) user empty opening_is in
@@ -179,6 +233,7 @@ module _ (schema : DatabaseSchema) (world : FactSet) (users : List NamedUser) (h
                 λ c here. (at.stays.kept idle).1 c (subst
                     (λ o. image_on Disk.image o c) at.held here),
               );
+          moments = all_along user script seat at;
         }
       where
         refused_at : (at : Back user script seat) → OpensNone schema world user.profile header (bytes_of Disk.reads directory disk user.name)
@@ -201,7 +256,8 @@ module _ (schema : DatabaseSchema) (world : FactSet) (users : List NamedUser) (h
         → AllByRecursion (λ (u : NamedUser). KeepsLimits schema u.profile) us
         → AllByRecursion (λ (u : NamedUser). OpensWith schema world u.profile header (bytes_of Disk.reads directory disk u.name) u.opened) us
         → AllSeated script us seats → AreBack S Disk disk' count' seats
-        → AllByRecursion (ServesUser schema world header (journals_by Disk.reads Disk.image directory disk disk' count count') users script) us
+        → AllByRecursion (ServesUser schema world header (journals_by Disk.reads Disk.image Disk.moment Disk.image_since directory disk disk' count count')
+        users script) us
     serves_all [] script [] found limits openings seated is = tt
     serves_all [] script (seat ∷ seats) found limits openings seated is = tt
     serves_all (user ∷ us) script [] found limits openings seated is = absurd seated
@@ -210,8 +266,8 @@ module _ (schema : DatabaseSchema) (world : FactSet) (users : List NamedUser) (h
 
     refusals_all : (us : List NamedUser) (script : List ScriptEvent) (seats : List (DeskSeat D g h)) → AllSeated script us seats
         → AreBack S Disk disk' count' seats
-        → AreRefusals schema world header (journals_by Disk.reads Disk.image directory disk disk' count count') script us (map (λ
-        (s : DeskSeat D g h). s.refusal) seats)
+        → AreRefusals schema world header (journals_by Disk.reads Disk.image Disk.moment Disk.image_since directory disk disk' count count') script us
+        (map (λ (s : DeskSeat D g h). s.refusal) seats)
     refusals_all [] script [] seated is = tt
     refusals_all [] script (seat ∷ seats) seated is = absurd seated
     refusals_all (user ∷ us) script [] seated is = absurd seated
@@ -224,14 +280,17 @@ module _ (schema : DatabaseSchema) (world : FactSet) (users : List NamedUser) (h
         (found opened : Text → Bool) where
       abbrev pub Told : List BatchItem → List ℕ → List ℕ → List (DeskSeat D g h) → Bool → Type 0
       Told items old new seats is_broken = (output : List ℕ) × (new ≡ old ++ output)
-          × SoFar schema world users header directory T Disk t read_is_image (bytes_of Disk.reads directory disk) (count_of directory count)
+          × SoFar schema world users header directory T Disk t read_is_image
+          (clock_of Disk only_now directory disk) (bytes_of Disk.reads directory disk) (count_of directory count)
           (images_of Disk.image directory disk) found opened items output seats is_broken
 
       abbrev answers : (items : List BatchItem) (output : List ℕ) (seats : List (DeskSeat D g h)) (is_broken : Bool)
-          → SoFar schema world users header directory T Disk t read_is_image (bytes_of Disk.reads directory disk) (count_of directory count)
+          → SoFar schema world users header directory T Disk t read_is_image
+          (clock_of Disk only_now directory disk) (bytes_of Disk.reads directory disk) (count_of directory count)
           (images_of Disk.image directory disk) found opened items output seats is_broken
           → AreBack S Disk disk' count' seats
-          → AnswersBatch schema world header (journals_by Disk.reads Disk.image directory disk disk' count count') policy items output
+          → AnswersBatch schema world header (journals_by Disk.reads Disk.image Disk.moment Disk.image_since directory disk disk' count count')
+          policy items output
       answers items output seats is_broken so_far is = record {
         users = users;
         of_policy = of_policy;
@@ -246,7 +305,8 @@ module _ (schema : DatabaseSchema) (world : FactSet) (users : List NamedUser) (h
       -- all items were answered
       pub answered_all : (items : List BatchItem) (old new : List ℕ) (seats : List (DeskSeat D g h)) (is_broken : Bool) → Told items old new seats is_broken
           → AreBack S Disk disk' count' seats
-          → AppendsAll schema world header (journals_by Disk.reads Disk.image directory disk disk' count count') policy items old new
+          → AppendsAll schema world header (journals_by Disk.reads Disk.image Disk.moment Disk.image_since directory disk disk' count count')
+          policy items old new
           (map (λ (s : DeskSeat D g h). s.refusal) seats) is_broken
       answered_all items old new seats is_broken (output, written, so_far) is = record {
         written = output;
@@ -258,10 +318,12 @@ module _ (schema : DatabaseSchema) (world : FactSet) (users : List NamedUser) (h
 
       -- the first items were answered, and of the last line a part was written
       pub answered_some : (front back all : List BatchItem) (n : ℕ) (old output line new : List ℕ) (seats : List (DeskSeat D g h))
-          → LastLine schema world users header directory T Disk t read_is_image (bytes_of Disk.reads directory disk) (count_of directory count)
+          → LastLine schema world users header directory T Disk t read_is_image
+          (clock_of Disk only_now directory disk) (bytes_of Disk.reads directory disk) (count_of directory count)
           (images_of Disk.image directory disk) found opened front output line seats
           → AreBack S Disk disk' count' seats → new ≡ (old ++ output) ++ take n line → all ≡ front ++ back
-          → AppendsSome schema world header (journals_by Disk.reads Disk.image directory disk disk' count count') policy all old new
+          → AppendsSome schema world header (journals_by Disk.reads Disk.image Disk.moment Disk.image_since directory disk disk' count count')
+          policy all old new
       answered_some front back all n old output line new seats told is appended split = record {
         front = front;
         back = back;

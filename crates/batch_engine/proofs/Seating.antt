@@ -1,24 +1,25 @@
 -- The users of a batch at their desks, item by item.
 use Rattle.std.proofs.Common.{◌≡◌, ◌⊎◌, inl, inr, ℕ, Bool, true, false, List, [], ◌∷◌, ◌++◌, map, refl, sym, ap, subst, ◌∙◌, append_assoc, append-nil, arith}
-use Rattle.std.proofs.Common.{length}
-use Rattle.std.specs.Prelude.{Option, Some, None, find, bytes_eq, if◌then◌else◌, string_bytes}
+use Rattle.std.proofs.Common.{◌≤◌, length}
+use Rattle.std.specs.Prelude.{Option, Some, None, find, bytes_eq, if◌then◌else◌, string_bytes, ◌&&◌, option_map, option_to_list, IfSome}
 use Rattle.std.specs.List.{list_any, flat_map, AllByRecursion}
 use Rattle.std.specs.Cmp.Lexicographic.{same_text}
 use Rattle.std.proofs.Math.Bool.{or-true}
+use Rattle.std.proofs.lemmas.Bool.{or_right}
+use Rattle.outside.specs.declared.disk.Disk.{Ghosts as DiskGhosts}
 use Rattle.outside.proofs.Taken.{taken_reads, taken_images}
 use Rattle.outside.specs.Shelf.{bytes_on, image_on}
-use Rattle.outside.specs.declared.disk.Disk.{Ghosts as DiskGhosts}
 use Rattle.cqe_base.specs.Schema.{Text, DatabaseSchema, has_duplicate}
 use Rattle.cqe_base.specs.Facts.{FactSet}
 use Rattle.cqe_base.specs.History.{UserProfile, History, profile_of}
 use Rattle.cqe_base.specs.Run
 use Rattle.cqe_base.specs.declared.user.User.{User}
-use Rattle.cqe_base.specs.Run.{Reply, Ending, Event, ask, restart, opening, after_events, reply_to_ask}
+use Rattle.cqe_base.specs.Run.{Reply, Ending, Event, UserState, ask, restart, opening, after_events, reply_to_ask}
 use Rattle.cqe_base.specs.Transcript.{NamedUser, ScriptEvent, script_ask, own_event, own_events, told_after}
 use Rattle.cqe_base.proofs.Lists.{other_text, text_is}
 use Rattle.cqe_base.proofs.Truths.{or_first, or_second}
-use Rattle.user_desk.specs.Causes.{Opens, IsStanding}
-use Rattle.user_desk.specs.Lives.{Holds, Restarts, IsState}
+use Rattle.user_desk.specs.Causes.{Opens, OpensWithin, IsStanding}
+use Rattle.user_desk.specs.Lives.{Holds, HoldsAmid, Restarts, IsState}
 use Rattle.user_desk.specs.Standings.{is_sealed}
 use Rattle.desk_counter.specs.declared.item.Fixed.{Fixed}
 use Rattle.desk_counter.specs.Items.{flying}
@@ -27,7 +28,7 @@ use Rattle.desk_counter.specs.Sole.{pairs_of_sole}
 use Rattle.log_journal.specs.Names.{journal_name}
 use Rattle.desk_crew.specs.Openings.{OpensNone, OpensWith}
 use Rattle.batch_engine.specs.Batch.{unopened}
-use Rattle.batch_engine.specs.Lives.{is_ask}
+use Rattle.batch_engine.specs.Lives.{is_ask, is_opened}
 use Rattle.desk_crew.specs.Shelved.{IsSeatOf, AreSeatsOf}
 use Rattle.desk_crew.specs.Crew.{named_user, first_refusal, seat_user, seat_name, seat_journal, seat_kept, seat_standing, seat_history, seat_state, seat_disk}
 use Rattle.desk_crew.specs.Crew.{IsSeatIn, IsSeatAsOpened, is_named, IsClosed, IsSeatServed, IsToldAt, IsReopened, AreReopened, Tells, nobody, here, further}
@@ -35,6 +36,8 @@ use Rattle.desk_crew.proofs.Asking.{still_served}
 use Rattle.desk_crew.specs.Seats.{DeskSeat}
 use Rattle.batch_engine.proofs.Courses.{any-push, Course, course_on, stays_on, IsRunning, IsLiving, live, closing, Asked, ask_step, Restarted, IsExclusive}
 use Rattle.batch_engine.proofs.Courses.{open_step}
+use Rattle.batch_engine.proofs.Along.{Clock, IsAlong, along_first, along_event, along_on, along_open, amid_all, amid_within, no_fewer, shown_at}
+use Rattle.desk_crew.proofs.Lasting.{taken_moment}
 
 -- ---- lists and texts
 
@@ -61,6 +64,11 @@ module _ (event : (Text → Bool) → (Text → Bool) → ScriptEvent) (own : (n
       own-push name script (event found opens) ∙ ap (λ es. own_events name script ++ es) (own name found opens)
       ∙ ap (λ b. own_events name script ++ restart b (opens name) ∷ []) is_found ∙ ap (λ b. own_events name script ++ restart f b ∷ []) is_open
 
+-- an opening that held, among the events behind which it stands
+opened_behind : (events : List Event) (found opens : Bool) → opens ≡ true → list_any is_opened (events ++ restart found opens ∷ []) ≡ true
+opened_behind events found opens held =
+    any-push is_opened events (restart found opens) ∙ or_right (list_any is_opened events) opens held
+
 -- the course of a user whose journal wasn't opened yet
 module _ (schema : DatabaseSchema) (world : FactSet) (header : List ℕ) (bytes : Text → List ℕ) (before : Text → ℕ) (images : Text → List ℕ → Type 0) where
   first_course : (user : UserProfile) (name : Text) (opened : History) (now : ℕ) (c : List ℕ) → now ≡ before name → c ≡ bytes name
@@ -80,7 +88,7 @@ module _ (schema : DatabaseSchema) (world : FactSet) (header : List ℕ) (bytes 
       record { later = omega (arith, counted); caused = tt; fits = inr (none, empty, same, refl); refused = refl }
 
 module _ (schema : DatabaseSchema) (world : FactSet) (header directory : List ℕ) {D : Type 0} {g h : _} (T : Type 0) (Disk : DiskGhosts D) (t : T)
-    (read_is_image : (d : D) → T → Disk.image d (Disk.reads d))
+    (read_is_image : (d : D) → T → Disk.image d (Disk.reads d)) (clock : Clock Disk)
     (bytes : Text → List ℕ) (before : Text → ℕ) (images : Text → List ℕ → Type 0) where
   -- a user sits at his desk behind these events of his
   pub record IsSeated (user : NamedUser) (events : List Event) (seat : DeskSeat D g h) : Type 0 where
@@ -91,6 +99,12 @@ module _ (schema : DatabaseSchema) (world : FactSet) (header directory : List �
     pub living : IsLiving schema world user.profile header (bytes user.name) (before user.name) (images user.name) user.opened events (seat_standing seat)
         (seat_state seat) (Disk.image (seat_disk seat)) (Disk.reads (seat_disk seat)) (Disk.faults (seat_disk seat)) seat.refusal
     pub fresh : list_any is_ask events ≡ false → IsSeatAsOpened seat
+    -- the moment at which the call began, and what each crash could leave since; at his desk's opening there were as many entries as at first
+    pub began : ℕ
+    pub began_is : IfSome (clock.begins user.name) (λ begun. begun ≡ began)
+    pub along : IsAlong schema world user.profile header (images user.name) user.opened began events (Disk.moment (seat_disk seat))
+        (Disk.image_since (seat_disk seat))
+    pub least : is_sealed (seat_standing seat) ≡ false → length user.opened ≤ length (seat_kept seat).opening
 
   -- all do, behind the events of a script
   abbrev pub AreSeated : List ScriptEvent → List NamedUser → List (DeskSeat D g h) → Type 0
@@ -134,6 +148,15 @@ module _ (schema : DatabaseSchema) (world : FactSet) (header directory : List �
               (events ++ ask text asked.ending ∷ []) f.standing (seat_state new) (Disk.image f.disk) (Disk.reads f.disk) (Disk.faults f.disk) old.refusal)
               (sym kept) asked.living);
           fresh = λ none. let e : true ≡ false = sym (any-push is_ask events (ask text asked.ending) ∙ or-true (list_any is_ask events)) ∙ none in absurd cc;
+          began = seated.began;
+          began_is = seated.began_is;
+          along = subst (λ (f : Fixed D).
+              IsAlong schema world user.profile header (images user.name) user.opened seated.began (events ++ ask text asked.ending ∷ []) (Disk.moment f.disk)
+              (Disk.image_since f.disk)) (sym kept)
+              (along_event schema world user.profile header (images user.name) user.opened seated.began events (ask text asked.ending)
+              (Disk.moment (seat_disk old)) (Disk.image_since (seat_disk old)) refl seated.along);
+          least = λ served. subst (λ (f : Fixed D). length user.opened ≤ length f.opening) (sym kept)
+              (seated.least (ap (λ (f : Fixed D). is_sealed f.standing) (sym kept) ∙ served));
         };
       }
 
@@ -235,7 +258,53 @@ module _ (schema : DatabaseSchema) (world : FactSet) (header directory : List �
       left_as : disk ≡ seat_disk seat → (Disk.reads disk ≡ Disk.reads (seat_disk seat)) × ((c : List ℕ) → Disk.image disk c → Disk.image (seat_disk seat) c)
       left_as same = (ap Disk.reads same, λ c at. subst (λ d. Disk.image d c) same at)
 
+  -- what each crash could leave up to a close
+  pub along_at : (user : NamedUser) (events : List Event) (seat : DeskSeat D g h) (disk : D) (seated : IsSeated user events seat)
+      → IsClosed T Disk seat.desk disk
+      → IsAlong schema world user.profile header (images user.name) user.opened seated.began events (Disk.moment disk) (Disk.image_since disk)
+  along_at user events seat disk seated closed = by (is_sealed (seat_standing seat)) refl
+    where
+      state : UserState
+      state = after_events schema world user.profile (opening schema world user.profile user.opened) events
+
+      amid : is_sealed (seat_standing seat) ≡ false → (c : List ℕ) → Disk.image_since disk (Disk.moment (seat_disk seat)) c
+          → HoldsAmid schema world user.profile header (opening schema world user.profile user.opened) events c
+      amid served c at =
+          let least = length (seat_kept seat).opening in
+          let all = seat_history seat ++ option_to_list (flying (pairs_of_sole seat.desk)) in
+          amid_within schema world user.profile header (opening schema world user.profile user.opened) events least c (seated.least served)
+          (subst (λ (s : UserState). OpensWithin schema world user.profile header least (s.entries ++ option_to_list s.pending) c)
+          (sym (shown_at (seat_standing seat) (seat_state seat) state served seated.living.is_in))
+          (subst (λ s. OpensWithin s world user.profile header least all c) seated.served.schema_is
+          (subst (λ w. OpensWithin (seat_kept seat).schema w user.profile header least all c) seated.served.world_is
+          (subst (λ p. OpensWithin (seat_kept seat).schema (seat_kept seat).world p header least all c) (seated.served.user_is ∙ seated.profile_is)
+          (subst (λ k. OpensWithin (seat_kept seat).schema (seat_kept seat).world (seat_kept seat).user k least all c) seated.served.header_is
+          (closed.since t served c at))))))
+
+      by : (b : Bool) → is_sealed (seat_standing seat) ≡ b
+          → IsAlong schema world user.profile header (images user.name) user.opened seated.began events (Disk.moment disk) (Disk.image_since disk)
+      by true sealed =
+          subst (λ d. IsAlong schema world user.profile header (images user.name) user.opened seated.began events (Disk.moment d) (Disk.image_since d))
+          (sym (closed.shut sealed)) seated.along
+      by false served =
+          along_on schema world user.profile header (images user.name) user.opened seated.began events (Disk.moment (seat_disk seat)) (Disk.moment disk)
+          (Disk.image_since (seat_disk seat)) (Disk.image_since disk) closed.time (λ some. amid served)
+          (λ none. let e : true ≡ false = sym (seated.living.held served) ∙ none in absurd cc) seated.along
+
   -- ---- openings
+
+  -- at an opening there are as many entries as at first
+  least_at : (user : NamedUser) (events : List Event) (seat : DeskSeat D g h) → (seat_kept seat).opening ≡ seat_history seat
+      → is_sealed (seat_standing seat) ≡ false
+      → IsState (seat_standing seat) (seat_state seat) (after_events schema world user.profile (opening schema world user.profile user.opened) events)
+      → length user.opened ≤ length (seat_kept seat).opening
+  least_at user events seat first served is =
+      let end : UserState = after_events schema world user.profile (opening schema world user.profile user.opened) events in
+      let more : length user.opened ≤ length end.entries = no_fewer schema world user.profile (opening schema world user.profile user.opened) events in
+      let same : length end.entries ≡ length (seat_history seat) = ap (λ (s : UserState). length s.entries)
+      (shown_at (seat_standing seat) (seat_state seat) end served is) in
+      let count : length (seat_kept seat).opening ≡ length (seat_history seat) = ap length first in
+      omega (arith, more, same, count)
 
   -- the choices of a user's opening
   abbrev pub Choice : NamedUser → List Event → DeskSeat D g h → Type 0
@@ -341,6 +410,18 @@ module _ (schema : DatabaseSchema) (world : FactSet) (header directory : List �
                 (events ++ restart step.found step.opens ∷ []) (seat_standing new) (seat_state new) (Disk.image (seat_disk new)) (Disk.reads (seat_disk new))
                 (Disk.faults (seat_disk new)) (first_refusal old.refusal (seat_standing new)) step.running);
             fresh = λ none. opened.fresh;
+            began = seated.began;
+            began_is = seated.began_is;
+            along = along_open schema world user.profile header (images user.name) user.opened seated.began events step.found step.opens (Disk.moment closed)
+                (Disk.moment (seat_disk new)) (Disk.image_since closed) (Disk.image_since (seat_disk new)) (Disk.image closed) again.left.time again.left.rests
+                (λ some c at. amid_all schema world user.profile header (opening schema world user.profile user.opened) events c
+                (running.stays.stands some c at))
+                (λ none c at. (running.stays.kept (ap (λ b. b && list_any is_ask events) none)).1 c at)
+                (λ held c at. amid_all schema world user.profile header (opening schema world user.profile user.opened)
+                (events ++ restart step.found step.opens ∷ []) c
+                (step.running.stays.stands (opened_behind events step.found step.opens held) c (clock.only_now (seat_disk new) c at)))
+                (along_at user events old closed seated again.is_closed);
+            least = λ served. least_at user (events ++ restart step.found step.opens ∷ []) new opened.opening_is served step.running.is_in;
           },
         )
 
@@ -361,7 +442,7 @@ module _ (schema : DatabaseSchema) (world : FactSet) (header directory : List �
         → bytes name ≡ bytes_on Disk.reads (disk (journal_name directory name))) (counts_are : (name : Text)
         → before name ≡ count (journal_name directory name)) (images_are : (name : Text) (c : List ℕ)
         → image_on Disk.image (disk (journal_name directory name)) c
-        → images name c) where
+        → images name c) (begins_are : (name : Text) → clock.begins name ≡ option_map Disk.moment (disk (journal_name directory name))) where
       -- a user with the history with which his journal is opened
       pub record Begun (user : User) (seat : DeskSeat D g h) : Type 0 where
         pub opened : History
@@ -380,6 +461,9 @@ module _ (schema : DatabaseSchema) (world : FactSet) (header directory : List �
           same ∙ taken_reads Disk.reads Disk.image (disk (seat_journal seat)) is.taken (is.from s) ∙ ap (λ j. bytes_on Disk.reads (disk j)) is.journal_is
           ∙ sym (bytes_are name) in
           let counted : Disk.faults is.taken ≡ before name = is.counted ∙ ap count is.journal_is ∙ sym (counts_are name) in
+          let first : (c : List ℕ) → Disk.image is.taken c → images name c = λ c at.
+          images_are name c (subst (λ j. image_on Disk.image (disk j) c) is.journal_is
+          (taken_images Disk.reads Disk.image (disk (seat_journal seat)) is.taken c (is.from s) at)) in
           let step : Restarted schema world (profile_of user) header (bytes name) (before name) (images name) opened [] (seat_standing seat) (seat_state seat)
           (Disk.image (seat_disk seat)) (Disk.reads (seat_disk seat)) (Disk.faults (seat_disk seat)) (first_refusal None (seat_standing seat)) =
           open_step schema world (profile_of user) header (bytes name) (before name) (images name) (exclusive (profile_of user)) T t opened []
@@ -390,12 +474,7 @@ module _ (schema : DatabaseSchema) (world : FactSet) (header directory : List �
           (record {
             stands = λ held. let e : false ≡ true = held in absurd cc;
             size = λ whole. let size = ap length read in omega (arith, size);
-            kept = λ idle. (
-              read,
-              λ c at. images_are name c
-                  (subst (λ j. image_on Disk.image (disk j) c) is.journal_is
-                  (taken_images Disk.reads Disk.image (disk (seat_journal seat)) is.taken c (is.from s) (is.left.images c at))),
-            );
+            kept = λ idle. (read, λ c at. first c (is.left.images c at));
           })
           (record {
             standing_is = subst (λ r.
@@ -431,6 +510,21 @@ module _ (schema : DatabaseSchema) (world : FactSet) (header directory : List �
                     (seat_standing seat) (seat_state seat) (Disk.image (seat_disk seat)) (Disk.reads (seat_disk seat)) (Disk.faults (seat_disk seat))
                     (first_refusal None (seat_standing seat)) step.running);
                 fresh = λ none. from.fresh;
+                began = Disk.moment is.taken;
+                began_is = subst (λ o. IfSome o (λ begun. begun ≡ Disk.moment is.taken)) (sym (begins_are name))
+                    (subst (λ j. IfSome (option_map Disk.moment (disk j)) (λ begun. begun ≡ Disk.moment is.taken)) is.journal_is
+                    (taken_moment Disk.reads Disk.image Disk.moment (disk (seat_journal seat)) is.taken (is.from s)));
+                along = along_open schema world (profile_of user) header (images name) opened (Disk.moment is.taken) [] step.found step.opens
+                    (Disk.moment is.taken) (Disk.moment (seat_disk seat)) (Disk.image_since is.taken) (Disk.image_since (seat_disk seat))
+                    (Disk.image is.taken) is.left.time is.left.rests
+                    (λ some. absurd cc) (λ none c at. first c at)
+                    (λ held c at. amid_all schema world (profile_of user) header (Run.opening schema world (profile_of user) opened)
+                    ([] ++ restart step.found step.opens ∷ []) c
+                    (step.running.stays.stands (opened_behind [] step.found step.opens held) c (clock.only_now (seat_disk seat) c at)))
+                    (along_first schema world (profile_of user) header (images name) opened (Disk.moment is.taken) (Disk.image_since is.taken)
+                    (λ c at. first c (clock.only_now is.taken c at)));
+                least = λ served. least_at (record { name = name; profile = profile_of user; opened = opened })
+                    ([] ++ restart step.found step.opens ∷ []) seat from.opening_is served step.running.is_in;
               },
             );
           }

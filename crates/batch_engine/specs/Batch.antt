@@ -12,9 +12,9 @@ use Rattle.cqe_base.specs.Transcript.{script_opening, Line, reply_line, own_even
 use Rattle.cqe_base.specs.Transcript.{state_after, transcript, line_text}
 use Rattle.user_desk.specs.Causes.{Opens}
 use Rattle.user_desk.specs.Entries.{IsNoLonger}
-use Rattle.user_desk.specs.Lives.{Holds}
+use Rattle.user_desk.specs.Lives.{Holds, HoldsAmid}
 use Rattle.user_desk.specs.declared.standing.DeskError.{DeskError}
-use Rattle.desk_crew.specs.Shelved.{Journals, KeepsJournal, KeepsJournals}
+use Rattle.desk_crew.specs.Shelved.{Journals, KeepsJournal, KeepsJournals, StandsAllAlong}
 use Rattle.script_lines.specs.Read.{IsReadThrough}
 use Rattle.batch_engine.specs.BatchLines.{BatchItem, asked, restarted, batch_of}
 use Rattle.desk_crew.specs.Openings.{OpensNone, OpensWith}
@@ -100,6 +100,13 @@ module _ (schema : DatabaseSchema) (world : FactSet) (header : List ℕ) (journa
     -- and unless one held and he asked, his journal is as it was
     pub kept : (list_any is_opened (own_events user.name events)
         && list_any is_ask (own_events user.name events)) ≡ false → KeepsJournal journals user.name
+    -- At each moment since his journal was first opened each crash leaves his history behind some
+    -- first of his events, or this and the entry in flight; before that, and where no opening held,
+    -- nothing new.
+    pub moments : StandsAllAlong journals user.name
+        (list_any is_opened (own_events user.name events))
+        (HoldsAmid schema world user.profile header
+        (opening schema world user.profile user.opened) (own_events user.name events))
 
   -- what was written answers these items: it is the lines of the transcript of a script in which
   -- all journals are opened, each ask has some ending, and each restart finds and opens what it may
@@ -186,9 +193,10 @@ module _ (schema : DatabaseSchema) (world : FactSet) (header : List ℕ) (journa
     EndsBatch (Refused refusal) before after old new =
         (batch_of before ≡ Err refusal) × LeavesAll old new × IsReadThrough 1 before after
     EndsBatch ReadFault before after old new = LeavesAll old new
-    EndsBatch WriteFault before after old new = BreaksBatch before old new
-    EndsBatch ShelfFault before after old new = LeavesAll old new
-    EndsBatch Memory before after old new = LeavesAll old new ⊎ Stops before old new
+    EndsBatch WriteFault before after old new = (after ≡ []) × BreaksBatch before old new
+    EndsBatch ShelfFault before after old new = (after ≡ []) × LeavesAll old new
+    EndsBatch Memory before after old new =
+        LeavesAll old new ⊎ ((after ≡ []) × Stops before old new)
 
     -- what each end says of the journals alone, where neither the script nor the output is told:
     -- they are as they were, or as the answers to some items leave them

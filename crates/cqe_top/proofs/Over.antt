@@ -44,7 +44,8 @@ module _ {F D : Type 0} (Shelf : ShelfGhosts F D) (Disk : DiskGhosts D) (old mid
     -- the journals are the same
     pub same_journals : journals_of (shelf_of Shelf Disk mid new) files ≡ journals_of (shelf_of Shelf Disk old new) files
     same_journals =
-        λ i. journals_by Disk.reads Disk.image files.journals (λ name. disks name i) (Shelf.disk new) (λ name. counts name i) (Shelf.disk_faults new)
+        λ i. journals_by Disk.reads Disk.image Disk.moment Disk.image_since files.journals (λ name. disks name i) (Shelf.disk new) (λ name. counts name i)
+        (Shelf.disk_faults new)
 
     -- no disk but the journals of the policy's users was touched
     pub touches_over : (policy : Policy) (users : List User) → users ≡ policy.users.items

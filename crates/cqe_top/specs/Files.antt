@@ -120,8 +120,8 @@ module _ (shelf : ShelfScene) (files : FileNames) where
   -- the journals before the call and behind it
   abbrev pub journals_of : Journals
   journals_of =
-      journals_by shelf.Disk.reads shelf.Disk.image files.journals shelf.disk shelf.disk'
-      shelf.disk_faults shelf.disk_faults'
+      journals_by shelf.Disk.reads shelf.Disk.image shelf.Disk.moment shelf.Disk.image_since
+      files.journals shelf.disk shelf.disk' shelf.disk_faults shelf.disk_faults'
 
   -- no disk but the journals of a policy's users was touched
   abbrev pub TouchesJournals : PolicyValue → Type 0

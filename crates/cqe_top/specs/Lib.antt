@@ -11,3 +11,4 @@ pub mod Selfrun
 pub mod Serve
 pub mod Tasks
 pub mod Promise
+pub mod Lives

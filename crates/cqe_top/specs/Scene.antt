@@ -205,6 +205,7 @@ pub record IsUntouched (s : Scene) : Type 0 where
   pub output : SameOutput s.output
   pub links : SameLinks s.links
 
--- no disk was touched
+-- no disk was touched: each is the same, and so is the count of its faults
 abbrev pub SameDisks : ShelfScene → Type 0
-SameDisks shelf = SameNames shelf.disk shelf.disk'
+SameDisks shelf =
+    SameNames shelf.disk shelf.disk' × SameNames shelf.disk_faults shelf.disk_faults'

@@ -14,6 +14,7 @@ mod command;
 mod complaint;
 mod end;
 mod files;
+pub mod laws;
 mod over_files;
 mod part;
 mod report;

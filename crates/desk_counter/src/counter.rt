@@ -45,7 +45,8 @@ impl<'w, D: Disk> CounterOf<'w, TicketedDesk<'w, D>> {
     ghost use Rattle.turnstile.specs.Views.{remaining_view, split_off_view, view_of_both};
     ghost use Rattle.turnstile.specs.Views.{DrewEachOnce};
     ghost use Rattle.turnstile.specs.Passes.{view_of, seen, tickets, mine, shares, turns};
-    ghost use Rattle.user_desk.specs.Entries.{StandsFor, StandsWithin, IsNoLonger};
+    ghost use Rattle.user_desk.specs.Causes.{OpensWithin};
+    ghost use Rattle.user_desk.specs.Entries.{StandsFor, IsNoLonger};
     ghost use Rattle.user_desk.specs.Lives.{Holds};
     ghost use Rattle.user_desk.specs.Standings.{is_open, is_sealed};
     ghost use Rattle.user_desk.specs.Desks.{desk_history, desk_disk, entry_in_flight};
@@ -219,12 +220,13 @@ impl<'w, D: Disk> CounterOf<'w, TicketedDesk<'w, D>> {
             (D.reads (desk_disk result)) }
         ensures count { D.faults (kept_by self.entry).disk ≤ D.faults (desk_disk result) }
 
-        // Since the opening each image stood for a beginning of it that has all entries at the
-        // opening; and where the journal was refused, or nothing was appended, the disk is as it
-        // was.
+        // Since the opening each image opens a desk with a beginning of it that has all entries at
+        // the opening; and where the journal was refused, or nothing was appended, the disk is as
+        // it was.
         ensures since { D.tells → is_sealed (kept_by self.entry).standing ≡ false → (c : List ℕ)
             → D.image_since (desk_disk result) (D.moment (kept_by self.entry).disk) c
-            → StandsWithin (kept_by self.entry).schema (kept_by self.entry).header
+            → OpensWithin (kept_by self.entry).schema (kept_by self.entry).world
+            (kept_by self.entry).user (kept_by self.entry).header
             (length (kept_by self.entry).opening)
             (history_of (seen pass) ++ option_to_list (flying (seen pass))) c }
         ensures refused { is_sealed (kept_by self.entry).standing ≡ true

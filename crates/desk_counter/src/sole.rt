@@ -33,9 +33,12 @@ pub type SoleCounter<'w, D> = SoleOf<'w, TicketedDesk<'w, D>>;
 
 impl<'w, D: Disk> SoleOf<'w, TicketedDesk<'w, D>> {
     ghost use Rattle.std.specs.Prelude.{true, false, List, ℕ, ◌^◌, ◌++◌, [], None};
+    ghost use Rattle.std.specs.Prelude.{option_to_list};
+    ghost use Rattle.outside.specs.Disk.{Elapses};
     ghost use Rattle.outside.specs.Faults.{Rose};
     ghost use Rattle.cqe_base.specs.Run.{UserState};
     ghost use Rattle.user_log.specs.Replies.{reply_of};
+    ghost use Rattle.user_desk.specs.Causes.{OpensWithin};
     ghost use Rattle.user_desk.specs.Entries.{IsNoLonger};
     ghost use Rattle.user_desk.specs.Lives.{Holds};
     ghost use Rattle.cqe_base.specs.Censor.{IsLegal};
@@ -151,6 +154,18 @@ impl<'w, D: Disk> SoleOf<'w, TicketedDesk<'w, D>> {
             → desk_disk result ≡ (kept_in self.entry).disk }
         ensures still { IsAsOpened (kept_in self.entry) (pairs_of_sole self.entry)
             → desk_disk result ≡ (kept_in self.entry).disk }
+
+        // Since the opening each image opens a desk with a beginning of it, with the entry in
+        // flight, that has all entries at the opening.
+        ensures since { D.tells → is_sealed (kept_in self.entry).standing ≡ false → (c : List ℕ)
+            → D.image_since (desk_disk result) (D.moment (kept_in self.entry).disk) c
+            → OpensWithin (kept_in self.entry).schema (kept_in self.entry).world
+            (kept_in self.entry).user (kept_in self.entry).header
+            (length (kept_in self.entry).opening)
+            (history_of (pairs_of_sole self.entry)
+            ++ option_to_list (flying (pairs_of_sole self.entry))) c }
+        ensures time { Elapses (D.moment (kept_in self.entry).disk) (D.moment (desk_disk result))
+            (D.image_since (kept_in self.entry).disk) (D.image_since (desk_disk result)) }
     {
         self.counter.close(self.pass)
     }

@@ -80,6 +80,8 @@ module _ (schema : DatabaseSchema) (world : FactSet) (header : List ℕ) {D : Ty
         size = λ t. closed.size (tells t);
         shut = closed.shut;
         still = closed.still;
+        since = λ t. closed.since (tells t);
+        time = closed.time;
       }
 
   -- where the disks of reopened seats are back, those of the seats before are

@@ -8,6 +8,7 @@ use Rattle.std.proofs.lemmas.Bool.{eqb-true, or_from, or_left, or_right}
 use Rattle.std.proofs.lemmas.List.{map-append}
 use Rattle.outside.specs.Shelf.{SameOthers, is_among, SameBeside, AllOut, AllIn}
 use Rattle.outside.specs.declared.disk.Disk.{Ghosts as DiskGhosts}
+use Rattle.outside.proofs.Moments.{elapses_none, elapses_then, over_both}
 use Rattle.cqe_base.specs.Schema.{Text, has_duplicate}
 use Rattle.cqe_base.proofs.Truths.{or_first, or_second}
 use Rattle.cqe_base.proofs.Lists.{or_assoc, text_is}
@@ -120,14 +121,26 @@ module _ {D : Type 0} {g h : _} where
       ∙ or_moved (list_any seat_broke front) (seat_broke seat) so_far ∙ ap (λ b. list_any seat_broke front || (so_far || b)) (sym here)
 
 module _ {D : Type 0} (Disk : DiskGhosts D) where
-  left_same : (d : D) → IsLeft Disk d d
-  left_same d = record { reads_same = refl; images = λ c is. is; later = omega arith }
+  left_same : ((d : D) (t : ℕ) (c : List ℕ) → t ≤ Disk.moment d → Disk.image d c → Disk.image_since d t c)
+      → ((d : D) (c : List ℕ) → Disk.image_since d (Disk.moment d) c → Disk.image d c) → (d : D) → IsLeft Disk d d
+  left_same counts_now only_now d = record {
+    reads_same = refl;
+    images = λ c is. is;
+    later = omega arith;
+    time = elapses_none (Disk.moment d) (Disk.image_since d) (Disk.image d) (counts_now d) (only_now d);
+    rests = only_now d;
+  }
 
   pub left_on : (a b c : D) → IsLeft Disk a b → IsLeft Disk b c → IsLeft Disk a c
   left_on a b c first second = record {
     reads_same = second.reads_same ∙ first.reads_same;
     images = λ bytes is. first.images bytes (second.images bytes is);
     later = omega (arith, first.later, second.later);
+    time = elapses_then (Disk.moment a) (Disk.moment b) (Disk.moment c) (Disk.image_since a) (Disk.image_since b) (Disk.image_since c) first.time
+        second.time;
+    rests = over_both (Disk.moment a) (Disk.moment b) (Disk.moment c) (Disk.image_since b) (Disk.image_since c) (Disk.image a) first.time.later second.time
+        first.rests
+        (λ bytes here. first.images bytes (second.rests bytes here));
   }
 
 module _ {D : Type 0} {g h : _} where
@@ -233,13 +246,16 @@ module _ {D : Type 0} {g h : _} where
             subst (λ n. n ≤ Disk.faults (seat_disk seat)) (sym (so_far.counts (seat_journal seat) next.apart)) next.counted
 
         -- one more is back
-        pub given_more : (seats before : List (DeskSeat D g h)) (seat : DeskSeat D g h) (now : D) (closed : IsClosed told Disk seat.desk now)
+        pub given_more : (counts_now : (d : D) (t : ℕ) (c : List ℕ) → t ≤ Disk.moment d → Disk.image d c → Disk.image_since d t c)
+            (only_now : (d : D) (c : List ℕ) → Disk.image_since d (Disk.moment d) c → Disk.image d c)
+            (seats before : List (DeskSeat D g h)) (seat : DeskSeat D g h) (now : D) (closed : IsClosed told Disk seat.desk now)
             (disk disk' : Text → Option D) (is_out is_out' : Text → Bool) (count count' : Text → ℕ) (one : Text) → one ≡ seat_journal seat
             → before ≡ seats ++ seat ∷ [] → Given before disk is_out count
             → (told → disk' one ≡ Some now) → SameOthers one disk disk' → is_out' one ≡ false → SameOthers one is_out is_out' → count' one ≡ Disk.faults now
             → SameOthers one count count'
             → Given seats disk' is_out' count'
-        given_more seats before seat now closed disk disk' is_out is_out' count count' one named is so_far held disks inside outs counted counts =
+        given_more counts_now only_now seats before seat now closed disk disk' is_out is_out' count count' one named is so_far held disks inside outs counted
+            counts =
             let given = so_far.given in
             let split : all ≡ (seats ++ seat ∷ []) ++ given = so_far.split ∙ ap (λ l. l ++ given) is in
             let next : Next seats seat given = next_of seats seat given split in
@@ -250,7 +266,7 @@ module _ {D : Type 0} {g h : _} where
               back = (
                 record {
                   now = now;
-                  left = record { closed = now; is_closed = closed; left = left_same Disk now };
+                  left = record { closed = now; is_closed = closed; left = left_same Disk counts_now only_now now };
                   held =
                       λ t. ap disk' (sym named) ∙ held t;
                   counted = ap count' (sym named) ∙ counted;

@@ -1,6 +1,8 @@
 -- Users at their desks, and what an ask, a close and an opening make of a desk and of its disk.
 use Rattle.std.specs.Prelude.{◌≡◌, ℕ, ◌≤◌, ◌*◌, ◌^◌, Bool, true, false, List, [], ◌∷◌, ◌++◌}
-use Rattle.std.specs.Prelude.{bytes_eq, Option, Some, None, Result, Ok, Err, string_bytes}
+use Rattle.std.specs.Prelude.{bytes_eq, length, Option, Some, None, Result, Ok, Err, string_bytes}
+use Rattle.std.specs.Prelude.{option_to_list}
+use Rattle.outside.specs.Disk.{Elapses}
 use Rattle.outside.specs.Faults.{Rose}
 use Rattle.outside.specs.declared.disk.Disk.{Ghosts as DiskGhosts}
 use Rattle.cqe_base.specs.Schema.{Text, DatabaseSchema}
@@ -10,7 +12,7 @@ use Rattle.cqe_base.specs.Run.{Reply, UserState}
 use Rattle.cqe_base.specs.Transcript.{NamedUser}
 use Rattle.cqe_base.specs.declared.user.User.{User}
 use Rattle.censors.specs.Admitting.{admission_of}
-use Rattle.user_desk.specs.Causes.{IsStanding}
+use Rattle.user_desk.specs.Causes.{IsStanding, OpensWithin}
 use Rattle.cqe_base.specs.Censor.{IsLegal}
 use Rattle.user_desk.specs.Standings.{is_open, is_sealed}
 use Rattle.user_desk.specs.Entries.{IsNoLonger}
@@ -104,19 +106,24 @@ abbrev pub journal_seated : {D : Type 0} {g h : _} → Result (DeskSeat D g h) (
 journal_seated (Ok seat) = seat_journal seat
 journal_seated (Err returned) = string_bytes returned.journal
 
--- an opening leaves a disk as it was: it reads the same, no crash leaves anything new, and its
--- count of faults didn't fall
+-- an opening leaves a disk as it was: it reads the same, no crash leaves anything new, at no moment
+-- of it either, and its count of faults didn't fall
 pub record IsLeft {D : Type 0} (Disk : DiskGhosts D)
     (old new : D) : Type 0 where
   pub reads_same : Disk.reads new ≡ Disk.reads old
   pub images : (c : List ℕ) → Disk.image new c → Disk.image old c
   pub later : Disk.faults old ≤ Disk.faults new
+  pub time : Elapses (Disk.moment old) (Disk.moment new) (Disk.image_since old)
+      (Disk.image_since new)
+  pub rests : (c : List ℕ) → Disk.image_since new (Disk.moment old) c → Disk.image old c
 
 -- A desk leaves this disk as it is closed: unless its journal was refused, each image holds the
 -- state that the desk showed, whose history is legal; its pairs are what was put under the counter
 -- and then what the pass has of its own, with one entry in flight at most; only of a user who is
 -- served has it any; the count rose where an append failed; where none did, the disk has grown for
--- the entries alone; and where nothing was appended it is as it was at the opening.
+-- the entries alone; and where nothing was appended it is as it was at the opening. Since the
+-- opening each image opens a desk with a beginning of the history, with the entry in flight, that
+-- has all entries at the opening.
 pub record IsClosed {D : Type 0} {g h : _} (told : Type 0) (Disk : DiskGhosts D)
     (desk : SoleOf (TicketedDesk D g) TurnItem (Fixed D) h) (disk : D) : Type 0 where
   pub holds : told → is_sealed (kept_in desk).standing ≡ false → (c : List ℕ) → Disk.image disk c
@@ -137,6 +144,13 @@ pub record IsClosed {D : Type 0} {g h : _} (told : Type 0) (Disk : DiskGhosts D)
       (Disk.reads disk)
   pub shut : is_sealed (kept_in desk).standing ≡ true → disk ≡ (kept_in desk).disk
   pub still : IsAsOpened (kept_in desk) (pairs_of_sole desk) → disk ≡ (kept_in desk).disk
+  pub since : told → is_sealed (kept_in desk).standing ≡ false → (c : List ℕ)
+      → Disk.image_since disk (Disk.moment (kept_in desk).disk) c
+      → OpensWithin (kept_in desk).schema (kept_in desk).world (kept_in desk).user
+      (kept_in desk).header (length (kept_in desk).opening)
+      (history_of (pairs_of_sole desk) ++ option_to_list (flying (pairs_of_sole desk))) c
+  pub time : Elapses (Disk.moment (kept_in desk).disk) (Disk.moment disk)
+      (Disk.image_since (kept_in desk).disk) (Disk.image_since disk)
 
 -- a desk was closed, and an opening left its disk as this one
 pub record IsLeftBy {D : Type 0} {g h : _} (told : Type 0) (Disk : DiskGhosts D)

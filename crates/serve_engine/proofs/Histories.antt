@@ -1,7 +1,7 @@
 -- Each user's one history, from the opening of his journal to the disk that is back.
 use Rattle.std.proofs.Common.{◌≡◌, ◌⊎◌, inl, inr, ℕ, suc, ◌+◌, ◌*◌, ◌^◌, ◌≤◌, Bool, true, false, List, [], ◌∷◌, ◌++◌, length, map, refl, sym, ap, subst, ◌∙◌}
-use Rattle.std.proofs.Common.{◌<◌, arith}
-use Rattle.std.specs.Prelude.{Option, Some, None, Vec, is_some, option_to_list, ◌||◌, string_bytes, All}
+use Rattle.std.proofs.Common.{◌<◌, arith, length-append}
+use Rattle.std.specs.Prelude.{Option, Some, None, Vec, is_some, ◌||◌, string_bytes, All, not, option_map, option_to_list, IfSome}
 use Rattle.std.specs.declared.alloc.Global.{Global}
 use Rattle.std.specs.List.{AllByRecursion, list_any, sum_by, flat_map}
 use Rattle.std.proofs.lemmas.List.Sums.{sum_by-append}
@@ -9,8 +9,9 @@ use Rattle.std.proofs.lemmas.List.Elements.{All-head, All-tail, All-from_recursi
 use Rattle.outside.proofs.Rises.{rose_wide}
 use Rattle.outside.proofs.Taken.{taken_reads, taken_images}
 use Rattle.outside.specs.Shelf.{bytes_on, image_on}
-use Rattle.outside.specs.Visits.{Visit, one_if_any}
+use Rattle.outside.specs.Disk.{Elapses}
 use Rattle.outside.specs.declared.disk.Disk.{Ghosts as DiskGhosts}
+use Rattle.outside.specs.Visits.{Visit, one_if_any}
 use Rattle.outside.specs.declared.links.Door.{Ghosts as DoorGhosts}
 use Rattle.cqe_base.specs.Schema.{Text, DatabaseSchema, is_valid_schema}
 use Rattle.cqe_base.specs.Facts.{FactSet}
@@ -21,7 +22,7 @@ use Rattle.cqe_base.specs.Limits.{KeepsLimits}
 use Rattle.cqe_base.specs.declared.user.User.{User}
 use Rattle.log_journal.specs.Names.{journal_name}
 use Rattle.log_journal.specs.declared.header.OpenError.TheVariants as journal_error
-use Rattle.user_desk.specs.Causes.{IsStanding, IsSealedBy}
+use Rattle.user_desk.specs.Causes.{IsStanding, IsSealedBy, OpensWithin}
 use Rattle.user_desk.specs.Lives.{Holds}
 use Rattle.user_desk.specs.Standings.{is_open, is_sealed}
 use Rattle.user_desk.specs.declared.standing.DeskError.{DeskError}
@@ -38,7 +39,8 @@ use Rattle.desk_counter.specs.Counters.{first_pairs}
 use Rattle.desk_crew.specs.Crew.{IsSeatAsOpened, IsClosed, refusal_of, seat_user, seat_journal, seat_kept, seat_standing, seat_history, seat_disk, seat_broke}
 use Rattle.desk_crew.specs.Crew.{seat_state}
 use Rattle.desk_crew.specs.Seats.{DeskSeat}
-use Rattle.desk_crew.specs.Shelved.{Journals, journals, journals_by, AreLater, IsSeatOf, AreSeatsOf, IsBack, AreBack}
+use Rattle.desk_crew.specs.Shelved.{Journals, journals, since_on, journals_by, StandsAllAlong, AreLater, IsSeatOf, AreSeatsOf, IsBack, AreBack}
+use Rattle.desk_crew.proofs.Lasting.{taken_moment, holds_within, stands_along}
 use Rattle.session_core.specs.Members.{AreDesksOf, HasSeenLegal, HaveSeenLegal}
 use Rattle.session_core.proofs.Replying.{last_none}
 use Rattle.serve_engine.specs.Served.{member_broke, SessionMarks, entries_told, failures_told, items_told}
@@ -100,10 +102,60 @@ module _ (schema : DatabaseSchema) (world : FactSet) (header directory : List �
       none_flies None none = refl
       none_flies (Some entry) none = absurd cc
 
+  -- what a crash could leave of a user's journal at each moment
+  all_along : (user : User) (old new : DeskSeat D g h) → Opened user old → IsSeatOn old new → Back new
+      → (seat_kept new).schema ≡ schema → (seat_kept new).world ≡ world → (seat_kept new).header ≡ header
+      → length (seat_kept new).opening ≤ length (seat_history new)
+      → StandsAllAlong (journals_by Disk.reads Disk.image Disk.moment Disk.image_since directory disk disk' count count') (string_bytes user.name)
+      (not (is_sealed (seat_standing new)))
+      (OpensWithin schema world (seat_kept new).user header (length (seat_kept new).opening)
+      (seat_history new ++ option_to_list (flying (pairs_of_sole new.desk))))
+  all_along user old new opened on back schema_is world_is header_is more =
+      stands_along (journals_by Disk.reads Disk.image Disk.moment Disk.image_since directory disk disk' count count') (string_bytes user.name)
+      (is_sealed (seat_standing new)) (Kind schema world header) (Disk.moment opened.taken) (Disk.moment (seat_disk old)) (Disk.moment closed)
+      (Disk.moment back.now) (Disk.image_since opened.taken)
+      (Disk.image_since (seat_disk old)) (Disk.image_since closed) (Disk.image opened.taken) (Disk.image closed)
+      (subst (λ j. IfSome (option_map Disk.moment (disk j)) (λ begun. begun ≡ Disk.moment opened.taken)) opened.journal_is
+      (taken_moment Disk.reads Disk.image Disk.moment (disk (seat_journal old)) opened.taken (opened.from s)))
+      (λ c at. subst (λ j. image_on Disk.image (disk j) c) opened.journal_is
+      (taken_images Disk.reads Disk.image (disk (seat_journal old)) opened.taken c (opened.from s) at))
+      opened.left.time opened.left.rests
+      (subst (λ (f : Fixed D). Elapses (Disk.moment f.disk) (Disk.moment closed) (Disk.image_since f.disk) (Disk.image_since closed)) on.kept_is is.time)
+      (subst (λ o. Elapses (Disk.moment closed) (Disk.moment back.now) (Disk.image_since closed) (since_on Disk.image_since o)) (sym held) back.left.left.time)
+      (λ c here. back.left.left.rests c (subst (λ o. since_on Disk.image_since o (Disk.moment closed) c) held here))
+      (λ served c here. as_ours c (is.since s served c (subst (λ (f : Fixed D). Disk.image_since closed (Disk.moment f.disk) c) (sym on.kept_is) here)))
+      (λ served c here. as_ours c
+      (holds_within (seat_kept new).schema (seat_kept new).world (seat_kept new).user (seat_kept new).header (seat_history new) (seat_state new).standing
+      (flying (pairs_of_sole new.desk)) (length (seat_kept new).opening) c more (is.holds s served c here)))
+      (λ sealed c here. opened.left.rests c (subst (λ d. Disk.image_since d (Disk.moment opened.taken) c) (same sealed) here))
+      (λ sealed c here. opened.left.images c (subst (λ d. Disk.image d c) (same sealed) here))
+    where
+      closed : D
+      closed = back.left.closed
+
+      is : IsClosed S Disk new.desk back.left.closed
+      is = back.left.is_closed
+
+      held : disk' (journal_name directory (string_bytes user.name)) ≡ Some back.now
+      held = ap disk' (sym (on.journal_is ∙ opened.journal_is)) ∙ back.held s
+
+      Kind : DatabaseSchema → FactSet → List ℕ → List ℕ → Type 0
+      Kind sc w hd = OpensWithin sc w (seat_kept new).user hd (length (seat_kept new).opening)
+          (seat_history new ++ option_to_list (flying (pairs_of_sole new.desk)))
+
+      as_ours : (c : List ℕ) → Kind (seat_kept new).schema (seat_kept new).world (seat_kept new).header c → Kind schema world header c
+      as_ours c within =
+          subst (λ sc. Kind sc world header c) schema_is
+          (subst (λ w. Kind (seat_kept new).schema w header c) world_is (subst (λ hd. Kind (seat_kept new).schema (seat_kept new).world hd c) header_is within))
+
+      same : is_sealed (seat_standing new) ≡ true → back.left.closed ≡ seat_disk old
+      same sealed = is.shut sealed ∙ ap (λ (f : Fixed D). f.disk) on.kept_is
+
   module _ (valid : is_valid_schema schema ≡ true) (hide : LegalHistoriesHide) where
     -- one user
     has_served : (user : User) (old new : DeskSeat D g h) → KeepsLimits schema (profile_of user) → Opened user old → IsSeatOn old new → Back new
-        → HasServed schema world header (journals_by Disk.reads Disk.image directory disk disk' count count') user (seat_member new) old.refusal
+        → HasServed schema world header (journals_by Disk.reads Disk.image Disk.moment Disk.image_since directory disk disk' count count') user
+        (seat_member new) old.refusal
     has_served user old new limits opened on back =
         let name : Text = journal_name directory (string_bytes user.name) in
         let is = opened.opened in
@@ -127,6 +179,10 @@ module _ (schema : DatabaseSchema) (world : FactSet) (header directory : List �
         let standing : Standing = seat_standing new in
         let standing_is : seat_standing old ≡ standing = ap (λ (f : Fixed D). f.standing) (sym kept) in
         let opening : seat_history old ≡ (seat_kept new).opening = sym is.opening_is ∙ ap (λ (f : Fixed D). f.opening) (sym kept) in
+        let goes_on : seat_history new ≡ (seat_kept new).opening ++ history_of on.on.0 =
+        ap history_of on.on.1 ∙ history_all (pairs_of_sole old.desk) on.on.0 ∙ ap (λ (e : History). e ++ history_of on.on.0) opening in
+        let many : length (seat_history new) ≡ length (seat_kept new).opening + length (history_of on.on.0) =
+        ap length goes_on ∙ length-append (seat_kept new).opening (history_of on.on.0) in
         let legal : IsLegal schema world (seat_kept new).user (seat_history new) =
         subst (λ w. IsLegal schema w (seat_kept new).user (seat_history new)) world_is
         (subst (λ d. IsLegal d (seat_kept new).world (seat_kept new).user (seat_history new)) schema_is closed.legal) in
@@ -156,10 +212,7 @@ module _ (schema : DatabaseSchema) (world : FactSet) (header directory : List �
               IsStanding schema world p T header (Disk.reads opened.taken) (seat_history old) (Disk.faults opened.taken) (Disk.faults (seat_disk old))
               (seat_standing old))
               (ap profile_of opened.user_is ∙ sym user_is) is.standing))));
-          goes_on = (
-            history_of on.on.0,
-            ap history_of on.on.1 ∙ history_all (pairs_of_sole old.desk) on.on.0 ∙ ap (λ (e : History). e ++ history_of on.on.0) opening,
-          );
+          goes_on = (history_of on.on.0, goes_on);
           legal = legal;
           hides = λ admits.
               hide schema world (seat_kept new).user (seat_history new) valid
@@ -187,13 +240,15 @@ module _ (schema : DatabaseSchema) (world : FactSet) (header directory : List �
           failed = λ broke.
               rose_wide (count name) (Disk.faults (seat_kept new).disk) (Disk.faults back.left.closed) (count' name) (omega (arith, before, begins, disks))
               (omega (arith, ends, counted)) (closed.cause broke);
+          moments = all_along user old new opened on back schema_is world_is header_is (omega (arith, many));
         }
 
     -- all users
     pub have_served : (users : List User) (olds news : List (DeskSeat D g h)) → All (λ user. KeepsLimits schema (profile_of user)) users
         → AreSeatsOf S Disk T schema world header directory disk count users olds → AreSeatsOn olds news
         → AreBack S Disk disk' count' news
-        → HaveServed schema world header (journals_by Disk.reads Disk.image directory disk disk' count count') users (map seat_member news)
+        → HaveServed schema world header (journals_by Disk.reads Disk.image Disk.moment Disk.image_since directory disk disk' count count') users
+        (map seat_member news)
         (map (λ seat. seat.refusal) olds)
     have_served [] [] [] limits opened on back = tt
     have_served (user ∷ users) (old ∷ olds) (new ∷ news) limits opened on back = (

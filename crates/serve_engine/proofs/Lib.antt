@@ -13,3 +13,4 @@ pub mod Apart
 pub mod Backing
 pub mod Histories
 pub mod Connections
+pub mod Joining

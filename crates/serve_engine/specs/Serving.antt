@@ -1,6 +1,6 @@
 -- What serving connections means for the users and for the connections.
 use Rattle.std.specs.Prelude.{◌≡◌, ◌⊎◌, ℕ, suc, ◌+◌, Bool, true, false, List, [], ◌∷◌, ◌++◌}
-use Rattle.std.specs.Prelude.{Option, Vec, option_to_list, string_bytes}
+use Rattle.std.specs.Prelude.{Option, Vec, string_bytes, not, length, option_to_list}
 use Rattle.std.specs.declared.alloc.Global.{Global}
 use Rattle.std.specs.List.{AllZip, list_any, flat_map}
 use Rattle.outside.specs.Faults.{Rose}
@@ -12,14 +12,14 @@ use Rattle.cqe_base.specs.History.{History, profile_of}
 use Rattle.cqe_base.specs.Censor.{IsLegal, admitted}
 use Rattle.cqe_base.specs.Hiding.{Hides}
 use Rattle.cqe_base.specs.declared.user.User.{User}
-use Rattle.user_desk.specs.Causes.{IsStanding}
+use Rattle.user_desk.specs.Causes.{IsStanding, OpensWithin}
 use Rattle.user_desk.specs.Entries.{IsNoLonger}
 use Rattle.user_desk.specs.Lives.{Holds, shown}
 use Rattle.user_desk.specs.Standings.{standing_of, is_open, is_sealed}
 use Rattle.user_desk.specs.declared.standing.DeskError.{DeskError}
 use Rattle.user_desk.specs.declared.standing.Standing.{Standing}
 use Rattle.desk_crew.specs.Crew.{refusal_of}
-use Rattle.desk_crew.specs.Shelved.{Journals, KeepsJournal, KeepsJournals}
+use Rattle.desk_crew.specs.Shelved.{Journals, KeepsJournal, KeepsJournals, StandsAllAlong}
 use Rattle.worker_pool.specs.Workers.{HasVisits}
 use Rattle.serve_engine.specs.Doors.{AreServedDoors}
 use Rattle.serve_engine.specs.Served.{Member, member_broke, SessionMarks, entries_told}
@@ -90,6 +90,12 @@ module _ (schema : DatabaseSchema) (world : FactSet) (header : List ℕ) (journa
     -- an append failed only where the count of his disk's faults rose
     pub failed : member_broke member ≡ true
         → Rose (journals.before (string_bytes user.name)) (journals.now (string_bytes user.name))
+    -- At each moment since his journal was opened each crash leaves a beginning of his history,
+    -- with the entry in flight, that has the entries of the opening; before that, and where it was
+    -- refused, nothing new.
+    pub moments : StandsAllAlong journals (string_bytes user.name) (not (is_sealed standing))
+        (OpensWithin schema world member.profile header (length member.opening)
+        (member.history ++ option_to_list member.in_flight))
 
   -- all users, each with the refusal of his journal, if it was refused
   abbrev pub HaveServed : List User → List Member → List (Option DeskError) → Type 0

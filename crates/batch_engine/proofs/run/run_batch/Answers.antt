@@ -146,14 +146,15 @@ returns-in-All-clause-journals g c =
       items_of c.in-Whole.batch,
       all.output,
       subst (λ l. AppendsAll c.args.registry.now.schema.now c.args.registry.now.world.now (header_bytes c.args.registry.now.header.now)
-          (journals_by g.F.D.Disk.reads g.F.D.Disk.image c.args.registry.now.directory.now (g.F.Shelf.disk c.args.shelf.now)
+          (journals_by g.F.D.Disk.reads g.F.D.Disk.image g.F.D.Disk.moment g.F.D.Disk.image_since c.args.registry.now.directory.now
+          (g.F.Shelf.disk c.args.shelf.now)
           (g.F.Shelf.disk c.give_back.new.shelf) (g.F.Shelf.disk_faults c.args.shelf.now) (g.F.Shelf.disk_faults c.give_back.new.shelf))
           (map named_user c.args.registry.now.users.now) (items_of c.in-Whole.batch) [] all.output l c.in-All.is_broken)
           (sym (c.refusals_of-refusals.ensures ∙ ap (map (λ x. x.refusal)) c.as_slice.ensures.value))
           (finish_all c.args.registry.now.schema.now c.args.registry.now.world.now
           (header_bytes c.args.registry.now.header.now) c.args.registry.now.directory.now g.F.D.Disk.tells g.F.Shelf.tells
           (g.met.F.Shelf.tells_disks shelf_told) shelf_told g.F.D.Disk
-          g.met.F.D.Disk.read_is_image (g.F.Shelf.disk c.args.shelf.now) (g.F.Shelf.disk c.give_back.new.shelf)
+          g.met.F.D.Disk.read_is_image g.met.F.D.Disk.only_now (g.F.Shelf.disk c.args.shelf.now) (g.F.Shelf.disk c.give_back.new.shelf)
           (g.F.Shelf.disk_faults c.args.shelf.now) (g.F.Shelf.disk_faults c.give_back.new.shelf)
           (λ (user : UserProfile) entries bytes why.
           c.law_openings.ensures.unrefused c.args.registry.now.schema.now c.args.registry.now.world.now user
@@ -180,7 +181,8 @@ returns-in-All-clause-ends g c =
       items_of c.in-Whole.batch,
       sym (batch_begins _ _ c.new.ensures) ∙ reads.0,
       told_all c.args.registry.now.schema.now c.args.registry.now.world.now (header_bytes c.args.registry.now.header.now)
-          (journals_by g.F.D.Disk.reads g.F.D.Disk.image c.args.registry.now.directory.now (g.F.Shelf.disk c.args.shelf.now)
+          (journals_by g.F.D.Disk.reads g.F.D.Disk.image g.F.D.Disk.moment g.F.D.Disk.image_since c.args.registry.now.directory.now
+          (g.F.Shelf.disk c.args.shelf.now)
           (g.F.Shelf.disk c.give_back.new.shelf) (g.F.Shelf.disk_faults c.args.shelf.now) (g.F.Shelf.disk_faults c.give_back.new.shelf))
           (map named_user c.args.registry.now.users.now) (items_of c.in-Whole.batch) all.output _ _ _ _ alone.2 (all.appended sink_told),
     )
@@ -228,7 +230,8 @@ returns-in-Cut-clause-journals g c =
       some.output ++ take 0 some.line,
       finish_some c.args.registry.now.schema.now c.args.registry.now.world.now
           (header_bytes c.args.registry.now.header.now) c.args.registry.now.directory.now g.F.D.Disk.tells g.F.Shelf.tells
-          (g.met.F.Shelf.tells_disks shelf_told) shelf_told g.F.D.Disk g.met.F.D.Disk.read_is_image
+          (g.met.F.Shelf.tells_disks shelf_told) shelf_told g.F.D.Disk
+          g.met.F.D.Disk.read_is_image g.met.F.D.Disk.only_now
           (g.F.Shelf.disk c.args.shelf.now) (g.F.Shelf.disk c.give_back-in-Cut.new.shelf) (g.F.Shelf.disk_faults c.args.shelf.now)
           (g.F.Shelf.disk_faults c.give_back-in-Cut.new.shelf) (λ (user : UserProfile) entries bytes why.
           c.law_openings.ensures.unrefused c.args.registry.now.schema.now c.args.registry.now.world.now user c.args.registry.now.header.now
@@ -248,11 +251,13 @@ returns-in-Cut-clause-ends g c =
     λ shelf_told source_told sink_told.
     let reads = c.in-Whole.ensures.reads source_told in
     let is = sym (batch_begins _ _ c.new.ensures) ∙ reads.0 in (
+      reads.1,
       items_of c.in-Whole.batch,
       is,
       finish_some c.args.registry.now.schema.now c.args.registry.now.world.now
           (header_bytes c.args.registry.now.header.now) c.args.registry.now.directory.now g.F.D.Disk.tells g.F.Shelf.tells
-          (g.met.F.Shelf.tells_disks shelf_told) shelf_told g.F.D.Disk g.met.F.D.Disk.read_is_image
+          (g.met.F.Shelf.tells_disks shelf_told) shelf_told g.F.D.Disk
+          g.met.F.D.Disk.read_is_image g.met.F.D.Disk.only_now
           (g.F.Shelf.disk c.args.shelf.now) (g.F.Shelf.disk c.give_back-in-Cut.new.shelf) (g.F.Shelf.disk_faults c.args.shelf.now)
           (g.F.Shelf.disk_faults c.give_back-in-Cut.new.shelf) (λ (user : UserProfile) entries bytes why.
           c.law_openings.ensures.unrefused c.args.registry.now.schema.now c.args.registry.now.world.now user c.args.registry.now.header.now
@@ -310,7 +315,8 @@ returns-clause-journals g c =
       left.1.all.output,
       finish_to c.args.registry.now.schema.now c.args.registry.now.world.now
           (header_bytes c.args.registry.now.header.now) c.args.registry.now.directory.now g.F.D.Disk.tells g.F.Shelf.tells
-          (g.met.F.Shelf.tells_disks shelf_told) shelf_told g.F.D.Disk g.met.F.D.Disk.read_is_image
+          (g.met.F.Shelf.tells_disks shelf_told) shelf_told g.F.D.Disk
+          g.met.F.D.Disk.read_is_image g.met.F.D.Disk.only_now
           (g.F.Shelf.disk c.args.shelf.now) (g.F.Shelf.disk c.answer_all.new.shelf) (g.F.Shelf.disk_faults c.args.shelf.now)
           (g.F.Shelf.disk_faults c.answer_all.new.shelf) (λ (user : UserProfile) entries bytes why.
           c.law_openings.ensures.unrefused c.args.registry.now.schema.now c.args.registry.now.world.now user c.args.registry.now.header.now
@@ -332,11 +338,13 @@ returns-clause-ends g c =
     let is = sym (batch_begins _ _ c.new.ensures) ∙ reads.0 in
     let left = c.in-Memory-answer_all.ensures.answered in
     inr (
+      reads.1,
       items_of c.in-Whole.batch,
       is,
       finish_to c.args.registry.now.schema.now c.args.registry.now.world.now
           (header_bytes c.args.registry.now.header.now) c.args.registry.now.directory.now g.F.D.Disk.tells g.F.Shelf.tells
-          (g.met.F.Shelf.tells_disks shelf_told) shelf_told g.F.D.Disk g.met.F.D.Disk.read_is_image
+          (g.met.F.Shelf.tells_disks shelf_told) shelf_told g.F.D.Disk
+          g.met.F.D.Disk.read_is_image g.met.F.D.Disk.only_now
           (g.F.Shelf.disk c.args.shelf.now) (g.F.Shelf.disk c.answer_all.new.shelf) (g.F.Shelf.disk_faults c.args.shelf.now)
           (g.F.Shelf.disk_faults c.answer_all.new.shelf) (λ (user : UserProfile) entries bytes why.
           c.law_openings.ensures.unrefused c.args.registry.now.schema.now c.args.registry.now.world.now user c.args.registry.now.header.now

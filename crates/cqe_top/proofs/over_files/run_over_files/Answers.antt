@@ -52,7 +52,7 @@ returns-in-Err-clause-command g c =
     scene_of (shelf_of g.F.Shelf g.F.D.Disk c.args.shelf.now c.read_files.new.shelf) (input_of g.S.Source c.args.source.now c.args.source.now)
     (output_of g.K.Sink c.args.sink.now c.args.sink.now) (links_of g.L.Links c.args.links.now c.args.links.now) in
     unread scene (names_of_files c.args.files) c.args.task c.in-Err.end
-    (record { refused = c.in-Err.ensures.refused; looks = c.in-Err.ensures.looks; disks = c.in-Err.ensures.disks })
+    (record { refused = c.in-Err.ensures.refused; looks = c.in-Err.ensures.looks; disks = (c.in-Err.ensures.disks, c.in-Err.ensures.counts) })
     (files_cause scene c.in-Err.end c.in-Err.ensures.cause) refl refl refl
 
 -- ---- the making of journals
@@ -161,7 +161,10 @@ returns-in-Batch-clause-command g c =
         },
       );
       looks = λ told. ran.looked ∙ read.both told;
-      unopened = λ is name. ap (λ shelf. g.F.Shelf.disk shelf name) (ran.unopened is) ∙ read.disks name;
+      unopened = λ is. (
+        λ name. ap (λ shelf. g.F.Shelf.disk shelf name) (ran.unopened is) ∙ read.disks name,
+        λ name. ap (λ shelf. g.F.Shelf.disk_faults shelf name) (ran.unopened is) ∙ read.counts name,
+      );
     } in
     let does : OfBatch scene files (ends.Batch inputs.policy.users c.run_batch-end.result) = record {
       ends = runs;
@@ -194,7 +197,7 @@ returns-in_default-clause-command g c =
             ∙ ap (position (is_named c.in-Audit.name.now)) c.as_slice.ensures.value),
       );
       looks = read.both;
-      disks = read.disks;
+      disks = (read.disks, read.counts);
       writes_nothing = refl;
     } in
     let does : OfAudit scene files c.in-Audit.name.now c.in-Audit.json ends.Nobody = record {
@@ -316,7 +319,10 @@ returns-clause-command g c =
       );
       looks = λ told. ran.looked ∙ read.both told;
       listens = ran.listens;
-      unheard = λ told same name. ap (λ shelf. g.F.Shelf.disk shelf name) (ran.unheard told same) ∙ read.disks name;
+      unheard = λ told same. (
+        λ name. ap (λ shelf. g.F.Shelf.disk shelf name) (ran.unheard told same) ∙ read.disks name,
+        λ name. ap (λ shelf. g.F.Shelf.disk_faults shelf name) (ran.unheard told same) ∙ read.counts name,
+      );
       heard = ran.heard;
       few_ended = ran.few_ended;
       ends = λ told done. served_out scene.links listening.workers listening.sessions (ran.left told) (ran.ended told done);

@@ -28,7 +28,8 @@ loop-seat-preserved g c =
     let given = c.give_disk.ensures in
     let closed = c.close_desk-disk.ensures.closed in
     record {
-      so_far = given_more _ _ _ _ _ _ c.requires.distinct c.requires.out c.requires.later c.pop.new.self.items c.loop-seat.seats.items c.in-Some.seat
+      so_far = given_more _ _ _ _ _ _ c.requires.distinct c.requires.out c.requires.later g.met.F.D.Disk.counts_now g.met.F.D.Disk.only_now
+          c.pop.new.self.items c.loop-seat.seats.items c.in-Some.seat
           c.close_desk-disk.result.0
           (record {
             holds = λ told. closed.holds (g.met.F.Shelf.tells_disks told);
@@ -43,6 +44,8 @@ loop-seat-preserved g c =
             shut = closed.shut;
             still =
                 closed.still;
+            since = λ told. closed.since (g.met.F.Shelf.tells_disks told);
+            time = closed.time;
           }) _ _ _ _ _ _ c.as_str.result.now c.as_str.ensures.value split c.loop-seat.invariant.so_far
           (λ told. given.held told) given.disks given.back given.others_out given.count given.other_counts;
       faults = given.faults ∙ c.loop-seat.invariant.faults;

@@ -90,12 +90,12 @@ returns-clause-ends g c shelf_told =
     c.in-Ok-open_all.seats.items c.serve_seats-outcome.result.1.items c.requires.limits c.in-Ok-open_all.ensures.opened
     c.serve_seats-outcome.ensures.on c.give_back-is_broken.ensures.back in
     subst (EndsDoors c.args.registry.now.schema.now c.args.registry.now.world.now (header_bytes c.args.registry.now.header.now)
-    (journals_by g.F.D.Disk.reads g.F.D.Disk.image c.args.registry.now.directory.now (g.F.Shelf.disk c.args.shelf.now)
+    (journals_by g.F.D.Disk.reads g.F.D.Disk.image g.F.D.Disk.moment g.F.D.Disk.image_since c.args.registry.now.directory.now (g.F.Shelf.disk c.args.shelf.now)
     (g.F.Shelf.disk c.give_back-is_broken.new.shelf) (g.F.Shelf.disk_faults c.args.shelf.now) (g.F.Shelf.disk_faults c.give_back-is_broken.new.shelf))
     c.args.registry.now.users.now g.O.Door c.args.doors.items
     c.serve_seats-outcome.result.2.items) (sym c.end_of.ensures)
     (ends_at c.args.registry.now.schema.now c.args.registry.now.world.now (header_bytes c.args.registry.now.header.now)
-    (journals_by g.F.D.Disk.reads g.F.D.Disk.image c.args.registry.now.directory.now (g.F.Shelf.disk c.args.shelf.now)
+    (journals_by g.F.D.Disk.reads g.F.D.Disk.image g.F.D.Disk.moment g.F.D.Disk.image_since c.args.registry.now.directory.now (g.F.Shelf.disk c.args.shelf.now)
     (g.F.Shelf.disk c.give_back-is_broken.new.shelf) (g.F.Shelf.disk_faults c.args.shelf.now) (g.F.Shelf.disk_faults c.give_back-is_broken.new.shelf))
     c.args.registry.now.users.now g.O.Door c.args.doors.items
     c.serve_seats-outcome.result.2.items c.serve_seats-outcome.result.0 c.refusals_of-refusals.result c.give_back-is_broken.result
@@ -103,8 +103,8 @@ returns-clause-ends g c shelf_told =
       members = map seat_member c.serve_seats-outcome.result.1.items;
       each_user = subst
           (HaveServed c.args.registry.now.schema.now c.args.registry.now.world.now (header_bytes c.args.registry.now.header.now)
-          (journals_by g.F.D.Disk.reads g.F.D.Disk.image c.args.registry.now.directory.now (g.F.Shelf.disk c.args.shelf.now)
-          (g.F.Shelf.disk c.give_back-is_broken.new.shelf) (g.F.Shelf.disk_faults c.args.shelf.now)
+          (journals_by g.F.D.Disk.reads g.F.D.Disk.image g.F.D.Disk.moment g.F.D.Disk.image_since c.args.registry.now.directory.now
+          (g.F.Shelf.disk c.args.shelf.now) (g.F.Shelf.disk c.give_back-is_broken.new.shelf) (g.F.Shelf.disk_faults c.args.shelf.now)
           (g.F.Shelf.disk_faults c.give_back-is_broken.new.shelf)) c.args.registry.now.users.now
           (map seat_member c.serve_seats-outcome.result.1.items)) (sym refusals) each;
       broken_is = c.give_back-is_broken.ensures.broke ∙ broke_at c.serve_seats-outcome.result.1.items;

@@ -1,6 +1,6 @@
 use Rattle.std.proofs.Common.{ap, sym, ◌∙◌, subst, ◌≡◌, ℕ, List, ◌++◌, false, length}
 use Rattle.std.specs.Prelude.{option_to_list}
-use Rattle.user_desk.specs.Entries.{StandsWithin}
+use Rattle.user_desk.specs.Causes.{OpensWithin}
 use Rattle.user_desk.specs.Standings.{is_sealed}
 use Rattle.user_desk.specs.declared.desk.Desk.{Desk}
 use Rattle.user_desk.specs.Desks.{desk_history, desk_disk, entry_in_flight}
@@ -74,7 +74,8 @@ returns-clause-since g c =
     subst
     (λ (f : Fixed g.row.D.Denot).
     g.D.Disk.tells → is_sealed kept.standing ≡ false → (i : List ℕ) → g.D.Disk.image_since (desk_disk c.into_desk-desk.result) (g.D.Disk.moment f.disk) i
-    → StandsWithin kept.schema kept.header (length kept.opening) (history_of (seen c.args.pass) ++ option_to_list (flying (seen c.args.pass))) i) same
+    → OpensWithin kept.schema kept.world kept.user kept.header (length kept.opening)
+    (history_of (seen c.args.pass) ++ option_to_list (flying (seen c.args.pass))) i) same
     (closed_since c.into_desk-desk.result kept (seen c.args.pass) same (returns-clause-history g c) (returns-clause-in_flight g c) g.D.Disk.tells
     (λ i. g.D.Disk.image_since (desk_disk c.into_desk-desk.result) (g.D.Disk.moment (fixed_of c.into_desk-desk.result).disk) i) c.known.ensures.begins
     c.known.ensures.since)
