@@ -28,7 +28,7 @@ loop-seat-preserved g c =
     let given = c.give_disk.ensures in
     let closed = c.close_desk-disk.ensures.closed in
     record {
-      so_far = given_more _ _ _ _ _ _ c.requires.distinct c.requires.out c.requires.later g.met.F.D.Disk.counts_now g.met.F.D.Disk.only_now
+      so_far = given_more _ g.F.D.Disk _ _ _ _ c.requires.distinct c.requires.out c.requires.later g.met.F.D.Disk.counts_now g.met.F.D.Disk.only_now
           c.pop.new.self.items c.loop-seat.seats.items c.in-Some.seat
           c.close_desk-disk.result.0
           (record {
