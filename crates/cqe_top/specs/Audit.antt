@@ -1,4 +1,5 @@
 -- The command `audit`: what the journal of one user holds, to the output.
+-- Ends: Audit, Nobody, Files, Memory.
 use Rattle.std.specs.Prelude.{◌≡◌, ℕ, Bool, List, find, bytes_eq, Option, Some, None}
 use Rattle.outside.specs.Faults.{Rose}
 use Rattle.outside.specs.Shelf.{SameOthers, SameBytes, NoNewImages}
@@ -28,7 +29,7 @@ abbrev pub NamesNobody : Text → PolicyValue → FactSet → List ℕ → Type 
 NamesNobody name policy world header = user_named name policy.users ≡ None
 
 -- the policy has a user of this name, whose journal stands for a legal history of his within the
--- limits, and the count of its disk's faults didn't rise
+-- limits as the call begins, and in the call the count of its disk's faults didn't rise
 abbrev pub CanBeAudited : Journals → Text → PolicyValue → FactSet → List ℕ → Type 0
 CanBeAudited journals name policy world header =
     (user : PolicyUser) × (user_named name policy.users ≡ Some user)
@@ -72,7 +73,7 @@ module _ (shelf : ShelfScene) (output : Output) (files : FileNames) (user : Text
     AuditEnds end.Memory = SameShelf shelf × SameOutput output
     AuditEnds end = ⊥
 
-    -- without a fault, a user whose journal can be opened is audited
+    -- where no fault comes, a user whose journal can be opened is audited unless memory is wanting
     abbrev pub AuditSucceeds : CommandEnd → Type 0
     AuditSucceeds end =
         shelf.tells → output.tells → SayOn shelf files (CanBeAudited (journals_of shelf files) user)
@@ -82,6 +83,6 @@ module _ (shelf : ShelfScene) (output : Output) (files : FileNames) (user : Text
 pub record OfAudit (s : Scene) (files : FileNames) (user : Text) (json : Bool) (end : CommandEnd)
     : Type 0 where
   pub ends : AuditEnds s.shelf s.output files user json end
-  pub succeeds : AuditSucceeds s.shelf s.output files user json end
   pub reads_nothing : SameInput s.input
   pub listens_nowhere : SameLinks s.links
+  pub succeeds : AuditSucceeds s.shelf s.output files user json end

@@ -1,4 +1,5 @@
 -- The command `batch`: a script of many users, over their journals, from the input to the output.
+-- Ends: Batch, Files, Memory.
 use Rattle.std.specs.Prelude.{◌≡◌, List, ℕ, map, IsOk, Vec}
 use Rattle.std.specs.declared.alloc.Global.{Global}
 use Rattle.batch_engine.specs.Batch as batch
@@ -32,7 +33,8 @@ module _ (shelf : ShelfScene) (input : Input) (output : Output) (files : FileNam
         → batch.EndsBatch policy.schema world header (journals_of shelf files) (new_users policy)
         end input.left input.left' output.written output.written'
 
-  -- it ran over files that were read; where the script wasn't, no disk was touched
+  -- It ran over files that were read. Where the script is refused or can't be read, no journal was
+  -- opened, and no disk is changed.
   pub record RunsBatch (users : Vec User Global) (end : BatchEnd) : Type 0 where
     pub over_files : shelf.tells → SayOn shelf files (AnswersOverFiles users end)
     pub looks : shelf.tells → LooksAtBoth shelf files
@@ -45,7 +47,8 @@ module _ (shelf : ShelfScene) (input : Input) (output : Output) (files : FileNam
   BatchEnds end.Memory = SameShelf shelf × SameInput input × SameOutput output
   BatchEnds end = ⊥
 
-  -- without a fault a script that is right is answered whole over journals that can be opened
+  -- where no fault comes, a script that is right is answered whole over journals that can be
+  -- opened, unless memory is wanting
   abbrev pub BatchSucceeds : CommandEnd → Type 0
   BatchSucceeds end =
       shelf.tells → input.tells → output.tells → IsOk (batch_of input.left)
@@ -56,5 +59,5 @@ module _ (shelf : ShelfScene) (input : Input) (output : Output) (files : FileNam
 -- `batch` over the files of these names
 pub record OfBatch (s : Scene) (files : FileNames) (end : CommandEnd) : Type 0 where
   pub ends : BatchEnds s.shelf s.input s.output files end
-  pub succeeds : BatchSucceeds s.shelf s.input s.output files end
   pub listens_nowhere : SameLinks s.links
+  pub succeeds : BatchSucceeds s.shelf s.input s.output files end

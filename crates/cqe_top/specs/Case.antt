@@ -1,4 +1,5 @@
 -- The command `case`: a script with one user, from the input to the output.
+-- Ends: Case, Memory.
 use Rattle.std.specs.Prelude.{IsOk}
 use Rattle.case_engine.specs.Case as case
 use Rattle.case_engine.specs.Script.{script_of}
@@ -22,7 +23,7 @@ module _ (s : Scene) where
   CaseEnds end.Memory = IsUntouched s
   CaseEnds end = ⊥
 
-  -- `case`; a script that is right is answered whole where no fault comes
+  -- `case`; where no fault comes, a script that is right is answered whole unless memory is wanting
   pub record OfCase (end : CommandEnd) : Type 0 where
     pub ends : CaseEnds end
     pub succeeds : s.input.tells → s.output.tells → IsOk (script_of s.input.left)

@@ -25,8 +25,8 @@ use Rattle.cqe_top.specs.Scene.{ShelfScene, SameDisks}
 
 -- ---- what two files say
 
--- what two files say: a policy and a world, with the header of the journals that belong to them;
--- or the first of them that isn't there or is refused
+-- what two files say: a policy and a world, which is the facts of the file, with the header of the
+-- journals that belong to them; or the first of them that isn't there or is refused
 pub data FilesSay : Type 0 where
   no_policy : FilesSay
   bad_policy : (why : PolicyError) → FilesSay
@@ -60,8 +60,8 @@ abbrev pub files_say : Option (List ℕ) → Option (List ℕ) → FilesSay
 files_say None facts = no_policy
 files_say (Some bytes) facts = with_policy bytes (policy_in bytes) facts
 
--- The files say a policy, a world and a header of which this holds. Whatever names of these three
--- a command's clause takes last are given here.
+-- They say a policy, a world and a header of which this holds. A clause of a command that takes a
+-- policy, a world and a header last is said of these three.
 abbrev pub Say : FilesSay → (PolicyValue → FactSet → List ℕ → Type 0) → Type 0
 Say said P =
     (policy : PolicyValue) × (world : FactSet) × (header : List ℕ)
@@ -128,7 +128,7 @@ module _ (shelf : ShelfScene) (files : FileNames) where
   TouchesJournals policy =
       SameBeside (map (journal_name files.journals) (names_of policy.users)) shelf.disk shelf.disk'
 
-  -- of the files the policy was looked at, and then the facts, and no other
+  -- of the shelf's files the policy was looked at, and then the facts, and no other
   abbrev pub LooksAtBoth : Type 0
   LooksAtBoth = shelf.looked' ≡ shelf.looked ++ files.policy ∷ files.facts ∷ []
 

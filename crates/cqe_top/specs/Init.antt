@@ -1,4 +1,5 @@
 -- The command `init`: an empty journal on the disk of each user of a policy, where that is empty.
+-- Ends: Init, Files, Memory.
 use Rattle.std.specs.Prelude.{◌≡◌, ◌<◌, List, ℕ, length, map, Vec}
 use Rattle.std.specs.declared.alloc.Global.{Global}
 use Rattle.cqe_base.specs.Facts.{FactSet}
@@ -35,8 +36,8 @@ NamesOneOf users (init_end.Refused user why) = user < length users
 NamesOneOf users end = Unit {0}
 
 module _ (shelf : ShelfScene) (files : FileNames) where
-  -- the journals of these users of the policy were made, or it stopped at the first who can't be
-  -- served
+  -- the journals of these users of the policy were made, or it stopped at the first whose journal
+  -- can't be made
   pub record Makes (users : Vec User Global) (end : InitEnd) (policy : PolicyValue)
       (world : FactSet) (header : List ℕ) : Type 0 where
     pub of_policy : map policy_user_of users.items ≡ policy.users
@@ -56,7 +57,8 @@ module _ (shelf : ShelfScene) (files : FileNames) where
   InitEnds end.Memory = SameShelf shelf
   InitEnds end = ⊥
 
-  -- without a fault of the shelf, the journals of all users are made where that can be
+  -- where no fault comes, and the journals of all users can be made, they are made unless memory is
+  -- wanting
   abbrev pub InitSucceeds : CommandEnd → Type 0
   InitSucceeds end =
       shelf.tells → SayOn shelf files (CanBeMade (journals_of shelf files))
@@ -65,7 +67,7 @@ module _ (shelf : ShelfScene) (files : FileNames) where
 -- `init` over the files of these names; it has no input and no output
 pub record OfInit (s : Scene) (files : FileNames) (end : CommandEnd) : Type 0 where
   pub ends : InitEnds s.shelf files end
-  pub succeeds : InitSucceeds s.shelf files end
   pub reads_nothing : SameInput s.input
   pub writes_nothing : SameOutput s.output
   pub listens_nowhere : SameLinks s.links
+  pub succeeds : InitSucceeds s.shelf files end

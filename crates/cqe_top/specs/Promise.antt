@@ -1,4 +1,4 @@
--- What the program promises of a call.
+-- What the program promises of a call. Memory may be wanting at any time; nothing here says when.
 use Rattle.std.specs.Prelude.{◌≡◌, ℕ, List, Option, Some, None}
 use Rattle.outside.specs.Shelf.{SameNames, NoneOut, NoneFell}
 use Rattle.outside.specs.Streams.{AppendsUnless}
@@ -17,7 +17,7 @@ use Rattle.cqe_top.specs.Scene.{Scene, ShelfScene, Output, HasRisen, HasNotFalle
 use Rattle.cqe_top.specs.Selfrun.{OfSelfrun}
 use Rattle.cqe_top.specs.Serve.{OfServe}
 
--- words without a reading: nothing is done
+-- words without a reading: nothing is done, as where memory is wanting for them
 abbrev pub OfUsage : Scene → CommandEnd → Type 0
 OfUsage s end.Usage = IsUntouched s
 OfUsage s end.Memory = IsUntouched s
@@ -34,15 +34,16 @@ OfReading s (Some (runs_selfrun seed users asks)) end = OfSelfrun s seed users a
 OfReading s (Some (runs_serve files address workers sessions)) end =
     OfServe s files address workers sessions end
 
--- of a shelf, whatever comes: its files are what they were, all its disks are back, and no count
--- fell
+-- of a shelf, whatever comes: its files are what they were, no disk is out, and no count of faults
+-- fell, neither that of a disk nor its own
 pub record KeepsShelf (shelf : ShelfScene) : Type 0 where
   pub files : SameNames shelf.file shelf.file'
   pub inside : NoneOut shelf.is_out'
   pub counts : NoneFell shelf.disk_faults shelf.disk_faults'
   pub later : HasNotFallen shelf.faults
 
--- whatever comes: all disks and doors are back, the input holds what it held, and no count fell
+-- Whatever comes: the shelf is kept so, the input holds what it held, as many doors are out as
+-- before, and no count of faults fell, neither of the input nor of the output nor of the links.
 pub record Always (s : Scene) : Type 0 where
   pub shelf : KeepsShelf s.shelf
   pub held : s.input.held' ≡ s.input.held
@@ -51,8 +52,10 @@ pub record Always (s : Scene) : Type 0 where
   pub output_later : HasNotFallen s.output.faults
   pub links_later : HasNotFallen s.links.faults
 
--- The status is that of an end, of which the complaints are told: one of the command of the words.
--- A fault has its cause.
+-- There is an end, of which all holds that the reading of the words says. The status is that of
+-- this end, and so is the complaint: it was written whole, or where the count of the complaints
+-- rose a part of it. A fault that is told has its cause. What holds whatever comes does, and the
+-- count of the complaints didn't fall either.
 pub record Promise (words : List Text) (s : Scene) (complaints : Output) (status : ℕ)
     : Type 0 where
   pub end : CommandEnd

@@ -1,4 +1,5 @@
--- What is told of an end: its status, its complaint, and the fault that is its cause.
+-- What is told of an end: its report, and the status of that. `Complaints` has the text of each
+-- report. Where a report may tell a fault stands here too.
 use Rattle.std.specs.Prelude.{◌≡◌, ◌⊎◌, ℕ, Bool, List, Option, Vec, is_some, if◌then◌else◌}
 use Rattle.std.specs.List.{list_any}
 use Rattle.std.specs.declared.alloc.Global.{Global}
@@ -22,7 +23,7 @@ use Rattle.cqe_top.specs.declared.report.Report.TheVariants.{Journal, JournalAt,
 use Rattle.cqe_top.specs.declared.report.Report.TheVariants.{DiskFault, LinksFault, Memory}
 use Rattle.cqe_top.specs.Scene.{Scene, HasRisen}
 
--- the status
+-- the status of a report
 abbrev pub status_of : Report → ℕ
 status_of Done = 0
 status_of Usage = 2
@@ -46,14 +47,14 @@ status_of Memory = 13
 abbrev pub has_refusal : List (Option DeskError) → Bool
 has_refusal refusals = list_any is_some refusals
 
--- of all asks answered to their end: a refused journal comes before an append that failed
+-- the report of asks that were all answered: a refused journal comes before an append that failed
 abbrev pub answers_report : Vec User Global → Vec (Option DeskError) Global → Bool → Report
 answers_report users refusals is_broken =
     if has_refusal refusals.items then Journals users refusals
     else if is_broken then DiskFault
     else Done
 
--- of an end
+-- the report of an end
 abbrev pub report_of : CommandEnd → Report
 report_of end.Usage = Usage
 report_of end.Memory = Memory
@@ -92,7 +93,7 @@ report_of (end.Serve users serve_end.LinksFault) = LinksFault
 report_of (end.Serve users serve_end.ShelfFault) = ShelfFault
 report_of (end.Serve users serve_end.Memory) = Memory
 
--- all was done, or memory was wanting
+-- what is told is that all was done, or that memory was wanting
 abbrev pub IsDoneUnlessMemory : CommandEnd → Type 0
 IsDoneUnlessMemory end = (report_of end ≡ Done) ⊎ (report_of end ≡ Memory)
 

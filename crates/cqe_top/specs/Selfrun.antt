@@ -1,4 +1,5 @@
 -- The command `selfrun`: a workload, run over nothing but memory, and its summary to the output.
+-- Ends: Selfrun, Memory.
 use Rattle.std.specs.Prelude.{ℕ}
 use Rattle.selfrun_engine.specs.Runs.{EndsSelfrun}
 use Rattle.selfrun_engine.specs.declared.end.SelfrunEnd.{SelfrunEnd}
@@ -23,7 +24,7 @@ module _ (s : Scene) (seed users asks : ℕ) where
   SelfrunEnds end.Memory = IsUntouched s
   SelfrunEnds end = ⊥
 
-  -- `selfrun` with these numbers; it is done where no fault comes
+  -- `selfrun` with these numbers; where no fault comes, it is done unless memory is wanting
   pub record OfSelfrun (end : CommandEnd) : Type 0 where
     pub ends : SelfrunEnds end
     pub succeeds : (HasRisen s.output.faults → ⊥) → IsDoneUnlessMemory end

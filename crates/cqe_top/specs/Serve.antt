@@ -1,5 +1,6 @@
 -- The command `serve`: connections at an address, side by side, over the journals of a policy's
 -- users.
+-- Ends: Serve, Files, Memory.
 use Rattle.std.specs.Prelude.{◌≡◌, ◌⊎◌, ◌++◌, ◌∷◌, [], ◌+◌, ◌<◌, ◌≤◌, ℕ, List, map, Vec}
 use Rattle.std.specs.declared.alloc.Global.{Global}
 use Rattle.outside.specs.Visits.{place_of}
@@ -30,13 +31,14 @@ pub record IsNoneLeft (links : LinksScene) : Type 0 where
   pub at_hand : links.at_hand' ≡ 0
   pub left : links.left ≡ links.at_hand → links.left' ≡ 0
 
--- The connections that were given in this call are at least so many, together with the doors that
--- answered that no further one comes; and more, together with all workers.
+-- The connections that were given in this call come up to the limit. With one more for each door
+-- that answered in the call that no further one comes, they are at least the limit; with one more
+-- for each worker, they are above it.
 pub record IsLimitReached (links : LinksScene) (workers sessions : ℕ) : Type 0 where
   pub with_ended : links.given + sessions + links.ended ≤ links.given' + links.ended'
   pub with_workers : links.given + sessions < links.given' + workers
 
--- one of both
+-- no connection is left, or the limit is reached
 abbrev pub IsServedOut : LinksScene → ℕ → ℕ → Type 0
 IsServedOut links workers sessions = IsNoneLeft links ⊎ IsLimitReached links workers sessions
 
@@ -77,17 +79,18 @@ module _ (shelf : ShelfScene) (links : LinksScene) (files : FileNames) (address 
   ServeEnds end.Memory = SameShelf shelf × SameLinks links
   ServeEnds end = ⊥
 
-  -- without a fault, it serves to its end over journals that can be opened
+  -- where no fault comes, it serves to its end over journals that can be opened, unless memory is
+  -- wanting
   abbrev pub ServeSucceeds : CommandEnd → Type 0
   ServeSucceeds end =
       shelf.tells → links.tells → SayOn shelf files (CanBeOpened (journals_of shelf files))
       → (HasRisen shelf.faults → ⊥) → (HasRisen links.faults → ⊥) → IsDoneUnlessMemory end
 
 -- `serve` over the files of these names, at this address, with so many workers and for so many
--- connections; it has no input and no output but these
+-- connections at most; it reads no input and writes no output: its clients come through the links
 pub record OfServe (s : Scene) (files : FileNames) (address : Text) (workers sessions : ℕ)
     (end : CommandEnd) : Type 0 where
   pub ends : ServeEnds s.shelf s.links files address workers sessions end
-  pub succeeds : ServeSucceeds s.shelf s.links files address workers sessions end
   pub reads_nothing : SameInput s.input
   pub writes_nothing : SameOutput s.output
+  pub succeeds : ServeSucceeds s.shelf s.links files address workers sessions end
