@@ -26,9 +26,9 @@ use Rattle.cqe_top.specs.declared.end.FilesEnd.{FilesEnd}
 use Rattle.cqe_top.specs.declared.end.FilesEnd.TheVariants as files_end
 use Rattle.cqe_top.specs.declared.report.Report.{Report}
 use Rattle.cqe_top.specs.declared.report.Report.TheVariants as report
-use Rattle.cqe_top.specs.Files.{IsShelfFault}
 use Rattle.cqe_top.specs.Reports.{report_of, answers_report, has_refusal, FaultsHaveCauses}
 use Rattle.cqe_top.specs.Scene.{Scene, HasRisen}
+use Rattle.cqe_top.specs.Steps.{IsShelfFault}
 
 module _ (s : Scene) where
   -- the fault of which a report tells rose

@@ -5,7 +5,7 @@ use Rattle.case_engine.specs.Case as case
 use Rattle.case_engine.specs.Script.{script_of}
 use Rattle.case_engine.specs.declared.case.CaseEnd.{CaseEnd}
 use Rattle.cqe_top.specs.declared.end.CommandEnd.{CommandEnd}
-use Rattle.cqe_top.specs.declared.end.CommandEnd.TheVariants as end
+use Rattle.cqe_top.specs.declared.end.CommandEnd.TheVariants as command_end
 use Rattle.cqe_top.specs.Reports.{IsDoneUnlessMemory}
 use Rattle.cqe_top.specs.Scene.{Scene, IsUntouched, HasRisen, SameShelf, SameLinks}
 
@@ -14,13 +14,13 @@ module _ (s : Scene) where
   pub record RunsCase (end : CaseEnd) : Type 0 where
     pub answers : s.input.tells → s.output.tells
         → case.EndsCase end s.input.left s.input.left' s.output.written s.output.written'
-    pub takes_nothing : SameShelf s.shelf
+    pub shelf_same : SameShelf s.shelf
     pub listens_nowhere : SameLinks s.links
 
   -- the ends that it may have
   abbrev pub CaseEnds : CommandEnd → Type 0
-  CaseEnds (end.Case end) = RunsCase end
-  CaseEnds end.Memory = IsUntouched s
+  CaseEnds (command_end.Case engine_end) = RunsCase engine_end
+  CaseEnds command_end.Memory = IsUntouched s
   CaseEnds end = ⊥
 
   -- `case`; where no fault comes, a script that is right is answered whole unless memory is wanting

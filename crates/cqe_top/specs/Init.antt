@@ -1,6 +1,6 @@
 -- The command `init`: an empty journal on the disk of each user of a policy, where that is empty.
 -- Ends: Init, Files, Memory.
-use Rattle.std.specs.Prelude.{◌≡◌, ◌<◌, List, ℕ, length, map, Vec}
+use Rattle.std.specs.Prelude.{◌<◌, List, ℕ, length, Vec}
 use Rattle.std.specs.declared.alloc.Global.{Global}
 use Rattle.cqe_base.specs.Facts.{FactSet}
 use Rattle.cqe_base.specs.declared.user.User.{User}
@@ -8,12 +8,11 @@ use Rattle.command_words.specs.Readings.{FileNames}
 use Rattle.init_engine.specs.Ends.{Change, EndsInit}
 use Rattle.init_engine.specs.declared.end.InitEnd.{InitEnd}
 use Rattle.init_engine.specs.declared.end.InitEnd.TheVariants as init_end
-use Rattle.policy_files.specs.Memory.{policy_user_of}
 use Rattle.policy_files.specs.Policies.{PolicyValue}
 use Rattle.policy_files.specs.Users.{names_of}
 use Rattle.cqe_top.specs.declared.end.CommandEnd.{CommandEnd}
-use Rattle.cqe_top.specs.declared.end.CommandEnd.TheVariants as end
-use Rattle.cqe_top.specs.Files.{SayOn, LooksAtBoth, IsUnread, journals_of}
+use Rattle.cqe_top.specs.declared.end.CommandEnd.TheVariants as command_end
+use Rattle.cqe_top.specs.Files.{SayOn, LooksAtBoth, IsUnread, AreUsersOf, journals_of}
 use Rattle.cqe_top.specs.Ready.{CanBeMade}
 use Rattle.cqe_top.specs.Reports.{IsDoneUnlessMemory}
 use Rattle.cqe_top.specs.Scene.{Scene, ShelfScene, HasRisen}
@@ -40,8 +39,8 @@ module _ (shelf : ShelfScene) (files : FileNames) where
   -- can't be made
   pub record Makes (users : Vec User Global) (end : InitEnd) (policy : PolicyValue)
       (world : FactSet) (header : List ℕ) : Type 0 where
-    pub of_policy : map policy_user_of users.items ≡ policy.users
-    pub makes : EndsInit shelf.tells shelf.Disk.reads shelf.Disk.image header files.journals
+    pub of_policy : AreUsersOf users policy
+    pub makes : EndsInit shelf.tells shelf.Disk.reads shelf.Disk.image header files.directory
         (names_of policy.users) (change_on shelf) end
 
   -- it ran over files that were read
@@ -52,13 +51,13 @@ module _ (shelf : ShelfScene) (files : FileNames) where
 
   -- the ends that it may have
   abbrev pub InitEnds : CommandEnd → Type 0
-  InitEnds (end.Init users end) = RunsInit users end
-  InitEnds (end.Files end) = IsUnread shelf files end
-  InitEnds end.Memory = SameShelf shelf
+  InitEnds (command_end.Init users engine_end) = RunsInit users engine_end
+  InitEnds (command_end.Files why) = IsUnread shelf files why
+  InitEnds command_end.Memory = SameShelf shelf
   InitEnds end = ⊥
 
-  -- where no fault comes, and the journals of all users can be made, they are made unless memory is
-  -- wanting
+  -- where no fault comes (of the users' disks `CanBeMade` says it), the journals of all users are
+  -- made if they can be, unless memory is wanting
   abbrev pub InitSucceeds : CommandEnd → Type 0
   InitSucceeds end =
       shelf.tells → SayOn shelf files (CanBeMade (journals_of shelf files))

@@ -14,7 +14,7 @@ use Rattle.batch_engine.specs.Joining.{IsAnsweredTo}
 use Rattle.batch_engine.specs.declared.run.BatchEnd.TheVariants as batch_end
 use Rattle.command_words.specs.Readings.{FileNames, reading_of, runs_batch}
 use Rattle.policy_files.specs.Policies.{PolicyValue}
-use Rattle.cqe_top.specs.declared.end.CommandEnd.TheVariants as end
+use Rattle.cqe_top.specs.declared.end.CommandEnd.TheVariants as command_end
 use Rattle.cqe_top.specs.Files.{said_on, SayOn, journals_of, new_users}
 use Rattle.cqe_top.specs.Promise.{Promise}
 use Rattle.cqe_top.specs.Scene.{Scene, Output}
@@ -54,8 +54,8 @@ BatchCallsJoin s complaints s' complaints' =
     (is_broken is_broken' : Bool)
     (one : Promise words s complaints status) (two : Promise words' s' complaints' status')
     → reading_of words ≡ Some (runs_batch files) → reading_of words' ≡ Some (runs_batch files)
-    → one.end ≡ end.Batch users (batch_end.Done refusals is_broken)
-    → two.end ≡ end.Batch users' (batch_end.Done refusals' is_broken')
+    → one.end ≡ command_end.Batch users (batch_end.Done refusals is_broken)
+    → two.end ≡ command_end.Batch users' (batch_end.Done refusals' is_broken')
     → TellsAll s → TellsAll s' → said_on s'.shelf files ≡ said_on s.shelf files
     → SayOn s.shelf files
     (AreJoined s s' files refusals.items refusals'.items is_broken is_broken')

@@ -6,7 +6,7 @@ use Rattle.cqe_base.specs.Schema.{Text}
 use Rattle.command_words.specs.Readings.{Reading, reading_of, runs_case, runs_init, runs_batch}
 use Rattle.command_words.specs.Readings.{runs_audit, runs_selfrun, runs_serve}
 use Rattle.cqe_top.specs.declared.end.CommandEnd.{CommandEnd}
-use Rattle.cqe_top.specs.declared.end.CommandEnd.TheVariants as end
+use Rattle.cqe_top.specs.declared.end.CommandEnd.TheVariants as command_end
 use Rattle.cqe_top.specs.Audit.{OfAudit}
 use Rattle.cqe_top.specs.Batch.{OfBatch}
 use Rattle.cqe_top.specs.Case.{OfCase}
@@ -19,8 +19,8 @@ use Rattle.cqe_top.specs.Serve.{OfServe}
 
 -- words without a reading: nothing is done, as where memory is wanting for them
 abbrev pub OfUsage : Scene → CommandEnd → Type 0
-OfUsage s end.Usage = IsUntouched s
-OfUsage s end.Memory = IsUntouched s
+OfUsage s command_end.Usage = IsUntouched s
+OfUsage s command_end.Memory = IsUntouched s
 OfUsage s end = ⊥
 
 -- what an end says by the reading of the words
@@ -31,16 +31,16 @@ OfReading s (Some (runs_init files)) end = OfInit s files end
 OfReading s (Some (runs_batch files)) end = OfBatch s files end
 OfReading s (Some (runs_audit files user json)) end = OfAudit s files user json end
 OfReading s (Some (runs_selfrun seed users asks)) end = OfSelfrun s seed users asks end
-OfReading s (Some (runs_serve files address workers sessions)) end =
-    OfServe s files address workers sessions end
+OfReading s (Some (runs_serve files address workers limit)) end =
+    OfServe s files address workers limit end
 
 -- of a shelf, whatever comes: its files are what they were, no disk is out, and no count of faults
 -- fell, neither that of a disk nor its own
 pub record KeepsShelf (shelf : ShelfScene) : Type 0 where
   pub files : SameNames shelf.file shelf.file'
   pub inside : NoneOut shelf.is_out'
-  pub counts : NoneFell shelf.disk_faults shelf.disk_faults'
-  pub later : HasNotFallen shelf.faults
+  pub disk_faults : NoneFell shelf.disk_faults shelf.disk_faults'
+  pub faults : HasNotFallen shelf.faults
 
 -- Whatever comes: the shelf is kept so, the input holds what it held, as many doors are out as
 -- before, and no count of faults fell, neither of the input nor of the output nor of the links.
@@ -48,9 +48,9 @@ pub record Always (s : Scene) : Type 0 where
   pub shelf : KeepsShelf s.shelf
   pub held : s.input.held' ≡ s.input.held
   pub doors : s.links.out' ≡ s.links.out
-  pub input_later : HasNotFallen s.input.faults
-  pub output_later : HasNotFallen s.output.faults
-  pub links_later : HasNotFallen s.links.faults
+  pub input_faults : HasNotFallen s.input.faults
+  pub output_faults : HasNotFallen s.output.faults
+  pub links_faults : HasNotFallen s.links.faults
 
 -- There is an end, of which all holds that the reading of the words says. The status is that of
 -- this end, and so is the complaint: it was written whole, or where the count of the complaints
@@ -65,4 +65,4 @@ pub record Promise (words : List Text) (s : Scene) (complaints : Output) (status
   pub command : OfReading s (reading_of words) end
   pub cause : FaultsHaveCauses s end
   pub always : Always s
-  pub complaints_later : HasNotFallen complaints.faults
+  pub complaints_faults : HasNotFallen complaints.faults

@@ -14,7 +14,7 @@ use Rattle.selfrun_engine.specs.declared.end.SelfrunEnd.TheVariants as selfrun_e
 use Rattle.serve_engine.specs.declared.run.ServeEnd.TheVariants as serve_end
 use Rattle.cqe_top.specs.declared.end.FilesEnd.TheVariants as files_end
 use Rattle.cqe_top.specs.declared.end.CommandEnd.{CommandEnd}
-use Rattle.cqe_top.specs.declared.end.CommandEnd.TheVariants as end
+use Rattle.cqe_top.specs.declared.end.CommandEnd.TheVariants as command_end
 use Rattle.cqe_top.specs.declared.report.Report.{Report}
 use Rattle.cqe_top.specs.declared.report.Report.TheVariants.{Done, Usage, Policy, Facts, Script}
 use Rattle.cqe_top.specs.declared.report.Report.TheVariants.{ReadFault, WriteFault}
@@ -56,42 +56,44 @@ answers_report users refusals is_broken =
 
 -- the report of an end
 abbrev pub report_of : CommandEnd → Report
-report_of end.Usage = Usage
-report_of end.Memory = Memory
-report_of (end.Files (files_end.Missing name)) = Missing name
-report_of (end.Files (files_end.ShelfFault kind)) = ShelfFault
-report_of (end.Files (files_end.Policy why)) = Policy why
-report_of (end.Files (files_end.Facts why)) = Facts why
-report_of (end.Files files_end.Memory) = Memory
-report_of (end.Case case_end.Done) = Done
-report_of (end.Case (case_end.Script refusal)) = Script refusal
-report_of (end.Case case_end.ReadFault) = ReadFault
-report_of (end.Case case_end.WriteFault) = WriteFault
-report_of (end.Case case_end.Memory) = Memory
-report_of (end.Init users init_end.Done) = Done
-report_of (end.Init users (init_end.Refused user why)) = JournalAt users user why
-report_of (end.Init users init_end.DiskFault) = DiskFault
-report_of (end.Init users init_end.ShelfFault) = ShelfFault
-report_of (end.Init users init_end.Memory) = Memory
-report_of (end.Batch users (batch_end.Done refusals broken)) = answers_report users refusals broken
-report_of (end.Batch users (batch_end.Script refusal)) = Script refusal
-report_of (end.Batch users batch_end.ReadFault) = ReadFault
-report_of (end.Batch users batch_end.WriteFault) = WriteFault
-report_of (end.Batch users batch_end.ShelfFault) = ShelfFault
-report_of (end.Batch users batch_end.Memory) = Memory
-report_of end.Nobody = Usage
-report_of (end.Audit name audit_end.Done) = Done
-report_of (end.Audit name (audit_end.Refused why)) = Journal name why
-report_of (end.Audit name audit_end.WriteFault) = WriteFault
-report_of (end.Audit name audit_end.ShelfFault) = ShelfFault
-report_of (end.Audit name audit_end.Memory) = Memory
-report_of (end.Selfrun selfrun_end.Done) = Done
-report_of (end.Selfrun selfrun_end.WriteFault) = WriteFault
-report_of (end.Selfrun selfrun_end.Memory) = Memory
-report_of (end.Serve users (serve_end.Done refusals broken)) = answers_report users refusals broken
-report_of (end.Serve users serve_end.LinksFault) = LinksFault
-report_of (end.Serve users serve_end.ShelfFault) = ShelfFault
-report_of (end.Serve users serve_end.Memory) = Memory
+report_of command_end.Usage = Usage
+report_of command_end.Memory = Memory
+report_of (command_end.Files (files_end.Missing name)) = Missing name
+report_of (command_end.Files (files_end.ShelfFault kind)) = ShelfFault
+report_of (command_end.Files (files_end.Policy why)) = Policy why
+report_of (command_end.Files (files_end.Facts why)) = Facts why
+report_of (command_end.Files files_end.Memory) = Memory
+report_of (command_end.Case case_end.Done) = Done
+report_of (command_end.Case (case_end.Script refusal)) = Script refusal
+report_of (command_end.Case case_end.ReadFault) = ReadFault
+report_of (command_end.Case case_end.WriteFault) = WriteFault
+report_of (command_end.Case case_end.Memory) = Memory
+report_of (command_end.Init users init_end.Done) = Done
+report_of (command_end.Init users (init_end.Refused user why)) = JournalAt users user why
+report_of (command_end.Init users init_end.DiskFault) = DiskFault
+report_of (command_end.Init users init_end.ShelfFault) = ShelfFault
+report_of (command_end.Init users init_end.Memory) = Memory
+report_of (command_end.Batch users (batch_end.Done refusals broken)) =
+    answers_report users refusals broken
+report_of (command_end.Batch users (batch_end.Script refusal)) = Script refusal
+report_of (command_end.Batch users batch_end.ReadFault) = ReadFault
+report_of (command_end.Batch users batch_end.WriteFault) = WriteFault
+report_of (command_end.Batch users batch_end.ShelfFault) = ShelfFault
+report_of (command_end.Batch users batch_end.Memory) = Memory
+report_of command_end.Nobody = Usage
+report_of (command_end.Audit name audit_end.Done) = Done
+report_of (command_end.Audit name (audit_end.Refused why)) = Journal name why
+report_of (command_end.Audit name audit_end.WriteFault) = WriteFault
+report_of (command_end.Audit name audit_end.ShelfFault) = ShelfFault
+report_of (command_end.Audit name audit_end.Memory) = Memory
+report_of (command_end.Selfrun selfrun_end.Done) = Done
+report_of (command_end.Selfrun selfrun_end.WriteFault) = WriteFault
+report_of (command_end.Selfrun selfrun_end.Memory) = Memory
+report_of (command_end.Serve users (serve_end.Done refusals broken)) =
+    answers_report users refusals broken
+report_of (command_end.Serve users serve_end.LinksFault) = LinksFault
+report_of (command_end.Serve users serve_end.ShelfFault) = ShelfFault
+report_of (command_end.Serve users serve_end.Memory) = Memory
 
 -- what is told is that all was done, or that memory was wanting
 abbrev pub IsDoneUnlessMemory : CommandEnd → Type 0

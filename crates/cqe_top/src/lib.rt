@@ -7,7 +7,8 @@
 //!
 //! Read `specs/Scene.antt` and `specs/Promise.antt`, and then the file of a command, as
 //! `specs/Batch.antt`;
-//! `specs/Reports.antt` has each status, `specs/Complaints.antt` the texts.
+//! `specs/Reports.antt` has each status, `specs/Complaints.antt` the texts. `specs/Steps.antt` is
+//! no part of the promise.
 #![tactic(auto)]
 
 mod command;

@@ -6,7 +6,7 @@ ghost use Rattle.outside.specs.Shelf.{NoneOut};
 ghost use Rattle.cqe_top.specs.Promise.{OfReading, Always};
 ghost use Rattle.cqe_top.specs.Reports.{FaultsHaveCauses};
 ghost use Rattle.cqe_top.specs.Scene.{scene_of, shelf_of, input_of, output_of, links_of};
-ghost use Rattle.cqe_top.specs.Tasks.{reading_over, KeepsBounds};
+ghost use Rattle.cqe_top.specs.Steps.{reading_over, KeepsBounds};
 
 use crate::end::CommandEnd;
 use crate::files::read_files;
