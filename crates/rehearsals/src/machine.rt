@@ -1,5 +1,6 @@
 //! Clauses as numbers: searched by both bodies of the machine, and refutations and models of them
 //! judged.
+use crate::orders::difference_in_orders;
 use clause_solver::plain::search_plain;
 use clause_solver::{Found, is_searchable, search, search_with_cost};
 use clause_store::clauses::Clauses;
@@ -10,7 +11,7 @@ use proof_check::refutation::check_refutation;
 use std::alloc::{AllocError, Global};
 
 /// The greatest budget of a user.
-const BUDGET: u64 = 4_000_000;
+pub const BUDGET: u64 = 4_000_000;
 
 /// The literals of these numbers; `None` where some word is none.
 fn literals(alloc: Global, text: &str) -> Result<Option<Vec<Lit>>, AllocError> {
@@ -71,7 +72,7 @@ fn push_literals(text: &mut String, literals: &[Lit]) -> Result<(), AllocError> 
 
 /// What a search found: `model` and a digit for each variable, `refuted` and its lines with a comma
 /// between them, each a clause, `by` and a chain, or `spent`.
-fn found_text(alloc: Global, found: &Found) -> Result<String, AllocError> {
+pub fn found_text(alloc: Global, found: &Found) -> Result<String, AllocError> {
     match found {
         Found::Model(signs) => {
             let mut text = String::from_str(alloc, "model ")?;
@@ -116,7 +117,7 @@ fn both(
 }
 
 /// The whole cost of a search, and what both bodies find at this budget, if they find nothing at
-/// one less.
+/// one less, and a kept search differs from them in no order.
 pub fn search_text(alloc: Global, line: &str) -> Result<String, AllocError> {
     let Some((variables, clauses)) = problem(alloc, line)? else {
         return String::from_str(alloc, "no clauses");
@@ -128,6 +129,9 @@ pub fn search_text(alloc: Global, line: &str) -> Result<String, AllocError> {
     let below = both(alloc, &clauses, variables, cost.saturating_sub(1))?;
     if below.as_str() != "spent" {
         return format!(in alloc; "{below} below {cost}");
+    }
+    if let Some(text) = difference_in_orders(alloc, &clauses, variables)? {
+        return format!(in alloc; "a kept search differs: {text}");
     }
     let found = both(alloc, &clauses, variables, cost)?;
     format!(in alloc; "{cost} {found}")

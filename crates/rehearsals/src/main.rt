@@ -15,6 +15,7 @@ mod book;
 mod cast;
 mod forms;
 mod machine;
+mod orders;
 mod pieces;
 mod readers;
 mod report;
