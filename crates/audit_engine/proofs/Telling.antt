@@ -15,7 +15,7 @@ use Rattle.user_desk.specs.declared.standing.Standing.TheVariants.{Open, Closed,
 use Rattle.audit_text.specs.Said.{AuditSaid}
 use Rattle.audit_print.specs.Audits.{Audits}
 use Rattle.audit_engine.specs.Printed.{IsPrinted}
-use Rattle.audit_engine.specs.Ends.{Says, EndsAudit}
+use Rattle.audit_engine.specs.Ends.{IsAuditOf, EndsAudit}
 use Rattle.audit_engine.specs.declared.end.AuditEnd.{AuditEnd}
 use Rattle.audit_engine.specs.declared.end.AuditEnd.TheVariants as ends
 
@@ -58,7 +58,7 @@ module _ (schema : DatabaseSchema) (world : FactSet) (header : Header) (name : T
   -- the audit of a desk says what the bytes say
   pub says : (told : Type 0) → told → (entries : History) (standing : Standing) (said : AuditSaid)
       → IsStanding schema world user told (header_bytes header) bytes entries before now standing
-      → Audits schema name user standing entries said → Says schema world (header_bytes header) name user bytes before now standing said
+      → Audits schema name user standing entries said → IsAuditOf schema world (header_bytes header) name user bytes before now standing said
   says told is entries Open said stands audits =
       record { entries = entries; opening_is = inl (stands.1 is); standing_is = (stands.0, stands.1 is); audits = audits }
   says told is entries (Closed admission) said stands audits =
@@ -70,7 +70,7 @@ module _ (schema : DatabaseSchema) (world : FactSet) (header : Header) (name : T
 
       by : ((opened : History) × Opens schema world user (header_bytes header) opened bytes)
           ⊎ ((opened : History) → Opens schema world user (header_bytes header) opened bytes → ⊥)
-          → Says schema world (header_bytes header) name user bytes before now (Sealed why) said
+          → IsAuditOf schema world (header_bytes header) name user bytes before now (Sealed why) said
       by (inl (opened, opens)) =
           record {
             entries =
@@ -99,7 +99,7 @@ module _ (schema : DatabaseSchema) (world : FactSet) (header : Header) (name : T
     refused why (Sealed why') stands (same, (said, audits, whole)) =
         let one : why' ≡ why = cc in (
           said,
-          subst (λ w. Says schema world (header_bytes header) name user bytes before now (Sealed w) said) one
+          subst (λ w. IsAuditOf schema world (header_bytes header) name user bytes before now (Sealed w) said) one
               (says told is entries (Sealed why') said stands audits),
           whole,
         )

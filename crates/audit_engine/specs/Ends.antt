@@ -11,7 +11,7 @@ use Rattle.user_desk.specs.Causes.{Opens, IsSealedBy}
 use Rattle.user_desk.specs.Standings.{is_sealed}
 use Rattle.user_desk.specs.declared.standing.Standing.{Standing}
 use Rattle.user_desk.specs.declared.standing.Standing.TheVariants.{Open, Closed, Sealed}
-use Rattle.desk_crew.specs.Openings.{IsOpening}
+use Rattle.desk_crew.specs.Openings.{OpensWith}
 use Rattle.audit_text.specs.Said.{AuditSaid}
 use Rattle.audit_text.specs.Json.{audit_text}
 use Rattle.audit_print.specs.Audits.{Audits}
@@ -36,16 +36,16 @@ module _ (schema : DatabaseSchema) (world : FactSet) (header : List ℕ) (name :
 
   -- this is said of the user: the audit of his standing and of the legal history that the bytes of
   -- his journal stand for, the empty one where they open no desk
-  pub record Says (standing : Standing) (said : AuditSaid) : Type 0 where
+  pub record IsAuditOf (standing : Standing) (said : AuditSaid) : Type 0 where
     pub entries : History
-    pub opening_is : IsOpening schema world user header bytes entries
+    pub opening_is : OpensWith schema world user header bytes entries
     pub standing_is : HasStanding entries standing
     pub audits : Audits schema name user standing entries said
 
   -- all of it was appended
   abbrev pub AppendsSaid : Bool → Standing → List ℕ → List ℕ → Type 0
   AppendsSaid json standing old new =
-      (said : AuditSaid) × Says standing said × (new ≡ old ++ audit_text json said)
+      (said : AuditSaid) × IsAuditOf standing said × (new ≡ old ++ audit_text json said)
 
   -- what each end says of the output before and after
   abbrev pub EndsAudit : Bool → AuditEnd → List ℕ → List ℕ → Type 0
@@ -53,7 +53,7 @@ module _ (schema : DatabaseSchema) (world : FactSet) (header : List ℕ) (name :
       (standing : Standing) × (is_sealed standing ≡ false) × AppendsSaid json standing old new
   EndsAudit json (Refused why) old new = AppendsSaid json (Sealed why) old new
   EndsAudit json WriteFault old new =
-      (standing : Standing) × (said : AuditSaid) × Says standing said
+      (standing : Standing) × (said : AuditSaid) × IsAuditOf standing said
       × AppendsPart old new (audit_text json said)
   EndsAudit json ShelfFault old new = new ≡ old
   EndsAudit json Memory old new = new ≡ old

@@ -1,9 +1,10 @@
 -- What the lines of a batch mean for its users, once their disks are back.
 use Rattle.std.proofs.Common.{◌≡◌, inl, inr, ℕ, ◌≤◌, Bool, true, false, List, [], ◌∷◌, ◌++◌, take, map, refl, sym, ap, subst, ◌∙◌, append_assoc}
-use Rattle.std.specs.Prelude.{Option, Some, find, bytes_eq, All, if◌then◌else◌}
+use Rattle.std.specs.Prelude.{Option, Some, None, find, bytes_eq, All, if◌then◌else◌, option_map, IfSome, ◌⊎◌, ◌&&◌}
 use Rattle.std.specs.List.{list_any, AllByRecursion}
 use Rattle.std.proofs.lemmas.List.Elements.{All-head, All-tail}
 use Rattle.outside.specs.Shelf.{bytes_on, image_on}
+use Rattle.outside.specs.declared.disk.Disk.{Ghosts as DiskGhosts}
 use Rattle.cqe_base.specs.Schema.{Text, DatabaseSchema, is_valid_schema, has_duplicate}
 use Rattle.cqe_base.specs.Facts.{FactSet}
 use Rattle.cqe_base.specs.History.{profile_of}
@@ -18,14 +19,18 @@ use Rattle.user_desk.specs.Causes.{Opens}
 use Rattle.user_desk.specs.Entries.{IsNoLonger}
 use Rattle.log_journal.specs.Names.{journal_name}
 use Rattle.batch_engine.specs.BatchLines.{BatchItem}
-use Rattle.desk_crew.specs.Openings.{OpensNone, IsOpening}
-use Rattle.batch_engine.specs.Lives.{RoseBy, is_opened, failures}
+use Rattle.desk_crew.specs.Openings.{OpensNone, OpensWith}
+use Rattle.batch_engine.specs.Lives.{RoseBy, is_opened, is_ask, failures}
 use Rattle.batch_engine.specs.Batch.{ServesUser, AnswersBatch, AreRefusals, AppendsAll, AppendsSome, line_bytes, unopened, with_opening}
 use Rattle.desk_crew.specs.Crew.{named_user, seat_standing, seat_state, IsLeft, IsClosed}
-use Rattle.desk_crew.specs.Shelved.{journals_on, IsBack, AreBack}
+use Rattle.cqe_base.specs.Run.{opening}
+use Rattle.user_desk.specs.Lives.{HoldsAmid}
+use Rattle.desk_crew.specs.Shelved.{since_on, journals_by, StandsAllAlong, IsBack, AreBack}
+use Rattle.batch_engine.proofs.Along.{Clock, IsAlong, along_on, amid_all}
+use Rattle.desk_crew.proofs.Lasting.{if_some_on}
 use Rattle.desk_crew.specs.Seats.{DeskSeat}
 use Rattle.batch_engine.proofs.Courses.{Course, course_on, Fits, Stays, stays_on, IsRunning}
-use Rattle.batch_engine.proofs.Seating.{names, IsSeated, AreSeated, close_at}
+use Rattle.batch_engine.proofs.Seating.{names, IsSeated, AreSeated, close_at, along_at}
 use Rattle.batch_engine.proofs.Telling.{SoFar, LastLine}
 
 -- ---- users by their names
@@ -79,49 +84,63 @@ count_of directory count name = count (journal_name directory name)
 abbrev pub images_of : {D : Type 0} → (D → List ℕ → Type 0) → Text → (Text → Option D) → Text → List ℕ → Type 0
 images_of image directory disk name = image_on image (disk (journal_name directory name))
 
+-- the clock of his disk
+abbrev pub clock_of : {D : Type 0} (Disk : DiskGhosts D) → ((d : D) (c : List ℕ) → Disk.image_since d (Disk.moment d) c → Disk.image d c) → Text
+    → (Text → Option D) → Clock Disk
+clock_of Disk only_now directory disk =
+    record { only_now = only_now; begins = λ name. option_map Disk.moment (disk (journal_name directory name)) }
+
 legal_opening : (schema : DatabaseSchema) (world : FactSet) (header c : List ℕ) (user : NamedUser) → EmptyHistoryIsLegal
-    → IsOpening schema world user.profile header c user.opened → IsLegal schema world user.profile user.opened
+    → OpensWith schema world user.profile header c user.opened → IsLegal schema world user.profile user.opened
 legal_opening schema world header c user empty (inl opens) = opens.legal
 legal_opening schema world header c user empty (inr (none, is)) = subst (IsLegal schema world user.profile) (sym is) (empty schema world user.profile)
 
 module _ (schema : DatabaseSchema) (world : FactSet) (users : List NamedUser) (header directory : List ℕ) {D : Type 0} {g h : _} (T S : Type 0) (s : S)
-    (reads : D → List ℕ) (image : D → List ℕ → Type 0) (faults : D → ℕ) (t : T)
-    (read_is_image : (d : D) → T → image d (reads d)) (disk disk' : Text → Option D) (count count' : Text → ℕ) where
+    (Disk : DiskGhosts D) (t : T)
+    (read_is_image : (d : D) → T → Disk.image d (Disk.reads d)) (only_now : (d : D) (c : List ℕ) → Disk.image_since d (Disk.moment d) c → Disk.image d c)
+    (disk disk' : Text → Option D) (count count' : Text → ℕ) where
   abbrev Seated : NamedUser → List ScriptEvent → DeskSeat D g h → Type 0
   Seated user script seat =
-      IsSeated schema world header directory T reads image faults t read_is_image (bytes_of reads directory disk) (count_of directory count)
-      (images_of image directory disk) user (own_events user.name script) seat
+      IsSeated schema world header directory T Disk t read_is_image
+      (clock_of Disk only_now directory disk) (bytes_of Disk.reads directory disk) (count_of directory count)
+      (images_of Disk.image directory disk) user (own_events user.name script) seat
 
   abbrev AllSeated : List ScriptEvent → List NamedUser → List (DeskSeat D g h) → Type 0
   AllSeated script us seats =
-      AreSeated schema world header directory T reads image faults t read_is_image (bytes_of reads directory disk) (count_of directory count)
-      (images_of image directory disk) script us seats
+      AreSeated schema world header directory T Disk t read_is_image
+      (clock_of Disk only_now directory disk) (bytes_of Disk.reads directory disk) (count_of directory count)
+      (images_of Disk.image directory disk) script us seats
 
   -- the disk of a user's journal, which is back
   record Back (user : NamedUser) (script : List ScriptEvent) (seat : DeskSeat D g h) : Type 0 where
     now : D
     held : disk' (journal_name directory user.name) ≡ Some now
     closed : D
-    left : IsLeft reads image faults closed now
-    stays : Stays schema world user.profile header (bytes_of reads directory disk user.name) (count_of directory count user.name)
-        (images_of image directory disk user.name) user.opened (own_events user.name script) (image now) (reads now)
-    running : IsRunning schema world user.profile header (bytes_of reads directory disk user.name) (count_of directory count user.name)
-        (images_of image directory disk user.name) user.opened (own_events user.name script) (seat_standing seat) (seat_state seat) (image closed)
-        (reads closed) (faults closed) seat.refusal
-    course : Course schema world user.profile header (bytes_of reads directory disk user.name) (count_of directory count user.name)
-        (images_of image directory disk user.name) user.opened (own_events user.name script) (reads now)
+    left : IsLeft Disk closed now
+    stays : Stays schema world user.profile header (bytes_of Disk.reads directory disk user.name) (count_of directory count user.name)
+        (images_of Disk.image directory disk user.name) user.opened (own_events user.name script) (Disk.image now) (Disk.reads now)
+    running : IsRunning schema world user.profile header (bytes_of Disk.reads directory disk user.name) (count_of directory count user.name)
+        (images_of Disk.image directory disk user.name) user.opened (own_events user.name script) (seat_standing seat) (seat_state seat) (Disk.image closed)
+        (Disk.reads closed) (Disk.faults closed) seat.refusal
+    course : Course schema world user.profile header (bytes_of Disk.reads directory disk user.name) (count_of directory count user.name)
+        (images_of Disk.image directory disk user.name) user.opened (own_events user.name script) (Disk.reads now)
         (count' (journal_name directory user.name)) seat.refusal
+    began : ℕ
+    began_is : IfSome (option_map Disk.moment (disk (journal_name directory user.name))) (λ begun. begun ≡ began)
+    along : IsAlong schema world user.profile header (images_of Disk.image directory disk user.name) user.opened began (own_events user.name script)
+        (Disk.moment now) (Disk.image_since now)
 
-  back : (user : NamedUser) (script : List ScriptEvent) (seat : DeskSeat D g h) → Seated user script seat → IsBack S reads image faults disk' count' seat
+  back : (user : NamedUser) (script : List ScriptEvent) (seat : DeskSeat D g h) → Seated user script seat → IsBack S Disk disk' count' seat
       → Back user script seat
   back user script seat seated is =
-      let counted : count' (journal_name directory user.name) ≡ faults is.now = ap count' (sym seated.journal_is) ∙ is.counted in
+      let counted : count' (journal_name directory user.name) ≡ Disk.faults is.now = ap count' (sym seated.journal_is) ∙ is.counted in
       let left = is.left in
-      let closed : IsClosed T reads image faults seat.desk left.closed =
+      let closed : IsClosed T Disk seat.desk left.closed =
       record {
         holds = λ told. left.is_closed.holds s;
         legal = left.is_closed.legal;
         added = left.is_closed.added;
+        items = left.is_closed.items;
         idle = left.is_closed.idle;
         later =
             left.is_closed.later;
@@ -129,33 +148,72 @@ module _ (schema : DatabaseSchema) (world : FactSet) (users : List NamedUser) (h
         size = λ told. left.is_closed.size s;
         shut = left.is_closed.shut;
         still = left.is_closed.still;
+        since = λ told. left.is_closed.since s;
+        time = left.is_closed.time;
       } in
-      let running = close_at schema world header directory T reads image faults t read_is_image (bytes_of reads directory disk) (count_of directory count)
-      (images_of image directory disk) user (own_events user.name script) seat left.closed seated closed in
+      let running = close_at schema world header directory T Disk t read_is_image
+      (clock_of Disk only_now directory disk) (bytes_of Disk.reads directory disk) (count_of directory count)
+      (images_of Disk.image directory disk) user (own_events user.name script) seat left.closed seated closed in
       record {
         now = is.now;
         held = ap disk' (sym seated.journal_is) ∙ is.held s;
         closed = left.closed;
         left = left.left;
         running = running;
-        stays = stays_on schema world user.profile header (bytes_of reads directory disk user.name) (count_of directory count user.name)
-            (images_of image directory disk user.name) user.opened (own_events user.name script) (image left.closed) (image is.now) (reads left.closed)
-            (reads is.now)
+        stays = stays_on schema world user.profile header (bytes_of Disk.reads directory disk user.name) (count_of directory count user.name)
+            (images_of Disk.image directory disk user.name) user.opened (own_events user.name script) (Disk.image left.closed) (Disk.image is.now)
+            (Disk.reads left.closed)
+            (Disk.reads is.now)
             left.left.reads_same left.left.images running.stays;
-        course = course_on schema world user.profile header (bytes_of reads directory disk user.name) (count_of directory count user.name)
-            (images_of image directory disk user.name) user.opened (own_events user.name script) (reads left.closed) (reads is.now) (faults left.closed)
+        course = course_on schema world user.profile header (bytes_of Disk.reads directory disk user.name) (count_of directory count user.name)
+            (images_of Disk.image directory disk user.name) user.opened (own_events user.name script) (Disk.reads left.closed) (Disk.reads is.now)
+            (Disk.faults left.closed)
             (count' (journal_name directory user.name)) seat.refusal left.left.reads_same
-            (subst (λ n. faults left.closed ≤ n) (sym counted) left.left.later) running.course;
+            (subst (λ n. Disk.faults left.closed ≤ n) (sym counted) left.left.later) running.course;
+        began = seated.began;
+        began_is = seated.began_is;
+        along = along_on schema world user.profile header (images_of Disk.image directory disk user.name) user.opened seated.began (own_events user.name script)
+            (Disk.moment left.closed) (Disk.moment is.now) (Disk.image_since left.closed) (Disk.image_since is.now) left.left.time
+            (λ some c at. amid_all schema world user.profile header (opening schema world user.profile user.opened) (own_events user.name script) c
+            (running.stays.stands some c (left.left.rests c at)))
+            (λ none c at. (running.stays.kept (ap (λ b. b && list_any is_ask (own_events user.name script)) none)).1 c (left.left.rests c at))
+            (along_at schema world header directory T Disk t read_is_image
+            (clock_of Disk only_now directory disk) (bytes_of Disk.reads directory disk) (count_of directory count)
+            (images_of Disk.image directory disk) user (own_events user.name script) seat left.closed seated closed);
+      }
+
+  -- what each crash could leave at each moment
+  all_along : (user : NamedUser) (script : List ScriptEvent) (seat : DeskSeat D g h) → Back user script seat
+      → StandsAllAlong (journals_by Disk.reads Disk.image Disk.moment Disk.image_since directory disk disk' count count') user.name
+      (list_any is_opened (own_events user.name script))
+      (HoldsAmid schema world user.profile header (opening schema world user.profile user.opened) (own_events user.name script))
+  all_along user script seat at =
+      let along = at.along in
+      record {
+        opening = along.opens_at;
+        before = if_some_on (option_map Disk.moment (disk (journal_name directory user.name))) (λ begun. begun ≡ at.began)
+            (λ begun. (begun ≤ along.opens_at) × ((c : List ℕ) → since_on Disk.image_since (disk' (journal_name directory user.name)) begun c
+            → image_on Disk.image (disk (journal_name directory user.name)) c
+            ⊎ since_on Disk.image_since (disk' (journal_name directory user.name)) along.opens_at c))
+            (λ begun same. subst (λ b. (b ≤ along.opens_at) × ((c : List ℕ) → since_on Disk.image_since (disk' (journal_name directory user.name)) b c
+            → image_on Disk.image (disk (journal_name directory user.name)) c
+            ⊎ since_on Disk.image_since (disk' (journal_name directory user.name)) along.opens_at c)) (sym same) (
+              along.begun,
+              subst (λ o. (c : List ℕ) → since_on Disk.image_since o at.began c → image_on Disk.image (disk (journal_name directory user.name)) c
+                  ⊎ since_on Disk.image_since o along.opens_at c) (sym at.held) along.before,
+            )) at.began_is;
+        behind = λ some c here. along.behind some c (subst (λ o. since_on Disk.image_since o along.opens_at c) at.held here);
+        never = λ none c here. along.never none c (subst (λ o. since_on Disk.image_since o along.opens_at c) at.held here);
       }
 
   module _ (empty : EmptyHistoryIsLegal) (runs : RunsStayLegal) (hide : ScriptsHide) (alone : TranscriptIsPrivate) (valid : is_valid_schema schema ≡ true) where
     serves : (user : NamedUser) (script : List ScriptEvent) (seat : DeskSeat D g h) → Finds users user → KeepsLimits schema user.profile
-        → IsOpening schema world user.profile header (bytes_of reads directory disk user.name) user.opened
-        → Seated user script seat → IsBack S reads image faults disk' count' seat
-        → ServesUser schema world header (journals_on reads image directory disk disk' count count') users script user
+        → OpensWith schema world user.profile header (bytes_of Disk.reads directory disk user.name) user.opened
+        → Seated user script seat → IsBack S Disk disk' count' seat
+        → ServesUser schema world header (journals_by Disk.reads Disk.image Disk.moment Disk.image_since directory disk disk' count count') users script user
     serves user script seat found limits opening_is seated is =
         let at : Back user script seat = back user script seat seated is in
-        let legal = legal_opening schema world header (bytes_of reads directory disk user.name) user empty opening_is in
+        let legal = legal_opening schema world header (bytes_of Disk.reads directory disk user.name) user empty opening_is in
         record {
           opening_is = opening_is;
           private = alone schema world users user script found;
@@ -164,33 +222,42 @@ module _ (schema : DatabaseSchema) (world : FactSet) (users : List NamedUser) (h
           caused = at.course.caused;
           refused = λ none. refused_at at none at.course.fits;
           counted = λ opens. counted_at at opens at.course.fits;
-          stands = λ some c here. at.stays.stands some c (subst (λ o. image_on image o c) at.held here);
+          stands = λ some c here. at.stays.stands some c (subst (λ o. image_on Disk.image o c) at.held here);
           size = λ whole. subst
-              (λ o. IsNoLonger (bytes_of reads directory disk user.name) (state_after schema world user script).entries (bytes_on reads o)) (sym at.held)
+              (λ o. IsNoLonger (bytes_of Disk.reads directory disk user.name) (state_after schema world user script).entries (bytes_on Disk.reads o))
+              (sym at.held)
               (at.stays.size whole);
           kept =
-              λ idle. (ap (bytes_on reads) at.held ∙ (at.stays.kept idle).0, λ c here. (at.stays.kept idle).1 c (subst (λ o. image_on image o c) at.held here));
+              λ idle. (
+                ap (bytes_on Disk.reads) at.held ∙ (at.stays.kept idle).0,
+                λ c here. (at.stays.kept idle).1 c (subst
+                    (λ o. image_on Disk.image o c) at.held here),
+              );
+          moments = all_along user script seat at;
         }
       where
-        refused_at : (at : Back user script seat) → OpensNone schema world user.profile header (bytes_of reads directory disk user.name)
-            → Fits schema world user.profile header (bytes_of reads directory disk user.name) (count_of directory count user.name)
-            (images_of image directory disk user.name) user.opened (own_events user.name script) (reads at.now) (count' (journal_name directory user.name))
+        refused_at : (at : Back user script seat) → OpensNone schema world user.profile header (bytes_of Disk.reads directory disk user.name)
+            → Fits schema world user.profile header (bytes_of Disk.reads directory disk user.name) (count_of directory count user.name)
+            (images_of Disk.image directory disk user.name) user.opened (own_events user.name script) (Disk.reads at.now) (count'
+            (journal_name directory user.name))
             → list_any is_opened (own_events user.name script) ≡ false
         refused_at at none (inl (opens, holds, rose)) = absurd (none user.opened opens)
         refused_at at none (inr (closed, is_empty, same, never)) = never
 
-        counted_at : (at : Back user script seat) → Opens schema world user.profile header user.opened (bytes_of reads directory disk user.name)
-            → Fits schema world user.profile header (bytes_of reads directory disk user.name) (count_of directory count user.name)
-            (images_of image directory disk user.name) user.opened (own_events user.name script) (reads at.now) (count' (journal_name directory user.name))
+        counted_at : (at : Back user script seat) → Opens schema world user.profile header user.opened (bytes_of Disk.reads directory disk user.name)
+            → Fits schema world user.profile header (bytes_of Disk.reads directory disk user.name) (count_of directory count user.name)
+            (images_of Disk.image directory disk user.name) user.opened (own_events user.name script) (Disk.reads at.now) (count'
+            (journal_name directory user.name))
             → RoseBy (failures (own_events user.name script)) (count_of directory count user.name) (count' (journal_name directory user.name))
         counted_at at opens (inl (was, holds, rose)) = rose
         counted_at at opens (inr (none, is_empty, same, never)) = absurd (none user.opened opens)
 
     serves_all : (us : List NamedUser) (script : List ScriptEvent) (seats : List (DeskSeat D g h)) → AllByRecursion (Finds users) us
         → AllByRecursion (λ (u : NamedUser). KeepsLimits schema u.profile) us
-        → AllByRecursion (λ (u : NamedUser). IsOpening schema world u.profile header (bytes_of reads directory disk u.name) u.opened) us
-        → AllSeated script us seats → AreBack S reads image faults disk' count' seats
-        → AllByRecursion (ServesUser schema world header (journals_on reads image directory disk disk' count count') users script) us
+        → AllByRecursion (λ (u : NamedUser). OpensWith schema world u.profile header (bytes_of Disk.reads directory disk u.name) u.opened) us
+        → AllSeated script us seats → AreBack S Disk disk' count' seats
+        → AllByRecursion (ServesUser schema world header (journals_by Disk.reads Disk.image Disk.moment Disk.image_since directory disk disk' count count')
+        users script) us
     serves_all [] script [] found limits openings seated is = tt
     serves_all [] script (seat ∷ seats) found limits openings seated is = tt
     serves_all (user ∷ us) script [] found limits openings seated is = absurd seated
@@ -198,8 +265,9 @@ module _ (schema : DatabaseSchema) (world : FactSet) (users : List NamedUser) (h
         (serves user script seat found.0 limits.0 openings.0 seated.0 is.0, serves_all us script seats found.1 limits.1 openings.1 seated.1 is.1)
 
     refusals_all : (us : List NamedUser) (script : List ScriptEvent) (seats : List (DeskSeat D g h)) → AllSeated script us seats
-        → AreBack S reads image faults disk' count' seats
-        → AreRefusals schema world header (journals_on reads image directory disk disk' count count') script us (map (λ (s : DeskSeat D g h). s.refusal) seats)
+        → AreBack S Disk disk' count' seats
+        → AreRefusals schema world header (journals_by Disk.reads Disk.image Disk.moment Disk.image_since directory disk disk' count count') script us
+        (map (λ (s : DeskSeat D g h). s.refusal) seats)
     refusals_all [] script [] seated is = tt
     refusals_all [] script (seat ∷ seats) seated is = absurd seated
     refusals_all (user ∷ us) script [] seated is = absurd seated
@@ -208,18 +276,21 @@ module _ (schema : DatabaseSchema) (world : FactSet) (users : List NamedUser) (h
 
     module _ (policy : List NamedUser) (of_policy : map unopened users ≡ policy) (distinct : has_duplicate (names users) ≡ false)
         (limits : AllByRecursion (λ (u : NamedUser). KeepsLimits schema u.profile) users)
-        (openings : AllByRecursion (λ (u : NamedUser). IsOpening schema world u.profile header (bytes_of reads directory disk u.name) u.opened) users)
+        (openings : AllByRecursion (λ (u : NamedUser). OpensWith schema world u.profile header (bytes_of Disk.reads directory disk u.name) u.opened) users)
         (found opened : Text → Bool) where
       abbrev pub Told : List BatchItem → List ℕ → List ℕ → List (DeskSeat D g h) → Bool → Type 0
       Told items old new seats is_broken = (output : List ℕ) × (new ≡ old ++ output)
-          × SoFar schema world users header directory T reads image faults t read_is_image (bytes_of reads directory disk) (count_of directory count)
-          (images_of image directory disk) found opened items output seats is_broken
+          × SoFar schema world users header directory T Disk t read_is_image
+          (clock_of Disk only_now directory disk) (bytes_of Disk.reads directory disk) (count_of directory count)
+          (images_of Disk.image directory disk) found opened items output seats is_broken
 
       abbrev answers : (items : List BatchItem) (output : List ℕ) (seats : List (DeskSeat D g h)) (is_broken : Bool)
-          → SoFar schema world users header directory T reads image faults t read_is_image (bytes_of reads directory disk) (count_of directory count)
-          (images_of image directory disk) found opened items output seats is_broken
-          → AreBack S reads image faults disk' count' seats
-          → AnswersBatch schema world header (journals_on reads image directory disk disk' count count') policy items output
+          → SoFar schema world users header directory T Disk t read_is_image
+          (clock_of Disk only_now directory disk) (bytes_of Disk.reads directory disk) (count_of directory count)
+          (images_of Disk.image directory disk) found opened items output seats is_broken
+          → AreBack S Disk disk' count' seats
+          → AnswersBatch schema world header (journals_by Disk.reads Disk.image Disk.moment Disk.image_since directory disk disk' count count')
+          policy items output
       answers items output seats is_broken so_far is = record {
         users = users;
         of_policy = of_policy;
@@ -233,8 +304,9 @@ module _ (schema : DatabaseSchema) (world : FactSet) (users : List NamedUser) (h
 
       -- all items were answered
       pub answered_all : (items : List BatchItem) (old new : List ℕ) (seats : List (DeskSeat D g h)) (is_broken : Bool) → Told items old new seats is_broken
-          → AreBack S reads image faults disk' count' seats
-          → AppendsAll schema world header (journals_on reads image directory disk disk' count count') policy items old new
+          → AreBack S Disk disk' count' seats
+          → AppendsAll schema world header (journals_by Disk.reads Disk.image Disk.moment Disk.image_since directory disk disk' count count')
+          policy items old new
           (map (λ (s : DeskSeat D g h). s.refusal) seats) is_broken
       answered_all items old new seats is_broken (output, written, so_far) is = record {
         written = output;
@@ -246,10 +318,12 @@ module _ (schema : DatabaseSchema) (world : FactSet) (users : List NamedUser) (h
 
       -- the first items were answered, and of the last line a part was written
       pub answered_some : (front back all : List BatchItem) (n : ℕ) (old output line new : List ℕ) (seats : List (DeskSeat D g h))
-          → LastLine schema world users header directory T reads image faults t read_is_image (bytes_of reads directory disk) (count_of directory count)
-          (images_of image directory disk) found opened front output line seats
-          → AreBack S reads image faults disk' count' seats → new ≡ (old ++ output) ++ take n line → all ≡ front ++ back
-          → AppendsSome schema world header (journals_on reads image directory disk disk' count count') policy all old new
+          → LastLine schema world users header directory T Disk t read_is_image
+          (clock_of Disk only_now directory disk) (bytes_of Disk.reads directory disk) (count_of directory count)
+          (images_of Disk.image directory disk) found opened front output line seats
+          → AreBack S Disk disk' count' seats → new ≡ (old ++ output) ++ take n line → all ≡ front ++ back
+          → AppendsSome schema world header (journals_by Disk.reads Disk.image Disk.moment Disk.image_since directory disk disk' count count')
+          policy all old new
       answered_some front back all n old output line new seats told is appended split = record {
         front = front;
         back = back;

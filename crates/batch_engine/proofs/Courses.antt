@@ -32,7 +32,7 @@ use Rattle.user_desk.specs.declared.standing.Standing.{Standing}
 use Rattle.user_desk.specs.declared.standing.Standing.TheVariants.{Open, Closed, Sealed}
 use Rattle.desk_crew.specs.Crew.{first_refusal}
 use Rattle.desk_crew.specs.Openings.{OpensNone}
-use Rattle.batch_engine.specs.Lives.{RoseBy, is_ask, is_opened, is_failed, is_refused, failures_in, failures, IsCaused, AreCaused, IsRefusal}
+use Rattle.batch_engine.specs.Lives.{RoseBy, is_ask, is_opened, is_failed_append, is_refused, failures_in, failures, IsCaused, AreCaused, IsFirstRefusal}
 
 -- ---- counts and lists
 
@@ -56,8 +56,8 @@ any-push test [] x = or-false (test x)
 any-push test (y ∷ xs) x = ap (λ b. test y || b) (any-push test xs x) ∙ sym (or_assoc (test y) (list_any test xs) (test x))
 
 -- what is behind an event that failed not, among those before
-unfailed-push : (events : List Event) (event : Event) → list_any is_failed (events ++ event ∷ []) ≡ false → list_any is_failed events ≡ false
-unfailed-push events event whole = or_first (list_any is_failed events) (is_failed event) (sym (any-push is_failed events event) ∙ whole)
+unfailed-push : (events : List Event) (event : Event) → list_any is_failed_append (events ++ event ∷ []) ≡ false → list_any is_failed_append events ≡ false
+unfailed-push events event whole = or_first (list_any is_failed_append events) (is_failed_append event) (sym (any-push is_failed_append events event) ∙ whole)
 
 -- more entries need more bytes
 no_longer_more : (before : List ℕ) (entries more : History) (reads : List ℕ) → IsNoLonger before entries reads → IsNoLonger before (entries ++ more) reads
@@ -65,14 +65,14 @@ no_longer_more before entries more reads is = omega (arith, is, sum_by-append (�
 
 module _ (schema : DatabaseSchema) (world : FactSet) (user : UserProfile) where
   -- where no append failed, none has failed
-  never_broken : (state : UserState) (events : List Event) → state.broken ≡ false → list_any is_failed events ≡ false
+  never_broken : (state : UserState) (events : List Event) → state.broken ≡ false → list_any is_failed_append events ≡ false
       → (after_events schema world user state events).broken ≡ false
   never_broken state [] whole none = whole
   never_broken state (event ∷ events) whole none =
-      never_broken (after_event schema world user state event) events (one event (or_first (is_failed event) (list_any is_failed events) none))
-      (or_second (is_failed event) (list_any is_failed events) none)
+      never_broken (after_event schema world user state event) events (one event (or_first (is_failed_append event) (list_any is_failed_append events) none))
+      (or_second (is_failed_append event) (list_any is_failed_append events) none)
     where
-      one : (e : Event) → is_failed e ≡ false → (after_event schema world user state e).broken ≡ false
+      one : (e : Event) → is_failed_append e ≡ false → (after_event schema world user state e).broken ≡ false
       one (ask text want) unfailed = whole
       one (ask text kept) unfailed = whole
       one (ask text failed) unfailed = absurd cc
@@ -172,7 +172,7 @@ module _ (schema : DatabaseSchema) (world : FactSet) (user : UserProfile) where
       pub later : before ≤ now
       pub caused : AreCaused schema world user (opening schema world user opened) events
       pub fits : Fits opened events reads now
-      pub refused : IsRefusal schema world user header bytes before now events refusal
+      pub refused : IsFirstRefusal schema world user header bytes before now events refusal
 
     -- a disk reads as it did first, and has no image that it hadn't
     abbrev pub IsStill : (List ℕ → Type 0) → List ℕ → Type 0
@@ -182,7 +182,7 @@ module _ (schema : DatabaseSchema) (world : FactSet) (user : UserProfile) where
     pub record Stays (opened : History) (events : List Event) (image : List ℕ → Type 0) (reads : List ℕ) : Type 0 where
       pub stands : list_any is_opened events ≡ true → (c : List ℕ) → image c
           → Holds schema world user header (after_events schema world user (opening schema world user opened) events) c
-      pub size : list_any is_failed events ≡ false
+      pub size : list_any is_failed_append events ≡ false
           → IsNoLonger bytes (after_events schema world user (opening schema world user opened) events).entries reads
       pub kept : (list_any is_opened events && list_any is_ask events) ≡ false → IsStill image reads
 
@@ -220,15 +220,15 @@ module _ (schema : DatabaseSchema) (world : FactSet) (user : UserProfile) where
     sealed_on now later on (NotAdmitted admission) is = is
 
     refused_later : (now later : ℕ) → now ≤ later → (events : List Event) (refusal : Option DeskError)
-        → IsRefusal schema world user header bytes before now events refusal
-        → IsRefusal schema world user header bytes before later events refusal
+        → IsFirstRefusal schema world user header bytes before now events refusal
+        → IsFirstRefusal schema world user header bytes before later events refusal
     refused_later now later on events None none = none
     refused_later now later on events (Some why) is = (is.0, sealed_on now later on why is.1)
 
     -- a refusal is still the first behind an event that is none
     refusal_on : (now later : ℕ) → now ≤ later → (events : List Event) (event : Event) → is_refused event ≡ false → (refusal : Option DeskError)
-        → IsRefusal schema world user header bytes before now events refusal
-        → IsRefusal schema world user header bytes before later (events ++ event ∷ []) refusal
+        → IsFirstRefusal schema world user header bytes before now events refusal
+        → IsFirstRefusal schema world user header bytes before later (events ++ event ∷ []) refusal
     refusal_on now later on events event isnt None none = any-push is_refused events event ∙ ap (λ b. b || is_refused event) none ∙ isnt
     refusal_on now later on events event isnt (Some why) is =
         (any-push is_refused events event ∙ or_left (list_any is_refused events) (is_refused event) is.0, sealed_on now later on why is.1)
@@ -308,13 +308,13 @@ module _ (schema : DatabaseSchema) (world : FactSet) (user : UserProfile) where
       pub is_in : IsState standing state (after_events schema world user (opening schema world user opened) events)
       pub later : before ≤ now
       pub caused : AreCaused schema world user (opening schema world user opened) events
-      pub refused : IsRefusal schema world user header bytes before now events refusal
+      pub refused : IsFirstRefusal schema world user header bytes before now events refusal
       pub shut : OpensNone schema world user header bytes → is_sealed standing ≡ true
       pub fits : FitsLiving opened events standing state reads now
       pub held : is_sealed standing ≡ false → list_any is_opened events ≡ true
       pub stands : is_sealed standing ≡ true → list_any is_opened events ≡ true → (c : List ℕ) → image c
           → Holds schema world user header (after_events schema world user (opening schema world user opened) events) c
-      pub size : list_any is_failed events ≡ false
+      pub size : list_any is_failed_append events ≡ false
           → IsNoLonger bytes (after_events schema world user (opening schema world user opened) events).entries reads
       pub kept : (list_any is_opened events && list_any is_ask events) ≡ false → IsStill image reads
 
@@ -370,7 +370,7 @@ module _ (schema : DatabaseSchema) (world : FactSet) (user : UserProfile) where
         stands_by false served some c at =
             subst (λ s. Holds schema world user header s c) (sym (shown_is standing state _ served living.is_in)) (holds served c at)
 
-        size_by : list_any is_failed events ≡ false → (b : Bool) → is_sealed standing ≡ b
+        size_by : list_any is_failed_append events ≡ false → (b : Bool) → is_sealed standing ≡ b
             → IsNoLonger bytes (after_events schema world user (opening schema world user opened) events).entries reads'
         size_by whole true sealed =
             subst (λ r. IsNoLonger bytes (after_events schema world user (opening schema world user opened) events).entries r) (sym (same (inl sealed)).0)
@@ -571,8 +571,8 @@ module _ (schema : DatabaseSchema) (world : FactSet) (user : UserProfile) where
     refusal_next : (now later : ℕ) → now ≤ later → (events : List Event) (found opens : Bool) (standing : Standing)
         → (is_sealed standing ≡ true → opens ≡ false) → (is_sealed standing ≡ false → opens ≡ true)
         → ((why : DeskError) → standing ≡ Sealed why → IsSealedBy schema world user (Unit {0}) header bytes before later why)
-        → (refusal : Option DeskError) → IsRefusal schema world user header bytes before now events refusal
-        → IsRefusal schema world user header bytes before later (events ++ restart found opens ∷ []) (first_refusal refusal standing)
+        → (refusal : Option DeskError) → IsFirstRefusal schema world user header bytes before now events refusal
+        → IsFirstRefusal schema world user header bytes before later (events ++ restart found opens ∷ []) (first_refusal refusal standing)
     refusal_next now later on events found opens standing shut held cause (Some why) is = (
       any-push is_refused events (restart found opens) ∙ or_left (list_any is_refused events) (is_refused (restart found opens)) is.0,
       sealed_on now later on why is.1,

@@ -3,6 +3,7 @@ use Rattle.std.proofs.Common.{◌≡◌, ◌⊎◌, inl, inr, ℕ, ◌≤◌, Bo
 use Rattle.std.specs.Prelude.{Option, Some, None, Result, Ok, Err, if◌then◌else◌, ◌||◌}
 use Rattle.outside.proofs.Rises.{rose_wide}
 use Rattle.outside.specs.Faults.{Rose}
+use Rattle.outside.specs.declared.disk.Disk.{Ghosts as DiskGhosts}
 use Rattle.cqe_base.specs.Schema.{Text, DatabaseSchema}
 use Rattle.cqe_base.specs.Facts.{FactSet}
 use Rattle.cqe_base.specs.Formula.{Formula}
@@ -109,11 +110,10 @@ module _ (schema : DatabaseSchema) (world : FactSet) (user : UserProfile) where
         by kept after reply = ap (λ (s : UserState). s.broken) (sym after) ∙ was reply
         by failed after reply = by_entry (entry_at schema world user old text) after reply
 
-module _ (schema : DatabaseSchema) (world : FactSet) (header : List ℕ) {D : Type 0} {g h : _} (told : Type 0) (reads : D → List ℕ) (image : D → List ℕ → Type 0)
-    (faults : D → ℕ) (count : Text → ℕ) where
+module _ (schema : DatabaseSchema) (world : FactSet) (header : List ℕ) {D : Type 0} {g h : _} (told : Type 0) (Disk : DiskGhosts D) (count : Text → ℕ) where
   -- an append failed at a desk whose journal wasn't refused, or the count of its disk had risen as it was opened
   abbrev pub HasBroken : DeskSeat D g h → Type 0
-  HasBroken seat = ((is_sealed (seat_standing seat) ≡ false) × (seat_broke seat ≡ true)) ⊎ Rose (count (seat_journal seat)) (faults (seat_disk seat))
+  HasBroken seat = ((is_sealed (seat_standing seat) ≡ false) × (seat_broke seat ≡ true)) ⊎ Rose (count (seat_journal seat)) (Disk.faults (seat_disk seat))
 
   -- an ask leaves it so, and one that says so makes it so
   seat_told : (old new : DeskSeat D g h) (text : Text) (reply : Reply) → IsToldAt schema world text reply old new → HasBroken old
@@ -136,9 +136,9 @@ module _ (schema : DatabaseSchema) (world : FactSet) (header : List ℕ) {D : Ty
             broken_asked schema world (profile_of (seat_user old)) (seat_standing old) (seat_state old) (seat_state new) text reply settles served why,
           )
 
-      rose : Rose (count (seat_journal old)) (faults (seat_disk old)) → HasBroken new
-      rose is = inr (subst (λ n. Rose (count n) (faults (seat_disk new))) (sym answer.journal_is)
-          (subst (λ (f : Fixed D). Rose (count (seat_journal old)) (faults f.disk)) (sym answer.kept_is) is))
+      rose : Rose (count (seat_journal old)) (Disk.faults (seat_disk old)) → HasBroken new
+      rose is = inr (subst (λ n. Rose (count n) (Disk.faults (seat_disk new))) (sym answer.journal_is)
+          (subst (λ (f : Fixed D). Rose (count (seat_journal old)) (Disk.faults f.disk)) (sym answer.kept_is) is))
 
       by : (b : Bool) → is_sealed (seat_standing old) ≡ b → HasBroken old ⊎ (is_broken_reply (Some reply) ≡ true) → HasBroken new
       by false served (inl (inl has)) = broke served (inl has.1)
@@ -167,21 +167,21 @@ module _ (schema : DatabaseSchema) (world : FactSet) (header : List ℕ) {D : Ty
       inr (all_told name text others after told_reply rest (inr said))
 
   -- a restart leaves it so
-  seat_reopened : (old new : DeskSeat D g h) → IsReopened schema world header told reads image faults old new
-      → count (seat_journal old) ≤ faults (seat_disk old) → HasBroken old → HasBroken new
-  seat_reopened old new is first has = inr (subst (λ n. Rose (count n) (faults (seat_disk new))) (sym is.journal_is) (by has))
+  seat_reopened : (old new : DeskSeat D g h) → IsReopened schema world header told Disk old new
+      → count (seat_journal old) ≤ Disk.faults (seat_disk old) → HasBroken old → HasBroken new
+  seat_reopened old new is first has = inr (subst (λ n. Rose (count n) (Disk.faults (seat_disk new))) (sym is.journal_is) (by has))
     where
-      by : HasBroken old → Rose (count (seat_journal old)) (faults (seat_disk new))
+      by : HasBroken old → Rose (count (seat_journal old)) (Disk.faults (seat_disk new))
       by (inl broke) =
-          rose_wide (count (seat_journal old)) (faults (seat_disk old)) (faults is.closed) (faults (seat_disk new)) first is.left.later
+          rose_wide (count (seat_journal old)) (Disk.faults (seat_disk old)) (Disk.faults is.closed) (Disk.faults (seat_disk new)) first is.left.later
           (is.is_closed.cause broke.1)
       by (inr rose) =
           let closed = is.is_closed.later in
           let opened = is.left.later in
-          rose_wide (count (seat_journal old)) (count (seat_journal old)) (faults (seat_disk old)) (faults (seat_disk new)) (omega arith)
+          rose_wide (count (seat_journal old)) (count (seat_journal old)) (Disk.faults (seat_disk old)) (Disk.faults (seat_disk new)) (omega arith)
           (omega (arith, closed, opened)) rose
 
-  all_reopened : (old new : List (DeskSeat D g h)) → AreReopened schema world header told reads image faults old new → AreLater faults count old
+  all_reopened : (old new : List (DeskSeat D g h)) → AreReopened schema world header told Disk old new → AreLater Disk.faults count old
       → AtSome HasBroken old → AtSome HasBroken new
   all_reopened [] [] are first none = absurd none
   all_reopened [] (n ∷ new) are first none = absurd are
@@ -190,7 +190,7 @@ module _ (schema : DatabaseSchema) (world : FactSet) (header : List ℕ) {D : Ty
   all_reopened (o ∷ old) (n ∷ new) are first (inr others) = inr (all_reopened old new are.1 first.1 others)
 
   all_carried : (item : BatchItem) (old new : List (DeskSeat D g h)) (line : List ℕ) (says_broken : Bool)
-      → Carries schema world header told reads image faults item old new line says_broken → AreLater faults count old
+      → Carries schema world header told Disk item old new line says_broken → AreLater Disk.faults count old
       → AtSome HasBroken old ⊎ (says_broken ≡ true) → AtSome HasBroken new
   all_carried (asked it) old new line says_broken carried first (inl has) = all_told it.name it.text old new carried.0 carried.1 (inl has)
   all_carried (asked it) old new line says_broken carried first (inr said) = all_told it.name it.text old new carried.0 carried.1 (inr (sym carried.3 ∙ said))
@@ -199,14 +199,14 @@ module _ (schema : DatabaseSchema) (world : FactSet) (header : List ℕ) {D : Ty
 
   -- behind items of which a line says so, it is so
   pub run_broken : (items : List BatchItem) (old new : List (DeskSeat D g h)) (output : List ℕ) (is_broken : Bool)
-      → Runs schema world header told reads image faults items old output new is_broken → AreLater faults count old
+      → Runs schema world header told Disk items old output new is_broken → AreLater Disk.faults count old
       → is_broken ≡ true → AtSome HasBroken new
   run_broken items old new output is_broken (nothing seats) first said = absurd cc
   run_broken items old new output is_broken (more earlier old' mid new' before line was says_broken item runs carried) first said =
       by was refl (run_broken earlier old' mid before was runs first)
     where
-      later : AreLater faults count mid
-      later = (stay_run schema world header told reads image faults earlier old' mid before was runs).later count first
+      later : AreLater Disk.faults count mid
+      later = (stay_run schema world header told Disk earlier old' mid before was runs).later count first
 
       by : (b : Bool) → was ≡ b → (was ≡ true → AtSome HasBroken mid) → AtSome HasBroken new'
       by true broken so_far = all_carried item mid new' line says_broken carried later (inl (so_far broken))
@@ -214,9 +214,9 @@ module _ (schema : DatabaseSchema) (world : FactSet) (header : List ℕ) {D : Ty
 
   -- and the count of its name rises as it is given back
   pub all_weaker : (told' : Type 0) (count' : Text → ℕ) (disk' : Text → Option D) (seats : List (DeskSeat D g h)) → AtSome HasBroken seats
-      → AtSome (HasFailed told' reads image faults count count' disk') seats
-  all_weaker told' count' disk' seats some = some_weaker HasBroken (HasFailed told' reads image faults count count' disk') seats one some
+      → AtSome (HasFailed told' Disk count count' disk') seats
+  all_weaker told' count' disk' seats some = some_weaker HasBroken (HasFailed told' Disk count count' disk') seats one some
     where
-      one : (seat : DeskSeat D g h) → HasBroken seat → HasFailed told' reads image faults count count' disk' seat
+      one : (seat : DeskSeat D g h) → HasBroken seat → HasFailed told' Disk count count' disk' seat
       one seat (inl broke) = inl broke.1
       one seat (inr rose) = inr rose

@@ -1,4 +1,5 @@
 pub mod Courses
+pub mod Along
 pub mod Seating
 pub mod Telling
 pub mod Closing
@@ -6,3 +7,4 @@ pub mod Shorts
 pub mod Running
 pub mod Ending
 pub mod Failing
+pub mod Joining

@@ -5,6 +5,7 @@ use Rattle.std.specs.Prelude.{Option, ◌||◌}
 use Rattle.std.specs.List.{list_all, AllByRecursion}
 use Rattle.std.proofs.lemmas.List.{take-append-drop, map-append}
 use Rattle.std.proofs.lemmas.Bool.{and_parts}
+use Rattle.outside.specs.declared.disk.Disk.{Ghosts as DiskGhosts}
 use Rattle.cqe_base.specs.Schema.{Text, DatabaseSchema}
 use Rattle.cqe_base.specs.Facts.{FactSet}
 use Rattle.cqe_base.specs.History.{profile_of}
@@ -42,8 +43,7 @@ items_more items i item low is = map_more item_in items i item low is
 pub items_split : (items : List memory.BatchItem) (n : ℕ) → map item_in items ≡ map item_in (take n items) ++ map item_in (drop n items)
 items_split items n = ap (map item_in) (sym (take-append-drop n items)) ∙ map-append item_in (take n items) (drop n items)
 
-module _ (schema : DatabaseSchema) (world : FactSet) (header : List ℕ) {D : Type 0} {g h : _} (told : Type 0) (reads : D → List ℕ) (image : D → List ℕ → Type 0)
-    (faults : D → ℕ) where
+module _ (schema : DatabaseSchema) (world : FactSet) (header : List ℕ) {D : Type 0} {g h : _} (told : Type 0) (Disk : DiskGhosts D) where
   abbrev pub Limits : List (DeskSeat D g h) → Type 0
   Limits seats = AllByRecursion (λ (s : DeskSeat D g h). KeepsLimits schema (profile_of (seat_user s))) seats
 
@@ -52,7 +52,7 @@ module _ (schema : DatabaseSchema) (world : FactSet) (header : List ℕ) {D : Ty
     pub names : journals new ≡ journals old
     pub limits : Limits old → Limits new
     pub served : AllByRecursion (IsSeatServed schema world header) old → AllByRecursion (IsSeatServed schema world header) new
-    pub later : (count : Text → ℕ) → AreLater faults count old → AreLater faults count new
+    pub later : (count : Text → ℕ) → AreLater Disk.faults count old → AreLater Disk.faults count new
 
   stay : (seats : List (DeskSeat D g h)) → Stay seats seats
   stay seats = record { names = refl; limits = λ l. l; served = λ s. s; later = λ count l. l }
@@ -65,9 +65,9 @@ module _ (schema : DatabaseSchema) (world : FactSet) (header : List ℕ) {D : Ty
     later = λ count l. second.later count (first.later count l);
   }
 
-  later_at : (count : Text → ℕ) (old new : DeskSeat D g h) → seat_journal new ≡ seat_journal old → faults (seat_disk old) ≤ faults (seat_disk new)
-      → count (seat_journal old) ≤ faults (seat_disk old) → count (seat_journal new) ≤ faults (seat_disk new)
-  later_at count old new named on first = subst (λ j. count j ≤ faults (seat_disk new)) (sym named) (omega (arith, first, on))
+  later_at : (count : Text → ℕ) (old new : DeskSeat D g h) → seat_journal new ≡ seat_journal old → Disk.faults (seat_disk old) ≤ Disk.faults (seat_disk new)
+      → count (seat_journal old) ≤ Disk.faults (seat_disk old) → count (seat_journal new) ≤ Disk.faults (seat_disk new)
+  later_at count old new named on first = subst (λ j. count j ≤ Disk.faults (seat_disk new)) (sym named) (omega (arith, first, on))
 
   limit_at : (old new : DeskSeat D g h) → seat_user new ≡ seat_user old → KeepsLimits schema (profile_of (seat_user old))
       → KeepsLimits schema (profile_of (seat_user new))
@@ -83,7 +83,7 @@ module _ (schema : DatabaseSchema) (world : FactSet) (header : List ℕ) {D : Ty
         served = λ s. (still_served schema world header first next text _ answer s.0, s.1);
         later = λ count l. (
           later_at count first next answer.journal_is
-              (subst (λ d. faults (seat_disk first) ≤ faults d) (sym (ap (λ (f : Fixed D). f.disk) kept)) (omega arith)) l.0,
+              (subst (λ d. Disk.faults (seat_disk first) ≤ Disk.faults d) (sym (ap (λ (f : Fixed D). f.disk) kept)) (omega arith)) l.0,
           l.1,
         );
       }
@@ -96,7 +96,7 @@ module _ (schema : DatabaseSchema) (world : FactSet) (header : List ℕ) {D : Ty
         later = λ count l. (l.0, tail.later count l.1);
       }
 
-  stay_reopened : (old new : List (DeskSeat D g h)) → AreReopened schema world header told reads image faults old new → Stay old new
+  stay_reopened : (old new : List (DeskSeat D g h)) → AreReopened schema world header told Disk old new → Stay old new
   stay_reopened [] [] are = stay []
   stay_reopened [] (n ∷ new) are = absurd are
   stay_reopened (o ∷ old) [] are = absurd are
@@ -113,12 +113,12 @@ module _ (schema : DatabaseSchema) (world : FactSet) (header : List ℕ) {D : Ty
       }
 
   stay_carried : (item : BatchItem) (old new : List (DeskSeat D g h)) (line : List ℕ) (is_broken : Bool)
-      → Carries schema world header told reads image faults item old new line is_broken → Stay old new
+      → Carries schema world header told Disk item old new line is_broken → Stay old new
   stay_carried (asked ask) old new line is_broken carried = stay_told ask.name ask.text old new carried.0 carried.1
   stay_carried restarted old new line is_broken carried = stay_reopened old new carried.0
 
   pub stay_run : (items : List BatchItem) (old new : List (DeskSeat D g h)) (output : List ℕ) (is_broken : Bool)
-      → Runs schema world header told reads image faults items old output new is_broken → Stay old new
+      → Runs schema world header told Disk items old output new is_broken → Stay old new
   stay_run items old new output is_broken (nothing seats) = stay seats
   stay_run items old new output is_broken (more first old' mid new' before line was says item runs carried) =
       stay_on old' mid new' (stay_run first old' mid before was runs) (stay_carried item mid new' line says carried)
@@ -126,26 +126,26 @@ module _ (schema : DatabaseSchema) (world : FactSet) (header : List ℕ) {D : Ty
   -- ---- one more item
 
   pub runs_first : (wrote : Type 0) (seats : List (DeskSeat D g h)) (before : List ℕ)
-      → RunsAll schema world header told reads image faults wrote [] seats seats false before before
+      → RunsAll schema world header told Disk wrote [] seats seats false before before
   runs_first wrote seats before = record { output = []; appended = λ w. sym (append-nil before); runs = nothing seats }
 
   pub runs_more : (wrote : Type 0) (items : List BatchItem) (item : BatchItem) (old mid new : List (DeskSeat D g h)) (is_broken says now : Bool)
       (before after last line : List ℕ) → now ≡ (is_broken || says)
-      → RunsAll schema world header told reads image faults wrote items old mid is_broken before after
-      → Carries schema world header told reads image faults item mid new line says → (wrote → last ≡ after ++ line)
-      → RunsAll schema world header told reads image faults wrote (items ++ item ∷ []) old new now before last
+      → RunsAll schema world header told Disk wrote items old mid is_broken before after
+      → Carries schema world header told Disk item mid new line says → (wrote → last ≡ after ++ line)
+      → RunsAll schema world header told Disk wrote (items ++ item ∷ []) old new now before last
   runs_more wrote items item old mid new is_broken says now before after last line joined so_far carried appended = record {
     output = so_far.output ++ line;
     appended = λ w. appended w ∙ ap (λ l. l ++ line) (so_far.appended w) ∙ append_assoc before so_far.output line;
-    runs = subst (λ b. Runs schema world header told reads image faults (items ++ item ∷ []) old (so_far.output ++ line) new b) (sym joined)
+    runs = subst (λ b. Runs schema world header told Disk (items ++ item ∷ []) old (so_far.output ++ line) new b) (sym joined)
         (more items old mid new so_far.output line is_broken says item so_far.runs carried);
   }
 
   -- memory was wanting at the next item, a restart
   pub runs_stopped : (wrote : Type 0) (items front rest : List BatchItem) (item : BatchItem) (old new : List (DeskSeat D g h)) (is_broken : Bool)
       (before after : List ℕ) → items ≡ (front ++ item ∷ []) ++ rest → item ≡ restarted
-      → RunsAll schema world header told reads image faults wrote front old new is_broken before after
-      → RunsTo schema world header told reads image faults wrote items old new before after
+      → RunsAll schema world header told Disk wrote front old new is_broken before after
+      → RunsTo schema world header told Disk wrote items old new before after
   runs_stopped wrote items front rest item old new is_broken before after split is so_far = record {
     front = front;
     rest = rest;
@@ -157,9 +157,9 @@ module _ (schema : DatabaseSchema) (world : FactSet) (header : List ℕ) {D : Ty
   -- of the line of the next item a part was written
   pub runs_cut : (wrote : Type 0) (items front back : List BatchItem) (item : BatchItem) (old mid new : List (DeskSeat D g h)) (is_broken says : Bool)
       (before after last line : List ℕ) → items ≡ (front ++ item ∷ []) ++ back
-      → RunsAll schema world header told reads image faults wrote front old mid is_broken before after
-      → Carries schema world header told reads image faults item mid new line says → (wrote → AppendsPart after last line)
-      → RunsSome schema world header told reads image faults wrote items old new before last
+      → RunsAll schema world header told Disk wrote front old mid is_broken before after
+      → Carries schema world header told Disk item mid new line says → (wrote → AppendsPart after last line)
+      → RunsSome schema world header told Disk wrote items old new before last
   runs_cut wrote items front back item old mid new is_broken says before after last line split so_far carried part = record {
     front = front ++ item ∷ [];
     back = back;

@@ -1,10 +1,12 @@
 -- The users of a batch at their desks, item by item.
 use Rattle.std.proofs.Common.{◌≡◌, ◌⊎◌, inl, inr, ℕ, Bool, true, false, List, [], ◌∷◌, ◌++◌, map, refl, sym, ap, subst, ◌∙◌, append_assoc, append-nil, arith}
-use Rattle.std.proofs.Common.{length}
-use Rattle.std.specs.Prelude.{Option, Some, None, find, bytes_eq, if◌then◌else◌, string_bytes}
+use Rattle.std.proofs.Common.{◌≤◌, length}
+use Rattle.std.specs.Prelude.{Option, Some, None, find, bytes_eq, if◌then◌else◌, string_bytes, ◌&&◌, option_map, option_to_list, IfSome}
 use Rattle.std.specs.List.{list_any, flat_map, AllByRecursion}
 use Rattle.std.specs.Cmp.Lexicographic.{same_text}
 use Rattle.std.proofs.Math.Bool.{or-true}
+use Rattle.std.proofs.lemmas.Bool.{or_right}
+use Rattle.outside.specs.declared.disk.Disk.{Ghosts as DiskGhosts}
 use Rattle.outside.proofs.Taken.{taken_reads, taken_images}
 use Rattle.outside.specs.Shelf.{bytes_on, image_on}
 use Rattle.cqe_base.specs.Schema.{Text, DatabaseSchema, has_duplicate}
@@ -12,28 +14,30 @@ use Rattle.cqe_base.specs.Facts.{FactSet}
 use Rattle.cqe_base.specs.History.{UserProfile, History, profile_of}
 use Rattle.cqe_base.specs.Run
 use Rattle.cqe_base.specs.declared.user.User.{User}
-use Rattle.cqe_base.specs.Run.{Reply, Ending, Event, ask, restart, opening, after_events, reply_to_ask}
+use Rattle.cqe_base.specs.Run.{Reply, Ending, Event, UserState, ask, restart, opening, after_events, reply_to_ask}
 use Rattle.cqe_base.specs.Transcript.{NamedUser, ScriptEvent, script_ask, own_event, own_events, told_after}
 use Rattle.cqe_base.proofs.Lists.{other_text, text_is}
 use Rattle.cqe_base.proofs.Truths.{or_first, or_second}
-use Rattle.user_desk.specs.Causes.{Opens, IsStanding}
-use Rattle.user_desk.specs.Lives.{Holds, Restarts, IsState}
+use Rattle.user_desk.specs.Causes.{Opens, OpensWithin, IsStanding}
+use Rattle.user_desk.specs.Lives.{Holds, HoldsAmid, Restarts, IsState}
 use Rattle.user_desk.specs.Standings.{is_sealed}
 use Rattle.desk_counter.specs.declared.item.Fixed.{Fixed}
 use Rattle.desk_counter.specs.Items.{flying}
 use Rattle.desk_counter.specs.Lives.{IsAskOf}
 use Rattle.desk_counter.specs.Sole.{pairs_of_sole}
 use Rattle.log_journal.specs.Names.{journal_name}
-use Rattle.desk_crew.specs.Openings.{OpensNone, IsOpening}
+use Rattle.desk_crew.specs.Openings.{OpensNone, OpensWith}
 use Rattle.batch_engine.specs.Batch.{unopened}
-use Rattle.batch_engine.specs.Lives.{is_ask}
+use Rattle.batch_engine.specs.Lives.{is_ask, is_opened}
 use Rattle.desk_crew.specs.Shelved.{IsSeatOf, AreSeatsOf}
 use Rattle.desk_crew.specs.Crew.{named_user, first_refusal, seat_user, seat_name, seat_journal, seat_kept, seat_standing, seat_history, seat_state, seat_disk}
-use Rattle.desk_crew.specs.Crew.{IsSeatIn, IsFresh, is_named, IsClosed, IsSeatServed, IsToldAt, IsReopened, AreReopened, Tells, nobody, here, further}
+use Rattle.desk_crew.specs.Crew.{IsSeatIn, IsSeatAsOpened, is_named, IsClosed, IsSeatServed, IsToldAt, IsReopened, AreReopened, Tells, nobody, here, further}
 use Rattle.desk_crew.proofs.Asking.{still_served}
 use Rattle.desk_crew.specs.Seats.{DeskSeat}
 use Rattle.batch_engine.proofs.Courses.{any-push, Course, course_on, stays_on, IsRunning, IsLiving, live, closing, Asked, ask_step, Restarted, IsExclusive}
 use Rattle.batch_engine.proofs.Courses.{open_step}
+use Rattle.batch_engine.proofs.Along.{Clock, IsAlong, along_first, along_event, along_on, along_open, amid_all, amid_within, no_fewer, shown_at}
+use Rattle.desk_crew.proofs.Lasting.{taken_moment}
 
 -- ---- lists and texts
 
@@ -60,10 +64,15 @@ module _ (event : (Text → Bool) → (Text → Bool) → ScriptEvent) (own : (n
       own-push name script (event found opens) ∙ ap (λ es. own_events name script ++ es) (own name found opens)
       ∙ ap (λ b. own_events name script ++ restart b (opens name) ∷ []) is_found ∙ ap (λ b. own_events name script ++ restart f b ∷ []) is_open
 
+-- an opening that held, among the events behind which it stands
+opened_behind : (events : List Event) (found opens : Bool) → opens ≡ true → list_any is_opened (events ++ restart found opens ∷ []) ≡ true
+opened_behind events found opens held =
+    any-push is_opened events (restart found opens) ∙ or_right (list_any is_opened events) opens held
+
 -- the course of a user whose journal wasn't opened yet
 module _ (schema : DatabaseSchema) (world : FactSet) (header : List ℕ) (bytes : Text → List ℕ) (before : Text → ℕ) (images : Text → List ℕ → Type 0) where
   first_course : (user : UserProfile) (name : Text) (opened : History) (now : ℕ) (c : List ℕ) → now ≡ before name → c ≡ bytes name
-      → IsOpening schema world user header (bytes name) opened
+      → OpensWith schema world user header (bytes name) opened
       → Course schema world user header (bytes name) (before name) (images name) opened [] c now None
   first_course user name opened now c counted same (inl opens) = record {
     later = omega (arith, counted);
@@ -78,8 +87,8 @@ module _ (schema : DatabaseSchema) (world : FactSet) (header : List ℕ) (bytes 
   first_course user name opened now c counted same (inr (none, empty)) =
       record { later = omega (arith, counted); caused = tt; fits = inr (none, empty, same, refl); refused = refl }
 
-module _ (schema : DatabaseSchema) (world : FactSet) (header directory : List ℕ) {D : Type 0} {g h : _} (T : Type 0) (reads : D → List ℕ)
-    (image : D → List ℕ → Type 0) (faults : D → ℕ) (t : T) (read_is_image : (d : D) → T → image d (reads d))
+module _ (schema : DatabaseSchema) (world : FactSet) (header directory : List ℕ) {D : Type 0} {g h : _} (T : Type 0) (Disk : DiskGhosts D) (t : T)
+    (read_is_image : (d : D) → T → Disk.image d (Disk.reads d)) (clock : Clock Disk)
     (bytes : Text → List ℕ) (before : Text → ℕ) (images : Text → List ℕ → Type 0) where
   -- a user sits at his desk behind these events of his
   pub record IsSeated (user : NamedUser) (events : List Event) (seat : DeskSeat D g h) : Type 0 where
@@ -88,8 +97,14 @@ module _ (schema : DatabaseSchema) (world : FactSet) (header directory : List �
     pub journal_is : seat_journal seat ≡ journal_name directory user.name
     pub served : IsSeatServed schema world header seat
     pub living : IsLiving schema world user.profile header (bytes user.name) (before user.name) (images user.name) user.opened events (seat_standing seat)
-        (seat_state seat) (image (seat_disk seat)) (reads (seat_disk seat)) (faults (seat_disk seat)) seat.refusal
-    pub fresh : list_any is_ask events ≡ false → IsFresh seat
+        (seat_state seat) (Disk.image (seat_disk seat)) (Disk.reads (seat_disk seat)) (Disk.faults (seat_disk seat)) seat.refusal
+    pub fresh : list_any is_ask events ≡ false → IsSeatAsOpened seat
+    -- the moment at which the call began, and what each crash could leave since; at his desk's opening there were as many entries as at first
+    pub began : ℕ
+    pub began_is : IfSome (clock.begins user.name) (λ begun. begun ≡ began)
+    pub along : IsAlong schema world user.profile header (images user.name) user.opened began events (Disk.moment (seat_disk seat))
+        (Disk.image_since (seat_disk seat))
+    pub least : is_sealed (seat_standing seat) ≡ false → length user.opened ≤ length (seat_kept seat).opening
 
   -- all do, behind the events of a script
   abbrev pub AreSeated : List ScriptEvent → List NamedUser → List (DeskSeat D g h) → Type 0
@@ -111,9 +126,9 @@ module _ (schema : DatabaseSchema) (world : FactSet) (header directory : List �
       let kept = answer.kept_is in
       let profile : profile_of (seat_user old) ≡ user.profile = seated.profile_is in
       let asked : Asked schema world user.profile header (bytes user.name) (before user.name) (images user.name) user.opened events (seat_standing old)
-      (seat_state new) (image (seat_disk old)) (reads (seat_disk old)) (faults (seat_disk old)) old.refusal text told =
+      (seat_state new) (Disk.image (seat_disk old)) (Disk.reads (seat_disk old)) (Disk.faults (seat_disk old)) old.refusal text told =
       ask_step schema world user.profile header (bytes user.name) (before user.name) (images user.name) user.opened events (seat_standing old) (seat_state old)
-      (seat_state new) (image (seat_disk old)) (reads (seat_disk old)) (faults (seat_disk old)) old.refusal text told seated.living
+      (seat_state new) (Disk.image (seat_disk old)) (Disk.reads (seat_disk old)) (Disk.faults (seat_disk old)) old.refusal text told seated.living
       (λ state is. subst (λ (f : Fixed D). IsAskOf schema world user.profile (IsState f.standing (seat_state new)) state text told) kept
       (subst (λ p. IsAskOf schema world p (IsSeatIn new) state text told) profile (answer.settled state is))) in
       record {
@@ -126,13 +141,22 @@ module _ (schema : DatabaseSchema) (world : FactSet) (header directory : List �
           served = still_served schema world header old new text told answer seated.served;
           living = subst (λ r.
               IsLiving schema world user.profile header (bytes user.name) (before user.name) (images user.name) user.opened
-              (events ++ ask text asked.ending ∷ []) (seat_standing new) (seat_state new) (image (seat_disk new)) (reads (seat_disk new))
-              (faults (seat_disk new)) r) (sym answer.refusal_is)
+              (events ++ ask text asked.ending ∷ []) (seat_standing new) (seat_state new) (Disk.image (seat_disk new)) (Disk.reads (seat_disk new))
+              (Disk.faults (seat_disk new)) r) (sym answer.refusal_is)
               (subst (λ (f : Fixed D).
               IsLiving schema world user.profile header (bytes user.name) (before user.name) (images user.name) user.opened
-              (events ++ ask text asked.ending ∷ []) f.standing (seat_state new) (image f.disk) (reads f.disk) (faults f.disk) old.refusal)
+              (events ++ ask text asked.ending ∷ []) f.standing (seat_state new) (Disk.image f.disk) (Disk.reads f.disk) (Disk.faults f.disk) old.refusal)
               (sym kept) asked.living);
           fresh = λ none. let e : true ≡ false = sym (any-push is_ask events (ask text asked.ending) ∙ or-true (list_any is_ask events)) ∙ none in absurd cc;
+          began = seated.began;
+          began_is = seated.began_is;
+          along = subst (λ (f : Fixed D).
+              IsAlong schema world user.profile header (images user.name) user.opened seated.began (events ++ ask text asked.ending ∷ []) (Disk.moment f.disk)
+              (Disk.image_since f.disk)) (sym kept)
+              (along_event schema world user.profile header (images user.name) user.opened seated.began events (ask text asked.ending)
+              (Disk.moment (seat_disk old)) (Disk.image_since (seat_disk old)) refl seated.along);
+          least = λ served. subst (λ (f : Fixed D). length user.opened ≤ length f.opening) (sym kept)
+              (seated.least (ap (λ (f : Fixed D). is_sealed f.standing) (sym kept) ∙ served));
         };
       }
 
@@ -210,12 +234,13 @@ module _ (schema : DatabaseSchema) (world : FactSet) (header directory : List �
 
   -- a desk was closed, and left this disk
   pub close_at : (user : NamedUser) (events : List Event) (seat : DeskSeat D g h) (disk : D) → IsSeated user events seat
-      → IsClosed T reads image faults seat.desk disk
+      → IsClosed T Disk seat.desk disk
       → IsRunning schema world user.profile header (bytes user.name) (before user.name) (images user.name) user.opened events (seat_standing seat)
-      (seat_state seat) (image disk) (reads disk) (faults disk) seat.refusal
+      (seat_state seat) (Disk.image disk) (Disk.reads disk) (Disk.faults disk) seat.refusal
   close_at user events seat disk seated closed =
       closing schema world user.profile header (bytes user.name) (before user.name) (images user.name) user.opened events (seat_standing seat) (seat_state seat)
-      (image (seat_disk seat)) (image disk) (reads (seat_disk seat)) (reads disk) (faults (seat_disk seat)) (faults disk) seat.refusal
+      (Disk.image (seat_disk seat)) (Disk.image disk) (Disk.reads (seat_disk seat)) (Disk.reads disk) (Disk.faults (seat_disk seat))
+      (Disk.faults disk) seat.refusal
       seated.living closed.later closed.cause (λ why. left_as (by why))
       (λ served c at.
       subst (λ s. Holds s world user.profile header (seat_state seat) c) seated.served.schema_is
@@ -230,10 +255,56 @@ module _ (schema : DatabaseSchema) (world : FactSet) (header directory : List �
       by (inl sealed) = closed.shut sealed
       by (inr none) = closed.still (seated.fresh none)
 
-      left_as : disk ≡ seat_disk seat → (reads disk ≡ reads (seat_disk seat)) × ((c : List ℕ) → image disk c → image (seat_disk seat) c)
-      left_as same = (ap reads same, λ c at. subst (λ d. image d c) same at)
+      left_as : disk ≡ seat_disk seat → (Disk.reads disk ≡ Disk.reads (seat_disk seat)) × ((c : List ℕ) → Disk.image disk c → Disk.image (seat_disk seat) c)
+      left_as same = (ap Disk.reads same, λ c at. subst (λ d. Disk.image d c) same at)
+
+  -- what each crash could leave up to a close
+  pub along_at : (user : NamedUser) (events : List Event) (seat : DeskSeat D g h) (disk : D) (seated : IsSeated user events seat)
+      → IsClosed T Disk seat.desk disk
+      → IsAlong schema world user.profile header (images user.name) user.opened seated.began events (Disk.moment disk) (Disk.image_since disk)
+  along_at user events seat disk seated closed = by (is_sealed (seat_standing seat)) refl
+    where
+      state : UserState
+      state = after_events schema world user.profile (opening schema world user.profile user.opened) events
+
+      amid : is_sealed (seat_standing seat) ≡ false → (c : List ℕ) → Disk.image_since disk (Disk.moment (seat_disk seat)) c
+          → HoldsAmid schema world user.profile header (opening schema world user.profile user.opened) events c
+      amid served c at =
+          let least = length (seat_kept seat).opening in
+          let all = seat_history seat ++ option_to_list (flying (pairs_of_sole seat.desk)) in
+          amid_within schema world user.profile header (opening schema world user.profile user.opened) events least c (seated.least served)
+          (subst (λ (s : UserState). OpensWithin schema world user.profile header least (s.entries ++ option_to_list s.pending) c)
+          (sym (shown_at (seat_standing seat) (seat_state seat) state served seated.living.is_in))
+          (subst (λ s. OpensWithin s world user.profile header least all c) seated.served.schema_is
+          (subst (λ w. OpensWithin (seat_kept seat).schema w user.profile header least all c) seated.served.world_is
+          (subst (λ p. OpensWithin (seat_kept seat).schema (seat_kept seat).world p header least all c) (seated.served.user_is ∙ seated.profile_is)
+          (subst (λ k. OpensWithin (seat_kept seat).schema (seat_kept seat).world (seat_kept seat).user k least all c) seated.served.header_is
+          (closed.since t served c at))))))
+
+      by : (b : Bool) → is_sealed (seat_standing seat) ≡ b
+          → IsAlong schema world user.profile header (images user.name) user.opened seated.began events (Disk.moment disk) (Disk.image_since disk)
+      by true sealed =
+          subst (λ d. IsAlong schema world user.profile header (images user.name) user.opened seated.began events (Disk.moment d) (Disk.image_since d))
+          (sym (closed.shut sealed)) seated.along
+      by false served =
+          along_on schema world user.profile header (images user.name) user.opened seated.began events (Disk.moment (seat_disk seat)) (Disk.moment disk)
+          (Disk.image_since (seat_disk seat)) (Disk.image_since disk) closed.time (λ some. amid served)
+          (λ none. let e : true ≡ false = sym (seated.living.held served) ∙ none in absurd cc) seated.along
 
   -- ---- openings
+
+  -- at an opening there are as many entries as at first
+  least_at : (user : NamedUser) (events : List Event) (seat : DeskSeat D g h) → (seat_kept seat).opening ≡ seat_history seat
+      → is_sealed (seat_standing seat) ≡ false
+      → IsState (seat_standing seat) (seat_state seat) (after_events schema world user.profile (opening schema world user.profile user.opened) events)
+      → length user.opened ≤ length (seat_kept seat).opening
+  least_at user events seat first served is =
+      let end : UserState = after_events schema world user.profile (opening schema world user.profile user.opened) events in
+      let more : length user.opened ≤ length end.entries = no_fewer schema world user.profile (opening schema world user.profile user.opened) events in
+      let same : length end.entries ≡ length (seat_history seat) = ap (λ (s : UserState). length s.entries)
+      (shown_at (seat_standing seat) (seat_state seat) end served is) in
+      let count : length (seat_kept seat).opening ≡ length (seat_history seat) = ap length first in
+      omega (arith, more, same, count)
 
   -- the choices of a user's opening
   abbrev pub Choice : NamedUser → List Event → DeskSeat D g h → Type 0
@@ -294,31 +365,33 @@ module _ (schema : DatabaseSchema) (world : FactSet) (header directory : List �
 
   module _ (exclusive : (user : UserProfile) → IsExclusive schema world user header) where
     restart_at : (user : NamedUser) (events : List Event) (old new : DeskSeat D g h) → IsSeated user events old
-        → IsReopened schema world header T reads image faults old new → Choice user events new
+        → IsReopened schema world header T Disk old new → Choice user events new
     restart_at user events old new seated again =
         let profile : profile_of (seat_user new) ≡ user.profile = ap profile_of again.user_is ∙ seated.profile_is in
         let opened = again.opened in
         let closed = again.closed in
         let running = close_at user events old closed seated again.is_closed in
         let step : Restarted schema world user.profile header (bytes user.name) (before user.name) (images user.name) user.opened events (seat_standing new)
-        (seat_state new) (image (seat_disk new)) (reads (seat_disk new)) (faults (seat_disk new)) (first_refusal old.refusal (seat_standing new)) =
+        (seat_state new) (Disk.image (seat_disk new)) (Disk.reads (seat_disk new)) (Disk.faults (seat_disk new)) (first_refusal old.refusal
+        (seat_standing new)) =
         open_step schema world user.profile header (bytes user.name) (before user.name) (images user.name) (exclusive user.profile) T t user.opened events
-        (reads (seat_disk new)) (faults closed) (faults (seat_disk new)) old.refusal
-        (seat_history new) (flying (pairs_of_sole new.desk)) (seat_standing new) (image (seat_disk new))
-        (course_on schema world user.profile header (bytes user.name) (before user.name) (images user.name) user.opened events (reads closed)
-        (reads (seat_disk new)) (faults closed) (faults closed) old.refusal again.left.reads_same (omega arith) running.course)
-        (stays_on schema world user.profile header (bytes user.name) (before user.name) (images user.name) user.opened events (image closed)
-        (image (seat_disk new)) (reads closed) (reads (seat_disk new)) again.left.reads_same again.left.images running.stays)
+        (Disk.reads (seat_disk new)) (Disk.faults closed) (Disk.faults (seat_disk new)) old.refusal
+        (seat_history new) (flying (pairs_of_sole new.desk)) (seat_standing new) (Disk.image (seat_disk new))
+        (course_on schema world user.profile header (bytes user.name) (before user.name) (images user.name) user.opened events (Disk.reads closed)
+        (Disk.reads (seat_disk new)) (Disk.faults closed) (Disk.faults closed) old.refusal again.left.reads_same (omega arith) running.course)
+        (stays_on schema world user.profile header (bytes user.name) (before user.name) (images user.name) user.opened events (Disk.image closed)
+        (Disk.image (seat_disk new)) (Disk.reads closed) (Disk.reads (seat_disk new)) again.left.reads_same again.left.images running.stays)
         (record {
           standing_is = subst (λ r.
-              IsStanding schema world user.profile T header r (seat_history new) (faults closed) (faults (seat_disk new)) (seat_standing new))
+              IsStanding schema world user.profile T header r (seat_history new) (Disk.faults closed) (Disk.faults (seat_disk new)) (seat_standing new))
               (sym again.left.reads_same)
-              (subst (λ p. IsStanding schema world p T header (reads closed) (seat_history new) (faults closed) (faults (seat_disk new)) (seat_standing new))
+              (subst (λ p. IsStanding schema world p T header (Disk.reads closed) (seat_history new) (Disk.faults closed) (Disk.faults (seat_disk new))
+              (seat_standing new))
               profile opened.standing);
-          restarted = λ state holds. subst (λ p. Restarts schema world p (IsSeatIn new) state (faults closed) (faults (seat_disk new))) profile
+          restarted = λ state holds. subst (λ p. Restarts schema world p (IsSeatIn new) state (Disk.faults closed) (Disk.faults (seat_disk new))) profile
               (opened.restarted t state
               (subst (Holds schema world (profile_of (seat_user new)) header state) again.left.reads_same
-              (subst (λ p. Holds schema world p header state (reads (seat_disk new))) (sym profile) holds)));
+              (subst (λ p. Holds schema world p header state (Disk.reads (seat_disk new))) (sym profile) holds)));
           on = again.left.later;
           holds = λ served c at. subst (λ p. Holds schema world p header (seat_state new) c) profile (opened.holds t served c at);
           here = read_is_image (seat_disk new) t;
@@ -331,18 +404,30 @@ module _ (schema : DatabaseSchema) (world : FactSet) (header directory : List �
             journal_is = again.journal_is ∙ seated.journal_is;
             served = opened.served;
             living = subst (IsLiving schema world user.profile header (bytes user.name) (before user.name) (images user.name) user.opened
-                (events ++ restart step.found step.opens ∷ []) (seat_standing new) (seat_state new) (image (seat_disk new)) (reads (seat_disk new))
-                (faults (seat_disk new))) (sym opened.refusal)
+                (events ++ restart step.found step.opens ∷ []) (seat_standing new) (seat_state new) (Disk.image (seat_disk new)) (Disk.reads (seat_disk new))
+                (Disk.faults (seat_disk new))) (sym opened.refusal)
                 (live schema world user.profile header (bytes user.name) (before user.name) (images user.name) user.opened
-                (events ++ restart step.found step.opens ∷ []) (seat_standing new) (seat_state new) (image (seat_disk new)) (reads (seat_disk new))
-                (faults (seat_disk new)) (first_refusal old.refusal (seat_standing new)) step.running);
+                (events ++ restart step.found step.opens ∷ []) (seat_standing new) (seat_state new) (Disk.image (seat_disk new)) (Disk.reads (seat_disk new))
+                (Disk.faults (seat_disk new)) (first_refusal old.refusal (seat_standing new)) step.running);
             fresh = λ none. opened.fresh;
+            began = seated.began;
+            began_is = seated.began_is;
+            along = along_open schema world user.profile header (images user.name) user.opened seated.began events step.found step.opens (Disk.moment closed)
+                (Disk.moment (seat_disk new)) (Disk.image_since closed) (Disk.image_since (seat_disk new)) (Disk.image closed) again.left.time again.left.rests
+                (λ some c at. amid_all schema world user.profile header (opening schema world user.profile user.opened) events c
+                (running.stays.stands some c at))
+                (λ none c at. (running.stays.kept (ap (λ b. b && list_any is_ask events) none)).1 c at)
+                (λ held c at. amid_all schema world user.profile header (opening schema world user.profile user.opened)
+                (events ++ restart step.found step.opens ∷ []) c
+                (step.running.stays.stands (opened_behind events step.found step.opens held) c (clock.only_now (seat_disk new) c at)))
+                (along_at user events old closed seated again.is_closed);
+            least = λ served. least_at user (events ++ restart step.found step.opens ∷ []) new opened.opening_is served step.running.is_in;
           },
         )
 
     -- every desk was closed and opened again
     pub restart_all : (script : List ScriptEvent) (users : List NamedUser) (olds news : List (DeskSeat D g h)) → AreSeated script users olds
-        → AreReopened schema world header T reads image faults olds news → Choices script users news
+        → AreReopened schema world header T Disk olds news → Choices script users news
     restart_all script [] [] [] seated again = tt
     restart_all script [] [] (new ∷ news) seated again = absurd again
     restart_all script [] (old ∷ olds) news seated again = absurd seated
@@ -354,53 +439,54 @@ module _ (schema : DatabaseSchema) (world : FactSet) (header directory : List �
     -- ---- the first opening
 
     module _ (S : Type 0) (s : S) (disk : Text → Option D) (count : Text → ℕ) (bytes_are : (name : Text)
-        → bytes name ≡ bytes_on reads (disk (journal_name directory name))) (counts_are : (name : Text)
-        → before name ≡ count (journal_name directory name)) (images_are : (name : Text) (c : List ℕ) → image_on image (disk (journal_name directory name)) c
-        → images name c) where
+        → bytes name ≡ bytes_on Disk.reads (disk (journal_name directory name))) (counts_are : (name : Text)
+        → before name ≡ count (journal_name directory name)) (images_are : (name : Text) (c : List ℕ)
+        → image_on Disk.image (disk (journal_name directory name)) c
+        → images name c) (begins_are : (name : Text) → clock.begins name ≡ option_map Disk.moment (disk (journal_name directory name))) where
       -- a user with the history with which his journal is opened
       pub record Begun (user : User) (seat : DeskSeat D g h) : Type 0 where
         pub opened : History
-        pub opening : IsOpening schema world (profile_of user) header (bytes (string_bytes user.name)) opened
+        pub opening : OpensWith schema world (profile_of user) header (bytes (string_bytes user.name)) opened
         pub choice : Choice (record { name = string_bytes user.name; profile = profile_of user; opened = opened }) [] seat
 
       begin_with : (user : User) (seat : DeskSeat D g h) (opened : History)
-          → IsOpening schema world (profile_of user) header (bytes (string_bytes user.name)) opened
-          → IsSeatOf S reads image faults T schema world header directory disk count user seat → Begun user seat
+          → OpensWith schema world (profile_of user) header (bytes (string_bytes user.name)) opened
+          → IsSeatOf S Disk T schema world header directory disk count user seat → Begun user seat
       begin_with user seat opened opening is =
           let name = string_bytes user.name in
           let profile : profile_of (seat_user seat) ≡ profile_of user = ap profile_of is.user_is in
           let from = is.opened in
-          let same : reads (seat_disk seat) ≡ reads is.taken = is.left.reads_same in
-          let read : reads (seat_disk seat) ≡ bytes name =
-          same ∙ taken_reads reads image (disk (seat_journal seat)) is.taken (is.from s) ∙ ap (λ j. bytes_on reads (disk j)) is.journal_is
+          let same : Disk.reads (seat_disk seat) ≡ Disk.reads is.taken = is.left.reads_same in
+          let read : Disk.reads (seat_disk seat) ≡ bytes name =
+          same ∙ taken_reads Disk.reads Disk.image (disk (seat_journal seat)) is.taken (is.from s) ∙ ap (λ j. bytes_on Disk.reads (disk j)) is.journal_is
           ∙ sym (bytes_are name) in
-          let counted : faults is.taken ≡ before name = is.counted ∙ ap count is.journal_is ∙ sym (counts_are name) in
+          let counted : Disk.faults is.taken ≡ before name = is.counted ∙ ap count is.journal_is ∙ sym (counts_are name) in
+          let first : (c : List ℕ) → Disk.image is.taken c → images name c = λ c at.
+          images_are name c (subst (λ j. image_on Disk.image (disk j) c) is.journal_is
+          (taken_images Disk.reads Disk.image (disk (seat_journal seat)) is.taken c (is.from s) at)) in
           let step : Restarted schema world (profile_of user) header (bytes name) (before name) (images name) opened [] (seat_standing seat) (seat_state seat)
-          (image (seat_disk seat)) (reads (seat_disk seat)) (faults (seat_disk seat)) (first_refusal None (seat_standing seat)) =
+          (Disk.image (seat_disk seat)) (Disk.reads (seat_disk seat)) (Disk.faults (seat_disk seat)) (first_refusal None (seat_standing seat)) =
           open_step schema world (profile_of user) header (bytes name) (before name) (images name) (exclusive (profile_of user)) T t opened []
-          (reads (seat_disk seat)) (faults is.taken) (faults (seat_disk seat)) None
-          (seat_history seat) (flying (pairs_of_sole seat.desk)) (seat_standing seat) (image (seat_disk seat))
-          (first_course schema world header bytes before images (profile_of user) name opened (faults is.taken) (reads (seat_disk seat)) counted read opening)
+          (Disk.reads (seat_disk seat)) (Disk.faults is.taken) (Disk.faults (seat_disk seat)) None
+          (seat_history seat) (flying (pairs_of_sole seat.desk)) (seat_standing seat) (Disk.image (seat_disk seat))
+          (first_course schema world header bytes before images (profile_of user) name opened (Disk.faults is.taken) (Disk.reads
+          (seat_disk seat)) counted read opening)
           (record {
             stands = λ held. let e : false ≡ true = held in absurd cc;
             size = λ whole. let size = ap length read in omega (arith, size);
-            kept = λ idle. (
-              read,
-              λ c at. images_are name c
-                  (subst (λ j. image_on image (disk j) c) is.journal_is
-                  (taken_images reads image (disk (seat_journal seat)) is.taken c (is.from s) (is.left.images c at))),
-            );
+            kept = λ idle. (read, λ c at. first c (is.left.images c at));
           })
           (record {
             standing_is = subst (λ r.
-                IsStanding schema world (profile_of user) T header r (seat_history seat) (faults is.taken) (faults (seat_disk seat)) (seat_standing seat))
+                IsStanding schema world (profile_of user) T header r (seat_history seat) (Disk.faults is.taken) (Disk.faults (seat_disk seat))
+                (seat_standing seat))
                 (sym same)
-                (subst (λ p. IsStanding schema world p T header (reads is.taken) (seat_history seat) (faults is.taken) (faults (seat_disk seat))
+                (subst (λ p. IsStanding schema world p T header (Disk.reads is.taken) (seat_history seat) (Disk.faults is.taken) (Disk.faults (seat_disk seat))
                 (seat_standing seat)) profile from.standing);
-            restarted = λ state holds. subst (λ p. Restarts schema world p (IsSeatIn seat) state (faults is.taken) (faults (seat_disk seat))) profile
+            restarted = λ state holds. subst (λ p. Restarts schema world p (IsSeatIn seat) state (Disk.faults is.taken) (Disk.faults (seat_disk seat))) profile
                 (from.restarted t state
                 (subst (Holds schema world (profile_of (seat_user seat)) header state) same
-                (subst (λ p. Holds schema world p header state (reads (seat_disk seat))) (sym profile) holds)));
+                (subst (λ p. Holds schema world p header state (Disk.reads (seat_disk seat))) (sym profile) holds)));
             on = is.left.later;
             holds = λ served c at. subst (λ p. Holds schema world p header (seat_state seat) c) profile (from.holds t served c at);
             here = read_is_image (seat_disk seat) t;
@@ -417,19 +503,35 @@ module _ (schema : DatabaseSchema) (world : FactSet) (header directory : List �
                 journal_is = is.journal_is;
                 served = from.served;
                 living = subst (IsLiving schema world (profile_of user) header (bytes name) (before name) (images name) opened
-                    ([] ++ restart step.found step.opens ∷ []) (seat_standing seat) (seat_state seat) (image (seat_disk seat)) (reads (seat_disk seat))
-                    (faults (seat_disk seat))) (sym from.refusal)
+                    ([] ++ restart step.found step.opens ∷ []) (seat_standing seat) (seat_state seat) (Disk.image (seat_disk seat)) (Disk.reads
+                    (seat_disk seat))
+                    (Disk.faults (seat_disk seat))) (sym from.refusal)
                     (live schema world (profile_of user) header (bytes name) (before name) (images name) opened ([] ++ restart step.found step.opens ∷ [])
-                    (seat_standing seat) (seat_state seat) (image (seat_disk seat)) (reads (seat_disk seat)) (faults (seat_disk seat))
+                    (seat_standing seat) (seat_state seat) (Disk.image (seat_disk seat)) (Disk.reads (seat_disk seat)) (Disk.faults (seat_disk seat))
                     (first_refusal None (seat_standing seat)) step.running);
                 fresh = λ none. from.fresh;
+                began = Disk.moment is.taken;
+                began_is = subst (λ o. IfSome o (λ begun. begun ≡ Disk.moment is.taken)) (sym (begins_are name))
+                    (subst (λ j. IfSome (option_map Disk.moment (disk j)) (λ begun. begun ≡ Disk.moment is.taken)) is.journal_is
+                    (taken_moment Disk.reads Disk.image Disk.moment (disk (seat_journal seat)) is.taken (is.from s)));
+                along = along_open schema world (profile_of user) header (images name) opened (Disk.moment is.taken) [] step.found step.opens
+                    (Disk.moment is.taken) (Disk.moment (seat_disk seat)) (Disk.image_since is.taken) (Disk.image_since (seat_disk seat))
+                    (Disk.image is.taken) is.left.time is.left.rests
+                    (λ some. absurd cc) (λ none c at. first c at)
+                    (λ held c at. amid_all schema world (profile_of user) header (Run.opening schema world (profile_of user) opened)
+                    ([] ++ restart step.found step.opens ∷ []) c
+                    (step.running.stays.stands (opened_behind [] step.found step.opens held) c (clock.only_now (seat_disk seat) c at)))
+                    (along_first schema world (profile_of user) header (images name) opened (Disk.moment is.taken) (Disk.image_since is.taken)
+                    (λ c at. first c (clock.only_now is.taken c at)));
+                least = λ served. least_at (record { name = name; profile = profile_of user; opened = opened })
+                    ([] ++ restart step.found step.opens ∷ []) seat from.opening_is served step.running.is_in;
               },
             );
           }
 
       module _ (decided : (user : UserProfile) (c : List ℕ) → ((entries : History) × Opens schema world user header entries c)
           ⊎ OpensNone schema world user header c) where
-        begin_at : (user : User) (seat : DeskSeat D g h) → IsSeatOf S reads image faults T schema world header directory disk count user seat → Begun user seat
+        begin_at : (user : User) (seat : DeskSeat D g h) → IsSeatOf S Disk T schema world header directory disk count user seat → Begun user seat
         begin_at user seat is = by (decided (profile_of user) (bytes (string_bytes user.name)))
           where
             by : ((entries : History) × Opens schema world (profile_of user) header entries (bytes (string_bytes user.name)))
@@ -441,11 +543,11 @@ module _ (schema : DatabaseSchema) (world : FactSet) (header directory : List �
         pub record AreBegun (users : List User) (seats : List (DeskSeat D g h)) : Type 0 where
           pub begun : List NamedUser
           pub of_policy : map unopened begun ≡ map named_user users
-          pub openings : AllByRecursion (λ user. IsOpening schema world user.profile header (bytes user.name) user.opened) begun
+          pub openings : AllByRecursion (λ user. OpensWith schema world user.profile header (bytes user.name) user.opened) begun
           pub choices : Choices [] begun seats
 
         pub begin_all : (users : List User) (seats : List (DeskSeat D g h))
-            → AreSeatsOf S reads image faults T schema world header directory disk count users seats → AreBegun users seats
+            → AreSeatsOf S Disk T schema world header directory disk count users seats → AreBegun users seats
         begin_all [] [] are = record { begun = []; of_policy = refl; openings = tt; choices = tt }
         begin_all [] (seat ∷ seats) are = absurd are
         begin_all (user ∷ users) [] are = absurd are

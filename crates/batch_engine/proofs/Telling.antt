@@ -2,6 +2,7 @@
 use Rattle.std.proofs.Common.{◌≡◌, ◌≤◌, ℕ, Bool, false, List, [], ◌∷◌, ◌++◌, length, refl, sym, ap, ◌∙◌, append_assoc, append-nil, arith}
 use Rattle.std.specs.Prelude.{Option, Some, None, ◌||◌}
 use Rattle.std.specs.List.{list_any}
+use Rattle.outside.specs.declared.disk.Disk.{Ghosts as DiskGhosts}
 use Rattle.cqe_base.specs.Schema.{Text, DatabaseSchema, has_duplicate}
 use Rattle.cqe_base.specs.Facts.{FactSet}
 use Rattle.cqe_base.specs.History.{UserProfile}
@@ -14,6 +15,7 @@ use Rattle.batch_engine.specs.Batch.{IsEventOf, AreEventsOf, line_bytes, is_brok
 use Rattle.batch_engine.specs.Steps.{Carries, is_broken_reply}
 use Rattle.desk_crew.specs.Seats.{DeskSeat}
 use Rattle.batch_engine.proofs.Courses.{IsExclusive, any-push}
+use Rattle.batch_engine.proofs.Along.{Clock}
 use Rattle.batch_engine.proofs.Seating.{flat_map-append, names, AreSeated, Next, told_next, Choices, restart_all, Chosen, choose}
 
 events-push : (items : List BatchItem) (events : List ScriptEvent) (item : BatchItem) (event : ScriptEvent) → AreEventsOf items events → IsEventOf item event
@@ -72,15 +74,15 @@ module _ (schema : DatabaseSchema) (world : FactSet) (users : List NamedUser) wh
       ∙ ap (λ ls. list_any is_broken_line (transcript schema world users events ++ ls)) (sym one)
       ∙ ap (λ ls. list_any is_broken_line ls) (sym (transcript-push events event))
 
-  module _ (header directory : List ℕ) {D : Type 0} {g h : _} (T : Type 0) (reads : D → List ℕ) (image : D → List ℕ → Type 0) (faults : D → ℕ) (t : T)
-      (read_is_image : (d : D) → T → image d (reads d))
+  module _ (header directory : List ℕ) {D : Type 0} {g h : _} (T : Type 0) (Disk : DiskGhosts D) (t : T)
+      (read_is_image : (d : D) → T → Disk.image d (Disk.reads d)) (clock : Clock Disk)
       (bytes : Text → List ℕ) (before : Text → ℕ) (images : Text → List ℕ → Type 0) (found opened : Text → Bool) where
     -- these items were answered with these lines, the users then sit at these desks, and it is known whether some line says that an append failed
     pub record SoFar (items : List BatchItem) (output : List ℕ) (seats : List (DeskSeat D g h)) (is_broken : Bool) : Type 0 where
       pub events : List ScriptEvent
       pub of_items : AreEventsOf items events
       pub lines : output ≡ line_bytes (transcript schema world users (with_opening found opened events))
-      pub seated : AreSeated schema world header directory T reads image faults t read_is_image bytes before images
+      pub seated : AreSeated schema world header directory T Disk t read_is_image clock bytes before images
           (with_opening found opened events) users seats
       pub broken : is_broken ≡ list_any is_broken_line (transcript schema world users (with_opening found opened events))
 
@@ -119,7 +121,7 @@ module _ (schema : DatabaseSchema) (world : FactSet) (users : List NamedUser) wh
         }
 
     pub so_far_first : (seats : List (DeskSeat D g h))
-        → AreSeated schema world header directory T reads image faults t read_is_image bytes before images (with_opening found opened []) users seats
+        → AreSeated schema world header directory T Disk t read_is_image clock bytes before images (with_opening found opened []) users seats
         → SoFar [] [] seats false
     unfolding transcript
     so_far_first seats seated = record { events = []; of_items = tt; lines = refl; seated = seated; broken = refl }
@@ -132,19 +134,21 @@ module _ (schema : DatabaseSchema) (world : FactSet) (users : List NamedUser) wh
       one : written_after schema world users (with_opening found opened earlier) event ≡ said ∷ []
       line_is : line ≡ line_text said ++ 10 ∷ []
       says_is : says_broken ≡ is_broken_line said
-      seated : AreSeated schema world header directory T reads image faults t read_is_image bytes before images
+      seated : AreSeated schema world header directory T Disk t read_is_image clock bytes before images
           (with_opening found opened (earlier ++ event ∷ [])) users seats
 
     module _ (exclusive : (user : UserProfile) → IsExclusive schema world user header) (distinct : has_duplicate (names users) ≡ false) where
       one_more : (events : List ScriptEvent) (old new : List (DeskSeat D g h)) (says_broken : Bool) (item : BatchItem) (line : List ℕ)
-          → AreSeated schema world header directory T reads image faults t read_is_image bytes before images (with_opening found opened events) users old
-          → Carries schema world header T reads image faults item old new line says_broken
+          → AreSeated schema world header directory T Disk t read_is_image clock bytes before images (with_opening found opened events) users old
+          → Carries schema world header T Disk item old new line says_broken
           → OneMore events item line new says_broken
       one_more events old new says_broken (asked ask) line seated (told, tells, is, says) =
           let script = with_opening found opened events in
-          let next : Next schema world header directory T reads image faults t read_is_image bytes before images script ask.name ask.session ask.text users new
+          let next : Next schema world header directory T Disk t read_is_image clock bytes before images script ask.name ask.session ask.text
+          users new
           told =
-          told_next schema world header directory T reads image faults t read_is_image bytes before images script ask.name ask.session ask.text users old new
+          told_next schema world header directory T Disk t read_is_image clock bytes before images script ask.name ask.session ask.text
+          users old new
           told distinct seated tells in
           record {
             event = script_ask ask.name ask.session ask.text next.ending;
@@ -157,11 +161,12 @@ module _ (schema : DatabaseSchema) (world : FactSet) (users : List NamedUser) wh
           }
       one_more events old new says_broken restarted line seated (again, is, says) =
           let script = with_opening found opened events in
-          let choices : Choices schema world header directory T reads image faults t read_is_image bytes before images script users new =
-          restart_all schema world header directory T reads image faults t read_is_image bytes before images exclusive script users old new seated again in
-          let chosen : Chosen schema world header directory T reads image faults t read_is_image bytes before images script_restart
+          let choices : Choices schema world header directory T Disk t read_is_image clock bytes before images script users new =
+          restart_all schema world header directory T Disk t read_is_image clock bytes before images exclusive script users old new seated
+          again in
+          let chosen : Chosen schema world header directory T Disk t read_is_image clock bytes before images script_restart
           (λ name f o. refl) script users new =
-          choose schema world header directory T reads image faults t read_is_image bytes before images script_restart
+          choose schema world header directory T Disk t read_is_image clock bytes before images script_restart
           (λ name f o. refl) script users new distinct choices in
           record {
             event = script_restart chosen.found chosen.opens;
@@ -174,7 +179,7 @@ module _ (schema : DatabaseSchema) (world : FactSet) (users : List NamedUser) wh
           }
 
       module _ (items : List BatchItem) (output : List ℕ) (old new : List (DeskSeat D g h)) (is_broken says_broken : Bool) (item : BatchItem) (line : List ℕ)
-          (so_far : SoFar items output old is_broken) (carried : Carries schema world header T reads image faults item old new line says_broken) where
+          (so_far : SoFar items output old is_broken) (carried : Carries schema world header T Disk item old new line says_broken) where
         step : OneMore so_far.events item line new says_broken
         step = one_more so_far.events old new says_broken item line so_far.seated carried
 

@@ -12,14 +12,21 @@ use Rattle.cqe_base.specs.Transcript.{script_opening, Line, reply_line, own_even
 use Rattle.cqe_base.specs.Transcript.{state_after, transcript, line_text}
 use Rattle.user_desk.specs.Causes.{Opens}
 use Rattle.user_desk.specs.Entries.{IsNoLonger}
-use Rattle.user_desk.specs.Lives.{Holds}
+use Rattle.user_desk.specs.Lives.{Holds, HoldsAmid}
 use Rattle.user_desk.specs.declared.standing.DeskError.{DeskError}
-use Rattle.desk_crew.specs.Shelved.{Journals, KeepsJournal, KeepsJournals}
+use Rattle.desk_crew.specs.Shelved.{Journals, KeepsJournal, KeepsJournals, StandsAllAlong}
 use Rattle.script_lines.specs.Read.{IsReadThrough}
 use Rattle.batch_engine.specs.BatchLines.{BatchItem, asked, restarted, batch_of}
-use Rattle.desk_crew.specs.Openings.{OpensNone, IsOpening}
-use Rattle.batch_engine.specs.Lives.{RoseBy, is_ask, is_opened, is_failed, failures, AreCaused}
-use Rattle.batch_engine.specs.Lives.{IsRefusal}
+use Rattle.desk_crew.specs.Openings.{OpensNone, OpensWith}
+use Rattle.batch_engine.specs.Lives.{
+  RoseBy,
+  is_ask,
+  is_opened,
+  is_failed_append,
+  failures,
+  AreCaused,
+}
+use Rattle.batch_engine.specs.Lives.{IsFirstRefusal}
 use Rattle.batch_engine.specs.declared.run.BatchEnd.{BatchEnd}
 use Rattle.batch_engine.specs.declared.run.BatchEnd.TheVariants.{Done, Script as Refused, ReadFault}
 use Rattle.batch_engine.specs.declared.run.BatchEnd.TheVariants.{WriteFault, ShelfFault, Memory}
@@ -60,7 +67,7 @@ module _ (schema : DatabaseSchema) (world : FactSet) (header : List ℕ) (journa
       Type 0 where
     -- his opening history is the legal one that his journal's bytes stand for, and the empty one
     -- where they open no desk
-    pub opening_is : IsOpening schema world user.profile header
+    pub opening_is : OpensWith schema world user.profile header
         (journals.bytes user.name) user.opened
     -- his replies are those of the run of his own events, whatever others are, ask or are told
     pub private : own_replies user.name (transcript schema world users events)
@@ -87,12 +94,19 @@ module _ (schema : DatabaseSchema) (world : FactSet) (header : List ℕ) (journa
         → journals.image user.name c
         → Holds schema world user.profile header (state_after schema world user events) c
     -- where no append failed, his journal has no more bytes than it had, or than his history needs
-    pub size : list_any is_failed (own_events user.name events) ≡ false
+    pub size : list_any is_failed_append (own_events user.name events) ≡ false
         → IsNoLonger (journals.bytes user.name) (state_after schema world user events).entries
         (journals.reads user.name)
     -- and unless one held and he asked, his journal is as it was
     pub kept : (list_any is_opened (own_events user.name events)
         && list_any is_ask (own_events user.name events)) ≡ false → KeepsJournal journals user.name
+    -- At each moment since his journal was first opened each crash leaves his history behind some
+    -- first of his events, or this and the entry in flight; before that, and where no opening held,
+    -- nothing new.
+    pub moments : StandsAllAlong journals user.name
+        (list_any is_opened (own_events user.name events))
+        (HoldsAmid schema world user.profile header
+        (opening schema world user.profile user.opened) (own_events user.name events))
 
   -- what was written answers these items: it is the lines of the transcript of a script in which
   -- all journals are opened, each ask has some ending, and each restart finds and opens what it may
@@ -112,7 +126,7 @@ module _ (schema : DatabaseSchema) (world : FactSet) (header : List ℕ) (journa
   abbrev pub AreRefusals : List ScriptEvent → List NamedUser → List (Option DeskError) → Type 0
   AreRefusals events [] [] = Unit {0}
   AreRefusals events (user ∷ users) (refusal ∷ refusals) =
-      IsRefusal schema world user.profile header (journals.bytes user.name)
+      IsFirstRefusal schema world user.profile header (journals.bytes user.name)
       (journals.before user.name) (journals.now user.name) (own_events user.name events) refusal
       × AreRefusals events users refusals
   AreRefusals events users refusals = ⊥
@@ -179,9 +193,10 @@ module _ (schema : DatabaseSchema) (world : FactSet) (header : List ℕ) (journa
     EndsBatch (Refused refusal) before after old new =
         (batch_of before ≡ Err refusal) × LeavesAll old new × IsReadThrough 1 before after
     EndsBatch ReadFault before after old new = LeavesAll old new
-    EndsBatch WriteFault before after old new = BreaksBatch before old new
-    EndsBatch ShelfFault before after old new = LeavesAll old new
-    EndsBatch Memory before after old new = LeavesAll old new ⊎ Stops before old new
+    EndsBatch WriteFault before after old new = (after ≡ []) × BreaksBatch before old new
+    EndsBatch ShelfFault before after old new = (after ≡ []) × LeavesAll old new
+    EndsBatch Memory before after old new =
+        LeavesAll old new ⊎ ((after ≡ []) × Stops before old new)
 
     -- what each end says of the journals alone, where neither the script nor the output is told:
     -- they are as they were, or as the answers to some items leave them

@@ -7,3 +7,4 @@ pub mod Batch
 pub mod DeskAnswers
 pub mod Steps
 pub mod AnswerTexts
+pub mod Joining

@@ -35,12 +35,12 @@ is_refused (ask text ending) = false
 is_refused (stop text) = false
 
 -- whether it is an append that failed, or that a crash cut
-abbrev pub is_failed : Event → Bool
-is_failed (ask text failed) = true
-is_failed (ask text kept) = false
-is_failed (ask text want) = false
-is_failed (stop text) = true
-is_failed (restart found opened) = false
+abbrev pub is_failed_append : Event → Bool
+is_failed_append (ask text failed) = true
+is_failed_append (ask text kept) = false
+is_failed_append (ask text want) = false
+is_failed_append (stop text) = true
+is_failed_append (restart found opened) = false
 
 -- an append that failed and an opening that was refused count one each
 abbrev pub failures_in : Event → ℕ
@@ -75,7 +75,7 @@ module _ (schema : DatabaseSchema) (world : FactSet) (user : UserProfile) where
   module _ (header : List ℕ) where
     -- the first refusal among a user's openings, by the bytes that his journal had and by the count
     -- of its disk's faults before and now
-    abbrev pub IsRefusal : List ℕ → ℕ → ℕ → List Event → Option DeskError → Type 0
-    IsRefusal bytes before now events None = list_any is_refused events ≡ false
-    IsRefusal bytes before now events (Some why) = (list_any is_refused events ≡ true)
+    abbrev pub IsFirstRefusal : List ℕ → ℕ → ℕ → List Event → Option DeskError → Type 0
+    IsFirstRefusal bytes before now events None = list_any is_refused events ≡ false
+    IsFirstRefusal bytes before now events (Some why) = (list_any is_refused events ≡ true)
         × IsSealedBy schema world user (Unit {0}) header bytes before now why

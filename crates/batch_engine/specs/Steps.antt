@@ -1,6 +1,7 @@
 -- What an item does to the seats, and its line.
 use Rattle.std.specs.Prelude.{◌≡◌, ◌⊎◌, ℕ, Bool, true, false, ◌||◌, List, [], ◌∷◌, ◌++◌, take}
 use Rattle.std.specs.Prelude.{Option, Some}
+use Rattle.outside.specs.declared.disk.Disk.{Ghosts as DiskGhosts}
 use Rattle.cqe_base.specs.Schema.{DatabaseSchema}
 use Rattle.cqe_base.specs.Facts.{FactSet}
 use Rattle.cqe_base.specs.Run.{Reply, desk_broken}
@@ -17,7 +18,7 @@ is_broken_reply (Some desk_broken) = true
 is_broken_reply reply = false
 
 module _ (schema : DatabaseSchema) (world : FactSet) (header : List ℕ) {D : Type 0} (told : Type 0)
-    (reads : D → List ℕ) (image : D → List ℕ → Type 0) (faults : D → ℕ) where
+    (Disk : DiskGhosts D) where
   -- what an item does: an ask is replied to by the user of its name, and a restart closes and opens
   -- every desk; its line, and whether that says that an append failed
   abbrev pub Carries : {g h : _} → BatchItem → List (DeskSeat D g h) → List (DeskSeat D g h)
@@ -27,7 +28,7 @@ module _ (schema : DatabaseSchema) (world : FactSet) (header : List ℕ) {D : Ty
       × (line ≡ line_text (reply_line ask.name ask.session reply) ++ 10 ∷ [])
       × (is_broken ≡ is_broken_reply reply)
   Carries restarted old new line is_broken =
-      AreReopened schema world header told reads image faults old new
+      AreReopened schema world header told Disk old new
       × (line ≡ line_text restart_line ++ 10 ∷ []) × (is_broken ≡ false)
 
   -- these items were carried out with these lines, one after the other
@@ -97,7 +98,7 @@ HasSeats (Cut seats) = Unit {0}
 HasSeats Memory = ⊥
 
 -- a write failed
-abbrev pub IsCut : {D : Type 0} {g h : _} → DeskAnswered D g h → Type 0
-IsCut (All seats is_broken) = ⊥
-IsCut (Cut seats) = Unit {0}
-IsCut Memory = ⊥
+abbrev pub FailsToWrite : {D : Type 0} {g h : _} → DeskAnswered D g h → Type 0
+FailsToWrite (All seats is_broken) = ⊥
+FailsToWrite (Cut seats) = Unit {0}
+FailsToWrite Memory = ⊥

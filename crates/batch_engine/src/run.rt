@@ -6,22 +6,22 @@ ghost use Rattle.std.specs.List.{AllByRecursion};
 ghost use Rattle.outside.specs.Faults.{Rose};
 ghost use Rattle.outside.specs.Shelf.{SameNames};
 ghost use Rattle.cqe_base.specs.Schema.{has_duplicate};
-ghost use Rattle.cqe_base.specs.History.{profile_of};
-ghost use Rattle.cqe_base.specs.Limits.{KeepsLimits};
 ghost use Rattle.cqe_base.specs.Transcript.{reply_line, line_text};
 ghost use Rattle.log_journal.specs.Opening.{header_bytes};
-ghost use Rattle.log_journal.specs.Names.{journal_name};
 ghost use Rattle.user_log.specs.Replies.{reply_of};
 ghost use Rattle.batch_engine.specs.Said.{is_short_ask, is_short_item};
 ghost use Rattle.batch_engine.specs.Batches.{ask_in, item_in};
 ghost use Rattle.batch_engine.specs.BatchLines.{restarted};
-ghost use Rattle.desk_crew.specs.Crew.{named_user, seat_user, IsSeatServed};
+ghost use Rattle.desk_crew.specs.Crew.{named_user, IsSeatServed};
 ghost use Rattle.outside.specs.Shelf.{AllOut, AllIn, NoneOut, NoneFell, SomeRose, SameBeside};
 ghost use Rattle.desk_crew.specs.Shelved.{journals, journals_on};
 ghost use Rattle.desk_crew.specs.Shelved.{AreLater, AreBack};
+ghost use Rattle.desk_crew.specs.Registered.{AllKeepLimits, SeatsKeepLimits};
+ghost use Rattle.desk_crew.specs.Registered.{registered_journals, HaveOwnNames};
 ghost use Rattle.batch_engine.specs.BatchOf.{items_of};
 ghost use Rattle.batch_engine.specs.AnswerTexts.{answer_text};
-ghost use Rattle.batch_engine.specs.Steps.{Carries, is_broken_reply, IsAnswered, HasSeats, IsCut};
+ghost use Rattle.batch_engine.specs.Steps.{Carries, is_broken_reply, IsAnswered, HasSeats};
+ghost use Rattle.batch_engine.specs.Steps.{FailsToWrite};
 ghost use Rattle.batch_engine.specs.Batch.{EndsBatch, LeavesJournals, IsUnopened, IsBroken};
 ghost use Rattle.batch_engine.specs.declared.run.BatchEnd.{BatchEnd};
 
@@ -118,8 +118,7 @@ fn carry_out<'w, R: Wait, G: Gate, F: Shelf>(
     item: &BatchItem,
     gate: &G,
 ) -> Option<(Vec<DeskSeat<'w, F::D>>, LineText, bool)>
-    requires limits { AllByRecursion (λ seat. KeepsLimits registry.now.schema.now
-        (profile_of (seat_user seat))) seats.items }
+    requires limits { SeatsKeepLimits registry.now.schema.now seats.items }
     requires served { AllByRecursion (IsSeatServed registry.now.schema.now registry.now.world.now
         (header_bytes registry.now.header.now)) seats.items }
     requires distinct { has_duplicate (journals seats.items) ≡ false }
@@ -127,10 +126,10 @@ fn carry_out<'w, R: Wait, G: Gate, F: Shelf>(
     requires later { AreLater F.D.faults (F.disk_faults shelf.old) seats.items }
     requires short { is_short_item (item_in item.now) ≡ true }
     ensures carried { IfSome result (λ r. Carries registry.now.schema.now registry.now.world.now
-        (header_bytes registry.now.header.now) F.D.tells F.D.reads F.D.image F.D.faults
+        (header_bytes registry.now.header.now) F.D.tells F.D.Disk
         (item_in item.now) seats.entry.items r.0.items r.1 r.2) }
     ensures untouched { OnSome result (shelf.new ≡ shelf.old) }
-    ensures back { IfNone result (AreBack F.tells F.D.reads F.D.image F.D.faults (F.disk shelf.new)
+    ensures back { IfNone result (AreBack F.tells F.D.Disk (F.disk shelf.new)
         (F.disk_faults shelf.new) seats.entry.items) }
     ensures inside { IfNone result (AllIn (journals seats.entry.items) (F.is_out shelf.new)) }
     ensures restart { IfNone result (item_in item.now ≡ restarted) }
@@ -168,16 +167,15 @@ fn answer_all<'w, R: Wait, G: Gate, F: Shelf, K: Sink>(
     sink: &mut K,
     gate: &G,
 ) -> Answered<'w, TicketedDesk<'w, F::D>>
-    requires limits { AllByRecursion (λ seat. KeepsLimits registry.now.schema.now
-        (profile_of (seat_user seat))) seats.items }
+    requires limits { SeatsKeepLimits registry.now.schema.now seats.items }
     requires served { AllByRecursion (IsSeatServed registry.now.schema.now registry.now.world.now
         (header_bytes registry.now.header.now)) seats.items }
     requires distinct { has_duplicate (journals seats.items) ≡ false }
     requires out { AllOut (journals seats.items) (F.is_out shelf.old) }
     requires later { AreLater F.D.faults (F.disk_faults shelf.old) seats.items }
     ensures answered { IsAnswered registry.now.schema.now registry.now.world.now
-        (header_bytes registry.now.header.now) F.D.tells F.D.reads F.D.image F.D.faults K.tells
-        (λ left. AreBack F.tells F.D.reads F.D.image F.D.faults (F.disk shelf.new)
+        (header_bytes registry.now.header.now) F.D.tells F.D.Disk K.tells
+        (λ left. AreBack F.tells F.D.Disk (F.disk shelf.new)
         (F.disk_faults shelf.new) left)
         (items_of batch.now) seats.entry.items (K.written sink.old) (K.written sink.new) result }
     ensures untouched { HasSeats result → shelf.new ≡ shelf.old }
@@ -192,7 +190,7 @@ fn answer_all<'w, R: Wait, G: Gate, F: Shelf, K: Sink>(
     ensures files { SameNames (F.file shelf.old) (F.file shelf.new) }
     ensures looked { F.looked shelf.new ≡ F.looked shelf.old }
     ensures sink_later { K.faults sink.old ≤ K.faults sink.new }
-    ensures cause { IsCut result → Rose (K.faults sink.old) (K.faults sink.new) }
+    ensures cause { FailsToWrite result → Rose (K.faults sink.old) (K.faults sink.new) }
 {
     let mut seats = seats;
     let mut is_broken = false;
@@ -226,17 +224,13 @@ pub fn run_batch<R: Wait, F: Shelf, S: Source, K: Sink, G: Gate>(
     sink: &mut K,
     gate: &G,
 ) -> BatchEnd
-    requires limits { All
-        (λ user. KeepsLimits registry.now.schema.now (profile_of user)) registry.now.users.now }
-    requires names { has_duplicate (map (λ user. user.name) (map named_user registry.now.users.now))
-        ≡ false }
+    requires limits { AllKeepLimits registry.now.schema.now registry.now.users.now }
+    requires names { HaveOwnNames registry.now.users.now }
     requires inside { NoneOut (F.is_out shelf.old) }
     ensures ends { F.tells → S.tells → K.tells
         → EndsBatch registry.now.schema.now registry.now.world.now
         (header_bytes registry.now.header.now)
-        (journals_on F.D.reads F.D.image registry.now.directory.now (F.disk shelf.old)
-        (F.disk shelf.new)
-        (F.disk_faults shelf.old) (F.disk_faults shelf.new))
+        (journals_on F.Shelf F.D.Disk registry.now.directory.now shelf.old shelf.new)
         (map named_user registry.now.users.now) result (S.left source.old) (S.left source.new)
         (K.written sink.old)
         (K.written sink.new) }
@@ -244,13 +238,12 @@ pub fn run_batch<R: Wait, F: Shelf, S: Source, K: Sink, G: Gate>(
     // The same of the journals alone, where neither the script nor the output is told.
     ensures journals { F.tells → LeavesJournals registry.now.schema.now registry.now.world.now
         (header_bytes registry.now.header.now)
-        (journals_on F.D.reads F.D.image registry.now.directory.now
-        (F.disk shelf.old) (F.disk shelf.new) (F.disk_faults shelf.old) (F.disk_faults shelf.new))
+        (journals_on F.Shelf F.D.Disk registry.now.directory.now shelf.old shelf.new)
         (map named_user registry.now.users.now) result }
 
     // No disk but the users' journals is touched, and all are back.
-    ensures disks { SameBeside (map (journal_name registry.now.directory.now)
-        (map (λ user. user.name) (map named_user registry.now.users.now))) (F.disk shelf.old)
+    ensures disks { SameBeside
+        (registered_journals registry.now.directory.now registry.now.users.now) (F.disk shelf.old)
         (F.disk shelf.new) }
     ensures inside { NoneOut (F.is_out shelf.new) }
     ensures files { SameNames (F.file shelf.old) (F.file shelf.new) }

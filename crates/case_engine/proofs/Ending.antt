@@ -55,7 +55,7 @@ module _ (script : Script) (parts : Parts) (are : ArePartsOf script parts) (byte
   pub case_ends : (after : List ℕ) → after ≡ [] → (old new : List ℕ) (end : CaseEnd)
       → IsAnswered parts.schema parts.facts (profile_of parts.user) (map string_bytes parts.asks.items) old new end → EndsCase end bytes after old new
   case_ends after over old new Done all = (over, completes old new all)
-  case_ends after over old new WriteFault some = breaks old new some
+  case_ends after over old new WriteFault some = (over, breaks old new some)
   case_ends after over old new Memory same = same
   case_ends after over old new (Refused refusal) never = absurd never
   case_ends after over old new ReadFault never = absurd never

@@ -88,5 +88,5 @@ EndsCase Done before after old new = (after ≡ []) × Completes before old new
 EndsCase (Refused refusal) before after old new =
     (script_of before ≡ Err refusal) × (new ≡ old) × IsReadThrough 1 before after
 EndsCase ReadFault before after old new = new ≡ old
-EndsCase WriteFault before after old new = BreaksCase before old new
+EndsCase WriteFault before after old new = (after ≡ []) × BreaksCase before old new
 EndsCase Memory before after old new = new ≡ old

@@ -11,11 +11,11 @@ use Rattle.command_words.specs.declared.command.Files.{Files}
 
 -- ---- what words say
 
--- the names of the files that a command stands on
+-- the names of the files that a command stands on, and of the directory of the journals
 pub record FileNames : Type 0 where
   pub policy : List ℕ
   pub facts : List ℕ
-  pub journals : List ℕ
+  pub directory : List ℕ
 
 -- what words say: a command, and the values that it runs with
 pub data Reading : Type 0 where
@@ -58,7 +58,7 @@ value_of uses name = option_map (λ u. u.value) (find (λ u. bytes_eq u.name nam
 -- the names of the files, where all are there
 abbrev pub files_said : Option (List ℕ) → Option (List ℕ) → Option (List ℕ) → Option FileNames
 files_said (Some policy) (Some facts) (Some journals) =
-    Some (record { policy = policy; facts = facts; journals = journals })
+    Some (record { policy = policy; facts = facts; directory = journals })
 files_said _ _ _ = None
 
 -- an audit over these files, of this user
@@ -209,7 +209,7 @@ reading_of (command ∷ words) = reading_with (command_of command) words
 -- the names that files in memory stand for
 abbrev pub names_of_files : Files → FileNames
 names_of_files files =
-    record { policy = files.policy.now; facts = files.facts.now; journals = files.journals.now }
+    record { policy = files.policy.now; facts = files.facts.now; directory = files.journals.now }
 
 -- the reading that a command in memory stands for
 abbrev pub reading_in : Command → Reading

@@ -26,9 +26,9 @@ use Rattle.cqe_top.specs.declared.end.FilesEnd.{FilesEnd}
 use Rattle.cqe_top.specs.declared.end.FilesEnd.TheVariants as files_end
 use Rattle.cqe_top.specs.declared.report.Report.{Report}
 use Rattle.cqe_top.specs.declared.report.Report.TheVariants as report
-use Rattle.cqe_top.specs.Files.{IsShelfFault}
-use Rattle.cqe_top.specs.Reports.{report_of, answers_report, has_refusal, HasCause}
+use Rattle.cqe_top.specs.Reports.{report_of, answers_report, has_refusal, FaultsHaveCauses}
 use Rattle.cqe_top.specs.Scene.{Scene, HasRisen}
+use Rattle.cqe_top.specs.Steps.{IsShelfFault}
 
 module _ (s : Scene) where
   -- the fault of which a report tells rose
@@ -40,7 +40,7 @@ module _ (s : Scene) where
   CauseOf report.LinksFault = HasRisen s.links.faults
   CauseOf report = Unit {0}
 
-  pub has_cause : (end : CommandEnd) → CauseOf (report_of end) → HasCause s end
+  pub has_cause : (end : CommandEnd) → CauseOf (report_of end) → FaultsHaveCauses s end
   has_cause end cause = record {
     read = λ is. subst CauseOf is cause;
     write = λ is. subst CauseOf is cause;
@@ -49,7 +49,7 @@ module _ (s : Scene) where
     links = λ is. subst CauseOf is cause;
   }
 
-  pub files_cause : (end : FilesEnd) → (IsShelfFault end → HasRisen s.shelf.faults) → HasCause s (ends.Files end)
+  pub files_cause : (end : FilesEnd) → (IsShelfFault end → HasRisen s.shelf.faults) → FaultsHaveCauses s (ends.Files end)
   files_cause (files_end.Missing name) shelf = has_cause _ tt
   files_cause (files_end.ShelfFault kind) shelf = has_cause _ (shelf tt)
   files_cause (files_end.Policy why) shelf = has_cause _ tt
@@ -57,7 +57,7 @@ module _ (s : Scene) where
   files_cause files_end.Memory shelf = has_cause _ tt
 
   pub case_cause : (end : CaseEnd) → (end ≡ case_end.ReadFault → HasRisen s.input.faults)
-      → (end ≡ case_end.WriteFault → HasRisen s.output.faults) → HasCause s (ends.Case end)
+      → (end ≡ case_end.WriteFault → HasRisen s.output.faults) → FaultsHaveCauses s (ends.Case end)
   case_cause case_end.Done read write = has_cause _ tt
   case_cause (case_end.Script refusal) read write = has_cause _ tt
   case_cause case_end.ReadFault read write = has_cause _ (read refl)
@@ -65,7 +65,7 @@ module _ (s : Scene) where
   case_cause case_end.Memory read write = has_cause _ tt
 
   pub init_cause : (users : Vec User Global) (end : InitEnd) → (end ≡ init_end.ShelfFault → HasRisen s.shelf.faults)
-      → (end ≡ init_end.DiskFault → SomeRose s.shelf.disk_faults s.shelf.disk_faults') → HasCause s (ends.Init users end)
+      → (end ≡ init_end.DiskFault → SomeRose s.shelf.disk_faults s.shelf.disk_faults') → FaultsHaveCauses s (ends.Init users end)
   init_cause users init_end.Done shelf disk = has_cause _ tt
   init_cause users (init_end.Refused user why) shelf disk = has_cause _ tt
   init_cause users init_end.DiskFault shelf disk = has_cause _ (disk refl)
@@ -83,7 +83,7 @@ module _ (s : Scene) where
   pub batch_cause : (users : Vec User Global) (end : BatchEnd) → (end ≡ batch_end.ReadFault → HasRisen s.input.faults)
       → (end ≡ batch_end.WriteFault → HasRisen s.output.faults)
       → (end ≡ batch_end.ShelfFault → HasRisen s.shelf.faults) → (batch.IsBroken end → SomeRose s.shelf.disk_faults s.shelf.disk_faults')
-      → HasCause s (ends.Batch users end)
+      → FaultsHaveCauses s (ends.Batch users end)
   batch_cause users (batch_end.Done refusals is_broken) read write shelf disk =
       has_cause _ (answers_cause users refusals (has_refusal refusals.items) is_broken refl disk)
   batch_cause users (batch_end.Script refusal) read write shelf disk = has_cause _ tt
@@ -94,21 +94,21 @@ module _ (s : Scene) where
 
   pub audit_cause : (name : Bor (List ℕ)) (end : AuditEnd) → (end ≡ audit_end.WriteFault → HasRisen s.output.faults)
       → (end ≡ audit_end.ShelfFault → HasRisen s.shelf.faults)
-      → HasCause s (ends.Audit name end)
+      → FaultsHaveCauses s (ends.Audit name end)
   audit_cause name audit_end.Done write shelf = has_cause _ tt
   audit_cause name (audit_end.Refused why) write shelf = has_cause _ tt
   audit_cause name audit_end.WriteFault write shelf = has_cause _ (write refl)
   audit_cause name audit_end.ShelfFault write shelf = has_cause _ (shelf refl)
   audit_cause name audit_end.Memory write shelf = has_cause _ tt
 
-  pub selfrun_cause : (end : SelfrunEnd) → (end ≡ selfrun_end.WriteFault → HasRisen s.output.faults) → HasCause s (ends.Selfrun end)
+  pub selfrun_cause : (end : SelfrunEnd) → (end ≡ selfrun_end.WriteFault → HasRisen s.output.faults) → FaultsHaveCauses s (ends.Selfrun end)
   selfrun_cause selfrun_end.Done write = has_cause _ tt
   selfrun_cause selfrun_end.WriteFault write = has_cause _ (write refl)
   selfrun_cause selfrun_end.Memory write = has_cause _ tt
 
   pub serve_cause : (users : Vec User Global) (end : ServeEnd) → (end ≡ serve_end.LinksFault → HasRisen s.links.faults)
       → (end ≡ serve_end.ShelfFault → HasRisen s.shelf.faults)
-      → (serving.IsBroken end → SomeRose s.shelf.disk_faults s.shelf.disk_faults') → HasCause s (ends.Serve users end)
+      → (serving.IsBroken end → SomeRose s.shelf.disk_faults s.shelf.disk_faults') → FaultsHaveCauses s (ends.Serve users end)
   serve_cause users (serve_end.Done refusals is_broken) links shelf disk =
       has_cause _ (answers_cause users refusals (has_refusal refusals.items) is_broken refl disk)
   serve_cause users serve_end.LinksFault links shelf disk = has_cause _ (links refl)

@@ -21,7 +21,7 @@ use Rattle.cqe_base.specs.Transcript.{own_events, own_reply, own_replies, told_a
 use Rattle.cqe_base.proofs.Lists.{one_found}
 use Rattle.user_desk.specs.Causes.{Opens}
 use Rattle.user_desk.specs.declared.standing.DeskError.{DeskError}
-use Rattle.desk_crew.specs.Openings.{IsOpening}
+use Rattle.desk_crew.specs.Openings.{OpensWith}
 use Rattle.batch_engine.specs.Lives.{RoseBy, is_refused, failures, failures_in, AreCaused}
 use Rattle.desk_crew.specs.Shelved.{Journals}
 use Rattle.batch_engine.specs.Batch.{ServesUser, AreRefusals, is_broken_line}
@@ -171,7 +171,7 @@ module _ (schema : DatabaseSchema) (world : FactSet) (header : List ℕ) (journa
         rose (inl risen) = inl (omega (arith, risen, some))
         rose (inr full) = inr full
 
-        by : IsOpening schema world user.profile header (journals.bytes user.name) user.opened → ⊥
+        by : OpensWith schema world user.profile header (journals.bytes user.name) user.opened → ⊥
         by (inl opens) = can.1 (rose (serves.counted opens))
         by (inr none) = none.0 can.0.0 can.0.1
 

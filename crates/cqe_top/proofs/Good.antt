@@ -39,36 +39,36 @@ use Rattle.cqe_top.specs.declared.report.Report.TheVariants as report
 use Rattle.cqe_top.specs.Audit.{NamesNobody, CanBeAudited, AuditsOverFiles, RunsAudit, FindsNobody, AuditSucceeds}
 use Rattle.cqe_top.specs.Batch.{AnswersOverFiles, RunsBatch, BatchSucceeds}
 use Rattle.cqe_top.specs.Case.{RunsCase}
-use Rattle.cqe_top.specs.Files.{FilesSay, both, Say, SayOn, said_on, IsUnread, Refuses as RefusesBoth, journals_of, new_user}
+use Rattle.cqe_top.specs.Files.{Said, both, SayOn, IsUnread, IsWhyUnread, journals_of, new_user}
 use Rattle.cqe_top.specs.Init.{Makes, RunsInit, InitSucceeds}
 use Rattle.cqe_top.specs.Promise.{OfReading}
 use Rattle.cqe_top.specs.Ready.{CanBeMade, CanBeOpened}
-use Rattle.cqe_top.specs.Reports.{answers_report, has_refusal, IsDoneUnlessMemory, HasCause}
-use Rattle.cqe_top.specs.Scene.{Scene, IsUntouched, HasRisen, SameInput, SameOutput, SameLinks}
-use Rattle.cqe_top.specs.Tasks.{reading_over}
+use Rattle.cqe_top.specs.Reports.{answers_report, has_refusal, IsDoneUnlessMemory, FaultsHaveCauses}
+use Rattle.cqe_top.specs.Scene.{Scene, ShelfScene, IsUntouched, HasRisen, SameInput, SameOutput, SameLinks}
+use Rattle.cqe_top.specs.Steps.{reading_over}
 use Rattle.cqe_top.specs.declared.over_files.Task.{Task}
 use Rattle.cqe_top.specs.declared.over_files.Task.TheVariants as task
 use Rattle.cqe_top.proofs.Failing.{CanOpen, none_refused, none_broken}
 
 -- ---- what the files say
 
-abbrev pub when_both : (PolicyValue → FactSet → List ℕ → Type 0) → FilesSay → Type 0
+abbrev pub when_both : (PolicyValue → FactSet → List ℕ → Type 0) → Said → Type 0
 when_both P (both policy world header) = P policy world header
 when_both P said = Unit {0}
 
 -- files that say two things say one
-pub agree : (P Q : PolicyValue → FactSet → List ℕ → Type 0) (said : FilesSay) → Say said P → Say said Q
-    → Say said (λ policy world header. P policy world header × Q policy world header)
-agree P Q said (policy, world, header, says, p) (policy', world', header', says', q) =
+pub agree : (P Q : PolicyValue → FactSet → List ℕ → Type 0) (shelf : ShelfScene) (files : FileNames) → SayOn shelf files P → SayOn shelf files Q
+    → SayOn shelf files (λ policy world header. P policy world header × Q policy world header)
+agree P Q shelf files (policy, world, header, says, p) (policy', world', header', says', q) =
     (policy, world, header, says, (p, subst (when_both Q) (sym says' ∙ says) q))
 
-abbrev pub IsBoth : FilesSay → Type 0
+abbrev pub IsBoth : Said → Type 0
 IsBoth (both policy world header) = Unit {0}
 IsBoth said = ⊥
 
 -- files that say both were read, or the shelf failed or memory was wanting
 module _ (s : Scene) (files : FileNames) where
-  pub read_succeeds : (P : PolicyValue → FactSet → List ℕ → Type 0) (end : FilesEnd) → RefusesBoth s.shelf files end → HasCause s (ends.Files end)
+  pub read_succeeds : (P : PolicyValue → FactSet → List ℕ → Type 0) (end : FilesEnd) → IsWhyUnread s.shelf files end → FaultsHaveCauses s (ends.Files end)
       → SayOn s.shelf files P → (HasRisen s.shelf.faults → ⊥) → IsDoneUnlessMemory (ends.Files end)
   read_succeeds P (files_end.Missing name) (inl (none, same)) cause (policy, world, header, says, can) shelf = absurd (subst IsBoth (sym says ∙ none) tt)
   read_succeeds P (files_end.Missing name) (inr (none, same)) cause (policy, world, header, says, can) shelf = absurd (subst IsBoth (sym says ∙ none) tt)
@@ -93,7 +93,8 @@ answers_done users refusals is_broken unrefused unbroken = by (has_refusal refus
 
 -- ---- a case and a run
 
-pub case_succeeds : (s : Scene) (end : CaseEnd) → RunsCase s end → HasCause s (ends.Case end) → s.input.tells → s.output.tells → IsOk (script_of s.input.left)
+pub case_succeeds : (s : Scene) (end : CaseEnd) → RunsCase s end → FaultsHaveCauses s (ends.Case end) → s.input.tells → s.output.tells
+    → IsOk (script_of s.input.left)
     → (HasRisen s.input.faults → ⊥) → (HasRisen s.output.faults → ⊥) → IsDoneUnlessMemory (ends.Case end)
 case_succeeds s case_end.Done ran cause told out_told script read write = inl refl
 case_succeeds s (case_end.Script refusal) ran cause told out_told script read write =
@@ -102,7 +103,8 @@ case_succeeds s case_end.ReadFault ran cause told out_told script read write = a
 case_succeeds s case_end.WriteFault ran cause told out_told script read write = absurd (write (cause.write refl))
 case_succeeds s case_end.Memory ran cause told out_told script read write = inr refl
 
-pub selfrun_succeeds : (s : Scene) (end : SelfrunEnd) → HasCause s (ends.Selfrun end) → (HasRisen s.output.faults → ⊥) → IsDoneUnlessMemory (ends.Selfrun end)
+pub selfrun_succeeds : (s : Scene) (end : SelfrunEnd) → FaultsHaveCauses s (ends.Selfrun end) → (HasRisen s.output.faults → ⊥)
+    → IsDoneUnlessMemory (ends.Selfrun end)
 selfrun_succeeds s selfrun_end.Done cause write = inl refl
 selfrun_succeeds s selfrun_end.WriteFault cause write = absurd (write (cause.write refl))
 selfrun_succeeds s selfrun_end.Memory cause write = inr refl
@@ -121,11 +123,12 @@ all_open policy world header journals (user ∷ users) (one ∷ known) are can =
     (subst (λ u. CanOpen policy.schema world header journals u) (sym same) can.0, all_open policy world header journals users known rest can.1)
 
 module _ (s : Scene) (files : FileNames) where
-  pub batch_succeeds : (users : Vec User Global) (end : BatchEnd) → RunsBatch s.shelf s.input s.output files users end → HasCause s (ends.Batch users end)
+  pub batch_succeeds : (users : Vec User Global) (end : BatchEnd) → RunsBatch s.shelf s.input s.output files users end
+      → FaultsHaveCauses s (ends.Batch users end)
       → BatchSucceeds s.shelf s.input s.output files (ends.Batch users end)
   batch_succeeds users (batch_end.Done refusals is_broken) ran cause told in_told out_told script says shelf read write =
       by (agree (AnswersOverFiles s.shelf s.input s.output files users (batch_end.Done refusals is_broken))
-      (CanBeOpened (journals_of s.shelf files)) (said_on s.shelf files) (ran.over_files told) says)
+      (CanBeOpened (journals_of s.shelf files)) s.shelf files (ran.over_files told) says)
     where
       by : SayOn s.shelf files (λ policy world header.
           AnswersOverFiles s.shelf s.input s.output files users (batch_end.Done refusals is_broken) policy world header
@@ -171,15 +174,15 @@ module _ (s : Scene) (files : FileNames) where
   -- the disk of this name is as the making of journals needs it
   abbrev IsReady : List ℕ → Text → Type 0
   IsReady header name =
-      ((bytes_on s.shelf.Disk.reads (s.shelf.disk (journal_name files.journals name)) ≡ [])
-      ⊎ ((why : OpenError) → Refuses header (bytes_on s.shelf.Disk.reads (s.shelf.disk (journal_name files.journals name))) why → ⊥))
-      × (Rose (s.shelf.disk_faults (journal_name files.journals name)) (s.shelf.disk_faults' (journal_name files.journals name)) → ⊥)
+      ((bytes_on s.shelf.Disk.reads (s.shelf.disk (journal_name files.directory name)) ≡ [])
+      ⊎ ((why : OpenError) → Refuses header (bytes_on s.shelf.Disk.reads (s.shelf.disk (journal_name files.directory name))) why → ⊥))
+      × (Rose (s.shelf.disk_faults (journal_name files.directory name)) (s.shelf.disk_faults' (journal_name files.directory name)) → ⊥)
 
-  pub init_succeeds : (users : Vec User Global) (end : InitEnd) → RunsInit s.shelf files users end → HasCause s (ends.Init users end)
+  pub init_succeeds : (users : Vec User Global) (end : InitEnd) → RunsInit s.shelf files users end → FaultsHaveCauses s (ends.Init users end)
       → InitSucceeds s.shelf files (ends.Init users end)
   init_succeeds users init_end.Done ran cause told says shelf = inl refl
   init_succeeds users (init_end.Refused user why) ran cause told says shelf =
-      by (agree (Makes s.shelf files users (init_end.Refused user why)) (CanBeMade (journals_of s.shelf files)) (said_on s.shelf files)
+      by (agree (Makes s.shelf files users (init_end.Refused user why)) (CanBeMade (journals_of s.shelf files)) s.shelf files
       (ran.over_files told) says)
     where
       by : SayOn s.shelf files (λ policy world header. Makes s.shelf files users (init_end.Refused user why) policy world header
@@ -191,7 +194,7 @@ module _ (s : Scene) (files : FileNames) where
           let ready = subst (IsReady header) one.2 one.1 in
           absurd (not_stopped s.shelf.tells header _ _ _ why told ready.0 ready.1 stops.reason)
   init_succeeds users init_end.DiskFault ran cause told says shelf =
-      by (agree (Makes s.shelf files users init_end.DiskFault) (CanBeMade (journals_of s.shelf files)) (said_on s.shelf files) (ran.over_files told) says)
+      by (agree (Makes s.shelf files users init_end.DiskFault) (CanBeMade (journals_of s.shelf files)) s.shelf files (ran.over_files told) says)
     where
       by : SayOn s.shelf files (λ policy world header. Makes s.shelf files users init_end.DiskFault policy world header
           × CanBeMade (journals_of s.shelf files) policy world header)
@@ -213,21 +216,22 @@ neither (inl one) some none = some one
 neither (inr two) some none = none two.0
 
 module _ (s : Scene) (files : FileNames) (user : Text) (json : Bool) where
-  pub audit_succeeds : (name : Bor (List ℕ)) (end : AuditEnd) → RunsAudit s.shelf s.output files user json name.now end → HasCause s (ends.Audit name end)
+  pub audit_succeeds : (name : Bor (List ℕ)) (end : AuditEnd) → RunsAudit s.shelf s.output files user json name.now end
+      → FaultsHaveCauses s (ends.Audit name end)
       → AuditSucceeds s.shelf s.output files user json (ends.Audit name end)
   audit_succeeds name audit_end.Done ran cause told out_told says shelf write = inl refl
   audit_succeeds name (audit_end.Refused why) ran cause told out_told says shelf write =
       by (agree (AuditsOverFiles s.shelf s.output files user json (audit_end.Refused why)) (CanBeAudited (journals_of s.shelf files) user)
-      (said_on s.shelf files) (ran.over_files told) says)
+      s.shelf files (ran.over_files told) says)
     where
       by : SayOn s.shelf files (λ policy world header. AuditsOverFiles s.shelf s.output files user json (audit_end.Refused why) policy world header
           × CanBeAudited (journals_of s.shelf files) user policy world header) → IsDoneUnlessMemory (ends.Audit name (audit_end.Refused why))
-      by (policy, world, header, said, ((one, found, ended), (other, found', opened, whole))) =
+      by (policy, world, header, said, ((one, found, ended), (other, found', ready))) =
           let journals = journals_of s.shelf files in
           let same : other ≡ one = same_one (sym found' ∙ found) in
           absurd (neither (ended out_told).1.opening_is
-          (λ opens. subst (λ (u : PolicyUser). Rose (journals.before u.name) (journals.now u.name) → ⊥) same whole ((ended out_told).1.standing_is.1 opens))
-          (λ none. none opened.0 (subst (λ (u : PolicyUser). Opens policy.schema world u.profile header opened.0 (journals.bytes u.name)) same opened.1)))
+          (λ opens. subst (λ (u : PolicyUser). Rose (journals.before u.name) (journals.now u.name) → ⊥) same ready.1 ((ended out_told).1.standing_is.1 opens))
+          (λ none. none ready.0.0 (subst (λ (u : PolicyUser). Opens policy.schema world u.profile header ready.0.0 (journals.bytes u.name)) same ready.0.1)))
   audit_succeeds name audit_end.WriteFault ran cause told out_told says shelf write = absurd (write (cause.write refl))
   audit_succeeds name audit_end.ShelfFault ran cause told out_told says shelf write = absurd (shelf (cause.shelf refl))
   audit_succeeds name audit_end.Memory ran cause told out_told says shelf write = inr refl
@@ -235,16 +239,17 @@ module _ (s : Scene) (files : FileNames) (user : Text) (json : Bool) where
   -- nor is anybody audited who isn't there
   pub nobody_succeeds : FindsNobody s.shelf s.output files user json → AuditSucceeds s.shelf s.output files user json ends.Nobody
   nobody_succeeds ran told out_told says shelf write =
-      by (agree (NamesNobody user) (CanBeAudited (journals_of s.shelf files) user) (said_on s.shelf files) (ran.over_files told) says)
+      by (agree (NamesNobody user) (CanBeAudited (journals_of s.shelf files) user) s.shelf files (ran.over_files told) says)
     where
       by : SayOn s.shelf files (λ policy world header. NamesNobody user policy world header × CanBeAudited (journals_of s.shelf files) user policy world header)
           → IsDoneUnlessMemory ends.Nobody
-      by (policy, world, header, said, (nobody, (one, found, opened, whole))) = let clash : None ≡ Some one = sym nobody ∙ found in absurd cc
+      by (policy, world, header, said, (nobody, (one, found, ready))) = let clash : None ≡ Some one = sym nobody ∙ found in absurd cc
 
 -- ---- files that weren't read
 
 -- whatever was to be done over them
-pub unread : (s : Scene) (files : FileNames) (task : Task) (end : FilesEnd) → IsUnread s.shelf files end → HasCause s (ends.Files end) → SameInput s.input
+pub unread : (s : Scene) (files : FileNames) (task : Task) (end : FilesEnd) → IsUnread s.shelf files end → FaultsHaveCauses s (ends.Files end)
+    → SameInput s.input
     → SameOutput s.output → SameLinks s.links
     → OfReading s (Some (reading_over files task)) (ends.Files end)
 unread s files task.Init end is cause input output links = record {

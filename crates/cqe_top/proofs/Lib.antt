@@ -7,3 +7,4 @@ mod Over
 mod Failing
 mod Good
 mod Serving
+mod Lives

@@ -6,7 +6,7 @@ use Rattle.std.proofs.lemmas.Bool.Decides.{nat_tests}
 use Rattle.command_words.specs.Uses.{Use, uses_of}
 use Rattle.command_words.specs.Numbers.{within, number_from, number_or}
 use Rattle.line_protocol.specs.Words.{number_in}
-use Rattle.cqe_top.specs.Tasks.{ServesBounds}
+use Rattle.cqe_top.specs.Steps.{ServesBounds}
 use Rattle.command_words.specs.Readings.{Reading, FileNames, runs_init, runs_batch, runs_selfrun, runs_serve, reading_of, reading_with, reading_by, do_fit}
 use Rattle.command_words.specs.Readings.{CommandRow, case_row, init_row, batch_row, audit_row, selfrun_row, serve_row, files_of, audit_said, selfrun_said}
 use Rattle.command_words.specs.Readings.{serve_said, value_of, is_used}

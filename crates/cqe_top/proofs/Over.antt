@@ -14,7 +14,7 @@ use Rattle.batch_engine.specs.Batch as batch
 use Rattle.batch_engine.specs.declared.run.BatchEnd.{BatchEnd}
 use Rattle.command_words.specs.Readings.{FileNames}
 use Rattle.desk_crew.specs.Crew.{named_user}
-use Rattle.desk_crew.specs.Shelved.{Journals, journals_on}
+use Rattle.desk_crew.specs.Shelved.{Journals, journals_by}
 use Rattle.init_engine.specs.Disks as init
 use Rattle.init_engine.specs.Ends.{Change, EndsInit}
 use Rattle.init_engine.specs.declared.end.InitEnd.{InitEnd}
@@ -25,8 +25,8 @@ use Rattle.policy_files.specs.Users.{names_of}
 use Rattle.policy_files.specs.declared.policy.Policy.{Policy}
 use Rattle.serve_engine.specs.Serving as serving
 use Rattle.serve_engine.specs.declared.run.ServeEnd.{ServeEnd}
-use Rattle.cqe_top.specs.Files.{TouchesJournals, journals_of, new_users}
-use Rattle.cqe_top.specs.Init.{change_on, IsOneOf}
+use Rattle.cqe_top.specs.Files.{TouchesOnlyJournals, journals_of, new_users}
+use Rattle.cqe_top.specs.Init.{change_on, NamesOneOf}
 use Rattle.cqe_top.specs.Scene.{shelf_of}
 use Rattle.cqe_top.proofs.Users.{names_are, batch_names_are, new_users_are}
 
@@ -44,24 +44,25 @@ module _ {F D : Type 0} (Shelf : ShelfGhosts F D) (Disk : DiskGhosts D) (old mid
     -- the journals are the same
     pub same_journals : journals_of (shelf_of Shelf Disk mid new) files ≡ journals_of (shelf_of Shelf Disk old new) files
     same_journals =
-        λ i. journals_on Disk.reads Disk.image files.journals (λ name. disks name i) (Shelf.disk new) (λ name. counts name i) (Shelf.disk_faults new)
+        λ i. journals_by Disk.reads Disk.image Disk.moment Disk.image_since files.directory (λ name. disks name i) (Shelf.disk new) (λ name. counts name i)
+        (Shelf.disk_faults new)
 
     -- no disk but the journals of the policy's users was touched
     pub touches_over : (policy : Policy) (users : List User) → users ≡ policy.users.items
-        → SameBeside (map (journal_name files.journals) (map (λ user. user.name) (map named_user users))) (Shelf.disk mid) (Shelf.disk new)
-        → TouchesJournals (shelf_of Shelf Disk old new) files (policy_value_of policy)
-    touches_over policy users are touched name none = touched name (ap (λ ns. is_among (map (journal_name files.journals) ns) name) names ∙ none) ∙ disks name
+        → SameBeside (map (journal_name files.directory) (map (λ user. user.name) (map named_user users))) (Shelf.disk mid) (Shelf.disk new)
+        → TouchesOnlyJournals (shelf_of Shelf Disk old new) files (policy_value_of policy)
+    touches_over policy users are touched name none = touched name (ap (λ ns. is_among (map (journal_name files.directory) ns) name) names ∙ none) ∙ disks name
       where
         names : map (λ user. user.name) (map named_user users) ≡ names_of (policy_value_of policy).users
         names = ap (λ us. map (λ user. user.name) (map named_user us)) are ∙ batch_names_are policy.users.items ∙ names_are policy.users.items
 
     -- the making of journals ended so, by the disks and the counts of a change
     abbrev Ended : List ℕ → Policy → Change D → InitEnd → Type 0
-    Ended header policy change made = EndsInit Shelf.tells Disk.reads Disk.image header files.journals (names_of (policy_value_of policy).users) change made
+    Ended header policy change made = EndsInit Shelf.tells Disk.reads Disk.image header files.directory (names_of (policy_value_of policy).users) change made
 
     pub init_over : (header : List ℕ) (policy : Policy) (users : List User) (made : InitEnd) → users ≡ policy.users.items → Shelf.faults old ≤ Shelf.faults mid
-        → EndsInit Shelf.tells Disk.reads Disk.image header files.journals (init.user_names users) (change_on (shelf_of Shelf Disk mid new)) made
-        → EndsInit Shelf.tells Disk.reads Disk.image header files.journals (names_of (policy_value_of policy).users)
+        → EndsInit Shelf.tells Disk.reads Disk.image header files.directory (init.user_names users) (change_on (shelf_of Shelf Disk mid new)) made
+        → EndsInit Shelf.tells Disk.reads Disk.image header files.directory (names_of (policy_value_of policy).users)
         (change_on (shelf_of Shelf Disk old new)) made
     init_over header policy users made are later ended =
         earlier made (subst (λ c. Ended header policy c made) (λ i. record {
@@ -71,7 +72,7 @@ module _ {F D : Type 0} (Shelf : ShelfGhosts F D) (Disk : DiskGhosts D) (old mid
           now = Shelf.disk_faults new;
           shelf_before = Shelf.faults mid;
           shelf_now = Shelf.faults new;
-        }) (subst (λ names. EndsInit Shelf.tells Disk.reads Disk.image header files.journals names (change_on (shelf_of Shelf Disk mid new)) made)
+        }) (subst (λ names. EndsInit Shelf.tells Disk.reads Disk.image header files.directory names (change_on (shelf_of Shelf Disk mid new)) made)
         (ap init.user_names are ∙ names_are policy.users.items) ended))
       where
         rose : Rose (Shelf.faults mid) (Shelf.faults new) → Rose (Shelf.faults old) (Shelf.faults new)
@@ -145,7 +146,7 @@ is_within (user ∷ users) (suc number) name at = let less : number < length use
 
 pub one_of : {D : Type 0} (told : Type 0) (reads : D → List ℕ) (image : D → List ℕ → Type 0) (header directory : List ℕ) (users others : List User)
     (change : Change D) (made : InitEnd)
-    → users ≡ others → EndsInit told reads image header directory (init.user_names users) change made → IsOneOf others made
+    → users ≡ others → EndsInit told reads image header directory (init.user_names users) change made → NamesOneOf others made
 one_of told reads image header directory users others change (init_end.Refused user why) are ended =
     subst (λ us. user < length us) are (is_within users user ended.name ended.is)
 one_of told reads image header directory users others change init_end.Done are ended = tt

@@ -34,21 +34,20 @@ use Rattle.user_desk.specs.declared.standing.DeskError.TheVariants as desk_error
 use Rattle.user_desk.specs.declared.standing.Standing.{Standing}
 use Rattle.user_desk.specs.declared.standing.Standing.TheVariants.{Open, Closed, Sealed}
 use Rattle.cqe_top.specs.declared.end.CommandEnd.TheVariants as ends
-use Rattle.cqe_top.specs.Files.{no_policy, bad_policy, no_facts, bad_facts, both, SayOn, said_on, header_for, with_world, with_facts, with_policy, files_say}
+use Rattle.cqe_top.specs.Files.{no_policy, bad_policy, no_facts, bad_facts, both, SayOn, header_for, with_world, with_facts, with_policy, said_by}
 use Rattle.cqe_top.specs.Files.{journals_of}
 use Rattle.cqe_top.specs.Ready.{CanBeOpened}
-use Rattle.cqe_top.specs.Reports.{has_refusal, HasCause, IsDoneUnlessMemory}
+use Rattle.cqe_top.specs.Reports.{has_refusal, FaultsHaveCauses, IsDoneUnlessMemory}
 use Rattle.cqe_top.specs.Scene.{Scene, LinksScene}
 use Rattle.cqe_top.specs.Serve.{ServesOverFiles, RunsServe, ServeSucceeds, IsServedOut}
 use Rattle.cqe_top.proofs.Good.{agree, answers_done}
 
--- where none is at hand none is left; or the limit is reached
-pub served_out : (links : LinksScene) (workers sessions : ℕ) → (links.left ≡ links.at_hand → links.left' ≡ links.at_hand')
-    → (links.at_hand' ≡ 0)
+-- no connection is at hand, or the limit is reached
+pub served_out : (links : LinksScene) (workers sessions : ℕ) → (links.at_hand' ≡ 0)
     ⊎ ((links.given + sessions + links.ended ≤ links.given' + links.ended') × (links.given + sessions < links.given' + workers))
     → IsServedOut links workers sessions
-served_out links workers sessions all (inl none) = inl (record { at_hand = none; left = λ before. all before ∙ none })
-served_out links workers sessions all (inr (with_ended, with_workers)) = inr (record { with_ended = with_ended; with_workers = with_workers })
+served_out links workers sessions (inl none) = inl none
+served_out links workers sessions (inr (with_ended, with_workers)) = inr (record { with_ended = with_ended; with_workers = with_workers })
 
 -- ---- the header that files say is that of a journal
 
@@ -71,7 +70,7 @@ said_with_policy bytes (Ok first) facts policy world header is = said_with_facts
 said_with_policy bytes (Err why) facts policy world header is = let clash : bad_policy why ≡ both policy world header = is in absurd cc
 
 said_header : (policy_file facts_file : Option (List ℕ)) (policy : PolicyValue) (world : FactSet) (header : List ℕ)
-    → files_say policy_file facts_file ≡ both policy world header → (made : Header) × (header ≡ header_bytes made)
+    → said_by policy_file facts_file ≡ both policy world header → (made : Header) × (header ≡ header_bytes made)
 said_header None facts policy world header is = let clash : no_policy ≡ both policy world header = is in absurd cc
 said_header (Some bytes) facts policy world header is = said_with_policy bytes (policy_in bytes) facts policy world header is
 
@@ -143,11 +142,11 @@ module _ (schema : DatabaseSchema) (world : FactSet) (header : List ℕ) (journa
 
 module _ (law : OpensUnrefused) (s : Scene) (files : FileNames) (address : Text) (workers sessions : ℕ) where
   pub serve_succeeds : (users : Vec User Global) (end : ServeEnd) → RunsServe s.shelf s.links files address workers sessions users end
-      → HasCause s (ends.Serve users end)
+      → FaultsHaveCauses s (ends.Serve users end)
       → ServeSucceeds s.shelf s.links files address workers sessions (ends.Serve users end)
   serve_succeeds users (serve_end.Done refusals is_broken) ran cause told links_told says shelf links =
       by (agree (ServesOverFiles s.shelf s.links files address workers sessions users (serve_end.Done refusals is_broken))
-      (CanBeOpened (journals_of s.shelf files)) (said_on s.shelf files) (ran.over_files told) says)
+      (CanBeOpened (journals_of s.shelf files)) s.shelf files (ran.over_files told) says)
     where
       by : SayOn s.shelf files (λ policy world header.
           ServesOverFiles s.shelf s.links files address workers sessions users (serve_end.Done refusals is_broken) policy world header

@@ -1,20 +1,19 @@
 -- The command `audit`: what the journal of one user holds, to the output.
+-- Ends: Audit, Nobody, Files, Memory.
 use Rattle.std.specs.Prelude.{◌≡◌, ℕ, Bool, List, find, bytes_eq, Option, Some, None}
-use Rattle.outside.specs.Faults.{Rose}
 use Rattle.outside.specs.Shelf.{SameOthers, SameBytes, NoNewImages}
 use Rattle.audit_engine.specs.Ends.{EndsAudit}
 use Rattle.audit_engine.specs.declared.end.AuditEnd.{AuditEnd}
 use Rattle.cqe_base.specs.Facts.{FactSet}
-use Rattle.cqe_base.specs.History.{History}
 use Rattle.cqe_base.specs.Schema.{Text}
 use Rattle.command_words.specs.Readings.{FileNames}
 use Rattle.desk_crew.specs.Shelved.{Journals}
 use Rattle.log_journal.specs.Names.{journal_name}
 use Rattle.policy_files.specs.Policies.{PolicyUser, PolicyValue}
-use Rattle.user_desk.specs.Causes.{Opens}
 use Rattle.cqe_top.specs.declared.end.CommandEnd.{CommandEnd}
-use Rattle.cqe_top.specs.declared.end.CommandEnd.TheVariants as end
+use Rattle.cqe_top.specs.declared.end.CommandEnd.TheVariants as command_end
 use Rattle.cqe_top.specs.Files.{SayOn, LooksAtBoth, IsUnread, journals_of}
+use Rattle.cqe_top.specs.Ready.{IsOpenable}
 use Rattle.cqe_top.specs.Reports.{IsDoneUnlessMemory}
 use Rattle.cqe_top.specs.Scene.{Scene, ShelfScene, Output, HasRisen, SameDisks}
 use Rattle.cqe_top.specs.Scene.{SameShelf, SameInput, SameOutput, SameLinks}
@@ -27,14 +26,12 @@ user_named name users = find (λ user. bytes_eq user.name name) users
 abbrev pub NamesNobody : Text → PolicyValue → FactSet → List ℕ → Type 0
 NamesNobody name policy world header = user_named name policy.users ≡ None
 
--- the policy has a user of this name, whose journal stands for a legal history of his within the
--- limits, and the count of its disk's faults didn't rise
+-- the policy has a user of this name, whose journal can be opened, and its disk has no fault in the
+-- call
 abbrev pub CanBeAudited : Journals → Text → PolicyValue → FactSet → List ℕ → Type 0
 CanBeAudited journals name policy world header =
     (user : PolicyUser) × (user_named name policy.users ≡ Some user)
-    × ((entries : History)
-    × Opens policy.schema world user.profile header entries (journals.bytes user.name))
-    × (Rose (journals.before user.name) (journals.now user.name) → ⊥)
+    × IsOpenable journals policy world header user
 
 module _ (shelf : ShelfScene) (output : Output) (files : FileNames) (user : Text) (json : Bool)
   where
@@ -53,7 +50,7 @@ module _ (shelf : ShelfScene) (output : Output) (files : FileNames) (user : Text
       pub over_files : shelf.tells → SayOn shelf files (AuditsOverFiles end)
       pub looks : shelf.tells → LooksAtBoth shelf files
       pub others : shelf.tells
-          → SameOthers (journal_name files.journals user) shelf.disk shelf.disk'
+          → SameOthers (journal_name files.directory user) shelf.disk shelf.disk'
       pub bytes : shelf.tells → SameBytes shelf.Disk.reads shelf.disk shelf.disk'
       pub images : shelf.tells → NoNewImages shelf.Disk.image shelf.disk shelf.disk'
 
@@ -66,13 +63,14 @@ module _ (shelf : ShelfScene) (output : Output) (files : FileNames) (user : Text
 
     -- the ends that it may have
     abbrev pub AuditEnds : CommandEnd → Type 0
-    AuditEnds (end.Audit name end) = RunsAudit name.now end
-    AuditEnds end.Nobody = FindsNobody
-    AuditEnds (end.Files end) = IsUnread shelf files end × SameOutput output
-    AuditEnds end.Memory = SameShelf shelf × SameOutput output
+    AuditEnds (command_end.Audit name engine_end) = RunsAudit name.now engine_end
+    AuditEnds command_end.Nobody = FindsNobody
+    AuditEnds (command_end.Files why) = IsUnread shelf files why × SameOutput output
+    AuditEnds command_end.Memory = SameShelf shelf × SameOutput output
     AuditEnds end = ⊥
 
-    -- without a fault, a user whose journal can be opened is audited
+    -- where no fault comes (of the user's disk `CanBeAudited` says it), a user whose journal can be
+    -- opened is audited unless memory is wanting
     abbrev pub AuditSucceeds : CommandEnd → Type 0
     AuditSucceeds end =
         shelf.tells → output.tells → SayOn shelf files (CanBeAudited (journals_of shelf files) user)
@@ -82,6 +80,6 @@ module _ (shelf : ShelfScene) (output : Output) (files : FileNames) (user : Text
 pub record OfAudit (s : Scene) (files : FileNames) (user : Text) (json : Bool) (end : CommandEnd)
     : Type 0 where
   pub ends : AuditEnds s.shelf s.output files user json end
-  pub succeeds : AuditSucceeds s.shelf s.output files user json end
   pub reads_nothing : SameInput s.input
   pub listens_nowhere : SameLinks s.links
+  pub succeeds : AuditSucceeds s.shelf s.output files user json end

@@ -1,5 +1,6 @@
 -- The command `batch`: a script of many users, over their journals, from the input to the output.
-use Rattle.std.specs.Prelude.{◌≡◌, List, ℕ, map, IsOk, Vec}
+-- Ends: Batch, Files, Memory.
+use Rattle.std.specs.Prelude.{List, ℕ, IsOk, Vec}
 use Rattle.std.specs.declared.alloc.Global.{Global}
 use Rattle.batch_engine.specs.Batch as batch
 use Rattle.batch_engine.specs.BatchLines.{batch_of}
@@ -7,12 +8,11 @@ use Rattle.batch_engine.specs.declared.run.BatchEnd.{BatchEnd}
 use Rattle.cqe_base.specs.Facts.{FactSet}
 use Rattle.cqe_base.specs.declared.user.User.{User}
 use Rattle.command_words.specs.Readings.{FileNames}
-use Rattle.policy_files.specs.Memory.{policy_user_of}
 use Rattle.policy_files.specs.Policies.{PolicyValue}
 use Rattle.cqe_top.specs.declared.end.CommandEnd.{CommandEnd}
-use Rattle.cqe_top.specs.declared.end.CommandEnd.TheVariants as end
-use Rattle.cqe_top.specs.Files.{SayOn, LooksAtBoth, IsUnread, TouchesJournals, journals_of}
-use Rattle.cqe_top.specs.Files.{new_users}
+use Rattle.cqe_top.specs.declared.end.CommandEnd.TheVariants as command_end
+use Rattle.cqe_top.specs.Files.{SayOn, LooksAtBoth, IsUnread, TouchesOnlyJournals, journals_of}
+use Rattle.cqe_top.specs.Files.{AreUsersOf, new_users}
 use Rattle.cqe_top.specs.Ready.{CanBeOpened}
 use Rattle.cqe_top.specs.Reports.{IsDoneUnlessMemory}
 use Rattle.cqe_top.specs.Scene.{Scene, ShelfScene, Input, Output, HasRisen}
@@ -23,8 +23,8 @@ module _ (shelf : ShelfScene) (input : Input) (output : Output) (files : FileNam
   -- end
   pub record AnswersOverFiles (users : Vec User Global) (end : BatchEnd) (policy : PolicyValue)
       (world : FactSet) (header : List ℕ) : Type 0 where
-    pub of_policy : map policy_user_of users.items ≡ policy.users
-    pub touches : TouchesJournals shelf files policy
+    pub of_policy : AreUsersOf users policy
+    pub touches : TouchesOnlyJournals shelf files policy
     -- what it leaves of the journals, whatever the script and the output tell
     pub journals : batch.LeavesJournals policy.schema world header (journals_of shelf files)
         (new_users policy) end
@@ -32,7 +32,8 @@ module _ (shelf : ShelfScene) (input : Input) (output : Output) (files : FileNam
         → batch.EndsBatch policy.schema world header (journals_of shelf files) (new_users policy)
         end input.left input.left' output.written output.written'
 
-  -- it ran over files that were read; where the script wasn't, no disk was touched
+  -- It ran over files that were read. Where the script is refused or can't be read, no journal was
+  -- opened, and no disk is changed.
   pub record RunsBatch (users : Vec User Global) (end : BatchEnd) : Type 0 where
     pub over_files : shelf.tells → SayOn shelf files (AnswersOverFiles users end)
     pub looks : shelf.tells → LooksAtBoth shelf files
@@ -40,12 +41,13 @@ module _ (shelf : ShelfScene) (input : Input) (output : Output) (files : FileNam
 
   -- the ends that it may have
   abbrev pub BatchEnds : CommandEnd → Type 0
-  BatchEnds (end.Batch users end) = RunsBatch users end
-  BatchEnds (end.Files end) = IsUnread shelf files end × SameInput input × SameOutput output
-  BatchEnds end.Memory = SameShelf shelf × SameInput input × SameOutput output
+  BatchEnds (command_end.Batch users engine_end) = RunsBatch users engine_end
+  BatchEnds (command_end.Files why) = IsUnread shelf files why × SameInput input × SameOutput output
+  BatchEnds command_end.Memory = SameShelf shelf × SameInput input × SameOutput output
   BatchEnds end = ⊥
 
-  -- without a fault a script that is right is answered whole over journals that can be opened
+  -- where no fault comes (of the users' disks `CanBeOpened` says it), a script that is right is
+  -- answered whole over journals that can be opened, unless memory is wanting
   abbrev pub BatchSucceeds : CommandEnd → Type 0
   BatchSucceeds end =
       shelf.tells → input.tells → output.tells → IsOk (batch_of input.left)
@@ -56,5 +58,5 @@ module _ (shelf : ShelfScene) (input : Input) (output : Output) (files : FileNam
 -- `batch` over the files of these names
 pub record OfBatch (s : Scene) (files : FileNames) (end : CommandEnd) : Type 0 where
   pub ends : BatchEnds s.shelf s.input s.output files end
-  pub succeeds : BatchSucceeds s.shelf s.input s.output files end
   pub listens_nowhere : SameLinks s.links
+  pub succeeds : BatchSucceeds s.shelf s.input s.output files end

@@ -152,7 +152,7 @@ abbrev pub user_line : Option User → OpenError → Text
 user_line None why = []
 user_line (Some user) why = journal_line (string_bytes user.name) (desk_errors.Journal why)
 
--- what is said of an end
+-- what is said of an end, by its report
 abbrev pub complaint_of : Report → Text
 complaint_of Done = []
 complaint_of Usage = codes "cqe: usage\n"

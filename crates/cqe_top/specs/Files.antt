@@ -1,22 +1,24 @@
 -- What the policy file and the facts file say, and why they weren't read.
 use Rattle.std.specs.Prelude.{◌≡◌, ◌⊎◌, ℕ, List, [], ◌∷◌, ◌++◌, map, Option, Some, None}
-use Rattle.std.specs.Prelude.{Result, Ok, Err}
+use Rattle.std.specs.Prelude.{Result, Ok, Err, Vec}
+use Rattle.std.specs.declared.alloc.Global.{Global}
 use Rattle.sha2.specs.Sha256.{sha256}
 use Rattle.outside.specs.Shelf.{Looks, SameBeside}
 use Rattle.cqe_base.specs.Facts.{FactSet}
 use Rattle.cqe_base.specs.Schema.{Text}
 use Rattle.cqe_base.specs.Transcript.{NamedUser}
+use Rattle.cqe_base.specs.declared.user.User.{User}
 use Rattle.command_words.specs.Readings.{FileNames}
-use Rattle.desk_crew.specs.Shelved.{Journals, journals_on}
+use Rattle.desk_crew.specs.Shelved.{Journals, journals_by}
 use Rattle.log_journal.specs.Names.{journal_name}
 use Rattle.log_journal.specs.Opening.{first_eight}
 use Rattle.policy_files.specs.declared.error.PolicyError.{PolicyError}
 use Rattle.policy_files.specs.declared.error.FactsError.{FactsError}
+use Rattle.policy_files.specs.Memory.{policy_user_of}
 use Rattle.policy_files.specs.Policies.{PolicyUser, PolicyValue}
 use Rattle.policy_files.specs.Policy.{policy_in}
 use Rattle.policy_files.specs.Users.{names_of}
 use Rattle.policy_files.specs.Facts.{facts_of}
-use Rattle.cqe_top.specs.declared.end.FileKind.{FileKind}
 use Rattle.cqe_top.specs.declared.end.FileKind.TheVariants as kind
 use Rattle.cqe_top.specs.declared.end.FilesEnd.{FilesEnd}
 use Rattle.cqe_top.specs.declared.end.FilesEnd.TheVariants.{Missing, ShelfFault, Policy}
@@ -25,14 +27,14 @@ use Rattle.cqe_top.specs.Scene.{ShelfScene, SameDisks}
 
 -- ---- what two files say
 
--- what two files say: a policy and a world, with the header of the journals that belong to them;
--- or the first of them that isn't there or is refused
-pub data FilesSay : Type 0 where
-  no_policy : FilesSay
-  bad_policy : (why : PolicyError) → FilesSay
-  no_facts : FilesSay
-  bad_facts : (why : FactsError) → FilesSay
-  both : (policy : PolicyValue) → (world : FactSet) → (header : List ℕ) → FilesSay
+-- what two files say: a policy and a world, which is the facts of the file, with the header of the
+-- journals that belong to them; or the first of them that isn't there or is refused
+pub data Said : Type 0 where
+  no_policy : Said
+  bad_policy : (why : PolicyError) → Said
+  no_facts : Said
+  bad_facts : (why : FactsError) → Said
+  both : (policy : PolicyValue) → (world : FactSet) → (header : List ℕ) → Said
 
 -- the header of the journals that belong to a policy file and a facts file with these bytes: eight
 -- bytes, and the digest of each
@@ -40,35 +42,28 @@ abbrev pub header_for : List ℕ → List ℕ → List ℕ
 header_for policy_bytes facts_bytes = first_eight ++ sha256 policy_bytes ++ sha256 facts_bytes
 
 -- a policy and a header with the facts of a file that was read
-abbrev pub with_world : PolicyValue → List ℕ → Result FactSet FactsError → FilesSay
+abbrev pub with_world : PolicyValue → List ℕ → Result FactSet FactsError → Said
 with_world policy header (Ok world) = both policy world header
 with_world policy header (Err why) = bad_facts why
 
 -- a policy that was read from these bytes with a facts file, if it is there
-abbrev pub with_facts : PolicyValue → List ℕ → Option (List ℕ) → FilesSay
+abbrev pub with_facts : PolicyValue → List ℕ → Option (List ℕ) → Said
 with_facts policy policy_bytes None = no_facts
 with_facts policy policy_bytes (Some bytes) =
     with_world policy (header_for policy_bytes bytes) (facts_of policy.schema bytes)
 
 -- a policy file with these bytes, as it was read, with a facts file
-abbrev pub with_policy : List ℕ → Result PolicyValue PolicyError → Option (List ℕ) → FilesSay
+abbrev pub with_policy : List ℕ → Result PolicyValue PolicyError → Option (List ℕ) → Said
 with_policy policy_bytes (Ok policy) facts = with_facts policy policy_bytes facts
 with_policy policy_bytes (Err why) facts = bad_policy why
 
 -- the policy file first, then the facts file
-abbrev pub files_say : Option (List ℕ) → Option (List ℕ) → FilesSay
-files_say None facts = no_policy
-files_say (Some bytes) facts = with_policy bytes (policy_in bytes) facts
-
--- The files say a policy, a world and a header of which this holds. Whatever names of these three
--- a command's clause takes last are given here.
-abbrev pub Say : FilesSay → (PolicyValue → FactSet → List ℕ → Type 0) → Type 0
-Say said P =
-    (policy : PolicyValue) × (world : FactSet) × (header : List ℕ)
-    × (said ≡ both policy world header) × P policy world header
+abbrev pub said_by : Option (List ℕ) → Option (List ℕ) → Said
+said_by None facts = no_policy
+said_by (Some bytes) facts = with_policy bytes (policy_in bytes) facts
 
 -- a policy is there and isn't refused
-abbrev pub HasPolicy : FilesSay → Type 0
+abbrev pub HasPolicy : Said → Type 0
 HasPolicy no_policy = ⊥
 HasPolicy (bad_policy why) = ⊥
 HasPolicy no_facts = Unit {0}
@@ -76,84 +71,65 @@ HasPolicy (bad_facts why) = Unit {0}
 HasPolicy (both policy world header) = Unit {0}
 
 -- one of the files isn't there, and it has this name
-abbrev pub IsMissing : FilesSay → FileNames → Text → Type 0
+abbrev pub IsMissing : Said → FileNames → Text → Type 0
 IsMissing said files name =
     ((said ≡ no_policy) × (name ≡ files.policy)) ⊎ ((said ≡ no_facts) × (name ≡ files.facts))
-
--- ---- why one file wasn't read
-
--- a file, of this kind and with this name, is not there; or the shelf failed at it
-abbrev pub RefusesFile : FileKind → Text → Option (List ℕ) → FilesEnd → Type 0
-RefusesFile file_kind name file (Missing missing) = (file ≡ None) × (missing.now ≡ name)
-RefusesFile file_kind name file (ShelfFault failed) = failed ≡ file_kind
-RefusesFile file_kind name file Memory = Unit {0}
-RefusesFile file_kind name file end = ⊥
-
--- why bytes weren't read as a policy
-abbrev pub RefusesPolicy : Result PolicyValue PolicyError → FilesEnd → Type 0
-RefusesPolicy read (Policy why) = read ≡ Err why
-RefusesPolicy read Memory = Unit {0}
-RefusesPolicy read end = ⊥
-
--- why bytes weren't read as facts
-abbrev pub RefusesFacts : Result FactSet FactsError → FilesEnd → Type 0
-RefusesFacts read (Facts why) = read ≡ Err why
-RefusesFacts read Memory = Unit {0}
-RefusesFacts read end = ⊥
-
--- the shelf failed
-abbrev pub IsShelfFault : FilesEnd → Type 0
-IsShelfFault (ShelfFault kind) = Unit {0}
-IsShelfFault end = ⊥
 
 -- ---- the files of a command on a shelf, and the journals in their directory
 
 module _ (shelf : ShelfScene) (files : FileNames) where
   -- what they say
-  abbrev pub said_on : FilesSay
-  said_on = files_say (shelf.file files.policy) (shelf.file files.facts)
+  abbrev pub said_on : Said
+  said_on = said_by (shelf.file files.policy) (shelf.file files.facts)
 
-  -- they say a policy, a world and a header of which this holds
+  -- They say a policy, a world and a header of which this holds. A clause of a command that takes a
+  -- policy, a world and a header last is said of these three.
   abbrev pub SayOn : (PolicyValue → FactSet → List ℕ → Type 0) → Type 0
-  SayOn P = Say said_on P
+  SayOn P =
+      (policy : PolicyValue) × (world : FactSet) × (header : List ℕ)
+      × (said_on ≡ both policy world header) × P policy world header
 
   -- the journals before the call and behind it
   abbrev pub journals_of : Journals
   journals_of =
-      journals_on shelf.Disk.reads shelf.Disk.image files.journals shelf.disk shelf.disk'
-      shelf.disk_faults shelf.disk_faults'
+      journals_by shelf.Disk.reads shelf.Disk.image shelf.Disk.moment shelf.Disk.image_since
+      files.directory shelf.disk shelf.disk' shelf.disk_faults shelf.disk_faults'
 
   -- no disk but the journals of a policy's users was touched
-  abbrev pub TouchesJournals : PolicyValue → Type 0
-  TouchesJournals policy =
-      SameBeside (map (journal_name files.journals) (names_of policy.users)) shelf.disk shelf.disk'
+  abbrev pub TouchesOnlyJournals : PolicyValue → Type 0
+  TouchesOnlyJournals policy =
+      SameBeside (map (journal_name files.directory) (names_of policy.users)) shelf.disk shelf.disk'
 
-  -- of the files the policy was looked at, and then the facts, and no other
+  -- of the shelf's files the policy was looked at, and then the facts, and no other
   abbrev pub LooksAtBoth : Type 0
   LooksAtBoth = shelf.looked' ≡ shelf.looked ++ files.policy ∷ files.facts ∷ []
 
   -- none was looked at, the policy alone, or both
-  abbrev pub LooksAt : Type 0
-  LooksAt = Looks files.policy shelf.looked shelf.looked' ⊎ LooksAtBoth
+  abbrev pub LooksInOrder : Type 0
+  LooksInOrder = Looks files.policy shelf.looked shelf.looked' ⊎ LooksAtBoth
 
   -- Why they weren't read: the first of them that isn't there, is refused, or at which the shelf
   -- failed. Where it failed at the policy, the facts weren't looked at; where it failed at the
   -- facts, the policy is there and isn't refused; and memory may always be wanting.
-  abbrev pub Refuses : FilesEnd → Type 0
-  Refuses (Missing name) = IsMissing said_on files name.now
-  Refuses (ShelfFault kind.Policy) = Looks files.policy shelf.looked shelf.looked'
-  Refuses (ShelfFault kind.Facts) = HasPolicy said_on
-  Refuses (Policy why) = said_on ≡ bad_policy why
-  Refuses (Facts why) = said_on ≡ bad_facts why
-  Refuses Memory = Unit {0}
+  abbrev pub IsWhyUnread : FilesEnd → Type 0
+  IsWhyUnread (Missing name) = IsMissing said_on files name.now
+  IsWhyUnread (ShelfFault kind.Policy) = Looks files.policy shelf.looked shelf.looked'
+  IsWhyUnread (ShelfFault kind.Facts) = HasPolicy said_on
+  IsWhyUnread (Policy why) = said_on ≡ bad_policy why
+  IsWhyUnread (Facts why) = said_on ≡ bad_facts why
+  IsWhyUnread Memory = Unit {0}
 
   -- the files weren't read: why, and no disk was touched
   pub record IsUnread (end : FilesEnd) : Type 0 where
-    pub refused : shelf.tells → Refuses end
-    pub looks : shelf.tells → LooksAt
+    pub refused : shelf.tells → IsWhyUnread end
+    pub looks : shelf.tells → LooksInOrder
     pub disks : SameDisks shelf
 
 -- ---- the users of a policy
+
+-- these users are those of the policy
+abbrev pub AreUsersOf : Vec User Global → PolicyValue → Type 0
+AreUsersOf users policy = map policy_user_of users.items ≡ policy.users
 
 -- a user of a policy before his journal is opened, with no entries
 abbrev pub new_user : PolicyUser → NamedUser

@@ -9,5 +9,6 @@ pub mod Batch
 pub mod Audit
 pub mod Selfrun
 pub mod Serve
-pub mod Tasks
 pub mod Promise
+pub mod Lives
+pub mod Steps

@@ -1,4 +1,4 @@
--- What the program promises of a call.
+-- What the program promises of a call. Memory may be wanting at any time; nothing here says when.
 use Rattle.std.specs.Prelude.{◌≡◌, ℕ, List, Option, Some, None}
 use Rattle.outside.specs.Shelf.{SameNames, NoneOut, NoneFell}
 use Rattle.outside.specs.Streams.{AppendsUnless}
@@ -6,21 +6,21 @@ use Rattle.cqe_base.specs.Schema.{Text}
 use Rattle.command_words.specs.Readings.{Reading, reading_of, runs_case, runs_init, runs_batch}
 use Rattle.command_words.specs.Readings.{runs_audit, runs_selfrun, runs_serve}
 use Rattle.cqe_top.specs.declared.end.CommandEnd.{CommandEnd}
-use Rattle.cqe_top.specs.declared.end.CommandEnd.TheVariants as end
+use Rattle.cqe_top.specs.declared.end.CommandEnd.TheVariants as command_end
 use Rattle.cqe_top.specs.Audit.{OfAudit}
 use Rattle.cqe_top.specs.Batch.{OfBatch}
 use Rattle.cqe_top.specs.Case.{OfCase}
 use Rattle.cqe_top.specs.Complaints.{complaint_of}
 use Rattle.cqe_top.specs.Init.{OfInit}
-use Rattle.cqe_top.specs.Reports.{status_of, report_of, HasCause}
-use Rattle.cqe_top.specs.Scene.{Scene, ShelfScene, Output, HasRisen, IsLater, IsUntouched}
+use Rattle.cqe_top.specs.Reports.{status_of, report_of, FaultsHaveCauses}
+use Rattle.cqe_top.specs.Scene.{Scene, ShelfScene, Output, HasRisen, HasNotFallen, IsUntouched}
 use Rattle.cqe_top.specs.Selfrun.{OfSelfrun}
 use Rattle.cqe_top.specs.Serve.{OfServe}
 
--- words without a reading: nothing is done
+-- words without a reading: nothing is done, as where memory is wanting for them
 abbrev pub OfUsage : Scene → CommandEnd → Type 0
-OfUsage s end.Usage = IsUntouched s
-OfUsage s end.Memory = IsUntouched s
+OfUsage s command_end.Usage = IsUntouched s
+OfUsage s command_end.Memory = IsUntouched s
 OfUsage s end = ⊥
 
 -- what an end says by the reading of the words
@@ -31,28 +31,31 @@ OfReading s (Some (runs_init files)) end = OfInit s files end
 OfReading s (Some (runs_batch files)) end = OfBatch s files end
 OfReading s (Some (runs_audit files user json)) end = OfAudit s files user json end
 OfReading s (Some (runs_selfrun seed users asks)) end = OfSelfrun s seed users asks end
-OfReading s (Some (runs_serve files address workers sessions)) end =
-    OfServe s files address workers sessions end
+OfReading s (Some (runs_serve files address workers limit)) end =
+    OfServe s files address workers limit end
 
--- of a shelf, whatever comes: its files are what they were, all its disks are back, and no count
--- fell
+-- of a shelf, whatever comes: its files are what they were, no disk is out, and no count of faults
+-- fell, neither that of a disk nor its own
 pub record KeepsShelf (shelf : ShelfScene) : Type 0 where
   pub files : SameNames shelf.file shelf.file'
   pub inside : NoneOut shelf.is_out'
-  pub counts : NoneFell shelf.disk_faults shelf.disk_faults'
-  pub later : IsLater shelf.faults
+  pub disk_faults : NoneFell shelf.disk_faults shelf.disk_faults'
+  pub faults : HasNotFallen shelf.faults
 
--- whatever comes: all disks and doors are back, the input holds what it held, and no count fell
+-- Whatever comes: the shelf is kept so, the input holds what it held, as many doors are out as
+-- before, and no count of faults fell, neither of the input nor of the output nor of the links.
 pub record Always (s : Scene) : Type 0 where
   pub shelf : KeepsShelf s.shelf
   pub held : s.input.held' ≡ s.input.held
   pub doors : s.links.out' ≡ s.links.out
-  pub input_later : IsLater s.input.faults
-  pub output_later : IsLater s.output.faults
-  pub links_later : IsLater s.links.faults
+  pub input_faults : HasNotFallen s.input.faults
+  pub output_faults : HasNotFallen s.output.faults
+  pub links_faults : HasNotFallen s.links.faults
 
--- The status is that of an end, of which the complaints are told: one of the command of the words.
--- A fault has its cause.
+-- There is an end, of which all holds that the reading of the words says. The status is that of
+-- this end, and so is the complaint: it was written whole, or where the count of the complaints
+-- rose a part of it. A fault that is told has its cause. What holds whatever comes does, and the
+-- count of the complaints didn't fall either.
 pub record Promise (words : List Text) (s : Scene) (complaints : Output) (status : ℕ)
     : Type 0 where
   pub end : CommandEnd
@@ -60,6 +63,6 @@ pub record Promise (words : List Text) (s : Scene) (complaints : Output) (status
   pub complaint : complaints.tells → AppendsUnless (complaint_of (report_of end))
       complaints.written complaints.written' (HasRisen complaints.faults)
   pub command : OfReading s (reading_of words) end
-  pub cause : HasCause s end
+  pub cause : FaultsHaveCauses s end
   pub always : Always s
-  pub complaints_later : IsLater complaints.faults
+  pub complaints_faults : HasNotFallen complaints.faults

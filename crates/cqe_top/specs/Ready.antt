@@ -1,4 +1,5 @@
--- Policies all of whose journals are as a command needs them.
+-- Policies whose journals are as a command needs them. Each clause says two things of a user: how
+-- his journal stands as the call begins, and that no fault of its disk comes in the call.
 use Rattle.std.specs.Prelude.{◌≡◌, ◌⊎◌, List, ℕ, []}
 use Rattle.std.specs.List.{AllByRecursion}
 use Rattle.outside.specs.Faults.{Rose}
@@ -8,20 +9,29 @@ use Rattle.log_journal.specs.Opening.{Refuses}
 use Rattle.log_journal.specs.declared.header.OpenError.{OpenError}
 use Rattle.user_desk.specs.Causes.{Opens}
 use Rattle.desk_crew.specs.Shelved.{Journals}
-use Rattle.policy_files.specs.Policies.{PolicyValue}
+use Rattle.policy_files.specs.Policies.{PolicyUser, PolicyValue}
 
--- each user's disk is empty or shows no reason to refuse it as a journal with this header, and its
--- count of faults didn't rise
+-- this user's disk has no fault in the call: its count doesn't rise
+abbrev pub HasNoFault : Journals → PolicyUser → Type 0
+HasNoFault journals user = Rose (journals.before user.name) (journals.now user.name) → ⊥
+
+-- as the call begins each user's disk is empty or shows no reason to refuse it as a journal with
+-- this header, and it has no fault in the call
 abbrev pub CanBeMade : Journals → PolicyValue → FactSet → List ℕ → Type 0
 CanBeMade journals policy world header = AllByRecursion (λ user.
     ((journals.bytes user.name ≡ [])
     ⊎ ((why : OpenError) → Refuses header (journals.bytes user.name) why → ⊥))
-    × (Rose (journals.before user.name) (journals.now user.name) → ⊥)) policy.users
+    × HasNoFault journals user) policy.users
 
--- each user's journal stands for a legal history of his within the limits, and the count of its
--- disk's faults didn't rise
-abbrev pub CanBeOpened : Journals → PolicyValue → FactSet → List ℕ → Type 0
-CanBeOpened journals policy world header = AllByRecursion (λ user.
+-- as the call begins this user's journal stands for a legal history of his within the limits, and
+-- its disk has no fault in the call
+abbrev pub IsOpenable : Journals → PolicyValue → FactSet → List ℕ → PolicyUser → Type 0
+IsOpenable journals policy world header user =
     ((entries : History)
     × Opens policy.schema world user.profile header entries (journals.bytes user.name))
-    × (Rose (journals.before user.name) (journals.now user.name) → ⊥)) policy.users
+    × HasNoFault journals user
+
+-- so it is with each user of the policy
+abbrev pub CanBeOpened : Journals → PolicyValue → FactSet → List ℕ → Type 0
+CanBeOpened journals policy world header =
+    AllByRecursion (λ user. IsOpenable journals policy world header user) policy.users

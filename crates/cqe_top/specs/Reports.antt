@@ -1,4 +1,5 @@
--- What is told of an end: its status, its complaint, and the fault that is its cause.
+-- What is told of an end: its report, and the status of that. `Complaints` has the text of each
+-- report. Where a report may tell a fault stands here too.
 use Rattle.std.specs.Prelude.{◌≡◌, ◌⊎◌, ℕ, Bool, List, Option, Vec, is_some, if◌then◌else◌}
 use Rattle.std.specs.List.{list_any}
 use Rattle.std.specs.declared.alloc.Global.{Global}
@@ -13,7 +14,7 @@ use Rattle.selfrun_engine.specs.declared.end.SelfrunEnd.TheVariants as selfrun_e
 use Rattle.serve_engine.specs.declared.run.ServeEnd.TheVariants as serve_end
 use Rattle.cqe_top.specs.declared.end.FilesEnd.TheVariants as files_end
 use Rattle.cqe_top.specs.declared.end.CommandEnd.{CommandEnd}
-use Rattle.cqe_top.specs.declared.end.CommandEnd.TheVariants as end
+use Rattle.cqe_top.specs.declared.end.CommandEnd.TheVariants as command_end
 use Rattle.cqe_top.specs.declared.report.Report.{Report}
 use Rattle.cqe_top.specs.declared.report.Report.TheVariants.{Done, Usage, Policy, Facts, Script}
 use Rattle.cqe_top.specs.declared.report.Report.TheVariants.{ReadFault, WriteFault}
@@ -22,7 +23,7 @@ use Rattle.cqe_top.specs.declared.report.Report.TheVariants.{Journal, JournalAt,
 use Rattle.cqe_top.specs.declared.report.Report.TheVariants.{DiskFault, LinksFault, Memory}
 use Rattle.cqe_top.specs.Scene.{Scene, HasRisen}
 
--- the status
+-- the status of a report
 abbrev pub status_of : Report → ℕ
 status_of Done = 0
 status_of Usage = 2
@@ -46,58 +47,60 @@ status_of Memory = 13
 abbrev pub has_refusal : List (Option DeskError) → Bool
 has_refusal refusals = list_any is_some refusals
 
--- of all asks answered to their end: a refused journal comes before an append that failed
+-- the report of asks that were all answered: a refused journal comes before an append that failed
 abbrev pub answers_report : Vec User Global → Vec (Option DeskError) Global → Bool → Report
 answers_report users refusals is_broken =
     if has_refusal refusals.items then Journals users refusals
     else if is_broken then DiskFault
     else Done
 
--- of an end
+-- the report of an end
 abbrev pub report_of : CommandEnd → Report
-report_of end.Usage = Usage
-report_of end.Memory = Memory
-report_of (end.Files (files_end.Missing name)) = Missing name
-report_of (end.Files (files_end.ShelfFault kind)) = ShelfFault
-report_of (end.Files (files_end.Policy why)) = Policy why
-report_of (end.Files (files_end.Facts why)) = Facts why
-report_of (end.Files files_end.Memory) = Memory
-report_of (end.Case case_end.Done) = Done
-report_of (end.Case (case_end.Script refusal)) = Script refusal
-report_of (end.Case case_end.ReadFault) = ReadFault
-report_of (end.Case case_end.WriteFault) = WriteFault
-report_of (end.Case case_end.Memory) = Memory
-report_of (end.Init users init_end.Done) = Done
-report_of (end.Init users (init_end.Refused user why)) = JournalAt users user why
-report_of (end.Init users init_end.DiskFault) = DiskFault
-report_of (end.Init users init_end.ShelfFault) = ShelfFault
-report_of (end.Init users init_end.Memory) = Memory
-report_of (end.Batch users (batch_end.Done refusals broken)) = answers_report users refusals broken
-report_of (end.Batch users (batch_end.Script refusal)) = Script refusal
-report_of (end.Batch users batch_end.ReadFault) = ReadFault
-report_of (end.Batch users batch_end.WriteFault) = WriteFault
-report_of (end.Batch users batch_end.ShelfFault) = ShelfFault
-report_of (end.Batch users batch_end.Memory) = Memory
-report_of end.Nobody = Usage
-report_of (end.Audit name audit_end.Done) = Done
-report_of (end.Audit name (audit_end.Refused why)) = Journal name why
-report_of (end.Audit name audit_end.WriteFault) = WriteFault
-report_of (end.Audit name audit_end.ShelfFault) = ShelfFault
-report_of (end.Audit name audit_end.Memory) = Memory
-report_of (end.Selfrun selfrun_end.Done) = Done
-report_of (end.Selfrun selfrun_end.WriteFault) = WriteFault
-report_of (end.Selfrun selfrun_end.Memory) = Memory
-report_of (end.Serve users (serve_end.Done refusals broken)) = answers_report users refusals broken
-report_of (end.Serve users serve_end.LinksFault) = LinksFault
-report_of (end.Serve users serve_end.ShelfFault) = ShelfFault
-report_of (end.Serve users serve_end.Memory) = Memory
+report_of command_end.Usage = Usage
+report_of command_end.Memory = Memory
+report_of (command_end.Files (files_end.Missing name)) = Missing name
+report_of (command_end.Files (files_end.ShelfFault kind)) = ShelfFault
+report_of (command_end.Files (files_end.Policy why)) = Policy why
+report_of (command_end.Files (files_end.Facts why)) = Facts why
+report_of (command_end.Files files_end.Memory) = Memory
+report_of (command_end.Case case_end.Done) = Done
+report_of (command_end.Case (case_end.Script refusal)) = Script refusal
+report_of (command_end.Case case_end.ReadFault) = ReadFault
+report_of (command_end.Case case_end.WriteFault) = WriteFault
+report_of (command_end.Case case_end.Memory) = Memory
+report_of (command_end.Init users init_end.Done) = Done
+report_of (command_end.Init users (init_end.Refused user why)) = JournalAt users user why
+report_of (command_end.Init users init_end.DiskFault) = DiskFault
+report_of (command_end.Init users init_end.ShelfFault) = ShelfFault
+report_of (command_end.Init users init_end.Memory) = Memory
+report_of (command_end.Batch users (batch_end.Done refusals broken)) =
+    answers_report users refusals broken
+report_of (command_end.Batch users (batch_end.Script refusal)) = Script refusal
+report_of (command_end.Batch users batch_end.ReadFault) = ReadFault
+report_of (command_end.Batch users batch_end.WriteFault) = WriteFault
+report_of (command_end.Batch users batch_end.ShelfFault) = ShelfFault
+report_of (command_end.Batch users batch_end.Memory) = Memory
+report_of command_end.Nobody = Usage
+report_of (command_end.Audit name audit_end.Done) = Done
+report_of (command_end.Audit name (audit_end.Refused why)) = Journal name why
+report_of (command_end.Audit name audit_end.WriteFault) = WriteFault
+report_of (command_end.Audit name audit_end.ShelfFault) = ShelfFault
+report_of (command_end.Audit name audit_end.Memory) = Memory
+report_of (command_end.Selfrun selfrun_end.Done) = Done
+report_of (command_end.Selfrun selfrun_end.WriteFault) = WriteFault
+report_of (command_end.Selfrun selfrun_end.Memory) = Memory
+report_of (command_end.Serve users (serve_end.Done refusals broken)) =
+    answers_report users refusals broken
+report_of (command_end.Serve users serve_end.LinksFault) = LinksFault
+report_of (command_end.Serve users serve_end.ShelfFault) = ShelfFault
+report_of (command_end.Serve users serve_end.Memory) = Memory
 
--- all was done, or memory was wanting
+-- what is told is that all was done, or that memory was wanting
 abbrev pub IsDoneUnlessMemory : CommandEnd → Type 0
 IsDoneUnlessMemory end = (report_of end ≡ Done) ⊎ (report_of end ≡ Memory)
 
 -- a fault is told only where its count rose in the call
-pub record HasCause (s : Scene) (end : CommandEnd) : Type 0 where
+pub record FaultsHaveCauses (s : Scene) (end : CommandEnd) : Type 0 where
   pub read : report_of end ≡ ReadFault → HasRisen s.input.faults
   pub write : report_of end ≡ WriteFault → HasRisen s.output.faults
   pub shelf : report_of end ≡ ShelfFault → HasRisen s.shelf.faults

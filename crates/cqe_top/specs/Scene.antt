@@ -1,5 +1,12 @@
 -- What lies outside of the program, before a call and behind it. Here stand names alone, and no
--- promise. A prime marks what is behind the call.
+-- promise. What has a prime is as the call ended, what has the same name without one as it began:
+-- `left` are the bytes that were left then, `left'` those that are left now. A count says the same
+-- of one number, as `before` and `now`.
+--
+-- Where an object tells its content, clauses may speak of it: `tells` is their premise. Whether it
+-- does is said by the type of the object. Those in memory tell all. Those of the system tell
+-- nothing that is proved, so of them each such clause is what holds as far as the system does what
+-- the object in memory does.
 use Rattle.std.specs.Prelude.{◌≡◌, ℕ, ◌≤◌, Bool, List, Option}
 use Rattle.outside.specs.Faults.{Rose}
 use Rattle.outside.specs.Shelf.{SameNames}
@@ -13,15 +20,13 @@ use Rattle.cqe_base.specs.Schema.{Text}
 
 -- ---- the objects
 
--- A count of faults.
+-- A count of faults, before the call and behind it.
 pub record Count : Type 0 where
   pub before : ℕ
   pub now : ℕ
 
--- The source of the input: the bytes that are left in it, and all that it holds. Where it tells its
--- content, clauses may speak of it; so it is with each object. Whether it tells is said by the type
--- of the object: those in memory tell all, and those of the system tell nothing that is proved, so
--- of them each such clause is what holds as far as the system does what the object in memory does.
+-- The source of the input: the bytes that are left in it, all that it holds, its count of faults,
+-- and the source itself.
 pub record Input : Type 1 where
   pub tells : Type 0
   pub left : List ℕ
@@ -33,7 +38,8 @@ pub record Input : Type 1 where
   pub object : Object
   pub object' : Object
 
--- A sink, as that of the output or of the complaints: the bytes that were written to it.
+-- A sink, as that of the output or of the complaints: the bytes that were written to it, its count
+-- of faults, and the sink itself.
 pub record Output : Type 1 where
   pub tells : Type 0
   pub written : List ℕ
@@ -43,46 +49,63 @@ pub record Output : Type 1 where
   pub object : Object
   pub object' : Object
 
--- The shelf: its files by their names, which of them were looked at, in order, and its disks by
--- their names, with the count of each one's faults.
+-- The shelf, with its files and its disks.
 pub record ShelfScene : Type 1 where
+  -- what it holds is told
   pub tells : Type 0
+  -- the bytes of the file of a name, where there is one
   pub file : Text → Option (List ℕ)
   pub file' : Text → Option (List ℕ)
+  -- the names of the files that were looked at, in order
   pub looked : List Text
   pub looked' : List Text
+  -- the type of its disks
   pub D : Type 0
+  -- what may be said of a disk
   pub Disk : DiskGhosts D
+  -- the disk that it holds under a name, where there is one
   pub disk : Text → Option D
   pub disk' : Text → Option D
+  -- the disk of this name was taken and isn't back
   pub is_out' : Text → Bool
+  -- the count of faults of the disk of a name
   pub disk_faults : Text → ℕ
   pub disk_faults' : Text → ℕ
+  -- the shelf's own count
   pub faults : Count
+  -- the shelf itself
   pub Object : Type 0
   pub object : Object
   pub object' : Object
 
--- The links: how many connections they gave, how many are left, how many of these are at hand,
--- which is at no door, those that are back, how many doors aren't, how many of the others had
--- ended, and where they listened.
+-- The links, with the doors through which connections come.
 pub record LinksScene : Type 1 where
+  -- what comes in and goes back is told
   pub tells : Type 0
+  -- how many connections were given by the doors that are back
   pub given : ℕ
   pub given' : ℕ
+  -- how many are still to be given, those at doors that aren't back among them
   pub left : ℕ
   pub left' : ℕ
+  -- how many of these are at hand, which is at no door
   pub at_hand : ℕ
   pub at_hand' : ℕ
+  -- the finished connections of the doors that are back
   pub back : List Visit
   pub back' : List Visit
+  -- how many doors aren't back
   pub out : ℕ
   pub out' : ℕ
+  -- how many of the doors that are back had answered that no further connection comes
   pub ended : ℕ
   pub ended' : ℕ
+  -- where the links listened, in order
   pub listened : List Place
   pub listened' : List Place
+  -- their count of faults
   pub faults : Count
+  -- the links themselves
   pub Object : Type 0
   pub object : Object
   pub object' : Object
@@ -94,7 +117,7 @@ pub record Scene : Type 1 where
   pub output : Output
   pub links : LinksScene
 
--- ---- the same of a bound's members, and of an object before and behind a call
+-- ---- each of them by the members of its bound, of an object before a call and behind it
 
 -- of a source
 abbrev pub input_of : {S : Type 0} → SourceGhosts S → S → S → Input
@@ -174,13 +197,13 @@ scene_of shelf input output links =
 
 -- ---- what may be said of an object
 
--- a count rose
+-- a count rose, or stands at the greatest number
 abbrev pub HasRisen : Count → Type 0
 HasRisen count = Rose count.before count.now
 
--- it didn't fall
-abbrev pub IsLater : Count → Type 0
-IsLater count = count.before ≤ count.now
+-- a count didn't fall
+abbrev pub HasNotFallen : Count → Type 0
+HasNotFallen count = count.before ≤ count.now
 
 -- the object is the same in every respect
 abbrev pub SameInput : Input → Type 0
@@ -194,17 +217,19 @@ SameOutput output = output.object' ≡ output.object
 abbrev pub SameShelf : ShelfScene → Type 0
 SameShelf shelf = shelf.object' ≡ shelf.object
 
--- so are links
+-- The shelf may have changed, as by a look at a file, but no disk was touched: under each name is
+-- the disk that was there, with the count of faults that it had.
+abbrev pub SameDisks : ShelfScene → Type 0
+SameDisks shelf =
+    SameNames shelf.disk shelf.disk' × SameNames shelf.disk_faults shelf.disk_faults'
+
+-- links are the same in every respect
 abbrev pub SameLinks : LinksScene → Type 0
 SameLinks links = links.object' ≡ links.object
 
--- all are the same
+-- all four are the same
 pub record IsUntouched (s : Scene) : Type 0 where
   pub shelf : SameShelf s.shelf
   pub input : SameInput s.input
   pub output : SameOutput s.output
   pub links : SameLinks s.links
-
--- no disk was touched
-abbrev pub SameDisks : ShelfScene → Type 0
-SameDisks shelf = SameNames shelf.disk shelf.disk'

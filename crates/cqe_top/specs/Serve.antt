@@ -1,20 +1,21 @@
 -- The command `serve`: connections at an address, side by side, over the journals of a policy's
 -- users.
-use Rattle.std.specs.Prelude.{◌≡◌, ◌⊎◌, ◌++◌, ◌∷◌, [], ◌+◌, ◌<◌, ◌≤◌, ℕ, List, map, Vec}
+-- Ends: Serve, Files, Memory.
+use Rattle.std.specs.Prelude.{◌≡◌, ◌⊎◌, ◌++◌, ◌∷◌, [], ◌+◌, ◌<◌, ◌≤◌, ℕ, List, Vec}
 use Rattle.std.specs.declared.alloc.Global.{Global}
 use Rattle.outside.specs.Visits.{place_of}
 use Rattle.cqe_base.specs.Facts.{FactSet}
 use Rattle.cqe_base.specs.Schema.{Text}
 use Rattle.cqe_base.specs.declared.user.User.{User}
 use Rattle.command_words.specs.Readings.{FileNames}
-use Rattle.policy_files.specs.Memory.{policy_user_of}
 use Rattle.policy_files.specs.Policies.{PolicyValue}
 use Rattle.serve_engine.specs.Serving as serving
 use Rattle.serve_engine.specs.Serving.{IsDone}
 use Rattle.serve_engine.specs.declared.run.ServeEnd.{ServeEnd}
 use Rattle.cqe_top.specs.declared.end.CommandEnd.{CommandEnd}
-use Rattle.cqe_top.specs.declared.end.CommandEnd.TheVariants as end
-use Rattle.cqe_top.specs.Files.{SayOn, LooksAtBoth, IsUnread, TouchesJournals, journals_of}
+use Rattle.cqe_top.specs.declared.end.CommandEnd.TheVariants as command_end
+use Rattle.cqe_top.specs.Files.{SayOn, LooksAtBoth, IsUnread, TouchesOnlyJournals, journals_of}
+use Rattle.cqe_top.specs.Files.{AreUsersOf}
 use Rattle.cqe_top.specs.Ready.{CanBeOpened}
 use Rattle.cqe_top.specs.Reports.{IsDoneUnlessMemory}
 use Rattle.cqe_top.specs.Scene.{Scene, ShelfScene, LinksScene, HasRisen}
@@ -24,29 +25,24 @@ use Rattle.cqe_top.specs.Scene.{SameDisks, SameShelf, SameInput, SameOutput, Sam
 abbrev pub ListensAt : LinksScene → Text → ℕ → Type 0
 ListensAt links address doors = links.listened' ≡ links.listened ++ place_of address doors ∷ []
 
--- No connection is left: none is at hand, and so none at all where before the call all that were
--- left were at hand, as they are where all doors are back.
-pub record IsNoneLeft (links : LinksScene) : Type 0 where
-  pub at_hand : links.at_hand' ≡ 0
-  pub left : links.left ≡ links.at_hand → links.left' ≡ 0
+-- The connections that were given in this call come up to the limit. With one more for each door
+-- that answered in the call that no further one comes, they are at least the limit; with one more
+-- for each worker, they are above it.
+pub record IsLimitReached (links : LinksScene) (workers limit : ℕ) : Type 0 where
+  pub with_ended : links.given + limit + links.ended ≤ links.given' + links.ended'
+  pub with_workers : links.given + limit < links.given' + workers
 
--- The connections that were given in this call are at least so many, together with the doors that
--- answered that no further one comes; and more, together with all workers.
-pub record IsLimitReached (links : LinksScene) (workers sessions : ℕ) : Type 0 where
-  pub with_ended : links.given + sessions + links.ended ≤ links.given' + links.ended'
-  pub with_workers : links.given + sessions < links.given' + workers
-
--- one of both
+-- no connection is at hand, or the limit is reached
 abbrev pub IsServedOut : LinksScene → ℕ → ℕ → Type 0
-IsServedOut links workers sessions = IsNoneLeft links ⊎ IsLimitReached links workers sessions
+IsServedOut links workers limit = (links.at_hand' ≡ 0) ⊎ IsLimitReached links workers limit
 
 module _ (shelf : ShelfScene) (links : LinksScene) (files : FileNames) (address : Text)
-    (workers sessions : ℕ) where
+    (workers limit : ℕ) where
   -- connections were served to these users of the policy, by the one history of each
   pub record ServesOverFiles (users : Vec User Global) (end : ServeEnd) (policy : PolicyValue)
       (world : FactSet) (header : List ℕ) : Type 0 where
-    pub of_policy : map policy_user_of users.items ≡ policy.users
-    pub touches : TouchesJournals shelf files policy
+    pub of_policy : AreUsersOf users policy
+    pub touches : TouchesOnlyJournals shelf files policy
     -- what it leaves of the journals, whatever the links tell
     pub journals : serving.LeavesJournals policy.schema world header (journals_of shelf files)
         users.items end
@@ -64,30 +60,32 @@ module _ (shelf : ShelfScene) (links : LinksScene) (files : FileNames) (address 
     -- where it didn't listen it touched no disk
     pub unheard : links.tells → links.listened' ≡ links.listened → SameDisks shelf
     pub heard : links.tells → IsDone end → ListensAt links address workers
-    pub ends : links.tells → IsDone end → IsServedOut links workers sessions
-    -- the connections that are left are all at hand again, where they were so before
+    pub ends : links.tells → IsDone end → IsServedOut links workers limit
+    -- The connections that are left are all at hand again, where they were so before, as they are
+    -- where all doors are back. So where none is at hand none is left.
     pub left : links.tells → links.left ≡ links.at_hand → links.left' ≡ links.at_hand'
     pub few_ended : links.ended' ≤ links.ended + workers
-    pub limited : links.tells → links.given' ≤ links.given + sessions
+    pub limited : links.tells → links.given' ≤ links.given + limit
 
   -- the ends that it may have
   abbrev pub ServeEnds : CommandEnd → Type 0
-  ServeEnds (end.Serve users end) = RunsServe users end
-  ServeEnds (end.Files end) = IsUnread shelf files end × SameLinks links
-  ServeEnds end.Memory = SameShelf shelf × SameLinks links
+  ServeEnds (command_end.Serve users engine_end) = RunsServe users engine_end
+  ServeEnds (command_end.Files why) = IsUnread shelf files why × SameLinks links
+  ServeEnds command_end.Memory = SameShelf shelf × SameLinks links
   ServeEnds end = ⊥
 
-  -- without a fault, it serves to its end over journals that can be opened
+  -- where no fault comes (of the users' disks `CanBeOpened` says it), it serves to its end over
+  -- journals that can be opened, unless memory is wanting
   abbrev pub ServeSucceeds : CommandEnd → Type 0
   ServeSucceeds end =
       shelf.tells → links.tells → SayOn shelf files (CanBeOpened (journals_of shelf files))
       → (HasRisen shelf.faults → ⊥) → (HasRisen links.faults → ⊥) → IsDoneUnlessMemory end
 
 -- `serve` over the files of these names, at this address, with so many workers and for so many
--- connections; it has no input and no output but these
-pub record OfServe (s : Scene) (files : FileNames) (address : Text) (workers sessions : ℕ)
+-- connections at most; it reads no input and writes no output: its clients come through the links
+pub record OfServe (s : Scene) (files : FileNames) (address : Text) (workers limit : ℕ)
     (end : CommandEnd) : Type 0 where
-  pub ends : ServeEnds s.shelf s.links files address workers sessions end
-  pub succeeds : ServeSucceeds s.shelf s.links files address workers sessions end
+  pub ends : ServeEnds s.shelf s.links files address workers limit end
   pub reads_nothing : SameInput s.input
   pub writes_nothing : SameOutput s.output
+  pub succeeds : ServeSucceeds s.shelf s.links files address workers limit end

@@ -4,7 +4,7 @@ ghost use Rattle.std.specs.Prelude.{◌≡◌, Option, map, string_bytes};
 ghost use Rattle.command_words.specs.Readings.{Reading, reading_of};
 ghost use Rattle.outside.specs.Shelf.{NoneOut};
 ghost use Rattle.cqe_top.specs.Promise.{Promise, OfReading, Always};
-ghost use Rattle.cqe_top.specs.Reports.{HasCause};
+ghost use Rattle.cqe_top.specs.Reports.{FaultsHaveCauses};
 ghost use Rattle.cqe_top.specs.Scene.{scene_of, shelf_of, input_of, output_of, links_of};
 
 use crate::complaint::complain;
@@ -20,9 +20,9 @@ use std::alloc::{AllocError, Global};
 use std::sync::Wait;
 use std::thread::Threads;
 
-/// Does all that the program does, and answers the status with which it ends: 0 done, 2 usage, 3
-/// policy, 4 facts, 5 script, 6 read, 7 write, 8 missing file, 9 shelf, 10 journal, 11 disk, 12
-/// links, 13 memory.
+/// Does all that the program does, and answers the status with which it ends: 0 done, 2 usage or no
+/// such user, 3 policy, 4 facts, 5 script, 6 read, 7 write, 8 missing file, 9 shelf, 10 journal, 11
+/// disk, 12 links, 13 memory.
 ///
 /// The command `case` reads a script with one user from the source and writes one line for each ask
 /// to the sink. `init` reads a policy and facts from the shelf and makes an empty journal on the
@@ -35,6 +35,8 @@ use std::thread::Threads;
 /// side, until the links end or so many connections were served. It may wait, for a client, at the
 /// desks and at the gate.
 /// What can't be done is said to the complaints; where they fail too, nothing else changes.
+///
+/// No clause speaks of the gate, and none says that connections are served side by side.
 pub fn top<
     R: Threads + Wait + Sync,
     F: Shelf,
@@ -87,7 +89,7 @@ where
         × OfReading (scene_of (shelf_of F.Shelf F.D.Disk shelf.old shelf.new)
         (input_of S.Source source.old source.new) (output_of K.Sink sink.old sink.new)
         (links_of L.Links links.old links.new)) read result }
-    ensures cause { HasCause (scene_of (shelf_of F.Shelf F.D.Disk shelf.old shelf.new)
+    ensures cause { FaultsHaveCauses (scene_of (shelf_of F.Shelf F.D.Disk shelf.old shelf.new)
         (input_of S.Source source.old source.new) (output_of K.Sink sink.old sink.new)
         (links_of L.Links links.old links.new)) result }
     ensures always { Always (scene_of (shelf_of F.Shelf F.D.Disk shelf.old shelf.new)

@@ -12,9 +12,10 @@ ghost use Rattle.outside.specs.Shelf.{Looks, SameNames};
 ghost use Rattle.policy_files.specs.Memory.{policy_value_of};
 ghost use Rattle.policy_files.specs.Policy.{policy_in};
 ghost use Rattle.policy_files.specs.Facts.{facts_of};
-ghost use Rattle.cqe_top.specs.Files.{both, header_for, said_on, LooksAt, LooksAtBoth, Refuses};
-ghost use Rattle.cqe_top.specs.Files.{RefusesFile, RefusesPolicy, RefusesFacts, IsShelfFault};
+ghost use Rattle.cqe_top.specs.Files.{both, header_for, said_on, LooksInOrder, LooksAtBoth};
+ghost use Rattle.cqe_top.specs.Files.{IsWhyUnread};
 ghost use Rattle.cqe_top.specs.Scene.{shelf_of};
+ghost use Rattle.cqe_top.specs.Steps.{RefusesFile, RefusesPolicy, RefusesFacts, IsShelfFault};
 
 use crate::end::{FileKind, FilesEnd};
 use command_words::Files;
@@ -49,9 +50,9 @@ pub(crate) fn read_files<'w, F: Shelf>(
         has_duplicate (user_names inputs.policy.users.items) ≡ false) }
     ensures both { F.tells → OnOk result (LooksAtBoth
         (shelf_of F.Shelf F.D.Disk shelf.old shelf.new) (names_of_files files.now)) }
-    ensures refused { IfErr result (λ end. F.tells → Refuses
+    ensures refused { IfErr result (λ end. F.tells → IsWhyUnread
         (shelf_of F.Shelf F.D.Disk shelf.old shelf.new) (names_of_files files.now) end) }
-    ensures looks { F.tells → LooksAt
+    ensures looks { F.tells → LooksInOrder
         (shelf_of F.Shelf F.D.Disk shelf.old shelf.new) (names_of_files files.now) }
     ensures disks { SameNames (F.disk shelf.old) (F.disk shelf.new) }
     ensures out { SameNames (F.is_out shelf.old) (F.is_out shelf.new) }

@@ -7,13 +7,15 @@
 //!
 //! Read `specs/Scene.antt` and `specs/Promise.antt`, and then the file of a command, as
 //! `specs/Batch.antt`;
-//! `specs/Reports.antt` has each status, `specs/Complaints.antt` the texts.
+//! `specs/Reports.antt` has each status, `specs/Complaints.antt` the texts. `specs/Steps.antt` is
+//! no part of the promise.
 #![tactic(auto)]
 
 mod command;
 mod complaint;
 mod end;
 mod files;
+pub mod laws;
 mod over_files;
 mod part;
 mod report;

@@ -4,9 +4,9 @@ ghost use Rattle.std.specs.Prelude.{IfSome};
 ghost use Rattle.command_words.specs.Readings.{names_of_files};
 ghost use Rattle.outside.specs.Shelf.{NoneOut};
 ghost use Rattle.cqe_top.specs.Promise.{OfReading, Always};
-ghost use Rattle.cqe_top.specs.Reports.{HasCause};
+ghost use Rattle.cqe_top.specs.Reports.{FaultsHaveCauses};
 ghost use Rattle.cqe_top.specs.Scene.{scene_of, shelf_of, input_of, output_of, links_of};
-ghost use Rattle.cqe_top.specs.Tasks.{reading_over, KeepsBounds};
+ghost use Rattle.cqe_top.specs.Steps.{reading_over, KeepsBounds};
 
 use crate::end::CommandEnd;
 use crate::files::read_files;
@@ -64,7 +64,7 @@ where
         (input_of S.Source source.old source.new) (output_of K.Sink sink.old sink.new)
         (links_of L.Links links.old links.new))
         (Some (reading_over (names_of_files files.entry) task.entry)) result }
-    ensures cause { HasCause (scene_of (shelf_of F.Shelf F.D.Disk shelf.old shelf.new)
+    ensures cause { FaultsHaveCauses (scene_of (shelf_of F.Shelf F.D.Disk shelf.old shelf.new)
         (input_of S.Source source.old source.new) (output_of K.Sink sink.old sink.new)
         (links_of L.Links links.old links.new)) result }
     ensures always { Always (scene_of (shelf_of F.Shelf F.D.Disk shelf.old shelf.new)

@@ -1,7 +1,7 @@
 //! What a command does: a case, the run of a workload, or something over files.
 ghost use Rattle.std.specs.Prelude.{◌≡◌};
 ghost use Rattle.command_words.specs.Readings.{reading_in};
-ghost use Rattle.cqe_top.specs.Tasks.{reading_of_part};
+ghost use Rattle.cqe_top.specs.Steps.{reading_of_part};
 
 use crate::over_files::Task;
 use command_words::{Command, Files, SelfrunWords};

@@ -8,7 +8,8 @@ use Rattle.cqe_base.specs.Limits.{KeepsSizes}
 use Rattle.cqe_base.specs.History.{AnsweredQuery, History}
 use Rattle.turnstile.specs.History.{Entries}
 use Rattle.user_desk.specs.declared.desk.Desk.{Desk}
-use Rattle.user_desk.specs.Entries.{StandsFor, StandsWithin, IsNoLonger}
+use Rattle.user_desk.specs.Causes.{OpensWithin}
+use Rattle.user_desk.specs.Entries.{StandsFor, IsNoLonger}
 use Rattle.user_desk.specs.Standings.{standing_of, is_open, is_sealed}
 use Rattle.user_desk.specs.Lives.{Holds, shown}
 use Rattle.user_desk.specs.Desks.{desk_schema, desk_world, desk_user, desk_header, desk_standing, desk_history, desk_disk, opening_count, opening_disk}
@@ -62,16 +63,20 @@ module _ {D : Type 0} {g : _} (desk : Desk D g) (fixed : Fixed D) (pairs : Entri
 
     pub closed_since : opening_count desk ≤ length (desk_history desk)
         → (told → is_sealed (desk_standing desk) ≡ false → (c : List ℕ) → image c
-        → StandsWithin (desk_schema desk) (desk_header desk) (opening_count desk) (desk_history desk ++ option_to_list (entry_in_flight desk)) c)
+        → OpensWithin (desk_schema desk) (desk_world desk) (desk_user desk) (desk_header desk) (opening_count desk)
+        (desk_history desk ++ option_to_list (entry_in_flight desk)) c)
         → told → is_sealed fixed.standing ≡ false → (c : List ℕ) → image c
-        → StandsWithin fixed.schema fixed.header (length fixed.opening) (history_of pairs ++ option_to_list (flying pairs)) c
+        → OpensWithin fixed.schema fixed.world fixed.user fixed.header (length fixed.opening) (history_of pairs ++ option_to_list (flying pairs)) c
     closed_since begins known t served c here =
-        subst (λ (f : Fixed D). StandsWithin f.schema f.header (length f.opening) (history_of pairs ++ option_to_list (flying pairs)) c) same
-        (subst (λ n. StandsWithin (desk_schema desk) (desk_header desk) n (history_of pairs ++ option_to_list (flying pairs)) c)
+        subst (λ (f : Fixed D). OpensWithin f.schema f.world f.user f.header (length f.opening) (history_of pairs ++ option_to_list (flying pairs)) c) same
+        (subst (λ n. OpensWithin (desk_schema desk) (desk_world desk) (desk_user desk) (desk_header desk) n
+        (history_of pairs ++ option_to_list (flying pairs)) c)
         (sym (length-take-le (opening_count desk) (desk_history desk) begins))
-        (subst (λ (h : History). StandsWithin (desk_schema desk) (desk_header desk) (opening_count desk) (h ++ option_to_list (flying pairs)) c) entries
+        (subst (λ (h : History). OpensWithin (desk_schema desk) (desk_world desk) (desk_user desk) (desk_header desk)
+        (opening_count desk) (h ++ option_to_list (flying pairs)) c) entries
         (subst (λ (o : Option AnsweredQuery).
-        StandsWithin (desk_schema desk) (desk_header desk) (opening_count desk) (desk_history desk ++ option_to_list o) c) flies
+        OpensWithin (desk_schema desk) (desk_world desk) (desk_user desk) (desk_header desk) (opening_count desk)
+        (desk_history desk ++ option_to_list o) c) flies
         (known t (closed_sealed ∙ served) c here))))
 
   module _ (faults : D → ℕ) where

@@ -21,14 +21,14 @@ use Rattle.user_desk.specs.declared.standing.Standing.TheVariants as standings
 use Rattle.desk_counter.specs.declared.item.TurnItem.{TurnItem}
 use Rattle.desk_counter.specs.declared.item.TurnItem.TheVariants.{Kept, Broke}
 use Rattle.desk_counter.specs.declared.ticketed_desk.TicketedDesk.{TicketedDesk}
-use Rattle.desk_counter.specs.Items.{history_of, flying, has_broke, pairs_of}
+use Rattle.desk_counter.specs.Items.{history_of, flying, has_broke, pairs_of, items_of, items_with}
 use Rattle.desk_counter.specs.Tickets.{pairs_in}
 use Rattle.desk_counter.specs.Desks.{fixed_of}
 use Rattle.desk_counter.specs.Asks as asks
 use Rattle.desk_counter.specs.Asks.{NoMark, Adds, entry_for}
 use Rattle.desk_counter.proofs.Settling.{Changes, none_flies, settled_changes}
 use Rattle.desk_counter.proofs.Settling as settling
-use Rattle.desk_counter.proofs.Pairs.{history_pairs, flying_pairs, adds_mark, adds_broke, adds_none}
+use Rattle.desk_counter.proofs.Pairs.{history_pairs, flying_pairs, items_pairs, adds_mark, adds_broke, adds_none}
 
 -- a desk is in the state that it shows
 in_itself : (standing : Standing) (entries : History) (in_flight : Option AnsweredQuery)
@@ -49,6 +49,13 @@ history_in value = history_pairs value.tickets.items (desk_history value.desk) v
 -- and so is the entry in flight
 pub flying_in : {D : Type 0} {g : _} (value : TicketedDesk D g) → flying (pairs_in value) ≡ entry_in_flight value.desk
 flying_in value = flying_pairs value.tickets.items (desk_history value.desk) value.broke (entry_in_flight value.desk)
+
+-- and they have no further item
+pub items_in : {D : Type 0} {g : _} (value : TicketedDesk D g) → items_of (pairs_in value) ≡ items_with (history_of (pairs_in value)) (flying (pairs_in value))
+items_in value =
+    items_pairs value.tickets.items (desk_history value.desk) value.broke (entry_in_flight value.desk) value.counted
+    ∙ ap (λ (h : History). items_with h (entry_in_flight value.desk)) (sym (history_in value))
+    ∙ ap (λ (o : Option AnsweredQuery). items_with (history_of (pairs_in value)) o) (sym (flying_in value))
 
 -- with ticket 0 alone the pairs are those of an opening
 pub opening_pairs : (count : ℕ) (entries : History) (in_flight : Option AnsweredQuery) → IsOpening (pairs_of (replicate count 0) entries 0 in_flight)

@@ -16,7 +16,7 @@ use Rattle.user_desk.specs.Lives.{shown}
 use Rattle.desk_counter.specs.declared.item.TurnItem.{TurnItem}
 use Rattle.desk_counter.specs.declared.item.TurnItem.TheVariants.{Kept, Broke}
 use Rattle.desk_counter.specs.declared.item.Fixed.{Fixed}
-use Rattle.desk_counter.specs.Items.{history_of, kept_pair, kept_pairs, flying, pairs_of, BrokeIsLast}
+use Rattle.desk_counter.specs.Items.{history_of, kept_pair, kept_pairs, flying, pairs_of, BrokeIsLast, is_broke_last, items_of, items_with}
 use Rattle.desk_counter.specs.Desks.{state_shown}
 use Rattle.desk_counter.specs.Asks.{entry_for, NoMark, Adds, answered, broke, coded, wanted, IsServing, AnswersWith}
 use Rattle.desk_counter.proofs.Settling.{Changes}
@@ -33,6 +33,20 @@ second_all (x ∷ xs) ys = ap (λ h. x.1 ∷ h) (second_all xs ys)
 -- the history of pairs and further ones
 pub history_all : (xs ys : Entries TurnItem) → history_of (xs ++ ys) ≡ history_of xs ++ history_of ys
 history_all xs ys = ap (λ ps. map (λ (p : ℕ × AnsweredQuery). p.1) ps) (kept_all xs ys) ∙ second_all (kept_pairs xs) (kept_pairs ys)
+
+-- and their items
+pub items_all : (xs ys : Entries TurnItem) → items_of (xs ++ ys) ≡ items_of xs ++ items_of ys
+items_all [] ys = refl
+items_all (x ∷ xs) ys = ap (λ l. x.1 ∷ l) (items_all xs ys)
+
+-- the items of the pairs
+pub items_pairs : (tickets : List ℕ) (entries : History) (ticket : ℕ) (in_flight : Option AnsweredQuery) → length tickets ≡ length entries
+    → items_of (pairs_of tickets entries ticket in_flight) ≡ items_with entries in_flight
+items_pairs [] [] ticket None e = refl
+items_pairs [] [] ticket (Some entry) e = refl
+items_pairs [] (x ∷ entries) ticket in_flight e = absurd (omega (arith, e))
+items_pairs (t ∷ tickets) [] ticket in_flight e = absurd (omega (arith, e))
+items_pairs (t ∷ tickets) (x ∷ entries) ticket in_flight e = ap (λ l. Kept x ∷ l) (items_pairs tickets entries ticket in_flight (omega (arith, e)))
 
 -- the entries of the journal among the pairs
 pub history_pairs : (tickets : List ℕ) (entries : History) (ticket : ℕ) (in_flight : Option AnsweredQuery) → length tickets ≡ length entries
@@ -89,6 +103,14 @@ pairs_last tickets entries ticket in_flight before after other entry e = of_zip 
         kept_broke : (let p : ℕ × TurnItem = (t, Kept x) in p) ≡ (other, Broke entry) → ⊥
         kept_broke e = let items : Kept x ≡ Broke entry = ap (λ (p : ℕ × TurnItem). p.1) e in cc
     of_zip (t ∷ tickets) (x ∷ entries) (p ∷ before) e = of_zip tickets entries before cc
+
+-- so no pair stands behind it
+pub broke_last : (pairs : Entries TurnItem) → BrokeIsLast pairs → is_broke_last pairs ≡ true
+broke_last [] last = refl
+broke_last ((t, Kept x) ∷ pairs) last =
+    broke_last pairs (λ before after ticket entry is. last ((t, Kept x) ∷ before) after ticket entry (ap (λ l. (t, Kept x) ∷ l) is))
+broke_last ((t, Broke x) ∷ []) last = refl
+broke_last ((t, Broke x) ∷ p ∷ pairs) last = let none : p ∷ pairs ≡ [] = last [] (p ∷ pairs) t x refl in absurd cc
 
 -- a desk with no entry in flight
 module _ {D : Type 0} (fixed : Fixed D) (text : Text) (tickets : List ℕ) (old : History) (mark_of_broke : ℕ) (counted : length tickets ≡ length old) where

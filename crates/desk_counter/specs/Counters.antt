@@ -1,13 +1,12 @@
 -- A counter and its passes.
 use Rattle.std.specs.Prelude.{◌≡◌, Some}
-use Rattle.cqe_base.specs.History.{History}
 use Rattle.turnstile.specs.declared.pass.Pass.{Pass}
+use Rattle.turnstile.specs.History.{Entries}
 use Rattle.turnstile.specs.Passes.{first_value, IsOf, IsReady, fixed}
 use Rattle.desk_counter.specs.declared.item.TurnItem.{TurnItem}
 use Rattle.desk_counter.specs.declared.item.Fixed.{Fixed}
 use Rattle.desk_counter.specs.declared.ticketed_desk.TicketedDesk.{TicketedDesk}
 use Rattle.desk_counter.specs.declared.counter.CounterOf.{CounterOf}
-use Rattle.desk_counter.specs.Items.{history_of}
 use Rattle.desk_counter.specs.Tickets.{fixed_in, pairs_in}
 
 -- what no turn changes of the counter's desk
@@ -15,11 +14,11 @@ abbrev pub kept_by : {D : Type 0} {g h : _} → CounterOf (TicketedDesk D g) Tur
     → Fixed D
 kept_by counter = fixed_in (first_value counter.turnstile)
 
--- the entries with which the counter's desk was put under it
-abbrev pub first_history : {D : Type 0} {g h : _}
+-- the pairs with which the counter's desk was put under it
+abbrev pub first_pairs : {D : Type 0} {g h : _}
     → CounterOf (TicketedDesk D g) TurnItem (Fixed D) h
-    → History
-first_history counter = history_of (pairs_in (first_value counter.turnstile))
+    → Entries TurnItem
+first_pairs counter = pairs_in (first_value counter.turnstile)
 
 -- the pass is of this counter, and isn't in a turn
 pub record IsPassOf {D : Type 0} {g h : _} (pass : Pass TurnItem (Fixed D))

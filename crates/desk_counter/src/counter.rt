@@ -45,14 +45,16 @@ impl<'w, D: Disk> CounterOf<'w, TicketedDesk<'w, D>> {
     ghost use Rattle.turnstile.specs.Views.{remaining_view, split_off_view, view_of_both};
     ghost use Rattle.turnstile.specs.Views.{DrewEachOnce};
     ghost use Rattle.turnstile.specs.Passes.{view_of, seen, tickets, mine, shares, turns};
-    ghost use Rattle.user_desk.specs.Entries.{StandsFor, StandsWithin, IsNoLonger};
+    ghost use Rattle.user_desk.specs.Causes.{OpensWithin};
+    ghost use Rattle.user_desk.specs.Entries.{StandsFor, IsNoLonger};
     ghost use Rattle.user_desk.specs.Lives.{Holds};
     ghost use Rattle.user_desk.specs.Standings.{is_open, is_sealed};
     ghost use Rattle.user_desk.specs.Desks.{desk_history, desk_disk, entry_in_flight};
     ghost use Rattle.desk_counter.specs.Items.{history_of, flying, has_broke, BrokeIsLast};
+    ghost use Rattle.desk_counter.specs.Items.{items_of, items_with, is_broke_last};
     ghost use Rattle.desk_counter.specs.Desks.{fixed_of, state_shown};
     ghost use Rattle.desk_counter.specs.Asks.{NoMark, Asked, IsReply, TellsMark, AddsNoEntry};
-    ghost use Rattle.desk_counter.specs.Counters.{kept_by, first_history, IsPassOf};
+    ghost use Rattle.desk_counter.specs.Counters.{kept_by, first_pairs, IsPassOf};
 
     /// Puts a desk under a counter. The pass has all 65 shares and 65 * 2^57 turns, and has seen
     /// the desk's entries, with ticket 0. For want of memory the desk comes back.
@@ -62,10 +64,11 @@ impl<'w, D: Disk> CounterOf<'w, TicketedDesk<'w, D>> {
     ) -> Result<(Counter<'w, D>, DeskPass<D>), Desk<'w, D>>
         ensures pass { IfOk result (λ c. IsPassOf c.1 c.0) }
         ensures kept { IfOk result (λ c. kept_by c.0 ≡ fixed_of desk.entry) }
-        ensures first { IfOk result (λ c. first_history c.0 ≡ desk_history desk.entry) }
+        ensures first { IfOk result (λ c. first_pairs c.0 ≡ seen c.1) }
         ensures history { IfOk result (λ c. history_of (seen c.1) ≡ desk_history desk.entry) }
         ensures in_flight { IfOk result (λ c. flying (seen c.1) ≡ entry_in_flight desk.entry) }
         ensures opening { IfOk result (λ c. IsOpening (seen c.1)) }
+        ensures last { IfOk result (λ c. is_broke_last (seen c.1) ≡ true) }
         ensures mine { IfOk result (λ c. mine c.1 ≡ []) }
         ensures all { IfOk result (λ c. (shares c.1 ≡ 65) × (turns c.1 ≡ 65 * 2 ^ 57)) }
         ensures err { IfErr result (λ same. same ≡ desk.entry) }
@@ -182,8 +185,12 @@ impl<'w, D: Disk> CounterOf<'w, TicketedDesk<'w, D>> {
         ensures history { desk_history result ≡ history_of (seen pass) }
         ensures in_flight { entry_in_flight result ≡ flying (seen pass) }
         ensures mine { turn_entries (seen pass) ≡ mine pass }
-        ensures added { history_of (seen pass)
-            ≡ first_history self.entry ++ history_of (mine pass) }
+
+        // They are the pairs that the desk was put under the counter with, and behind them the
+        // pass's own: so an append failed where one had failed before, or one of the pass's own.
+        ensures added { seen pass ≡ first_pairs self.entry ++ mine pass }
+        ensures items { items_of (seen pass)
+            ≡ items_with (history_of (seen pass)) (flying (seen pass)) }
         ensures drew { DrewEachOnce (view_of pass) }
 
         // What was seen is a legal history within the limits, and each crash leaves just that;
@@ -213,12 +220,13 @@ impl<'w, D: Disk> CounterOf<'w, TicketedDesk<'w, D>> {
             (D.reads (desk_disk result)) }
         ensures count { D.faults (kept_by self.entry).disk ≤ D.faults (desk_disk result) }
 
-        // Since the opening each image stood for a beginning of it that has all entries at the
-        // opening; and where the journal was refused, or nothing was appended, the disk is as it
-        // was.
+        // Since the opening each image opens a desk with a beginning of it that has all entries at
+        // the opening; and where the journal was refused, or nothing was appended, the disk is as
+        // it was.
         ensures since { D.tells → is_sealed (kept_by self.entry).standing ≡ false → (c : List ℕ)
             → D.image_since (desk_disk result) (D.moment (kept_by self.entry).disk) c
-            → StandsWithin (kept_by self.entry).schema (kept_by self.entry).header
+            → OpensWithin (kept_by self.entry).schema (kept_by self.entry).world
+            (kept_by self.entry).user (kept_by self.entry).header
             (length (kept_by self.entry).opening)
             (history_of (seen pass) ++ option_to_list (flying (seen pass))) c }
         ensures refused { is_sealed (kept_by self.entry).standing ≡ true

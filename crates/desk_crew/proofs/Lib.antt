@@ -5,3 +5,4 @@ pub mod Opening
 pub mod Asking
 pub mod Seated
 pub mod Rising
+pub mod Lasting

@@ -7,6 +7,7 @@ use Rattle.std.specs.Cmp.Lexicographic.{same_text}
 use Rattle.std.proofs.lemmas.List.{take_more, take-append-drop, map-append}
 use Rattle.outside.proofs.Taken.{taken_reads, taken_images}
 use Rattle.outside.specs.Shelf.{IsTaken, SameNames, SameOthers, bytes_on, image_on, is_among, SameBeside, AllOut, AllIn, NoneOut, NoneFell, AreOut}
+use Rattle.outside.specs.declared.disk.Disk.{Ghosts as DiskGhosts}
 use Rattle.cqe_base.specs.Schema.{Text, DatabaseSchema, has_duplicate}
 use Rattle.cqe_base.specs.Facts.{FactSet}
 use Rattle.cqe_base.specs.History.{profile_of}
@@ -73,10 +74,10 @@ module _ (directory : Text) where
   journals_distinct differ (n ∷ ns) =
       ap (λ b. b || has_duplicate (map (journal_name directory) ns)) (journal_among differ ns n) ∙ ap (λ b. is_among ns n || b) (journals_distinct differ ns)
 
-  module _ (schema : DatabaseSchema) (world : FactSet) (header : List ℕ) {D : Type 0} {g h : _} (told disk_told : Type 0) (reads : D → List ℕ)
-      (image : D → List ℕ → Type 0) (faults : D → ℕ) (disk0 : Text → Option D) (count0 : Text → ℕ) where
+  module _ (schema : DatabaseSchema) (world : FactSet) (header : List ℕ) {D : Type 0} {g h : _} (told disk_told : Type 0) (Disk : DiskGhosts D)
+      (disk0 : Text → Option D) (count0 : Text → ℕ) where
     abbrev Seats : List User → List (DeskSeat D g h) → Type 0
-    Seats users seats = AreSeatsOf told reads image faults disk_told schema world header directory disk0 count0 users seats
+    Seats users seats = AreSeatsOf told Disk disk_told schema world header directory disk0 count0 users seats
 
     -- the journals of seats are those of their users
     pub seat_journals : (users : List User) (seats : List (DeskSeat D g h)) → Seats users seats → journals seats ≡ map (journal_name directory) (names users)
@@ -91,7 +92,7 @@ module _ (directory : Text) where
     seats_distinct differ users seats are distinct = ap has_duplicate (seat_journals users seats are) ∙ journals_distinct differ (names users) ∙ distinct
 
     pub seats_later : (count : Text → ℕ) (users : List User) (seats : List (DeskSeat D g h)) → SameNames count0 count → Seats users seats
-        → AreLater faults count seats
+        → AreLater Disk.faults count seats
     seats_later count [] [] same are = tt
     seats_later count [] (s ∷ seats) same are = absurd are
     seats_later count (u ∷ users) [] same are = absurd are
@@ -123,7 +124,7 @@ module _ (directory : Text) where
     same_length (u ∷ users) (s ∷ seats) are = ap (λ n. suc n) (same_length users seats are.1)
 
     seats-push : (users : List User) (seats : List (DeskSeat D g h)) (user : User) (seat : DeskSeat D g h) → Seats users seats
-        → IsSeatOf told reads image faults disk_told schema world header directory disk0 count0 user seat → Seats (users ++ user ∷ []) (seats ++ seat ∷ [])
+        → IsSeatOf told Disk disk_told schema world header directory disk0 count0 user seat → Seats (users ++ user ∷ []) (seats ++ seat ∷ [])
     seats-push [] [] user seat are is = (is, tt)
     seats-push [] (s ∷ seats) user seat are is = absurd are
     seats-push (u ∷ users) [] user seat are is = absurd are
@@ -181,13 +182,14 @@ module _ (directory : Text) where
       pub next_in : is_out one ≡ false
       next_in = so_far.out one ∙ next_none
 
-      seat_here : (seat : DeskSeat D g h) → IsSeatOf told reads image faults disk_told schema world header directory disk count user seat
-          → IsSeatOf told reads image faults disk_told schema world header directory disk0 count0 user seat
+      seat_here : (seat : DeskSeat D g h) → IsSeatOf told Disk disk_told schema world header directory disk count user seat
+          → IsSeatOf told Disk disk_told schema world header directory disk0 count0 user seat
       seat_here seat at = record {
         user_is = at.user_is;
         journal_is = at.journal_is;
         taken = at.taken;
-        from = λ t. subst (λ o. IsTaken reads image o at.taken) (so_far.disks (seat_journal seat) (ap (is_among (journals seats)) at.journal_is ∙ next_none))
+        from = λ t. subst (λ o. IsTaken Disk.reads Disk.image o at.taken) (so_far.disks (seat_journal seat) (ap (is_among (journals seats)) at.journal_is
+            ∙ next_none))
             (at.from t);
         counted = at.counted ∙ so_far.counts (seat_journal seat);
         opened = at.opened;
@@ -195,7 +197,7 @@ module _ (directory : Text) where
       }
 
       pub opened_more : (seat : DeskSeat D g h) (disk' : Text → Option D) (is_out' : Text → Bool) (count' : Text → ℕ)
-          → IsSeatOf told reads image faults disk_told schema world header directory disk count user seat
+          → IsSeatOf told Disk disk_told schema world header directory disk count user seat
           → is_out' one ≡ true → SameOthers one is_out is_out' → SameOthers one disk disk' → SameNames count count'
           → Opened users (i + 1) (seats ++ seat ∷ []) disk' is_out' count'
       opened_more seat disk' is_out' count' at out outs disks counts =
@@ -242,8 +244,8 @@ module _ (directory : Text) where
         by true among = inside name among
         by false none = others name none ∙ are name ∙ none
 
-    by_later : (count count' : Text → ℕ) (disk' : Text → Option D) (name : Text) (s : DeskSeat D g h) → count (seat_journal s) ≤ faults (seat_disk s)
-        → IsBack told reads image faults disk' count' s → (b : Bool) → bytes_eq name (seat_journal s) ≡ b
+    by_later : (count count' : Text → ℕ) (disk' : Text → Option D) (name : Text) (s : DeskSeat D g h) → count (seat_journal s) ≤ Disk.faults (seat_disk s)
+        → IsBack told Disk disk' count' s → (b : Bool) → bytes_eq name (seat_journal s) ≡ b
         → (bytes_eq name (seat_journal s) ≡ false → count name ≤ count' name) → count name ≤ count' name
     by_later count count' disk' name s first back true same more =
         let at : name ≡ seat_journal s = same_text name (seat_journal s) (sym same) in
@@ -253,16 +255,16 @@ module _ (directory : Text) where
         subst (λ n. count n ≤ count' n) (sym at) (omega (arith, first, closed, on, counted))
     by_later count count' disk' name s first back false differs more = more differs
 
-    among_later : (count count' : Text → ℕ) (disk' : Text → Option D) (name : Text) (ss : List (DeskSeat D g h)) → AreLater faults count ss
-        → AreBack told reads image faults disk' count' ss → is_among (journals ss) name ≡ true → count name ≤ count' name
+    among_later : (count count' : Text → ℕ) (disk' : Text → Option D) (name : Text) (ss : List (DeskSeat D g h)) → AreLater Disk.faults count ss
+        → AreBack told Disk disk' count' ss → is_among (journals ss) name ≡ true → count name ≤ count' name
     among_later count count' disk' name [] later back among = absurd cc
     among_later count count' disk' name (s ∷ ss) later back among =
         by_later count count' disk' name s later.0 back.0 (bytes_eq name (seat_journal s)) refl
         (λ differs. among_later count count' disk' name ss later.1 back.1 (sym (ap (λ b. b || is_among (journals ss) name) differs) ∙ among))
 
     -- no count fell
-    pub none_fell : (count count' : Text → ℕ) (seats : List (DeskSeat D g h)) → AreLater faults count seats → (disk' : Text → Option D)
-        → AreBack told reads image faults disk' count' seats → SameBeside (journals seats) count count'
+    pub none_fell : (count count' : Text → ℕ) (seats : List (DeskSeat D g h)) → AreLater Disk.faults count seats → (disk' : Text → Option D)
+        → AreBack told Disk disk' count' seats → SameBeside (journals seats) count count'
         → NoneFell count count'
     none_fell count count' seats later disk' back others name = by (is_among (journals seats) name) refl
       where
@@ -271,28 +273,28 @@ module _ (directory : Text) where
         by false none = subst (λ n. count name ≤ n) (sym (others name none)) (omega arith)
 
     by_same : told → (disk' : Text → Option D) (count' : Text → ℕ) (name : Text) (u : User) (s : DeskSeat D g h)
-        → IsSeatOf told reads image faults disk_told schema world header directory disk0 count0 u s → IsBack told reads image faults disk' count' s
-        → (b : Bool) → bytes_eq name (seat_journal s) ≡ b → (bytes_eq name (seat_journal s) ≡ false → Same reads image disk0 disk' name)
-        → Same reads image disk0 disk' name
+        → IsSeatOf told Disk disk_told schema world header directory disk0 count0 u s → IsBack told Disk disk' count' s
+        → (b : Bool) → bytes_eq name (seat_journal s) ≡ b → (bytes_eq name (seat_journal s) ≡ false → Same Disk.reads Disk.image disk0 disk' name)
+        → Same Disk.reads Disk.image disk0 disk' name
     by_same t disk' count' name u s are back true same more =
         let at : name ≡ seat_journal s = same_text name (seat_journal s) (sym same) in
-        subst (Same reads image disk0 disk') (sym at) (reads_same, images)
+        subst (Same Disk.reads Disk.image disk0 disk') (sym at) (reads_same, images)
       where
         still : back.left.closed ≡ seat_disk s
         still = back.left.is_closed.still are.opened.fresh
 
-        reads_same : bytes_on reads (disk' (seat_journal s)) ≡ bytes_on reads (disk0 (seat_journal s))
-        reads_same = ap (bytes_on reads) (back.held t) ∙ back.left.left.reads_same ∙ ap reads still ∙ are.left.reads_same
-            ∙ taken_reads reads image (disk0 (seat_journal s)) are.taken (are.from t)
+        reads_same : bytes_on Disk.reads (disk' (seat_journal s)) ≡ bytes_on Disk.reads (disk0 (seat_journal s))
+        reads_same = ap (bytes_on Disk.reads) (back.held t) ∙ back.left.left.reads_same ∙ ap Disk.reads still ∙ are.left.reads_same
+            ∙ taken_reads Disk.reads Disk.image (disk0 (seat_journal s)) are.taken (are.from t)
 
-        images : (c : List ℕ) → image_on image (disk' (seat_journal s)) c → image_on image (disk0 (seat_journal s)) c
+        images : (c : List ℕ) → image_on Disk.image (disk' (seat_journal s)) c → image_on Disk.image (disk0 (seat_journal s)) c
         images c left =
-            let closed = back.left.left.images c (subst (λ o. image_on image o c) (back.held t) left) in
-            taken_images reads image (disk0 (seat_journal s)) are.taken c (are.from t) (are.left.images c (subst (λ d. image d c) still closed))
+            let closed = back.left.left.images c (subst (λ o. image_on Disk.image o c) (back.held t) left) in
+            taken_images Disk.reads Disk.image (disk0 (seat_journal s)) are.taken c (are.from t) (are.left.images c (subst (λ d. Disk.image d c) still closed))
     by_same t disk' count' name u s are back false differs more = more differs
 
     among_same : told → (disk' : Text → Option D) (count' : Text → ℕ) (name : Text) (us : List User) (ss : List (DeskSeat D g h)) → Seats us ss
-        → AreBack told reads image faults disk' count' ss → is_among (journals ss) name ≡ true → Same reads image disk0 disk' name
+        → AreBack told Disk disk' count' ss → is_among (journals ss) name ≡ true → Same Disk.reads Disk.image disk0 disk' name
     among_same t disk' count' name [] [] are back among = absurd cc
     among_same t disk' count' name [] (s ∷ ss) are back among = absurd are
     among_same t disk' count' name (u ∷ us) [] are back among = absurd cc
@@ -302,10 +304,11 @@ module _ (directory : Text) where
 
     -- all disks are as at the beginning, where those under other names are
     pub all_same : told → (users : List User) (seats : List (DeskSeat D g h)) → Seats users seats → (disk' : Text → Option D) (count' : Text → ℕ)
-        → AreBack told reads image faults disk' count' seats
-        → ((name : Text) → is_among (journals seats) name ≡ false → Same reads image disk0 disk' name) → (name : Text) → Same reads image disk0 disk' name
+        → AreBack told Disk disk' count' seats
+        → ((name : Text) → is_among (journals seats) name ≡ false → Same Disk.reads Disk.image disk0 disk' name) → (name : Text)
+        → Same Disk.reads Disk.image disk0 disk' name
     all_same t users seats are disk' count' back others name = by (is_among (journals seats) name) refl
       where
-        by : (b : Bool) → is_among (journals seats) name ≡ b → Same reads image disk0 disk' name
+        by : (b : Bool) → is_among (journals seats) name ≡ b → Same Disk.reads Disk.image disk0 disk' name
         by true among = among_same t disk' count' name users seats are back among
         by false none = others name none

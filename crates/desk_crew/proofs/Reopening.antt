@@ -3,6 +3,7 @@ use Rattle.std.proofs.Common.{◌≡◌, ℕ, ◌≤◌, Bool, true, false, List
 use Rattle.std.specs.Prelude.{Option, Some, ◌||◌, bytes_eq}
 use Rattle.std.specs.Cmp.Lexicographic.{same_text}
 use Rattle.outside.specs.Shelf.{SameOthers, is_among, SameBeside, AllOut, AllIn}
+use Rattle.outside.specs.declared.disk.Disk.{Ghosts as DiskGhosts}
 use Rattle.cqe_base.specs.Schema.{Text, DatabaseSchema, has_duplicate}
 use Rattle.cqe_base.specs.Facts.{FactSet}
 use Rattle.cqe_base.proofs.Truths.{or_first, or_second}
@@ -13,27 +14,26 @@ use Rattle.cqe_base.proofs.Lists.{text_is}
 use Rattle.desk_crew.proofs.Shelving.{Parts, parts, among-append, journals-append, back-append, back_on, later-first, later-second, later_on, left_on}
 use Rattle.desk_crew.proofs.Shelving.{among_first, among_second, among_none_first, among_none_second, beside_one}
 
-module _ (schema : DatabaseSchema) (world : FactSet) (header : List ℕ) {D : Type 0} {g h : _} (told shelf_told : Type 0) (reads : D → List ℕ)
-    (image : D → List ℕ → Type 0) (faults : D → ℕ) where
+module _ (schema : DatabaseSchema) (world : FactSet) (header : List ℕ) {D : Type 0} {g h : _} (told shelf_told : Type 0) (Disk : DiskGhosts D) where
   -- these seats were closed and opened again, and those are still to be
   pub record Halfway (all seats reopened : List (DeskSeat D g h)) : Type 0 where
     pub done : List (DeskSeat D g h)
     pub split : all ≡ done ++ seats
-    pub are : AreReopened schema world header told reads image faults done reopened
+    pub are : AreReopened schema world header told Disk done reopened
 
   pub halfway_first : (all reopened : List (DeskSeat D g h)) → reopened ≡ [] → Halfway all all reopened
-  halfway_first all reopened none = record { done = []; split = refl; are = subst (AreReopened schema world header told reads image faults []) (sym none) tt }
+  halfway_first all reopened none = record { done = []; split = refl; are = subst (AreReopened schema world header told Disk []) (sym none) tt }
 
-  reopened-push : (done news : List (DeskSeat D g h)) (old new : DeskSeat D g h) → AreReopened schema world header told reads image faults done news
-      → IsReopened schema world header told reads image faults old new
-      → AreReopened schema world header told reads image faults (done ++ old ∷ []) (news ++ new ∷ [])
+  reopened-push : (done news : List (DeskSeat D g h)) (old new : DeskSeat D g h) → AreReopened schema world header told Disk done news
+      → IsReopened schema world header told Disk old new
+      → AreReopened schema world header told Disk (done ++ old ∷ []) (news ++ new ∷ [])
   reopened-push [] [] old new are is = (is, tt)
   reopened-push [] (n ∷ news) old new are is = absurd are
   reopened-push (d ∷ done) [] old new are is = absurd are
   reopened-push (d ∷ done) (n ∷ news) old new are is = (are.0, reopened-push done news old new are.1 is)
 
   pub halfway_more : (all seats rest reopened : List (DeskSeat D g h)) (old new : DeskSeat D g h) → seats ≡ old ∷ rest → Halfway all seats reopened
-      → IsReopened schema world header told reads image faults old new → Halfway all rest (reopened ++ new ∷ [])
+      → IsReopened schema world header told Disk old new → Halfway all rest (reopened ++ new ∷ [])
   halfway_more all seats rest reopened old new is half again = record {
     done = half.done ++ old ∷ [];
     split = half.split ∙ ap (λ l. half.done ++ l) is ∙ sym (append_assoc half.done (old ∷ []) rest);
@@ -41,20 +41,20 @@ module _ (schema : DatabaseSchema) (world : FactSet) (header : List ℕ) {D : Ty
   }
 
   pub halfway_all : (all seats reopened : List (DeskSeat D g h)) → seats ≡ [] → Halfway all seats reopened
-      → AreReopened schema world header told reads image faults all reopened
+      → AreReopened schema world header told Disk all reopened
   halfway_all all seats reopened none half =
-      subst (λ l. AreReopened schema world header told reads image faults l reopened)
+      subst (λ l. AreReopened schema world header told Disk l reopened)
       (sym (half.split ∙ ap (λ l. half.done ++ l) none ∙ append-nil half.done)) half.are
 
   -- a seat's names go on
-  pub same_journals : (olds news : List (DeskSeat D g h)) → AreReopened schema world header told reads image faults olds news → journals news ≡ journals olds
+  pub same_journals : (olds news : List (DeskSeat D g h)) → AreReopened schema world header told Disk olds news → journals news ≡ journals olds
   same_journals [] [] are = refl
   same_journals [] (n ∷ news) are = absurd are
   same_journals (o ∷ olds) [] are = absurd are
   same_journals (o ∷ olds) (n ∷ news) are = ap (λ j. j ∷ journals news) are.0.journal_is ∙ ap (λ js. seat_journal o ∷ js) (same_journals olds news are.1)
 
-  pub later_reopened : (count : Text → ℕ) (olds news : List (DeskSeat D g h)) → AreReopened schema world header told reads image faults olds news
-      → AreLater faults count olds → AreLater faults count news
+  pub later_reopened : (count : Text → ℕ) (olds news : List (DeskSeat D g h)) → AreReopened schema world header told Disk olds news
+      → AreLater Disk.faults count olds → AreLater Disk.faults count news
   later_reopened count [] [] are later = tt
   later_reopened count [] (n ∷ news) are later = absurd are
   later_reopened count (o ∷ olds) [] are later = absurd are
@@ -62,16 +62,17 @@ module _ (schema : DatabaseSchema) (world : FactSet) (header : List ℕ) {D : Ty
       let first = later.0 in
       let closed = are.0.is_closed.later in
       let on = are.0.left.later in
-      (subst (λ j. count j ≤ faults (seat_disk n)) (sym are.0.journal_is) (omega (arith, first, closed, on)), later_reopened count olds news are.1 later.1)
+      (subst (λ j. count j ≤ Disk.faults (seat_disk n)) (sym are.0.journal_is) (omega (arith, first, closed, on)), later_reopened count olds news are.1 later.1)
 
   -- what a closed desk shows where the shelf tells its disks
-  closed_told : (shelf_told → told) → (seat : DeskSeat D g h) (disk : D) → IsClosed told reads image faults seat.desk disk
-      → IsClosed shelf_told reads image faults seat.desk disk
+  closed_told : (shelf_told → told) → (seat : DeskSeat D g h) (disk : D) → IsClosed told Disk seat.desk disk
+      → IsClosed shelf_told Disk seat.desk disk
   closed_told tells seat disk closed =
       record {
         holds = λ t. closed.holds (tells t);
         legal = closed.legal;
         added = closed.added;
+        items = closed.items;
         idle = closed.idle;
         later = closed.later;
         cause =
@@ -79,12 +80,14 @@ module _ (schema : DatabaseSchema) (world : FactSet) (header : List ℕ) {D : Ty
         size = λ t. closed.size (tells t);
         shut = closed.shut;
         still = closed.still;
+        since = λ t. closed.since (tells t);
+        time = closed.time;
       }
 
   -- where the disks of reopened seats are back, those of the seats before are
   back_before : (shelf_told → told) → (disk : Text → Option D) (count : Text → ℕ) (olds news : List (DeskSeat D g h))
-      → AreReopened schema world header told reads image faults olds news → AreBack shelf_told reads image faults disk count news
-      → AreBack shelf_told reads image faults disk count olds
+      → AreReopened schema world header told Disk olds news → AreBack shelf_told Disk disk count news
+      → AreBack shelf_told Disk disk count olds
   back_before tells disk count [] [] are back = tt
   back_before tells disk count [] (n ∷ news) are back = absurd are
   back_before tells disk count (o ∷ olds) [] are back = absurd are
@@ -94,8 +97,8 @@ module _ (schema : DatabaseSchema) (world : FactSet) (header : List ℕ) {D : Ty
       left = record {
         closed = are.0.closed;
         is_closed = closed_told tells o are.0.closed are.0.is_closed;
-        left = left_on reads image faults are.0.closed (seat_disk n) back.0.now are.0.left
-            (subst (λ d. IsLeft reads image faults d back.0.now) (back.0.left.is_closed.still are.0.opened.fresh) back.0.left.left);
+        left = left_on Disk are.0.closed (seat_disk n) back.0.now are.0.left
+            (subst (λ d. IsLeft Disk d back.0.now) (back.0.left.is_closed.still are.0.opened.fresh) back.0.left.left);
       };
       held = λ t. ap disk (sym are.0.journal_is) ∙ back.0.held t;
       counted = ap count (sym are.0.journal_is) ∙ back.0.counted;
@@ -107,7 +110,7 @@ module _ (schema : DatabaseSchema) (world : FactSet) (header : List ℕ) {D : Ty
 
   module _ (all seats rest reopened : List (DeskSeat D g h)) (seat : DeskSeat D g h) (is : seats ≡ seat ∷ rest) (half : Halfway all seats reopened)
       (disk0 : Text → Option D) (out0 : Text → Bool) (count0 : Text → ℕ) (distinct : has_duplicate (journals all) ≡ false) (out : AllOut (journals all) out0)
-      (later : AreLater faults count0 all) where
+      (later : AreLater Disk.faults count0 all) where
     abbrev here : Text
     here = seat_journal seat
 
@@ -126,22 +129,22 @@ module _ (schema : DatabaseSchema) (world : FactSet) (header : List ℕ) {D : Ty
     among_rest : (name : Text) → is_among (journals rest) name ≡ true → is_among (here ∷ journals rest) name ≡ true
     among_rest name is = among_second (here ∷ []) (journals rest) name is
 
-    all_later : AreLater faults count0 (half.done ++ (seat ∷ rest))
-    all_later = subst (AreLater faults count0) (half.split ∙ ap (λ l. half.done ++ l) is) later
+    all_later : AreLater Disk.faults count0 (half.done ++ (seat ∷ rest))
+    all_later = subst (AreLater Disk.faults count0) (half.split ∙ ap (λ l. half.done ++ l) is) later
 
     pub fail_out : out0 here ≡ true
     fail_out = out here (among_all here (among_second (journals half.done) (here ∷ journals rest) here among_here))
 
-    pub fail_later : count0 here ≤ faults (seat_disk seat)
-    fail_later = (later-second shelf_told reads image faults count0 half.done (seat ∷ rest) all_later).0
+    pub fail_later : count0 here ≤ Disk.faults (seat_disk seat)
+    fail_later = (later-second shelf_told Disk count0 half.done (seat ∷ rest) all_later).0
 
     here_apart : is_among (journals rest) here ≡ false
     here_apart = or_first _ _ two.second
 
     module _ (returned : D) (disk1 : Text → Option D) (out1 : Text → Bool) (count1 : Text → ℕ) (one : Text) (named : one ≡ here) (tells : shelf_told → told)
-        (left : IsLeftBy told reads image faults seat.desk returned)
+        (left : IsLeftBy told Disk seat.desk returned)
         (held1 : shelf_told → disk1 one ≡ Some returned) (disks1 : SameOthers one disk0 disk1) (in1 : out1 one ≡ false) (outs1 : SameOthers one out0 out1)
-        (counted1 : count1 one ≡ faults returned) (counts1 : SameOthers one count0 count1) where
+        (counted1 : count1 one ≡ Disk.faults returned) (counts1 : SameOthers one count0 count1) where
       one_apart : is_among (journals rest) one ≡ false
       one_apart = ap (is_among (journals rest)) named ∙ here_apart
 
@@ -153,11 +156,11 @@ module _ (schema : DatabaseSchema) (world : FactSet) (header : List ℕ) {D : Ty
           beside_one one (journals rest) out0 out1 one_apart outs1 name among
           ∙ out name (among_all name (among_second (journals half.done) (here ∷ journals rest) name (among_rest name among)))
 
-      pub rest_later : AreLater faults count1 rest
-      rest_later = later_on shelf_told reads image faults count0 count1 rest (beside_one one (journals rest) count0 count1 one_apart counts1)
-          (later-second shelf_told reads image faults count0 half.done (seat ∷ rest) all_later).1
+      pub rest_later : AreLater Disk.faults count1 rest
+      rest_later = later_on shelf_told Disk count0 count1 rest (beside_one one (journals rest) count0 count1 one_apart counts1)
+          (later-second shelf_told Disk count0 half.done (seat ∷ rest) all_later).1
 
-      module _ (disk2 : Text → Option D) (out2 : Text → Bool) (count2 : Text → ℕ) (back2 : AreBack shelf_told reads image faults disk2 count2 rest)
+      module _ (disk2 : Text → Option D) (out2 : Text → Bool) (count2 : Text → ℕ) (back2 : AreBack shelf_told Disk disk2 count2 rest)
           (in2 : AllIn (journals rest) out2)
           (outs2 : SameBeside (journals rest) out1 out2) (disks2 : SameBeside (journals rest) disk1 disk2)
           (counts2 : SameBeside (journals rest) count1 count2) where
@@ -179,12 +182,12 @@ module _ (schema : DatabaseSchema) (world : FactSet) (header : List ℕ) {D : Ty
             let was : is_among (journals half.done) name ≡ true = ap (λ ns. is_among ns name) (sym (same_journals half.done reopened half.are)) ∙ among in
             done_same out0 out1 out2 outs1 outs2 name was ∙ out name (among_all name (among_first (journals half.done) (here ∷ journals rest) name was))
 
-        pub done_later : AreLater faults count2 reopened
+        pub done_later : AreLater Disk.faults count2 reopened
         done_later = later_reopened count2 half.done reopened half.are
-            (later_on shelf_told reads image faults count0 count2 half.done (done_same count0 count1 count2 counts1 counts2)
-            (later-first shelf_told reads image faults count0 half.done (seat ∷ rest) all_later))
+            (later_on shelf_told Disk count0 count2 half.done (done_same count0 count1 count2 counts1 counts2)
+            (later-first shelf_told Disk count0 half.done (seat ∷ rest) all_later))
 
-        module _ (disk3 : Text → Option D) (out3 : Text → Bool) (count3 : Text → ℕ) (back3 : AreBack shelf_told reads image faults disk3 count3 reopened)
+        module _ (disk3 : Text → Option D) (out3 : Text → Bool) (count3 : Text → ℕ) (back3 : AreBack shelf_told Disk disk3 count3 reopened)
             (in3 : AllIn (journals reopened) out3)
             (outs3 : SameBeside (journals reopened) out2 out3) (disks3 : SameBeside (journals reopened) disk2 disk3)
             (counts3 : SameBeside (journals reopened) count2 count3) where
@@ -209,7 +212,7 @@ module _ (schema : DatabaseSchema) (world : FactSet) (header : List ℕ) {D : Ty
 
           -- all disks are back
           pub record Failed : Type 0 where
-            pub back : AreBack shelf_told reads image faults disk3 count3 all
+            pub back : AreBack shelf_told Disk disk3 count3 all
             pub inside : AllIn (journals all) out3
             pub others_out : SameBeside (journals all) out0 out3
             pub disks : SameBeside (journals all) disk0 disk3
@@ -235,8 +238,8 @@ module _ (schema : DatabaseSchema) (world : FactSet) (header : List ℕ) {D : Ty
 
           pub failed : Failed
           failed = record {
-            back = subst (AreBack shelf_told reads image faults disk3 count3) (sym (half.split ∙ ap (λ l. half.done ++ l) is))
-                (back-append shelf_told reads image faults disk3 count3 half.done (seat ∷ rest)
+            back = subst (AreBack shelf_told Disk disk3 count3) (sym (half.split ∙ ap (λ l. half.done ++ l) is))
+                (back-append shelf_told Disk disk3 count3 half.done (seat ∷ rest)
                 (back_before tells disk3 count3 half.done reopened half.are back3) (
                   record {
                     now = returned;
@@ -244,7 +247,7 @@ module _ (schema : DatabaseSchema) (world : FactSet) (header : List ℕ) {D : Ty
                     held = λ t. here_same disk1 disk2 disk3 disks2 disks3 ∙ ap disk1 (sym named) ∙ held1 t;
                     counted = here_same count1 count2 count3 counts2 counts3 ∙ ap count1 (sym named) ∙ counted1;
                   },
-                  back_on shelf_told reads image faults disk2 disk3 count2 count3 rest (rest_same disk2 disk3 disks3) (rest_same count2 count3 counts3) back2,
+                  back_on shelf_told Disk disk2 disk3 count2 count3 rest (rest_same disk2 disk3 disks3) (rest_same count2 count3 counts3) back2,
                 ));
             inside = λ name among. in_all name (sym (ap (λ ns. is_among ns name) names) ∙ among);
             others_out = beside_all out0 out1 out2 out3 outs1 outs2 outs3;

@@ -4,6 +4,7 @@ use Rattle.std.specs.Prelude.{Option, ◌||◌}
 use Rattle.std.specs.List.{list_any}
 use Rattle.outside.proofs.Rises.{rose_wide}
 use Rattle.outside.specs.Faults.{Rose}
+use Rattle.outside.specs.declared.disk.Disk.{Ghosts as DiskGhosts}
 use Rattle.cqe_base.specs.Schema.{Text}
 use Rattle.desk_crew.specs.Crew.{seat_journal, seat_disk, seat_broke}
 use Rattle.outside.specs.Shelf.{SomeRose}
@@ -20,28 +21,28 @@ some_weaker P Q [] weaker none = absurd none
 some_weaker P Q (x ∷ xs) weaker (inl here) = inl (weaker x here)
 some_weaker P Q (x ∷ xs) weaker (inr further) = inr (some_weaker P Q xs weaker further)
 
-module _ {D : Type 0} {g h : _} (told : Type 0) (reads : D → List ℕ) (image : D → List ℕ → Type 0) (faults : D → ℕ) (count count' : Text → ℕ)
+module _ {D : Type 0} {g h : _} (told : Type 0) (Disk : DiskGhosts D) (count count' : Text → ℕ)
     (disk' : Text → Option D) where
   -- an append failed at a seat's desk, or the count of its disk had risen as it was opened
   abbrev pub HasFailed : DeskSeat D g h → Type 0
-  HasFailed seat = (seat_broke seat ≡ true) ⊎ Rose (count (seat_journal seat)) (faults (seat_disk seat))
+  HasFailed seat = (seat_broke seat ≡ true) ⊎ Rose (count (seat_journal seat)) (Disk.faults (seat_disk seat))
 
   -- then the count of its name rises as it is given back
-  seat_rose : (seat : DeskSeat D g h) → count (seat_journal seat) ≤ faults (seat_disk seat) → IsBack told reads image faults disk' count' seat → HasFailed seat
+  seat_rose : (seat : DeskSeat D g h) → count (seat_journal seat) ≤ Disk.faults (seat_disk seat) → IsBack told Disk disk' count' seat → HasFailed seat
       → Rose (count (seat_journal seat)) (count' (seat_journal seat))
   seat_rose seat first back failed = subst (λ n. Rose (count (seat_journal seat)) n) (sym back.counted) (by failed)
     where
-      by : HasFailed seat → Rose (count (seat_journal seat)) (faults back.now)
+      by : HasFailed seat → Rose (count (seat_journal seat)) (Disk.faults back.now)
       by (inl broke) =
-          rose_wide (count (seat_journal seat)) (faults (seat_disk seat)) (faults back.left.closed) (faults back.now) first back.left.left.later
+          rose_wide (count (seat_journal seat)) (Disk.faults (seat_disk seat)) (Disk.faults back.left.closed) (Disk.faults back.now) first back.left.left.later
           (back.left.is_closed.cause broke)
       by (inr rose) =
           let closed = back.left.is_closed.later in
           let later = back.left.left.later in
-          rose_wide (count (seat_journal seat)) (count (seat_journal seat)) (faults (seat_disk seat)) (faults back.now) (omega arith)
+          rose_wide (count (seat_journal seat)) (count (seat_journal seat)) (Disk.faults (seat_disk seat)) (Disk.faults back.now) (omega arith)
           (omega (arith, closed, later)) rose
 
-  pub some_rose : (seats : List (DeskSeat D g h)) → AreLater faults count seats → AreBack told reads image faults disk' count' seats → AtSome HasFailed seats
+  pub some_rose : (seats : List (DeskSeat D g h)) → AreLater Disk.faults count seats → AreBack told Disk disk' count' seats → AtSome HasFailed seats
       → SomeRose count count'
   some_rose [] first back failed = absurd failed
   some_rose (seat ∷ seats) first back (inl here) = (seat_journal seat, seat_rose seat first.0 back.0 here)

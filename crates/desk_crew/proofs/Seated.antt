@@ -1,6 +1,7 @@
 -- A desk that was just opened, under its counter.
 use Rattle.std.proofs.Common.{◌≡◌, ℕ, ◌*◌, ◌^◌, false, List, [], length, sym, ap, subst, ◌∙◌}
 use Rattle.std.specs.Prelude.{Option}
+use Rattle.outside.specs.declared.disk.Disk.{Ghosts as DiskGhosts}
 use Rattle.cqe_base.specs.Schema.{DatabaseSchema}
 use Rattle.cqe_base.specs.Facts.{FactSet}
 use Rattle.cqe_base.specs.History.{AnsweredQuery, History, profile_of}
@@ -19,16 +20,16 @@ use Rattle.desk_counter.specs.declared.item.Fixed.{Fixed}
 use Rattle.desk_counter.specs.Desks.{fixed_of}
 use Rattle.desk_counter.specs.Items.{flying}
 use Rattle.turnstile.specs.Passes.{mine, turns}
-use Rattle.desk_counter.specs.Counters.{first_history}
+use Rattle.desk_counter.specs.Counters.{first_pairs}
 use Rattle.desk_counter.specs.Sole.{counter_in, pass_in, pairs_of_sole}
 use Rattle.censors.specs.Admitting.{admission_of}
 use Rattle.desk_crew.specs.Crew.{first_refusal, seat_user, seat_kept, seat_standing, seat_history, seat_state, seat_disk, IsOpenedFrom}
 use Rattle.desk_crew.specs.Seats.{DeskSeat}
 
-module _ {D : Type 0} {g h : _} (schema : DatabaseSchema) (world : FactSet) (header : List ℕ) (told : Type 0) (reads : D → List ℕ) (image : D → List ℕ → Type 0)
-    (faults : D → ℕ) (desk : Desk D g) (seat : DeskSeat D g h)
+module _ {D : Type 0} {g h : _} (schema : DatabaseSchema) (world : FactSet) (header : List ℕ) (told : Type 0) (Disk : DiskGhosts D) (desk : Desk D g)
+    (seat : DeskSeat D g h)
     (kept : seat_kept seat ≡ fixed_of desk) (entries : seat_history seat ≡ desk_history desk) (flies : flying (pairs_of_sole seat.desk) ≡ entry_in_flight desk)
-    (first : first_history (counter_in seat.desk) ≡ desk_history desk) (none_own : mine (pass_in seat.desk) ≡ [])
+    (first : first_pairs (counter_in seat.desk) ≡ pairs_of_sole seat.desk) (none_own : mine (pass_in seat.desk) ≡ [])
     (all_turns : turns (pass_in seat.desk) ≡ 65 * 2 ^ 57) where
   standing_is : seat_standing seat ≡ desk_standing desk
   standing_is = ap (λ (f : Fixed D). f.standing) kept
@@ -42,16 +43,17 @@ module _ {D : Type 0} {g h : _} (schema : DatabaseSchema) (world : FactSet) (hea
   -- it is a seat that was opened from its disk
   pub opened_seat : (disk : D) (before : Option DeskError) → desk_schema desk ≡ schema → desk_world desk ≡ world → desk_user desk ≡ profile_of (seat_user seat)
       → desk_header desk ≡ header → seat.admission ≡ admission_of schema world (profile_of (seat_user seat))
-      → IsStanding schema world (profile_of (seat_user seat)) told header (reads disk) (desk_history desk) (faults disk) (faults (desk_disk desk))
+      → IsStanding schema world (profile_of (seat_user seat)) told header (Disk.reads disk) (desk_history desk) (Disk.faults disk) (Disk.faults
+      (desk_disk desk))
       (desk_standing desk)
-      → (told → (state : UserState) → Holds schema world (profile_of (seat_user seat)) header state (reads disk)
-      → Restarts schema world (profile_of (seat_user seat)) (IsIn desk) state (faults disk) (faults (desk_disk desk)))
+      → (told → (state : UserState) → Holds schema world (profile_of (seat_user seat)) header state (Disk.reads disk)
+      → Restarts schema world (profile_of (seat_user seat)) (IsIn desk) state (Disk.faults disk) (Disk.faults (desk_disk desk)))
       → is_broken_desk desk ≡ false → opening_history desk ≡ desk_history desk → opening_disk desk ≡ desk_disk desk
       → seat.refusal ≡ first_refusal before (desk_standing desk)
-      → (told → is_sealed (desk_standing desk) ≡ false → (c : List ℕ) → image (desk_disk desk) c
+      → (told → is_sealed (desk_standing desk) ≡ false → (c : List ℕ) → Disk.image (desk_disk desk) c
       → Holds (desk_schema desk) (desk_world desk) (desk_user desk) (desk_header desk) (state_of desk) c)
       → IsLegal (desk_schema desk) (desk_world desk) (desk_user desk) (desk_history desk)
-      → IsOpenedFrom schema world header told reads image faults disk before seat
+      → IsOpenedFrom schema world header told Disk disk before seat
   opened_seat disk before schema_is world_is user_is header_is admission_is standing restarted whole opening opened refusal images legal =
       let disk_is : seat_disk seat ≡ desk_disk desk = ap (λ (f : Fixed D). f.disk) kept ∙ opened in
       record {
@@ -63,21 +65,24 @@ module _ {D : Type 0} {g h : _} (schema : DatabaseSchema) (world : FactSet) (hea
           admission_is = admission_is;
         };
         standing = subst (λ (s : Standing).
-            IsStanding schema world (profile_of (seat_user seat)) told header (reads disk) (seat_history seat) (faults disk) (faults (seat_disk seat)) s)
+            IsStanding schema world (profile_of (seat_user seat)) told header (Disk.reads disk) (seat_history seat) (Disk.faults disk) (Disk.faults
+            (seat_disk seat)) s)
             (sym standing_is)
-            (subst (λ d. IsStanding schema world (profile_of (seat_user seat)) told header (reads disk) (seat_history seat) (faults disk) (faults d)
+            (subst (λ d. IsStanding schema world (profile_of (seat_user seat)) told header (Disk.reads disk) (seat_history seat) (Disk.faults disk)
+            (Disk.faults d)
             (desk_standing desk)) (sym disk_is)
             (subst (λ (e : History).
-            IsStanding schema world (profile_of (seat_user seat)) told header (reads disk) e (faults disk) (faults (desk_disk desk)) (desk_standing desk))
+            IsStanding schema world (profile_of (seat_user seat)) told header (Disk.reads disk) e (Disk.faults disk) (Disk.faults (desk_disk desk))
+            (desk_standing desk))
             (sym entries) standing));
         restarted = λ t state holds.
             subst (λ (s : Standing).
-            Restarts schema world (profile_of (seat_user seat)) (IsState s (seat_state seat)) state (faults disk) (faults (seat_disk seat)))
+            Restarts schema world (profile_of (seat_user seat)) (IsState s (seat_state seat)) state (Disk.faults disk) (Disk.faults (seat_disk seat)))
             (sym standing_is)
             (subst (λ (u : UserState).
-            Restarts schema world (profile_of (seat_user seat)) (IsState (desk_standing desk) u) state (faults disk) (faults (seat_disk seat)))
+            Restarts schema world (profile_of (seat_user seat)) (IsState (desk_standing desk) u) state (Disk.faults disk) (Disk.faults (seat_disk seat)))
             (sym state_is)
-            (subst (λ d. Restarts schema world (profile_of (seat_user seat)) (IsIn desk) state (faults disk) (faults d)) (sym disk_is)
+            (subst (λ d. Restarts schema world (profile_of (seat_user seat)) (IsIn desk) state (Disk.faults disk) (Disk.faults d)) (sym disk_is)
             (restarted t state holds)));
         refusal = refusal ∙ ap (first_refusal before) (sym standing_is);
         fresh = record {
@@ -89,7 +94,7 @@ module _ {D : Type 0} {g h : _} (schema : DatabaseSchema) (world : FactSet) (hea
             (subst (λ w. IsLegal (desk_schema desk) w (profile_of (seat_user seat)) (seat_history seat)) world_is
             (subst (λ p. IsLegal (desk_schema desk) (desk_world desk) p (seat_history seat)) user_is
             (subst (λ (e : History). IsLegal (desk_schema desk) (desk_world desk) (desk_user desk) e) (sym entries) legal)));
-        first_is = first ∙ sym entries;
+        first_is = first;
         mine_is = none_own;
         turns_are = all_turns;
         holds = λ t served c here.
@@ -98,5 +103,5 @@ module _ {D : Type 0} {g h : _} (schema : DatabaseSchema) (world : FactSet) (hea
             (subst (λ p. Holds (desk_schema desk) (desk_world desk) p header (seat_state seat) c) user_is
             (subst (λ e. Holds (desk_schema desk) (desk_world desk) (desk_user desk) e (seat_state seat) c) header_is
             (subst (λ (u : UserState). Holds (desk_schema desk) (desk_world desk) (desk_user desk) (desk_header desk) u c) (sym state_is)
-            (images t (ap is_sealed (sym standing_is) ∙ served) c (subst (λ d. image d c) disk_is here))))));
+            (images t (ap is_sealed (sym standing_is) ∙ served) c (subst (λ d. Disk.image d c) disk_is here))))));
       }

@@ -7,6 +7,8 @@ use Rattle.std.proofs.Math.Bool.{or-false}
 use Rattle.std.proofs.lemmas.Bool.{eqb-true, or_from, or_left, or_right}
 use Rattle.std.proofs.lemmas.List.{map-append}
 use Rattle.outside.specs.Shelf.{SameOthers, is_among, SameBeside, AllOut, AllIn}
+use Rattle.outside.specs.declared.disk.Disk.{Ghosts as DiskGhosts}
+use Rattle.outside.proofs.Moments.{elapses_none, elapses_then, over_both}
 use Rattle.cqe_base.specs.Schema.{Text, has_duplicate}
 use Rattle.cqe_base.proofs.Truths.{or_first, or_second}
 use Rattle.cqe_base.proofs.Lists.{or_assoc, text_is}
@@ -118,33 +120,45 @@ module _ {D : Type 0} {g h : _} where
       known ∙ ap (λ b. b || so_far) (ap (list_any seat_broke) is ∙ list_any-append seat_broke front (seat ∷ []))
       ∙ or_moved (list_any seat_broke front) (seat_broke seat) so_far ∙ ap (λ b. list_any seat_broke front || (so_far || b)) (sym here)
 
-module _ {D : Type 0} (reads : D → List ℕ) (image : D → List ℕ → Type 0) (faults : D → ℕ) where
-  left_same : (d : D) → IsLeft reads image faults d d
-  left_same d = record { reads_same = refl; images = λ c is. is; later = omega arith }
+module _ {D : Type 0} (Disk : DiskGhosts D) where
+  left_same : ((d : D) (t : ℕ) (c : List ℕ) → t ≤ Disk.moment d → Disk.image d c → Disk.image_since d t c)
+      → ((d : D) (c : List ℕ) → Disk.image_since d (Disk.moment d) c → Disk.image d c) → (d : D) → IsLeft Disk d d
+  left_same counts_now only_now d = record {
+    reads_same = refl;
+    images = λ c is. is;
+    later = omega arith;
+    time = elapses_none (Disk.moment d) (Disk.image_since d) (Disk.image d) (counts_now d) (only_now d);
+    rests = only_now d;
+  }
 
-  pub left_on : (a b c : D) → IsLeft reads image faults a b → IsLeft reads image faults b c → IsLeft reads image faults a c
+  pub left_on : (a b c : D) → IsLeft Disk a b → IsLeft Disk b c → IsLeft Disk a c
   left_on a b c first second = record {
     reads_same = second.reads_same ∙ first.reads_same;
     images = λ bytes is. first.images bytes (second.images bytes is);
     later = omega (arith, first.later, second.later);
+    time = elapses_then (Disk.moment a) (Disk.moment b) (Disk.moment c) (Disk.image_since a) (Disk.image_since b) (Disk.image_since c) first.time
+        second.time;
+    rests = over_both (Disk.moment a) (Disk.moment b) (Disk.moment c) (Disk.image_since b) (Disk.image_since c) (Disk.image a) first.time.later second.time
+        first.rests
+        (λ bytes here. first.images bytes (second.rests bytes here));
   }
 
 module _ {D : Type 0} {g h : _} where
   pub journals-append : (xs ys : List (DeskSeat D g h)) → journals (xs ++ ys) ≡ journals xs ++ journals ys
   journals-append xs ys = map-append seat_journal xs ys
 
-  module _ (told : Type 0) (reads : D → List ℕ) (image : D → List ℕ → Type 0) (faults : D → ℕ) where
-    pub back-append : (disk : Text → Option D) (count : Text → ℕ) (xs ys : List (DeskSeat D g h)) → AreBack told reads image faults disk count xs
-        → AreBack told reads image faults disk count ys
-        → AreBack told reads image faults disk count (xs ++ ys)
+  module _ (told : Type 0) (Disk : DiskGhosts D) where
+    pub back-append : (disk : Text → Option D) (count : Text → ℕ) (xs ys : List (DeskSeat D g h)) → AreBack told Disk disk count xs
+        → AreBack told Disk disk count ys
+        → AreBack told Disk disk count (xs ++ ys)
     back-append disk count [] ys first second = second
     back-append disk count (x ∷ xs) ys first second = (first.0, back-append disk count xs ys first.1 second)
 
-    pub later-first : (count : Text → ℕ) (xs ys : List (DeskSeat D g h)) → AreLater faults count (xs ++ ys) → AreLater faults count xs
+    pub later-first : (count : Text → ℕ) (xs ys : List (DeskSeat D g h)) → AreLater Disk.faults count (xs ++ ys) → AreLater Disk.faults count xs
     later-first count [] ys are = tt
     later-first count (x ∷ xs) ys are = (are.0, later-first count xs ys are.1)
 
-    pub later-second : (count : Text → ℕ) (xs ys : List (DeskSeat D g h)) → AreLater faults count (xs ++ ys) → AreLater faults count ys
+    pub later-second : (count : Text → ℕ) (xs ys : List (DeskSeat D g h)) → AreLater Disk.faults count (xs ++ ys) → AreLater Disk.faults count ys
     later-second count [] ys are = are
     later-second count (x ∷ xs) ys are = later-second count xs ys are.1
 
@@ -152,7 +166,7 @@ module _ {D : Type 0} {g h : _} where
     pub back_on : (disk disk' : Text → Option D) (count count' : Text → ℕ) (seats : List (DeskSeat D g h))
         → ((name : Text) → is_among (journals seats) name ≡ true → disk' name ≡ disk name)
         → ((name : Text) → is_among (journals seats) name ≡ true → count' name ≡ count name)
-        → AreBack told reads image faults disk count seats → AreBack told reads image faults disk' count' seats
+        → AreBack told Disk disk count seats → AreBack told Disk disk' count' seats
     back_on disk disk' count count' [] disks counts back = tt
     back_on disk disk' count count' (seat ∷ seats) disks counts back =
         let here : is_among (journals (seat ∷ seats)) (seat_journal seat) ≡ true = or_left _ _ (text_is (seat_journal seat)) in (
@@ -166,11 +180,12 @@ module _ {D : Type 0} {g h : _} where
         )
 
     pub later_on : (count count' : Text → ℕ) (seats : List (DeskSeat D g h))
-        → ((name : Text) → is_among (journals seats) name ≡ true → count' name ≡ count name) → AreLater faults count seats → AreLater faults count' seats
+        → ((name : Text) → is_among (journals seats) name ≡ true → count' name ≡ count name) → AreLater Disk.faults count seats
+        → AreLater Disk.faults count' seats
     later_on count count' [] counts later = tt
     later_on count count' (seat ∷ seats) counts later =
         let same = counts (seat_journal seat) (or_left _ _ (text_is (seat_journal seat))) in
-        (subst (λ n. n ≤ faults (seat_disk seat)) (sym same) later.0, later_on count count' seats (λ name is. counts name (or_right _ _ is)) later.1)
+        (subst (λ n. n ≤ Disk.faults (seat_disk seat)) (sym same) later.0, later_on count count' seats (λ name is. counts name (or_right _ _ is)) later.1)
 
     -- ---- disks that are given back one after the other
 
@@ -179,7 +194,7 @@ module _ {D : Type 0} {g h : _} where
       pub record Given (seats : List (DeskSeat D g h)) (disk : Text → Option D) (is_out : Text → Bool) (count : Text → ℕ) : Type 0 where
         pub given : List (DeskSeat D g h)
         pub split : all ≡ seats ++ given
-        pub back : AreBack told reads image faults disk count given
+        pub back : AreBack told Disk disk count given
         pub inside : AllIn (journals given) is_out
         pub others_out : SameBeside (journals given) out0 is_out
         pub disks : SameBeside (journals given) disk0 disk
@@ -197,11 +212,11 @@ module _ {D : Type 0} {g h : _} where
         counts = λ name none. refl;
       }
 
-      module _ (distinct : has_duplicate (journals all) ≡ false) (out : AllOut (journals all) out0) (later : AreLater faults count0 all) where
+      module _ (distinct : has_duplicate (journals all) ≡ false) (out : AllOut (journals all) out0) (later : AreLater Disk.faults count0 all) where
         pub record Next (seats : List (DeskSeat D g h)) (seat : DeskSeat D g h) (given : List (DeskSeat D g h)) : Type 0 where
           pub apart : is_among (journals given) (seat_journal seat) ≡ false
           pub among : is_among (journals all) (seat_journal seat) ≡ true
-          pub counted : count0 (seat_journal seat) ≤ faults (seat_disk seat)
+          pub counted : count0 (seat_journal seat) ≤ Disk.faults (seat_disk seat)
 
         pub next_of : (seats : List (DeskSeat D g h)) (seat : DeskSeat D g h) (given : List (DeskSeat D g h)) → all ≡ (seats ++ seat ∷ []) ++ given
             → Next seats seat given
@@ -214,7 +229,7 @@ module _ {D : Type 0} {g h : _} where
               apart = or_first _ _ two.second;
               among = ap (λ ns. is_among ns (seat_journal seat)) names
                   ∙ among_second (journals seats) (seat_journal seat ∷ journals given) (seat_journal seat) (or_left _ _ (text_is (seat_journal seat)));
-              counted = (later-second count0 seats (seat ∷ given) (subst (AreLater faults count0) whole later)).0;
+              counted = (later-second count0 seats (seat ∷ given) (subst (AreLater Disk.faults count0) whole later)).0;
             }
 
         -- the next disk is out, and its count didn't fall
@@ -225,19 +240,22 @@ module _ {D : Type 0} {g h : _} where
             so_far.others_out (seat_journal seat) next.apart ∙ out (seat_journal seat) next.among
 
         pub given_later : (seats before : List (DeskSeat D g h)) (seat : DeskSeat D g h) (disk : Text → Option D) (is_out : Text → Bool) (count : Text → ℕ)
-            → before ≡ seats ++ seat ∷ [] → Given before disk is_out count → count (seat_journal seat) ≤ faults (seat_disk seat)
+            → before ≡ seats ++ seat ∷ [] → Given before disk is_out count → count (seat_journal seat) ≤ Disk.faults (seat_disk seat)
         given_later seats before seat disk is_out count is so_far =
             let next : Next seats seat so_far.given = next_of seats seat so_far.given (so_far.split ∙ ap (λ l. l ++ so_far.given) is) in
-            subst (λ n. n ≤ faults (seat_disk seat)) (sym (so_far.counts (seat_journal seat) next.apart)) next.counted
+            subst (λ n. n ≤ Disk.faults (seat_disk seat)) (sym (so_far.counts (seat_journal seat) next.apart)) next.counted
 
         -- one more is back
-        pub given_more : (seats before : List (DeskSeat D g h)) (seat : DeskSeat D g h) (now : D) (closed : IsClosed told reads image faults seat.desk now)
+        pub given_more : (counts_now : (d : D) (t : ℕ) (c : List ℕ) → t ≤ Disk.moment d → Disk.image d c → Disk.image_since d t c)
+            (only_now : (d : D) (c : List ℕ) → Disk.image_since d (Disk.moment d) c → Disk.image d c)
+            (seats before : List (DeskSeat D g h)) (seat : DeskSeat D g h) (now : D) (closed : IsClosed told Disk seat.desk now)
             (disk disk' : Text → Option D) (is_out is_out' : Text → Bool) (count count' : Text → ℕ) (one : Text) → one ≡ seat_journal seat
             → before ≡ seats ++ seat ∷ [] → Given before disk is_out count
-            → (told → disk' one ≡ Some now) → SameOthers one disk disk' → is_out' one ≡ false → SameOthers one is_out is_out' → count' one ≡ faults now
+            → (told → disk' one ≡ Some now) → SameOthers one disk disk' → is_out' one ≡ false → SameOthers one is_out is_out' → count' one ≡ Disk.faults now
             → SameOthers one count count'
             → Given seats disk' is_out' count'
-        given_more seats before seat now closed disk disk' is_out is_out' count count' one named is so_far held disks inside outs counted counts =
+        given_more counts_now only_now seats before seat now closed disk disk' is_out is_out' count count' one named is so_far held disks inside outs counted
+            counts =
             let given = so_far.given in
             let split : all ≡ (seats ++ seat ∷ []) ++ given = so_far.split ∙ ap (λ l. l ++ given) is in
             let next : Next seats seat given = next_of seats seat given split in
@@ -248,7 +266,7 @@ module _ {D : Type 0} {g h : _} where
               back = (
                 record {
                   now = now;
-                  left = record { closed = now; is_closed = closed; left = left_same reads image faults now };
+                  left = record { closed = now; is_closed = closed; left = left_same Disk counts_now only_now now };
                   held =
                       λ t. ap disk' (sym named) ∙ held t;
                   counted = ap count' (sym named) ∙ counted;

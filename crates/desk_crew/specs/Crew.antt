@@ -1,7 +1,10 @@
 -- Users at their desks, and what an ask, a close and an opening make of a desk and of its disk.
 use Rattle.std.specs.Prelude.{◌≡◌, ℕ, ◌≤◌, ◌*◌, ◌^◌, Bool, true, false, List, [], ◌∷◌, ◌++◌}
-use Rattle.std.specs.Prelude.{bytes_eq, Option, Some, None, Result, Ok, Err, string_bytes}
+use Rattle.std.specs.Prelude.{bytes_eq, length, Option, Some, None, Result, Ok, Err, string_bytes}
+use Rattle.std.specs.Prelude.{option_to_list}
+use Rattle.outside.specs.Disk.{Elapses}
 use Rattle.outside.specs.Faults.{Rose}
+use Rattle.outside.specs.declared.disk.Disk.{Ghosts as DiskGhosts}
 use Rattle.cqe_base.specs.Schema.{Text, DatabaseSchema}
 use Rattle.cqe_base.specs.Facts.{FactSet}
 use Rattle.cqe_base.specs.History.{History, profile_of}
@@ -9,7 +12,7 @@ use Rattle.cqe_base.specs.Run.{Reply, UserState}
 use Rattle.cqe_base.specs.Transcript.{NamedUser}
 use Rattle.cqe_base.specs.declared.user.User.{User}
 use Rattle.censors.specs.Admitting.{admission_of}
-use Rattle.user_desk.specs.Causes.{IsStanding}
+use Rattle.user_desk.specs.Causes.{IsStanding, OpensWithin}
 use Rattle.cqe_base.specs.Censor.{IsLegal}
 use Rattle.user_desk.specs.Standings.{is_open, is_sealed}
 use Rattle.user_desk.specs.Entries.{IsNoLonger}
@@ -19,9 +22,9 @@ use Rattle.user_desk.specs.declared.standing.Standing.{Standing}
 use Rattle.user_desk.specs.declared.standing.Standing.TheVariants.{Open, Closed, Sealed}
 use Rattle.desk_counter.specs.declared.item.Fixed.{Fixed}
 use Rattle.desk_counter.specs.Lives.{IsAskOf}
-use Rattle.desk_counter.specs.Items.{history_of, flying, has_broke}
+use Rattle.desk_counter.specs.Items.{history_of, flying, has_broke, items_of, items_with}
 use Rattle.turnstile.specs.Passes.{mine, turns}
-use Rattle.desk_counter.specs.Counters.{first_history}
+use Rattle.desk_counter.specs.Counters.{first_pairs}
 use Rattle.desk_counter.specs.Sole.{counter_in, pass_in, kept_in, pairs_of_sole, sole_state}
 use Rattle.desk_counter.specs.Sole.{IsSoleIn, IsAsOpened}
 use Rattle.desk_counter.specs.declared.sole.SoleOf.{SoleOf}
@@ -86,8 +89,8 @@ abbrev pub seat_disk : {D : Type 0} {g h : _} → DeskSeat D g h → D
 seat_disk seat = (seat_kept seat).disk
 
 -- nothing was appended since its desk was opened
-abbrev pub IsFresh : {D : Type 0} {g h : _} → DeskSeat D g h → Type 0
-IsFresh seat = IsAsOpened (seat_kept seat) (pairs_of_sole seat.desk)
+abbrev pub IsSeatAsOpened : {D : Type 0} {g h : _} → DeskSeat D g h → Type 0
+IsSeatAsOpened seat = IsAsOpened (seat_kept seat) (pairs_of_sole seat.desk)
 
 -- whether its user has this name
 abbrev pub is_named : {D : Type 0} {g h : _} → Text → DeskSeat D g h → Bool
@@ -103,45 +106,58 @@ abbrev pub journal_seated : {D : Type 0} {g h : _} → Result (DeskSeat D g h) (
 journal_seated (Ok seat) = seat_journal seat
 journal_seated (Err returned) = string_bytes returned.journal
 
--- an opening leaves a disk as it was: it reads the same, no crash leaves anything new, and its
--- count of faults didn't fall
-pub record IsLeft {D : Type 0} (reads : D → List ℕ) (image : D → List ℕ → Type 0) (faults : D → ℕ)
+-- an opening leaves a disk as it was: it reads the same, no crash leaves anything new, at no moment
+-- of it either, and its count of faults didn't fall
+pub record IsLeft {D : Type 0} (Disk : DiskGhosts D)
     (old new : D) : Type 0 where
-  pub reads_same : reads new ≡ reads old
-  pub images : (c : List ℕ) → image new c → image old c
-  pub later : faults old ≤ faults new
+  pub reads_same : Disk.reads new ≡ Disk.reads old
+  pub images : (c : List ℕ) → Disk.image new c → Disk.image old c
+  pub later : Disk.faults old ≤ Disk.faults new
+  pub time : Elapses (Disk.moment old) (Disk.moment new) (Disk.image_since old)
+      (Disk.image_since new)
+  pub rests : (c : List ℕ) → Disk.image_since new (Disk.moment old) c → Disk.image old c
 
 -- A desk leaves this disk as it is closed: unless its journal was refused, each image holds the
--- state that the desk showed, whose history is legal, and is what was put under the counter and
--- then what the pass has of its own; only of a user who is served has it any; the count rose where
--- an append failed; where none did, the disk has grown for the entries alone; and where nothing was
--- appended it is as it was at the opening.
-pub record IsClosed {D : Type 0} {g h : _} (told : Type 0) (reads : D → List ℕ)
-    (image : D → List ℕ → Type 0) (faults : D → ℕ)
+-- state that the desk showed, whose history is legal; its pairs are what was put under the counter
+-- and then what the pass has of its own, with one entry in flight at most; only of a user who is
+-- served has it any; the count rose where an append failed; where none did, the disk has grown for
+-- the entries alone; and where nothing was appended it is as it was at the opening. Since the
+-- opening each image opens a desk with a beginning of the history, with the entry in flight, that
+-- has all entries at the opening.
+pub record IsClosed {D : Type 0} {g h : _} (told : Type 0) (Disk : DiskGhosts D)
     (desk : SoleOf (TicketedDesk D g) TurnItem (Fixed D) h) (disk : D) : Type 0 where
-  pub holds : told → is_sealed (kept_in desk).standing ≡ false → (c : List ℕ) → image disk c
+  pub holds : told → is_sealed (kept_in desk).standing ≡ false → (c : List ℕ) → Disk.image disk c
       → Holds (kept_in desk).schema (kept_in desk).world (kept_in desk).user (kept_in desk).header
       (sole_state desk) c
   pub legal : IsLegal (kept_in desk).schema (kept_in desk).world (kept_in desk).user
       (history_of (pairs_of_sole desk))
-  pub added : history_of (pairs_of_sole desk)
-      ≡ first_history (counter_in desk) ++ history_of (mine (pass_in desk))
+  pub added : pairs_of_sole desk ≡ first_pairs (counter_in desk) ++ mine (pass_in desk)
+  pub items : items_of (pairs_of_sole desk)
+      ≡ items_with (history_of (pairs_of_sole desk)) (flying (pairs_of_sole desk))
   pub idle : is_open (kept_in desk).standing ≡ false → (history_of (pairs_of_sole desk) ≡ [])
       × (flying (pairs_of_sole desk) ≡ None)
-  pub later : faults (kept_in desk).disk ≤ faults disk
-  pub cause : (sole_state desk).broken ≡ true → Rose (faults (kept_in desk).disk) (faults disk)
+  pub later : Disk.faults (kept_in desk).disk ≤ Disk.faults disk
+  pub cause : (sole_state desk).broken ≡ true → Rose (Disk.faults (kept_in desk).disk)
+      (Disk.faults disk)
   pub size : told → (sole_state desk).broken ≡ false
-      → IsNoLonger (reads (kept_in desk).disk) (history_of (pairs_of_sole desk)) (reads disk)
+      → IsNoLonger (Disk.reads (kept_in desk).disk) (history_of (pairs_of_sole desk))
+      (Disk.reads disk)
   pub shut : is_sealed (kept_in desk).standing ≡ true → disk ≡ (kept_in desk).disk
   pub still : IsAsOpened (kept_in desk) (pairs_of_sole desk) → disk ≡ (kept_in desk).disk
+  pub since : told → is_sealed (kept_in desk).standing ≡ false → (c : List ℕ)
+      → Disk.image_since disk (Disk.moment (kept_in desk).disk) c
+      → OpensWithin (kept_in desk).schema (kept_in desk).world (kept_in desk).user
+      (kept_in desk).header (length (kept_in desk).opening)
+      (history_of (pairs_of_sole desk) ++ option_to_list (flying (pairs_of_sole desk))) c
+  pub time : Elapses (Disk.moment (kept_in desk).disk) (Disk.moment disk)
+      (Disk.image_since (kept_in desk).disk) (Disk.image_since disk)
 
 -- a desk was closed, and an opening left its disk as this one
-pub record IsLeftBy {D : Type 0} {g h : _} (told : Type 0) (reads : D → List ℕ)
-    (image : D → List ℕ → Type 0) (faults : D → ℕ)
+pub record IsLeftBy {D : Type 0} {g h : _} (told : Type 0) (Disk : DiskGhosts D)
     (desk : SoleOf (TicketedDesk D g) TurnItem (Fixed D) h) (now : D) : Type 0 where
   pub closed : D
-  pub is_closed : IsClosed told reads image faults desk closed
-  pub left : IsLeft reads image faults closed now
+  pub is_closed : IsClosed told Disk desk closed
+  pub left : IsLeft Disk closed now
 
 module _ (schema : DatabaseSchema) (world : FactSet) where
   -- a seat's user got this reply to a text, and all but his desk's state is as it was
@@ -178,31 +194,32 @@ module _ (schema : DatabaseSchema) (world : FactSet) (header : List ℕ) where
     pub user_is : (seat_kept seat).user ≡ profile_of (seat_user seat)
     pub admission_is : seat.admission ≡ admission_of schema world (profile_of (seat_user seat))
 
-  module _ {D : Type 0} (told : Type 0) (reads : D → List ℕ) (image : D → List ℕ → Type 0)
-      (faults : D → ℕ) where
+  module _ {D : Type 0} (told : Type 0) (Disk : DiskGhosts D) where
     -- a seat was opened from this disk, behind an earlier refusal if there was one: its standing
     -- has its cause, and it is a restart of each state that the disk holds
     pub record IsOpenedFrom {g h : _} (disk : D) (before : Option DeskError)
         (seat : DeskSeat D g h) : Type 0 where
       pub served : IsSeatServed seat
-      pub standing : IsStanding schema world (profile_of (seat_user seat)) told header (reads disk)
-          (seat_history seat) (faults disk) (faults (seat_disk seat)) (seat_standing seat)
+      pub standing : IsStanding schema world (profile_of (seat_user seat)) told header
+          (Disk.reads disk)
+          (seat_history seat) (Disk.faults disk) (Disk.faults (seat_disk seat)) (seat_standing seat)
       pub restarted : told → (state : UserState)
-          → Holds schema world (profile_of (seat_user seat)) header state (reads disk)
-          → Restarts schema world (profile_of (seat_user seat)) (IsSeatIn seat) state (faults disk)
-          (faults (seat_disk seat))
+          → Holds schema world (profile_of (seat_user seat)) header state (Disk.reads disk)
+          → Restarts schema world (profile_of (seat_user seat)) (IsSeatIn seat) state
+          (Disk.faults disk)
+          (Disk.faults (seat_disk seat))
       pub refusal : seat.refusal ≡ first_refusal before (seat_standing seat)
-      pub fresh : IsFresh seat
+      pub fresh : IsSeatAsOpened seat
       pub opening_is : (seat_kept seat).opening ≡ seat_history seat
       pub legal : IsLegal schema world (profile_of (seat_user seat)) (seat_history seat)
-      -- what was put under its counter is that history, and its pass has all turns and nothing of
-      -- its own
-      pub first_is : first_history (counter_in seat.desk) ≡ seat_history seat
+      -- what was put under its counter is what its pass has seen, which has all turns and nothing
+      -- of its own
+      pub first_is : first_pairs (counter_in seat.desk) ≡ pairs_of_sole seat.desk
       pub mine_is : mine (pass_in seat.desk) ≡ []
       pub turns_are : turns (pass_in seat.desk) ≡ 65 * 2 ^ 57
       -- each image of its disk holds the state that its desk shows, unless its journal was refused
       pub holds : told → is_sealed (seat_standing seat) ≡ false → (c : List ℕ)
-          → image (seat_disk seat) c
+          → Disk.image (seat_disk seat) c
           → Holds schema world (profile_of (seat_user seat)) header (seat_state seat) c
 
     -- a seat was closed and opened again
@@ -210,9 +227,9 @@ module _ (schema : DatabaseSchema) (world : FactSet) (header : List ℕ) where
       pub user_is : seat_user new ≡ seat_user old
       pub journal_is : seat_journal new ≡ seat_journal old
       pub closed : D
-      pub is_closed : IsClosed told reads image faults old.desk closed
+      pub is_closed : IsClosed told Disk old.desk closed
       pub opened : IsOpenedFrom closed old.refusal new
-      pub left : IsLeft reads image faults closed (seat_disk new)
+      pub left : IsLeft Disk closed (seat_disk new)
 
     -- all were
     abbrev pub AreReopened : {g h : _} → List (DeskSeat D g h) → List (DeskSeat D g h) → Type 0

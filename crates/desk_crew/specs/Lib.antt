@@ -1,4 +1,5 @@
 pub mod Seats
 pub mod Crew
+pub mod Registered
 pub mod Shelved
 pub mod Openings

@@ -12,6 +12,6 @@ module _ (schema : DatabaseSchema) (world : FactSet) (user : UserProfile) (heade
 
   -- the history with which a user's journal is opened, by its bytes: the legal one that they stand
   -- for, and the empty one where they open no desk
-  abbrev pub IsOpening : List ℕ → History → Type 0
-  IsOpening bytes opened =
+  abbrev pub OpensWith : List ℕ → History → Type 0
+  OpensWith bytes opened =
       Opens schema world user header opened bytes ⊎ (OpensNone bytes × (opened ≡ []))

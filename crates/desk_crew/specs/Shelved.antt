@@ -1,7 +1,9 @@
 -- The disks of users on their shelf.
-use Rattle.std.specs.Prelude.{◌≡◌, ℕ, ◌≤◌, false, List, [], ◌∷◌, Option, Some, None, map}
-use Rattle.std.specs.Prelude.{string_bytes}
+use Rattle.std.specs.Prelude.{◌≡◌, ◌⊎◌, ℕ, ◌≤◌, Bool, true, false, List, [], ◌∷◌, Option, Some}
+use Rattle.std.specs.Prelude.{None, map, option_map, string_bytes, IfSome}
+use Rattle.outside.specs.declared.disk.Disk.{Ghosts as DiskGhosts}
 use Rattle.outside.specs.Shelf.{IsTaken, bytes_on, image_on, is_among}
+use Rattle.outside.specs.declared.shelf.Shelf.{Ghosts as ShelfGhosts}
 use Rattle.cqe_base.specs.Schema.{Text, DatabaseSchema}
 use Rattle.cqe_base.specs.Facts.{FactSet}
 use Rattle.cqe_base.specs.declared.user.User.{User}
@@ -11,7 +13,9 @@ use Rattle.desk_crew.specs.Seats.{DeskSeat}
 
 -- The journals of users by their names, in a call: the bytes that were read of each as the call
 -- began, none where there was no disk, and what a crash could leave then; the count of its disk's
--- faults then, and as the call ended; the bytes that are read then, and what a crash may leave.
+-- faults then, and as the call ended; the bytes that are read then, and what a crash may leave; the
+-- moment at which the call began, by the clock of its disk, where there was one; and what a crash
+-- could leave at the moments since one of that clock, as the call ended.
 pub record Journals : Type 1 where
   pub bytes : Text → List ℕ
   pub image_before : Text → List ℕ → Type 0
@@ -19,18 +23,49 @@ pub record Journals : Type 1 where
   pub now : Text → ℕ
   pub reads : Text → List ℕ
   pub image : Text → List ℕ → Type 0
+  pub began : Text → Option ℕ
+  pub since : Text → ℕ → List ℕ → Type 0
 
--- the journals of users in a directory, by what a shelf held as a call began and as it ended
-abbrev pub journals_on : {D : Type 0} → (D → List ℕ) → (D → List ℕ → Type 0) → Text
-    → (Text → Option D) → (Text → Option D) → (Text → ℕ) → (Text → ℕ) → Journals
-journals_on reads image directory disk disk' count count' = record {
+-- what a crash could leave of a disk at the moments since one of its clock; without a disk there
+-- are no bytes
+abbrev pub since_on : {D : Type 0} → (D → ℕ → List ℕ → Type 0) → Option D → ℕ → List ℕ → Type 0
+since_on since None moment bytes = bytes ≡ []
+since_on since (Some disk) moment bytes = since disk moment bytes
+
+-- the journals of users in a directory, by the disks and the counts under their names as a call
+-- began and as it ended
+abbrev pub journals_by : {D : Type 0} → (D → List ℕ) → (D → List ℕ → Type 0) → (D → ℕ)
+    → (D → ℕ → List ℕ → Type 0) → Text → (Text → Option D) → (Text → Option D) → (Text → ℕ)
+    → (Text → ℕ) → Journals
+journals_by reads image moment since directory disk disk' count count' = record {
   bytes = λ name. bytes_on reads (disk (journal_name directory name));
   image_before = λ name. image_on image (disk (journal_name directory name));
   before = λ name. count (journal_name directory name);
   now = λ name. count' (journal_name directory name);
   reads = λ name. bytes_on reads (disk' (journal_name directory name));
   image = λ name. image_on image (disk' (journal_name directory name));
+  began = λ name. option_map moment (disk (journal_name directory name));
+  since = λ name. since_on since (disk' (journal_name directory name));
 }
+
+-- the same by a shelf as a call began and as it ended
+abbrev pub journals_on : {F D : Type 0} → ShelfGhosts F D → DiskGhosts D → Text → F → F → Journals
+journals_on Shelf Disk directory old new =
+    journals_by Disk.reads Disk.image Disk.moment Disk.image_since directory (Shelf.disk old)
+    (Shelf.disk new) (Shelf.disk_faults old) (Shelf.disk_faults new)
+
+-- The journal of this name was first opened in the call at a moment of its disk's clock. Up to it
+-- no crash could leave anything new; since then each leaves bytes of this kind; and where no
+-- opening held, none left anything new.
+pub record StandsAllAlong (journals : Journals) (name : Text) (is_opened : Bool)
+    (stands : List ℕ → Type 0) : Type 0 where
+  pub opening : ℕ
+  pub before : IfSome (journals.began name) (λ begun. (begun ≤ opening)
+      × ((c : List ℕ) → journals.since name begun c
+      → journals.image_before name c ⊎ journals.since name opening c))
+  pub behind : is_opened ≡ true → (c : List ℕ) → journals.since name opening c → stands c
+  pub never : is_opened ≡ false → (c : List ℕ) → journals.since name opening c
+      → journals.image_before name c
 
 -- the journal of this name reads as it did, and no crash leaves anything new of it
 abbrev pub KeepsJournal : Journals → Text → Type 0
@@ -57,15 +92,14 @@ AreLater faults count [] = Unit {0}
 AreLater faults count (seat ∷ seats) =
     (count (seat_journal seat) ≤ faults (seat_disk seat)) × AreLater faults count seats
 
-module _ {D : Type 0} (told : Type 0) (reads : D → List ℕ) (image : D → List ℕ → Type 0)
-    (faults : D → ℕ) where
+module _ {D : Type 0} (told : Type 0) (Disk : DiskGhosts D) where
   -- a seat's disk is back, as its desk left it or as one more opening did
   pub record IsBack {g h : _} (disk : Text → Option D) (count : Text → ℕ) (seat : DeskSeat D g h) :
       Type 0 where
     pub now : D
-    pub left : IsLeftBy told reads image faults seat.desk now
+    pub left : IsLeftBy told Disk seat.desk now
     pub held : told → disk (seat_journal seat) ≡ Some now
-    pub counted : count (seat_journal seat) ≡ faults now
+    pub counted : count (seat_journal seat) ≡ Disk.faults now
 
   -- all are
   abbrev pub AreBack : {g h : _} → (Text → Option D) → (Text → ℕ) → List (DeskSeat D g h) → Type 0
@@ -80,10 +114,10 @@ module _ {D : Type 0} (told : Type 0) (reads : D → List ℕ) (image : D → Li
       pub user_is : seat_user seat ≡ user
       pub journal_is : seat_journal seat ≡ journal_name directory (string_bytes user.name)
       pub taken : D
-      pub from : told → IsTaken reads image (disk (seat_journal seat)) taken
-      pub counted : faults taken ≡ count (seat_journal seat)
-      pub opened : IsOpenedFrom schema world header disk_told reads image faults taken None seat
-      pub left : IsLeft reads image faults taken (seat_disk seat)
+      pub from : told → IsTaken Disk.reads Disk.image (disk (seat_journal seat)) taken
+      pub counted : Disk.faults taken ≡ count (seat_journal seat)
+      pub opened : IsOpenedFrom schema world header disk_told Disk taken None seat
+      pub left : IsLeft Disk taken (seat_disk seat)
 
     -- those of all users were
     abbrev pub AreSeatsOf : {g h : _} → (Text → Option D) → (Text → ℕ) → List User

@@ -3,7 +3,7 @@
 
 ghost use Rattle.std.specs.Prelude.{◌≡◌, ◌≤◌, ◌<◌, [], true, false, List, ℕ, map, length, position};
 ghost use Rattle.std.specs.Prelude.{IfOk, IfSome, OnOk, OnErr, IsErrOf, IfNone, OnSome, option_map};
-ghost use Rattle.std.specs.Prelude.{All, string_bytes, vec_capacity};
+ghost use Rattle.std.specs.Prelude.{string_bytes, vec_capacity};
 ghost use Rattle.std.specs.List.{AllByRecursion, list_any};
 ghost use Rattle.outside.specs.Faults.{Rose};
 ghost use Rattle.outside.specs.Shelf.{SameNames, SameOthers};
@@ -15,13 +15,15 @@ ghost use Rattle.cqe_base.specs.Limits.{KeepsLimits};
 ghost use Rattle.log_journal.specs.Opening.{header_bytes};
 ghost use Rattle.log_journal.specs.Names.{journal_name};
 ghost use Rattle.user_log.specs.Replies.{reply_of};
-ghost use Rattle.desk_crew.specs.Crew.{named_user, seat_user, seat_kept, seat_broke, is_named};
+ghost use Rattle.desk_crew.specs.Crew.{seat_user, seat_kept, seat_broke, is_named};
 ghost use Rattle.desk_crew.specs.Crew.{IsSeatServed, Tells, AreReopened};
 ghost use Rattle.outside.specs.Shelf.{SameBeside, AllOut, AllIn, NoneOut, NoneFell, AreOut};
 ghost use Rattle.outside.specs.Shelf.{SameBytes, NoNewImages};
 ghost use Rattle.desk_crew.specs.Shelved.{journals};
 ghost use Rattle.desk_crew.specs.Shelved.{AreLater, AreBack, IsSeatOf, AreSeatsOf};
 ghost use Rattle.desk_crew.specs.declared.crew.NotOpened.{NotOpened};
+ghost use Rattle.desk_crew.specs.Registered.{AllKeepLimits, SeatsKeepLimits};
+ghost use Rattle.desk_crew.specs.Registered.{registered_journals, HaveOwnNames};
 
 use crate::registry::Registry;
 use crate::seat::{DeskSeat, close_desk, reopen, seat_at, settle_at};
@@ -59,7 +61,7 @@ pub fn give_back<F: Shelf>(shelf: &mut F, seats: Vec<DeskSeat<'_, F::D>>) -> boo
     requires out { AllOut (journals seats.items) (F.is_out shelf.old) }
     requires later { AreLater F.D.faults (F.disk_faults shelf.old) seats.items }
     ensures broke { result ≡ list_any seat_broke seats.entry.items }
-    ensures back { AreBack F.tells F.D.reads F.D.image F.D.faults (F.disk shelf.new)
+    ensures back { AreBack F.tells F.D.Disk (F.disk shelf.new)
         (F.disk_faults shelf.new) seats.entry.items }
     ensures inside { AllIn (journals seats.entry.items) (F.is_out shelf.new) }
     ensures others_out { SameBeside (journals seats.entry.items) (F.is_out shelf.old)
@@ -88,8 +90,7 @@ pub fn reopen_all<'w, F: Shelf>(
     shelf: &mut F,
     seats: Vec<DeskSeat<'w, F::D>>,
 ) -> Option<Vec<DeskSeat<'w, F::D>>>
-    requires limits { AllByRecursion (λ seat. KeepsLimits registry.now.schema.now
-        (profile_of (seat_user seat))) seats.items }
+    requires limits { SeatsKeepLimits registry.now.schema.now seats.items }
     requires served { AllByRecursion (IsSeatServed registry.now.schema.now registry.now.world.now
         (header_bytes registry.now.header.now)) seats.items }
     requires distinct { has_duplicate (journals seats.items) ≡ false }
@@ -97,11 +98,11 @@ pub fn reopen_all<'w, F: Shelf>(
     requires later { AreLater F.D.faults (F.disk_faults shelf.old) seats.items }
     ensures reopened { IfSome result (λ reopened.
         AreReopened registry.now.schema.now registry.now.world.now
-        (header_bytes registry.now.header.now) F.D.tells F.D.reads F.D.image F.D.faults
+        (header_bytes registry.now.header.now) F.D.tells F.D.Disk
         seats.entry.items
         reopened.items) }
     ensures untouched { OnSome result (shelf.new ≡ shelf.old) }
-    ensures back { IfNone result (AreBack F.tells F.D.reads F.D.image F.D.faults (F.disk shelf.new)
+    ensures back { IfNone result (AreBack F.tells F.D.Disk (F.disk shelf.new)
         (F.disk_faults shelf.new) seats.entry.items) }
     ensures inside { IfNone result (AllIn (journals seats.entry.items) (F.is_out shelf.new)) }
     ensures others_out { SameBeside (journals seats.entry.items) (F.is_out shelf.old)
@@ -148,7 +149,7 @@ fn open_seat<'w, F: Shelf>(
         (journal_name registry.now.directory.now (string_bytes user.now.name))
         ≡ false }
     ensures opened { IfOk result
-        (IsSeatOf F.tells F.D.reads F.D.image F.D.faults F.D.tells registry.now.schema.now
+        (IsSeatOf F.tells F.D.Disk F.D.tells registry.now.schema.now
         registry.now.world.now (header_bytes registry.now.header.now) registry.now.directory.now
         (F.disk shelf.old)
         (F.disk_faults shelf.old) user.now) }
@@ -206,19 +207,17 @@ pub fn open_all<'w, F: Shelf>(
     registry: &Registry<'w>,
     shelf: &mut F,
 ) -> Result<Vec<DeskSeat<'w, F::D>>, NotOpened>
-    requires limits { All
-        (λ user. KeepsLimits registry.now.schema.now (profile_of user)) registry.now.users.now }
-    requires distinct { has_duplicate
-        (map (λ user. user.name) (map named_user registry.now.users.now)) ≡ false }
+    requires limits { AllKeepLimits registry.now.schema.now registry.now.users.now }
+    requires distinct { HaveOwnNames registry.now.users.now }
     requires inside { NoneOut (F.is_out shelf.old) }
     ensures opened { IfOk result (λ seats.
-        AreSeatsOf F.tells F.D.reads F.D.image F.D.faults F.D.tells
+        AreSeatsOf F.tells F.D.Disk F.D.tells
         registry.now.schema.now registry.now.world.now
         (header_bytes registry.now.header.now) registry.now.directory.now
         (F.disk shelf.old) (F.disk_faults shelf.old) registry.now.users.now seats.items) }
     ensures out { IfOk result (λ seats. AreOut (journals seats.items) (F.is_out shelf.new)) }
-    ensures disks { SameBeside (map (journal_name registry.now.directory.now)
-        (map (λ user. user.name) (map named_user registry.now.users.now))) (F.disk shelf.old)
+    ensures disks { SameBeside
+        (registered_journals registry.now.directory.now registry.now.users.now) (F.disk shelf.old)
         (F.disk shelf.new) }
     ensures counts { OnOk result (SameNames (F.disk_faults shelf.old) (F.disk_faults shelf.new)) }
     ensures refused_out { OnErr result (NoneOut (F.is_out shelf.new)) }

@@ -117,3 +117,38 @@ fn a_line_is_answered_before_more_is_read(rt: HostRuntime) -> Result<(), Fail> {
     assert_eq!(rt; faults, 0);
     Ok(())
 }
+
+// Each byte comes and goes by a call of its own: a read fails, or a write. The lines are of 14, 14
+// and 13 bytes, the replies of 8, 3 and 3. What came whole is answered, and what was written is a
+// beginning of the replies.
+#[test]
+fn an_end_may_fail_at_any_call(rt: HostRuntime) -> Result<(), Fail> {
+    let alloc = rt.alloc();
+    let input = "login eve abc\nask drug(ann)\nask hiv(bob)\n";
+    let output = "welcome\nno\nno\n";
+    for call in 0..40 {
+        let plan = Plan::At(vec![in alloc; call]?);
+        let source = MemorySource::with_plan(bytes_of(alloc, input)?, Pieces::UpTo(1), plan);
+        let (ended, sink, faults) = talk(&rt, alloc, source, MemorySink::new(alloc))?;
+        let heard = match call {
+            0..14 => "",
+            14..28 => "welcome\n",
+            _ => "welcome\nno\n",
+        };
+        assert_eq!(rt; sink.bytes(), heard.as_bytes(), "read {call}");
+        assert_eq!(rt; ended, Ended::ReadFault, "read {call}");
+        assert_eq!(rt; faults, 1, "read {call}");
+
+        let plan = Plan::At(vec![in alloc; call]?);
+        let source = MemorySource::new(bytes_of(alloc, input)?);
+        let sink = MemorySink::with_plan(alloc, Pieces::UpTo(1), plan);
+        let (ended, sink, _faults) = talk(&rt, alloc, source, sink)?;
+        let (written, end) = match output.get(..call as usize) {
+            Some(part) if call < 14 => (part, Ended::WriteFault),
+            _ => (output, Ended::InputEnd),
+        };
+        assert_eq!(rt; sink.bytes(), written.as_bytes(), "write {call}");
+        assert_eq!(rt; ended, end, "write {call}");
+    }
+    Ok(())
+}

@@ -20,6 +20,9 @@ const FROM_THE_GATE: [u8; 14] = [
 // Each record is one read more.
 const OPENING: u64 = 4;
 
+// How many values a byte has.
+const VALUES: u32 = 256;
+
 // The bytes of a journal with this behind its header.
 fn with_header(alloc: Global, behind: &[u8]) -> Result<Vec<u8>, Fail> {
     let mut bytes = Vec::new(alloc);
@@ -150,6 +153,44 @@ fn any_bytes_are_opened_or_refused(rt: HostRuntime) -> Result<(), Fail> {
         bytes.resize(76 + length + 1, 0)?;
         assert_eq!(rt; opened(alloc, bytes)?, want, "a text of {length}");
     }
+    Ok(())
+}
+
+// Each value of the first gate, and each of the kind behind an open one.
+#[test]
+fn one_gate_is_open_and_four_kinds_are_records(rt: HostRuntime) -> Result<(), Fail> {
+    let alloc = rt.alloc();
+    for value in 0..VALUES {
+        let byte = value as u8;
+        let gate = opened(alloc, with_header(alloc, &[byte, 2, 0, 1, 120, 0])?)?;
+        let count = if value == 1 { (1, 2) } else { (0, 0) };
+        assert_eq!(rt; gate, Ok(count), "gate {value}");
+        let kind = opened(alloc, with_header(alloc, &[1, byte, 0, 1, 120, 0])?)?;
+        if value >= 1 && value <= 4 {
+            assert_eq!(rt; kind, Ok((1, byte)), "kind {value}");
+        } else {
+            assert_eq!(rt; kind, Err(OpenError::Damaged(0)), "kind {value}");
+        }
+    }
+    Ok(())
+}
+
+// A journal with two records is cut at each of its bytes.
+#[test]
+fn a_cut_at_any_byte_is_refused(rt: HostRuntime) -> Result<(), Fail> {
+    let alloc = rt.alloc();
+    let mut whole = with_header(alloc, &FROM_THE_GATE[..13])?;
+    whole.extend_from_slice(&[1, 3, 0, 1, 120, 0])?;
+    for length in 0..91 {
+        let want = match length {
+            0..73 => OpenError::NotAJournal,
+            73..86 => OpenError::Damaged(0),
+            _ => OpenError::Damaged(1),
+        };
+        let bytes = whole.get(..length).unwrap_or(&[]).to_vec(alloc)?;
+        assert_eq!(rt; opened(alloc, bytes)?, Err(want), "{length} bytes");
+    }
+    assert_eq!(rt; opened(alloc, whole)?, Ok((2, 3)));
     Ok(())
 }
 

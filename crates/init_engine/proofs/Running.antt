@@ -7,7 +7,7 @@ use Rattle.outside.specs.Shelf.{SameOthers, bytes_on}
 use Rattle.cqe_base.specs.declared.user.User.{User}
 use Rattle.cqe_base.specs.Schema.{has_duplicate}
 use Rattle.log_journal.specs.Names.{journal_name, JournalsDiffer}
-use Rattle.init_engine.specs.Disks.{user_names, IsReady, Readies}
+use Rattle.init_engine.specs.Disks.{user_names, IsMadeAt, Readies}
 use Rattle.init_engine.specs.Stops.{HasReason, StaysAt}
 use Rattle.init_engine.specs.Ends.{Change, StopsAt, EndsInit, end_of}
 use Rattle.init_engine.specs.declared.end.Stop.{Stop}
@@ -34,9 +34,9 @@ module _ {D : Type 0} (reads : D → List ℕ) (image : D → List ℕ → Type 
         others other (apart k name (omega arith) is) ∙ so_far.others other (λ i first less is'. apart i first (omega (arith, less)) is')
 
     before : (i : ℕ) (first : List ℕ) → i < k → slice_get names i ≡ Some first
-        → IsReady reads image header (old (journal_name directory first)) (new (journal_name directory first))
+        → IsMadeAt reads image header (old (journal_name directory first)) (new (journal_name directory first))
     before i first less is' =
-        subst (λ d. IsReady reads image header (old (journal_name directory first)) d)
+        subst (λ d. IsMadeAt reads image header (old (journal_name directory first)) d)
         (sym (others (journal_name directory first) (journals_apart i k first name (λ same. omega (arith, less, same)) is' is))) (so_far.are i first less is')
 
     -- it is stopped at
@@ -44,21 +44,21 @@ module _ {D : Type 0} (reads : D → List ℕ) (image : D → List ℕ → Type 
     stopped = record { are = before; others = touched }
 
     -- it is made ready
-    pub one_more : IsReady reads image header (mid (journal_name directory name)) (new (journal_name directory name))
+    pub one_more : IsMadeAt reads image header (mid (journal_name directory name)) (new (journal_name directory name))
         → Readies reads image header directory names old new (k + 1) (k + 1)
     one_more ready = record { are = λ i first less is'. by_place i first (cases i k less) is'; others = touched }
       where
         cases : (i k : ℕ) → i < k + 1 → (i < k) ⊎ (i ≡ k)
         cases i k less = grind (arith, less)
 
-        last : IsReady reads image header (old (journal_name directory name)) (new (journal_name directory name))
-        last = subst (λ d. IsReady reads image header d (new (journal_name directory name))) not_yet ready
+        last : IsMadeAt reads image header (old (journal_name directory name)) (new (journal_name directory name))
+        last = subst (λ d. IsMadeAt reads image header d (new (journal_name directory name))) not_yet ready
 
         by_place : (i : ℕ) (first : List ℕ) → (i < k) ⊎ (i ≡ k) → slice_get names i ≡ Some first
-            → IsReady reads image header (old (journal_name directory first)) (new (journal_name directory first))
+            → IsMadeAt reads image header (old (journal_name directory first)) (new (journal_name directory first))
         by_place i first (inl less) is' = before i first less is'
         by_place i first (inr same) is' =
-            subst (λ n. IsReady reads image header (old (journal_name directory n)) (new (journal_name directory n)))
+            subst (λ n. IsMadeAt reads image header (old (journal_name directory n)) (new (journal_name directory n)))
             (same_some name first (sym is ∙ ap (λ j. slice_get names j) (sym same) ∙ is')) last
 
 -- The shelf as it was at first, before the next user and after him; he is stopped at.

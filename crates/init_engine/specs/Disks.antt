@@ -21,7 +21,7 @@ module _ {D : Type 0} (reads : D → List ℕ) (image : D → List ℕ → Type 
     pub kept : before ≢ [] → reads disk ≡ before
 
   -- the same of what stands under a name
-  pub record IsReady (before after : Option D) : Type 0 where
+  pub record IsMadeAt (before after : Option D) : Type 0 where
     pub disk : D
     pub stands : after ≡ Some disk
     pub made : IsMade (bytes_on reads before) disk
@@ -30,7 +30,7 @@ module _ {D : Type 0} (reads : D → List ℕ) (image : D → List ℕ → Type 
   pub record Readies (directory : List ℕ) (names : List (List ℕ)) (old new : List ℕ → Option D)
       (ready touched : ℕ) : Type 0 where
     pub are : (i : ℕ) (name : List ℕ) → i < ready → slice_get names i ≡ Some name
-        → IsReady (old (journal_name directory name)) (new (journal_name directory name))
+        → IsMadeAt (old (journal_name directory name)) (new (journal_name directory name))
     pub others : (other : List ℕ)
         → ((i : ℕ) (name : List ℕ) → i < touched → slice_get names i ≡ Some name
         → bytes_eq other (journal_name directory name) ≡ false) → new other ≡ old other

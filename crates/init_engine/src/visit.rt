@@ -6,7 +6,7 @@ ghost use Rattle.outside.specs.Faults.{HasCause};
 ghost use Rattle.outside.specs.Shelf.{SameNames, SameOthers, NoneFell, bytes_on};
 ghost use Rattle.log_journal.specs.Opening.{header_bytes};
 ghost use Rattle.log_journal.specs.Names.{journal_name};
-ghost use Rattle.init_engine.specs.Disks.{IsMade, IsReady};
+ghost use Rattle.init_engine.specs.Disks.{IsMade, IsMadeAt};
 ghost use Rattle.init_engine.specs.Stops.{HasReason, StaysAt, stop_of};
 
 use crate::end::Stop;
@@ -24,7 +24,7 @@ pub(crate) fn serve<F: Shelf>(
 ) -> Result<(), Stop>
     requires { F.is_out shelf.old (journal_name directory.now name.now) ≡ false }
     ensures ready { F.tells
-        → OnOk result (IsReady F.D.reads F.D.image (header_bytes header.now)
+        → OnOk result (IsMadeAt F.D.reads F.D.image (header_bytes header.now)
         (F.disk shelf.old (journal_name directory.now name.now))
         (F.disk shelf.new (journal_name directory.now name.now))) }
     ensures reason { IfErr result
@@ -58,7 +58,7 @@ fn serve_disk<F: Shelf>(
 ) -> Result<(), Stop>
     requires { F.is_out shelf.old journal.now ≡ false }
     ensures ready { F.tells
-        → OnOk result (IsReady F.D.reads F.D.image (header_bytes header.now)
+        → OnOk result (IsMadeAt F.D.reads F.D.image (header_bytes header.now)
         (F.disk shelf.old journal.now) (F.disk shelf.new journal.now)) }
     ensures reason { IfErr result
         (HasReason F.tells (header_bytes header.now)

@@ -20,7 +20,7 @@ use Rattle.user_desk.specs.declared.standing.DeskError.{DeskError}
 use Rattle.batch_engine.specs.BatchLines.{BatchItem, asked, restarted, batch_of}
 use Rattle.desk_crew.specs.Shelved.{Journals}
 use Rattle.batch_engine.specs.Batch.{ServesUser, AreEventsOf, AreRefusals, AppendsAll, is_broken_line, unopened, with_opening}
-use Rattle.desk_crew.specs.Openings.{IsOpening}
+use Rattle.desk_crew.specs.Openings.{OpensWith}
 use Rattle.batch_engine.specs.Lives.{is_refused, AreCaused}
 use Rattle.selfrun_engine.specs.Outputs.{IsNoFailedAsk, IsOfUser, IsOutput}
 
@@ -130,7 +130,7 @@ module _ (schema : DatabaseSchema) (world : FactSet) (header : List ℕ) (journa
   abbrev pub IsEmpty : NamedUser → Type 0
   IsEmpty user = records (journals.bytes user.name) ≡ []
 
-  no_entries : (user : NamedUser) → IsEmpty user → IsOpening schema world user.profile header (journals.bytes user.name) user.opened → user.opened ≡ []
+  no_entries : (user : NamedUser) → IsEmpty user → OpensWith schema world user.profile header (journals.bytes user.name) user.opened → user.opened ≡ []
   no_entries user empty (inl opens) = none user.opened (sym opens.stands.are ∙ ap (map (entry_of schema)) empty)
     where
       none : (entries : History) → map Some entries ≡ [] → entries ≡ []

@@ -3,9 +3,9 @@ use Rattle.std.proofs.Common.{◌≡◌, ℕ, zero, suc, ◌*◌, ◌^◌, ◌�
 use Rattle.std.specs.Prelude.{All, string_bytes}
 use Rattle.std.specs.List.{AllByRecursion, AllZip}
 use Rattle.std.proofs.lemmas.List.Elements.{All-head, All-tail}
+use Rattle.outside.specs.declared.links.Door.{Ghosts as DoorGhosts}
 use Rattle.cqe_base.specs.Schema.{DatabaseSchema}
 use Rattle.cqe_base.specs.Facts.{FactSet}
-use Rattle.cqe_base.specs.History.{AnsweredQuery}
 use Rattle.cqe_base.specs.declared.user.User.{User}
 use Rattle.outside.specs.Visits.{Visit}
 use Rattle.turnstile.specs.declared.pass.Pass.{Pass}
@@ -15,9 +15,9 @@ use Rattle.desk_counter.specs.declared.item.TurnItem.{TurnItem}
 use Rattle.desk_counter.specs.declared.item.Fixed.{Fixed}
 use Rattle.desk_counter.specs.declared.counter.CounterOf.{CounterOf}
 use Rattle.desk_counter.specs.declared.ticketed_desk.TicketedDesk.{TicketedDesk}
-use Rattle.desk_counter.specs.Counters.{kept_by, first_history, IsPassOf}
-use Rattle.desk_counter.specs.Items.{history_of}
-use Rattle.desk_crew.specs.Crew.{seat_kept, IsFresh}
+use Rattle.desk_counter.specs.Counters.{kept_by, first_pairs, IsPassOf}
+use Rattle.desk_counter.specs.Items.{items_of}
+use Rattle.desk_crew.specs.Crew.{seat_kept, IsSeatAsOpened}
 use Rattle.desk_crew.specs.Seats.{DeskSeat}
 use Rattle.session_core.specs.Members.{ArePasses}
 use Rattle.serve_engine.specs.declared.sharing.Keeper.{Keeper}
@@ -34,12 +34,12 @@ first_same x y xs ys same = (cc, cc)
 
 -- ---- doors
 
-module _ {O : Type 0} (told : Type 0) (given_of left_of faults_of : O → ℕ) (back_of : O → List Visit) where
+module _ {O S K : Type 0} (Door : DoorGhosts O S K) where
   -- connections that stand in one way and so in another
   pub served_still : (stands stands' : Visit → SessionMarks → Type 0) → ((visit : Visit) (marks : SessionMarks) → stands visit marks → stands' visit marks)
-      → (total : ℕ) (marks : told → List SessionMarks) (doors others : List O)
-      → AreServedDoors told given_of left_of faults_of back_of stands total marks doors others
-      → AreServedDoors told given_of left_of faults_of back_of stands' total marks doors others
+      → (total : ℕ) (marks : Door.tells → List SessionMarks) (doors others : List O)
+      → AreServedDoors Door stands total marks doors others
+      → AreServedDoors Door stands' total marks doors others
   served_still stands stands' still total marks [] [] is = is
   served_still stands stands' still total marks (d ∷ doors) (e ∷ others) is =
       let door = is.6 in (
@@ -69,7 +69,7 @@ module _ {O : Type 0} (told : Type 0) (given_of left_of faults_of : O → ℕ) (
 
   -- doors that gave nothing
   pub none_served : (stands : Visit → SessionMarks → Type 0) (doors : List O)
-      → AreServedDoors told given_of left_of faults_of back_of stands 0 (λ t. []) doors doors
+      → AreServedDoors Door stands 0 (λ t. []) doors doors
   none_served stands [] = (refl, λ t. refl)
   none_served stands (d ∷ doors) = (
     0,
@@ -81,7 +81,7 @@ module _ {O : Type 0} (told : Type 0) (given_of left_of faults_of : O → ℕ) (
     record {
       given = λ t. omega arith;
       left = λ t. omega arith;
-      back = λ t. record { visits = []; behind = sym (append-nil (back_of d)); many = refl; stand = tt };
+      back = λ t. record { visits = []; behind = sym (append-nil (Door.back d)); many = refl; stand = tt };
       faults = omega arith;
     },
     none_served stands doors,
@@ -119,18 +119,18 @@ module _ {D : Type 0} {g h : _} where
   kept_apart [] = refl
   kept_apart (seat ∷ seats) = ap (λ (fs : List (Fixed D)). seat_kept seat ∷ fs) (kept_apart seats)
 
-  pub apart_opened : (seats : List (DeskSeat D g h)) → All IsFresh seats → HaveSeenOpenings (map kept_by (map seat_counter seats)) (map seat_pass seats)
+  pub apart_opened : (seats : List (DeskSeat D g h)) → All IsSeatAsOpened seats → HaveSeenOpenings (map kept_by (map seat_counter seats)) (map seat_pass seats)
   apart_opened [] all = tt
   apart_opened (seat ∷ seats) all =
-      let this = (All-head IsFresh seat seats all).count in
-      (omega (arith, this), apart_opened seats (All-tail IsFresh seat seats all))
+      let this = (All-head IsSeatAsOpened seat seats all).count in
+      (omega (arith, this), apart_opened seats (All-tail IsSeatAsOpened seat seats all))
 
   -- and nothing of their own
-  pub apart_own : (seats : List (DeskSeat D g h)) → All (λ seat. mine (seat_pass seat) ≡ []) seats → (weight : AnsweredQuery → ℕ) (place : ℕ)
+  pub apart_own : (seats : List (DeskSeat D g h)) → All (λ seat. mine (seat_pass seat) ≡ []) seats → (weight : TurnItem → ℕ) (place : ℕ)
       → own_weight weight place (map seat_pass seats) ≡ 0
   apart_own [] all weight place = refl
   apart_own (seat ∷ seats) all weight zero =
-      ap (λ ps. sum_by weight (history_of ps)) (All-head (λ (s : DeskSeat D g h). mine (seat_pass s) ≡ []) seat seats all)
+      ap (λ ps. sum_by weight (items_of ps)) (All-head (λ (s : DeskSeat D g h). mine (seat_pass s) ≡ []) seat seats all)
   apart_own (seat ∷ seats) all weight (suc place) = apart_own seats (All-tail (λ (s : DeskSeat D g h). mine (seat_pass s) ≡ []) seat seats all) weight place
 
   -- seats that were put together of the same, by passes that have seen more
@@ -145,7 +145,7 @@ module _ {D : Type 0} {g h : _} where
           journal_is = ap (λ (k : Keeper). string_bytes k.journal) keeper.0;
           refusal_is = ap (λ (k : Keeper). k.refusal) keeper.0;
           kept_is = ap kept_by counter.0;
-          first_is = ap first_history counter.0;
+          first_is = ap first_pairs counter.0;
           on = on.0;
         },
         seats_on olds news keeper.1 counter.1 on.1,

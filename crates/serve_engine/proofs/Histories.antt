@@ -1,15 +1,18 @@
 -- Each user's one history, from the opening of his journal to the disk that is back.
 use Rattle.std.proofs.Common.{◌≡◌, ◌⊎◌, inl, inr, ℕ, suc, ◌+◌, ◌*◌, ◌^◌, ◌≤◌, Bool, true, false, List, [], ◌∷◌, ◌++◌, length, map, refl, sym, ap, subst, ◌∙◌}
-use Rattle.std.proofs.Common.{◌<◌, arith}
-use Rattle.std.specs.Prelude.{Option, Some, None, Vec, is_some, ◌||◌, string_bytes, All}
+use Rattle.std.proofs.Common.{◌<◌, arith, length-append}
+use Rattle.std.specs.Prelude.{Option, Some, None, Vec, is_some, ◌||◌, string_bytes, All, not, option_map, option_to_list, IfSome}
 use Rattle.std.specs.declared.alloc.Global.{Global}
-use Rattle.std.specs.List.{AllByRecursion, list_any, sum_by}
+use Rattle.std.specs.List.{AllByRecursion, list_any, sum_by, flat_map}
 use Rattle.std.proofs.lemmas.List.Sums.{sum_by-append}
 use Rattle.std.proofs.lemmas.List.Elements.{All-head, All-tail, All-from_recursion}
 use Rattle.outside.proofs.Rises.{rose_wide}
 use Rattle.outside.proofs.Taken.{taken_reads, taken_images}
 use Rattle.outside.specs.Shelf.{bytes_on, image_on}
+use Rattle.outside.specs.Disk.{Elapses}
+use Rattle.outside.specs.declared.disk.Disk.{Ghosts as DiskGhosts}
 use Rattle.outside.specs.Visits.{Visit, one_if_any}
+use Rattle.outside.specs.declared.links.Door.{Ghosts as DoorGhosts}
 use Rattle.cqe_base.specs.Schema.{Text, DatabaseSchema, is_valid_schema}
 use Rattle.cqe_base.specs.Facts.{FactSet}
 use Rattle.cqe_base.specs.History.{UserProfile, AnsweredQuery, History, is_user_of, profile_of}
@@ -19,7 +22,7 @@ use Rattle.cqe_base.specs.Limits.{KeepsLimits}
 use Rattle.cqe_base.specs.declared.user.User.{User}
 use Rattle.log_journal.specs.Names.{journal_name}
 use Rattle.log_journal.specs.declared.header.OpenError.TheVariants as journal_error
-use Rattle.user_desk.specs.Causes.{IsStanding, IsSealedBy}
+use Rattle.user_desk.specs.Causes.{IsStanding, IsSealedBy, OpensWithin}
 use Rattle.user_desk.specs.Lives.{Holds}
 use Rattle.user_desk.specs.Standings.{is_open, is_sealed}
 use Rattle.user_desk.specs.declared.standing.DeskError.{DeskError}
@@ -27,17 +30,20 @@ use Rattle.user_desk.specs.declared.standing.DeskError.TheVariants.{Journal, Sta
 use Rattle.user_desk.specs.declared.standing.Standing.{Standing}
 use Rattle.user_desk.specs.declared.standing.Standing.TheVariants.{Open, Closed, Sealed}
 use Rattle.desk_counter.specs.declared.item.Fixed.{Fixed}
-use Rattle.desk_counter.specs.Items.{history_of, flying}
+use Rattle.desk_counter.specs.declared.item.TurnItem.{TurnItem}
+use Rattle.desk_counter.specs.Items.{history_of, flying, items_of}
 use Rattle.desk_counter.specs.Sole.{pairs_of_sole}
-use Rattle.desk_counter.proofs.Pairs.{history_all}
-use Rattle.turnstile.specs.Passes.{mine, turns}
-use Rattle.desk_counter.specs.Counters.{first_history}
-use Rattle.desk_crew.specs.Crew.{IsFresh, IsClosed, refusal_of, seat_user, seat_journal, seat_kept, seat_standing, seat_history, seat_disk, seat_broke}
+use Rattle.desk_counter.proofs.Pairs.{history_all, items_all}
+use Rattle.turnstile.specs.Passes.{seen, mine, turns}
+use Rattle.desk_counter.specs.Counters.{first_pairs}
+use Rattle.desk_crew.specs.Crew.{IsSeatAsOpened, IsClosed, refusal_of, seat_user, seat_journal, seat_kept, seat_standing, seat_history, seat_disk, seat_broke}
 use Rattle.desk_crew.specs.Crew.{seat_state}
 use Rattle.desk_crew.specs.Seats.{DeskSeat}
-use Rattle.desk_crew.specs.Shelved.{Journals, journals, journals_on, AreLater, IsSeatOf, AreSeatsOf, IsBack, AreBack}
+use Rattle.desk_crew.specs.Shelved.{Journals, journals, since_on, journals_by, StandsAllAlong, AreLater, IsSeatOf, AreSeatsOf, IsBack, AreBack}
+use Rattle.desk_crew.proofs.Lasting.{taken_moment, holds_within, stands_along}
 use Rattle.session_core.specs.Members.{AreDesksOf, HasSeenLegal, HaveSeenLegal}
-use Rattle.serve_engine.specs.Served.{Member, SessionMarks, entries_told}
+use Rattle.session_core.proofs.Replying.{last_none}
+use Rattle.serve_engine.specs.Served.{member_broke, SessionMarks, entries_told, failures_told, items_told}
 use Rattle.serve_engine.specs.Members.{OwnMore, own_at}
 use Rattle.serve_engine.specs.Doors.{AreServedDoors, SomeFailed, HasOutcome}
 use Rattle.serve_engine.specs.Serving.{HasServed, HaveServed, AreAllTold, ServesDoors, EndsDoors, IsDone, IsBroken, end_of}
@@ -45,6 +51,7 @@ use Rattle.serve_engine.specs.declared.serving.Outcome.{Outcome}
 use Rattle.serve_engine.specs.declared.serving.Outcome.TheVariants as outcome
 use Rattle.serve_engine.specs.declared.run.ServeEnd.TheVariants.{LinksFault}
 use Rattle.serve_engine.proofs.Owning.{own_weight, told_weight, weigh_more}
+use Rattle.serve_engine.proofs.Weighing.{kept_weight, failed_weight, kept_pairs_weigh, none_failed, failed_last, kept_told, failed_told}
 use Rattle.serve_engine.specs.Sharing.{seat_counter, seat_pass, seat_member, IsSeatOn, AreSeatsOn, AreAllIn}
 
 module _ (schema : DatabaseSchema) (world : FactSet) (user : UserProfile) (header bytes : List ℕ) (T : Type 0) (t : T) where
@@ -76,17 +83,16 @@ open_admits schema world user T header bytes entries before now Open is serves =
 open_admits schema world user T header bytes entries before now (Closed admission) is serves = absurd cc
 open_admits schema world user T header bytes entries before now (Sealed why) is serves = absurd cc
 
-module _ (schema : DatabaseSchema) (world : FactSet) (header directory : List ℕ) {D : Type 0} {g h : _} (T S : Type 0) (t : T) (s : S) (reads : D → List ℕ)
-    (image : D → List ℕ → Type 0) (faults : D → ℕ)
-    (read_is_image : (d : D) → T → image d (reads d)) (disk disk' : Text → Option D) (count count' : Text → ℕ) where
+module _ (schema : DatabaseSchema) (world : FactSet) (header directory : List ℕ) {D : Type 0} {g h : _} (T S : Type 0) (t : T) (s : S) (Disk : DiskGhosts D)
+    (read_is_image : (d : D) → T → Disk.image d (Disk.reads d)) (disk disk' : Text → Option D) (count count' : Text → ℕ) where
   abbrev Opened : User → DeskSeat D g h → Type 0
-  Opened user seat = IsSeatOf S reads image faults T schema world header directory disk count user seat
+  Opened user seat = IsSeatOf S Disk T schema world header directory disk count user seat
 
   abbrev Back : DeskSeat D g h → Type 0
-  Back seat = IsBack S reads image faults disk' count' seat
+  Back seat = IsBack S Disk disk' count' seat
 
   -- a desk whose journal was refused, or at which nothing was appended, leaves the disk of its opening
-  left_alone : (seat : DeskSeat D g h) (after : D) → IsClosed S reads image faults seat.desk after → (is_sealed (seat_standing seat) ≡ true)
+  left_alone : (seat : DeskSeat D g h) (after : D) → IsClosed S Disk seat.desk after → (is_sealed (seat_standing seat) ≡ true)
       ⊎ ((seat_history seat ≡ (seat_kept seat).opening) × (seat_broke seat ≡ false)) → after ≡ (seat_kept seat).disk
   left_alone seat after closed (inl sealed) = closed.shut sealed
   left_alone seat after closed (inr (same, unbroken)) =
@@ -96,10 +102,60 @@ module _ (schema : DatabaseSchema) (world : FactSet) (header directory : List �
       none_flies None none = refl
       none_flies (Some entry) none = absurd cc
 
+  -- what a crash could leave of a user's journal at each moment
+  all_along : (user : User) (old new : DeskSeat D g h) → Opened user old → IsSeatOn old new → Back new
+      → (seat_kept new).schema ≡ schema → (seat_kept new).world ≡ world → (seat_kept new).header ≡ header
+      → length (seat_kept new).opening ≤ length (seat_history new)
+      → StandsAllAlong (journals_by Disk.reads Disk.image Disk.moment Disk.image_since directory disk disk' count count') (string_bytes user.name)
+      (not (is_sealed (seat_standing new)))
+      (OpensWithin schema world (seat_kept new).user header (length (seat_kept new).opening)
+      (seat_history new ++ option_to_list (flying (pairs_of_sole new.desk))))
+  all_along user old new opened on back schema_is world_is header_is more =
+      stands_along (journals_by Disk.reads Disk.image Disk.moment Disk.image_since directory disk disk' count count') (string_bytes user.name)
+      (is_sealed (seat_standing new)) (Kind schema world header) (Disk.moment opened.taken) (Disk.moment (seat_disk old)) (Disk.moment closed)
+      (Disk.moment back.now) (Disk.image_since opened.taken)
+      (Disk.image_since (seat_disk old)) (Disk.image_since closed) (Disk.image opened.taken) (Disk.image closed)
+      (subst (λ j. IfSome (option_map Disk.moment (disk j)) (λ begun. begun ≡ Disk.moment opened.taken)) opened.journal_is
+      (taken_moment Disk.reads Disk.image Disk.moment (disk (seat_journal old)) opened.taken (opened.from s)))
+      (λ c at. subst (λ j. image_on Disk.image (disk j) c) opened.journal_is
+      (taken_images Disk.reads Disk.image (disk (seat_journal old)) opened.taken c (opened.from s) at))
+      opened.left.time opened.left.rests
+      (subst (λ (f : Fixed D). Elapses (Disk.moment f.disk) (Disk.moment closed) (Disk.image_since f.disk) (Disk.image_since closed)) on.kept_is is.time)
+      (subst (λ o. Elapses (Disk.moment closed) (Disk.moment back.now) (Disk.image_since closed) (since_on Disk.image_since o)) (sym held) back.left.left.time)
+      (λ c here. back.left.left.rests c (subst (λ o. since_on Disk.image_since o (Disk.moment closed) c) held here))
+      (λ served c here. as_ours c (is.since s served c (subst (λ (f : Fixed D). Disk.image_since closed (Disk.moment f.disk) c) (sym on.kept_is) here)))
+      (λ served c here. as_ours c
+      (holds_within (seat_kept new).schema (seat_kept new).world (seat_kept new).user (seat_kept new).header (seat_history new) (seat_state new).standing
+      (flying (pairs_of_sole new.desk)) (length (seat_kept new).opening) c more (is.holds s served c here)))
+      (λ sealed c here. opened.left.rests c (subst (λ d. Disk.image_since d (Disk.moment opened.taken) c) (same sealed) here))
+      (λ sealed c here. opened.left.images c (subst (λ d. Disk.image d c) (same sealed) here))
+    where
+      closed : D
+      closed = back.left.closed
+
+      is : IsClosed S Disk new.desk back.left.closed
+      is = back.left.is_closed
+
+      held : disk' (journal_name directory (string_bytes user.name)) ≡ Some back.now
+      held = ap disk' (sym (on.journal_is ∙ opened.journal_is)) ∙ back.held s
+
+      Kind : DatabaseSchema → FactSet → List ℕ → List ℕ → Type 0
+      Kind sc w hd = OpensWithin sc w (seat_kept new).user hd (length (seat_kept new).opening)
+          (seat_history new ++ option_to_list (flying (pairs_of_sole new.desk)))
+
+      as_ours : (c : List ℕ) → Kind (seat_kept new).schema (seat_kept new).world (seat_kept new).header c → Kind schema world header c
+      as_ours c within =
+          subst (λ sc. Kind sc world header c) schema_is
+          (subst (λ w. Kind (seat_kept new).schema w header c) world_is (subst (λ hd. Kind (seat_kept new).schema (seat_kept new).world hd c) header_is within))
+
+      same : is_sealed (seat_standing new) ≡ true → back.left.closed ≡ seat_disk old
+      same sealed = is.shut sealed ∙ ap (λ (f : Fixed D). f.disk) on.kept_is
+
   module _ (valid : is_valid_schema schema ≡ true) (hide : LegalHistoriesHide) where
     -- one user
     has_served : (user : User) (old new : DeskSeat D g h) → KeepsLimits schema (profile_of user) → Opened user old → IsSeatOn old new → Back new
-        → HasServed schema world header (journals_on reads image directory disk disk' count count') user (seat_member new) old.refusal
+        → HasServed schema world header (journals_by Disk.reads Disk.image Disk.moment Disk.image_since directory disk disk' count count') user
+        (seat_member new) old.refusal
     has_served user old new limits opened on back =
         let name : Text = journal_name directory (string_bytes user.name) in
         let is = opened.opened in
@@ -112,21 +168,26 @@ module _ (schema : DatabaseSchema) (world : FactSet) (header directory : List �
         let header_is : (seat_kept new).header ≡ header = ap (λ (f : Fixed D). f.header) kept ∙ is.served.header_is in
         let user_is : (seat_kept new).user ≡ profile_of user = ap (λ (f : Fixed D). f.user) kept ∙ is.served.user_is ∙ ap profile_of opened.user_is in
         let held : disk' name ≡ Some back.now = ap disk' (sym journal) ∙ back.held s in
-        let counted : count' name ≡ faults back.now = ap count' (sym journal) ∙ back.counted in
-        let before : faults opened.taken ≡ count name = opened.counted ∙ ap count opened.journal_is in
-        let begins : faults opened.taken ≤ faults (seat_disk old) = opened.left.later in
-        let while : faults (seat_kept new).disk ≤ faults back.left.closed = closed.later in
-        let disks : faults (seat_kept new).disk ≡ faults (seat_disk old) = ap (λ (f : Fixed D). faults f.disk) kept in
-        let ends : faults back.left.closed ≤ faults back.now = left.later in
-        let read_was : reads opened.taken ≡ bytes_on reads (disk name) =
-        taken_reads reads image (disk (seat_journal old)) opened.taken (opened.from s) ∙ ap (λ n. bytes_on reads (disk n)) opened.journal_is in
+        let counted : count' name ≡ Disk.faults back.now = ap count' (sym journal) ∙ back.counted in
+        let before : Disk.faults opened.taken ≡ count name = opened.counted ∙ ap count opened.journal_is in
+        let begins : Disk.faults opened.taken ≤ Disk.faults (seat_disk old) = opened.left.later in
+        let while : Disk.faults (seat_kept new).disk ≤ Disk.faults back.left.closed = closed.later in
+        let disks : Disk.faults (seat_kept new).disk ≡ Disk.faults (seat_disk old) = ap (λ (f : Fixed D). Disk.faults f.disk) kept in
+        let ends : Disk.faults back.left.closed ≤ Disk.faults back.now = left.later in
+        let read_was : Disk.reads opened.taken ≡ bytes_on Disk.reads (disk name) =
+        taken_reads Disk.reads Disk.image (disk (seat_journal old)) opened.taken (opened.from s) ∙ ap (λ n. bytes_on Disk.reads (disk n)) opened.journal_is in
         let standing : Standing = seat_standing new in
         let standing_is : seat_standing old ≡ standing = ap (λ (f : Fixed D). f.standing) (sym kept) in
         let opening : seat_history old ≡ (seat_kept new).opening = sym is.opening_is ∙ ap (λ (f : Fixed D). f.opening) (sym kept) in
+        let goes_on : seat_history new ≡ (seat_kept new).opening ++ history_of on.on.0 =
+        ap history_of on.on.1 ∙ history_all (pairs_of_sole old.desk) on.on.0 ∙ ap (λ (e : History). e ++ history_of on.on.0) opening in
+        let many : length (seat_history new) ≡ length (seat_kept new).opening + length (history_of on.on.0) =
+        ap length goes_on ∙ length-append (seat_kept new).opening (history_of on.on.0) in
         let legal : IsLegal schema world (seat_kept new).user (seat_history new) =
         subst (λ w. IsLegal schema w (seat_kept new).user (seat_history new)) world_is
         (subst (λ d. IsLegal d (seat_kept new).world (seat_kept new).user (seat_history new)) schema_is closed.legal) in
-        let holds : is_sealed standing ≡ false → (c : List ℕ) → image back.left.closed c → Holds schema world (seat_kept new).user header (seat_state new) c =
+        let holds : is_sealed standing ≡ false → (c : List ℕ) → Disk.image back.left.closed c
+        → Holds schema world (seat_kept new).user header (seat_state new) c =
         λ served c here.
         subst (λ hd. Holds schema world (seat_kept new).user hd (seat_state new) c) header_is
         (subst (λ w. Holds schema w (seat_kept new).user (seat_kept new).header (seat_state new) c) world_is
@@ -136,58 +197,58 @@ module _ (schema : DatabaseSchema) (world : FactSet) (header directory : List �
           standing = standing;
           standing_is = refl;
           refusal_is = is.refusal ∙ ap refusal_of standing_is;
-          cause = standing_wide schema world (seat_kept new).user header (bytes_on reads (disk name)) T t (seat_kept new).opening (count name)
-              (faults opened.taken) (faults (seat_disk old)) (count' name) (omega (arith, before)) (omega (arith, while, disks, ends, counted)) standing
+          cause = standing_wide schema world (seat_kept new).user header (bytes_on Disk.reads (disk name)) T t (seat_kept new).opening (count name)
+              (Disk.faults opened.taken) (Disk.faults (seat_disk old)) (count' name) (omega (arith, before)) (omega
+              (arith, while, disks, ends, counted)) standing
               (subst (λ (st : Standing).
-              IsStanding schema world (seat_kept new).user T header (bytes_on reads (disk name)) (seat_kept new).opening (faults opened.taken)
-              (faults (seat_disk old)) st) standing_is
+              IsStanding schema world (seat_kept new).user T header (bytes_on Disk.reads (disk name)) (seat_kept new).opening (Disk.faults opened.taken)
+              (Disk.faults (seat_disk old)) st) standing_is
               (subst (λ (e : History).
-              IsStanding schema world (seat_kept new).user T header (bytes_on reads (disk name)) e (faults opened.taken) (faults (seat_disk old))
+              IsStanding schema world (seat_kept new).user T header (bytes_on Disk.reads (disk name)) e (Disk.faults opened.taken) (Disk.faults (seat_disk old))
               (seat_standing old)) opening
-              (subst (λ b. IsStanding schema world (seat_kept new).user T header b (seat_history old) (faults opened.taken) (faults (seat_disk old))
+              (subst (λ b. IsStanding schema world (seat_kept new).user T header b (seat_history old) (Disk.faults opened.taken) (Disk.faults (seat_disk old))
               (seat_standing old)) read_was
               (subst (λ (p : UserProfile).
-              IsStanding schema world p T header (reads opened.taken) (seat_history old) (faults opened.taken) (faults (seat_disk old)) (seat_standing old))
+              IsStanding schema world p T header (Disk.reads opened.taken) (seat_history old) (Disk.faults opened.taken) (Disk.faults (seat_disk old))
+              (seat_standing old))
               (ap profile_of opened.user_is ∙ sym user_is) is.standing))));
-          goes_on = (
-            history_of on.on.0,
-            ap history_of on.on.1 ∙ history_all (pairs_of_sole old.desk) on.on.0 ∙ ap (λ (e : History). e ++ history_of on.on.0) opening,
-          );
+          goes_on = (history_of on.on.0, goes_on);
           legal = legal;
           hides = λ admits.
               hide schema world (seat_kept new).user (seat_history new) valid
               (subst (λ (p : UserProfile). is_user_of schema p ≡ true) (sym user_is) limits.sentences) admits legal;
-          in_flight = flying (pairs_of_sole new.desk);
-          broke_is = refl;
           reads = λ served.
-              subst (λ o. Holds schema world (seat_kept new).user header (seat_state new) (bytes_on reads o)) (sym held)
-              (holds served (reads back.now) (left.images (reads back.now) (read_is_image back.now t)));
-          stands = λ served c here. holds served c (left.images c (subst (λ o. image_on image o c) held here));
+              subst (λ o. Holds schema world (seat_kept new).user header (seat_state new) (bytes_on Disk.reads o)) (sym held)
+              (holds served (Disk.reads back.now) (left.images (Disk.reads back.now) (read_is_image back.now t)));
+          stands = λ served c here. holds served c (left.images c (subst (λ o. image_on Disk.image o c) held here));
           size = λ whole.
               let grown = closed.size s whole in
-              let read_now = ap length (ap (bytes_on reads) held ∙ left.reads_same) in
-              let read_first = ap length (ap (λ (f : Fixed D). reads f.disk) kept ∙ opened.left.reads_same ∙ read_was) in
+              let read_now = ap length (ap (bytes_on Disk.reads) held ∙ left.reads_same) in
+              let read_first = ap length (ap (λ (f : Fixed D). Disk.reads f.disk) kept ∙ opened.left.reads_same ∙ read_was) in
               omega (arith, grown, read_now, read_first);
           idle = λ shut. let none = closed.idle shut in (none.0, ap (λ (o : Option AnsweredQuery). is_some o) none.1);
           kept = λ why. (
-            ap (bytes_on reads) held ∙ left.reads_same ∙ ap reads (left_alone new back.left.closed closed why) ∙ ap (λ (f : Fixed D). reads f.disk) kept
+            ap (bytes_on Disk.reads) held ∙ left.reads_same ∙ ap Disk.reads (left_alone new back.left.closed closed why)
+                ∙ ap (λ (f : Fixed D). Disk.reads f.disk) kept
                 ∙ opened.left.reads_same ∙ read_was,
-            λ c here. subst (λ n. image_on image (disk n) c) opened.journal_is
-                (taken_images reads image (disk (seat_journal old)) opened.taken c (opened.from s)
+            λ c here. subst (λ n. image_on Disk.image (disk n) c) opened.journal_is
+                (taken_images Disk.reads Disk.image (disk (seat_journal old)) opened.taken c (opened.from s)
                 (opened.left.images c
-                (subst (λ (f : Fixed D). image f.disk c) kept
-                (subst (λ d. image d c) (left_alone new back.left.closed closed why) (left.images c (subst (λ o. image_on image o c) held here)))))),
+                (subst (λ (f : Fixed D). Disk.image f.disk c) kept
+                (subst (λ d. Disk.image d c) (left_alone new back.left.closed closed why) (left.images c (subst (λ o. image_on Disk.image o c) held here)))))),
           );
           failed = λ broke.
-              rose_wide (count name) (faults (seat_kept new).disk) (faults back.left.closed) (count' name) (omega (arith, before, begins, disks))
+              rose_wide (count name) (Disk.faults (seat_kept new).disk) (Disk.faults back.left.closed) (count' name) (omega (arith, before, begins, disks))
               (omega (arith, ends, counted)) (closed.cause broke);
+          moments = all_along user old new opened on back schema_is world_is header_is (omega (arith, many));
         }
 
     -- all users
     pub have_served : (users : List User) (olds news : List (DeskSeat D g h)) → All (λ user. KeepsLimits schema (profile_of user)) users
-        → AreSeatsOf S reads image faults T schema world header directory disk count users olds → AreSeatsOn olds news
-        → AreBack S reads image faults disk' count' news
-        → HaveServed schema world header (journals_on reads image directory disk disk' count count') users (map seat_member news)
+        → AreSeatsOf S Disk T schema world header directory disk count users olds → AreSeatsOn olds news
+        → AreBack S Disk disk' count' news
+        → HaveServed schema world header (journals_by Disk.reads Disk.image Disk.moment Disk.image_since directory disk disk' count count') users
+        (map seat_member news)
         (map (λ seat. seat.refusal) olds)
     have_served [] [] [] limits opened on back = tt
     have_served (user ∷ users) (old ∷ olds) (new ∷ news) limits opened on back = (
@@ -202,33 +263,62 @@ module _ (schema : DatabaseSchema) (world : FactSet) (header directory : List �
   module _ (told : List SessionMarks) where
     -- what the passes at seats have of their own was told from a place on
     abbrev OwnFrom : ℕ → List (DeskSeat D g h) → Type 0
-    OwnFrom place seats = (weight : AnsweredQuery → ℕ) (k : ℕ) → own_weight weight k (map seat_pass seats) ≡ told_weight weight (place + k) told
+    OwnFrom place seats = (weight : TurnItem → ℕ) (k : ℕ) → own_weight weight k (map seat_pass seats) ≡ told_weight weight (place + k) told
 
     -- as they do from the first place on, where they had nothing as the seats were opened
-    pub own_from : (olds news : List (DeskSeat D g h)) → ((weight : AnsweredQuery → ℕ) (k : ℕ) → own_weight weight k (map seat_pass olds) ≡ 0)
+    pub own_from : (olds news : List (DeskSeat D g h)) → ((weight : TurnItem → ℕ) (k : ℕ) → own_weight weight k (map seat_pass olds) ≡ 0)
         → OwnMore (map seat_pass olds) (map seat_pass news) told → OwnFrom 0 news
     own_from olds news none more weight k =
         let before = none weight k in
-        let after = more k weight ∙ weigh_more weight (own_at k (map seat_pass olds)) (entries_told k) told in
+        let after = more k weight ∙ weigh_more weight (own_at k (map seat_pass olds)) (items_told k) told in
         let same = ap (λ n. told_weight weight n told) (let e : 0 + k ≡ k = omega arith in e) in
         omega (arith, before, after, same)
 
+    -- so each user's pairs are what they were as his journal was opened, and what he was told
+    module _ (place : ℕ) (user : User) (old new : DeskSeat D g h) (opened : Opened user old) (on : IsSeatOn old new) (back : Back new)
+        (own : (weight : TurnItem → ℕ) → sum_by weight (items_of (mine (seat_pass new))) ≡ told_weight weight place told) where
+      pairs_weigh : (weight : TurnItem → ℕ)
+          → sum_by weight (items_of (pairs_of_sole new.desk)) ≡ sum_by weight (items_of (pairs_of_sole old.desk)) + told_weight weight place told
+      pairs_weigh weight =
+          let added = ap items_of back.left.is_closed.added ∙ items_all (first_pairs (seat_counter new)) (mine (seat_pass new)) in
+          let whole = ap (sum_by weight) added ∙ sum_by-append weight (items_of (first_pairs (seat_counter new))) (items_of (mine (seat_pass new))) in
+          let first = ap (λ ps. sum_by weight (items_of ps)) (on.first_is ∙ opened.opened.first_is) in
+          let here = own weight in
+          omega (arith, whole, first, here)
+
+      entries_same : (weight : AnsweredQuery → ℕ)
+          → sum_by weight (seat_history new) ≡ sum_by weight ((seat_kept new).opening ++ flat_map (entries_told place) told)
+      entries_same weight =
+          let opening : (seat_kept new).opening ≡ seat_history old = ap (λ (f : Fixed D). f.opening) on.kept_is ∙ opened.opened.opening_is in
+          let first = ap (sum_by weight) opening in
+          let all = pairs_weigh (kept_weight weight) in
+          let now = kept_pairs_weigh weight (pairs_of_sole new.desk) in
+          let was = kept_pairs_weigh weight (pairs_of_sole old.desk) in
+          let marks = kept_told weight place told in
+          let more = weigh_more weight (seat_kept new).opening (entries_told place) told in
+          omega (arith, first, all, now, was, marks, more)
+
+      failures_same : (weight : AnsweredQuery → ℕ)
+          → sum_by weight (option_to_list (flying (pairs_of_sole new.desk))) ≡ sum_by weight (flat_map (failures_told place) told)
+      failures_same weight =
+          let all = pairs_weigh (failed_weight weight) in
+          let now = ap (sum_by (failed_weight weight)) back.left.is_closed.items ∙ failed_last weight (seat_history new) (flying (pairs_of_sole new.desk)) in
+          let was = none_failed weight (pairs_of_sole old.desk) opened.opened.fresh.none in
+          let marks = failed_told weight place told in
+          let more = weigh_more weight [] (failures_told place) told in
+          omega (arith, all, now, was, marks, more)
+
     -- so behind each user's opening history there is what he was told
     pub all_told : (place : ℕ) (users : List User) (olds news : List (DeskSeat D g h))
-        → AreSeatsOf S reads image faults T schema world header directory disk count users olds → AreSeatsOn olds news
-        → AreBack S reads image faults disk' count' news
+        → AreSeatsOf S Disk T schema world header directory disk count users olds → AreSeatsOn olds news
+        → AreBack S Disk disk' count' news
         → OwnFrom place news → AreAllTold place (map seat_member news) told
     all_told place [] [] [] opened on back own = tt
     all_told place (user ∷ users) (old ∷ olds) (new ∷ news) opened on back own =
-        let added : seat_history new ≡ first_history (seat_counter new) ++ history_of (mine (seat_pass new)) = back.0.left.is_closed.added in
-        let opening : first_history (seat_counter new) ≡ (seat_kept new).opening =
-        on.0.first_is ∙ opened.0.opened.first_is ∙ sym opened.0.opened.opening_is ∙ ap (λ (f : Fixed D). f.opening) (sym on.0.kept_is) in (
-          λ weight.
-              (let whole = ap (sum_by weight) added ∙ sum_by-append weight (first_history (seat_counter new)) (history_of (mine (seat_pass new))) in
-              let first = ap (sum_by weight) opening in
-              let here = own weight 0 ∙ ap (λ k. told_weight weight k told) (let e : place + 0 ≡ place = omega arith in e) in
-              let all = weigh_more weight (seat_kept new).opening (entries_told place) told in
-              omega (arith, whole, first, here, all)),
+        let here : (weight : TurnItem → ℕ) → sum_by weight (items_of (mine (seat_pass new))) ≡ told_weight weight place told =
+        λ weight. own weight 0 ∙ ap (λ k. told_weight weight k told) (let e : place + 0 ≡ place = omega arith in e) in (
+          entries_same place user old new opened.0 on.0 back.0 here,
+          failures_same place user old new opened.0 on.0 back.0 here,
           all_told (suc place) users olds news opened.1 on.1 back.1 (λ weight k. own weight (suc k)
               ∙ ap (λ n. told_weight weight n told) (let e : place + suc k ≡ suc place + k = omega arith in e)),
         )
@@ -239,7 +329,7 @@ module _ (schema : DatabaseSchema) (world : FactSet) (header directory : List �
 
   -- all desks are in the one world
   pub all_in_world : (users : List User) (olds news : List (DeskSeat D g h))
-      → AreSeatsOf S reads image faults T schema world header directory disk count users olds → AreSeatsOn olds news → AreAllIn schema world news
+      → AreSeatsOf S Disk T schema world header directory disk count users olds → AreSeatsOn olds news → AreAllIn schema world news
   all_in_world [] [] [] opened on = tt
   all_in_world (user ∷ users) (old ∷ olds) (new ∷ news) opened on =
       let served = opened.0.opened.served in (
@@ -254,7 +344,7 @@ module _ (schema : DatabaseSchema) (world : FactSet) (header directory : List �
 
 module _ {D : Type 0} {g h : _} where
   -- whether an append failed at one of the seats is whether one failed for one of the users
-  pub broke_at : (seats : List (DeskSeat D g h)) → list_any seat_broke seats ≡ list_any (λ (m : Member). m.broke) (map seat_member seats)
+  pub broke_at : (seats : List (DeskSeat D g h)) → list_any seat_broke seats ≡ list_any member_broke (map seat_member seats)
   broke_at [] = refl
   broke_at (seat ∷ seats) = ap (λ b. seat_broke seat || b) (broke_at seats)
 
@@ -279,74 +369,74 @@ module _ {D : Type 0} {g h : _} where
 
 -- ---- ends
 
-module _ {O : Type 0} (told : Type 0) (given_of left_of faults_of : O → ℕ) (back_of : O → List Visit) (stands : Visit → SessionMarks → Type 0) where
+module _ {O S K : Type 0} (Door : DoorGhosts O S K) (stands : Visit → SessionMarks → Type 0) where
   -- as many doors come back
-  pub doors_many : (total : ℕ) (marks : told → List SessionMarks) (doors others : List O)
-      → AreServedDoors told given_of left_of faults_of back_of stands total marks doors others → length others ≡ length doors
+  pub doors_many : (total : ℕ) (marks : Door.tells → List SessionMarks) (doors others : List O)
+      → AreServedDoors Door stands total marks doors others → length others ≡ length doors
   doors_many total marks [] [] is = refl
   doors_many total marks (d ∷ doors) (e ∷ others) is = ap suc (doors_many is.1 is.4 doors others is.7)
   doors_many total marks [] (e ∷ others) is = absurd is
   doors_many total marks (d ∷ doors) [] is = absurd is
 
   -- together they have given so many more
-  pub doors_gave : told → (total : ℕ) (marks : told → List SessionMarks) (doors others : List O)
-      → AreServedDoors told given_of left_of faults_of back_of stands total marks doors others → sum_by given_of others ≡ sum_by given_of doors + total
+  pub doors_gave : Door.tells → (total : ℕ) (marks : Door.tells → List SessionMarks) (doors others : List O)
+      → AreServedDoors Door stands total marks doors others → sum_by Door.given others ≡ sum_by Door.given doors + total
   doors_gave t total marks [] [] is = let none = is.0 in omega (arith, none)
   doors_gave t total marks (d ∷ doors) (e ∷ others) is =
       let rest = doors_gave t is.1 is.4 doors others is.7 in
       let here = is.6.given t in
       let both = is.2 in
-      let first = sum_by-append given_of (d ∷ []) doors in
-      let second = sum_by-append given_of (e ∷ []) others in
+      let first = sum_by-append Door.given (d ∷ []) doors in
+      let second = sum_by-append Door.given (e ∷ []) others in
       omega (arith, rest, here, both, first, second)
   doors_gave t total marks [] (e ∷ others) is = absurd is
   doors_gave t total marks (d ∷ doors) [] is = absurd is
 
   -- each connection that was left is left, or was given
-  pub doors_left : told → (total : ℕ) (marks : told → List SessionMarks) (doors others : List O)
-      → AreServedDoors told given_of left_of faults_of back_of stands total marks doors others
-      → sum_by left_of doors + sum_by given_of doors ≡ sum_by left_of others + sum_by given_of others
+  pub doors_left : Door.tells → (total : ℕ) (marks : Door.tells → List SessionMarks) (doors others : List O)
+      → AreServedDoors Door stands total marks doors others
+      → sum_by Door.left doors + sum_by Door.given doors ≡ sum_by Door.left others + sum_by Door.given others
   doors_left t total marks [] [] is = refl
   doors_left t total marks (d ∷ doors) (e ∷ others) is =
       let rest = doors_left t is.1 is.4 doors others is.7 in
       let given = is.6.given t in
       let left = is.6.left t in
-      let lefts = sum_by-append left_of (d ∷ []) doors in
-      let lefts' = sum_by-append left_of (e ∷ []) others in
-      let gave = sum_by-append given_of (d ∷ []) doors in
-      let gave' = sum_by-append given_of (e ∷ []) others in
+      let lefts = sum_by-append Door.left (d ∷ []) doors in
+      let lefts' = sum_by-append Door.left (e ∷ []) others in
+      let gave = sum_by-append Door.given (d ∷ []) doors in
+      let gave' = sum_by-append Door.given (e ∷ []) others in
       omega (arith, rest, given, left, lefts, lefts', gave, gave')
   doors_left t total marks [] (e ∷ others) is = absurd is
   doors_left t total marks (d ∷ doors) [] is = absurd is
 
   -- where serving came to its end, no door has a connection left, or the limit was reached
-  pub ended_at : told
-      → (ends_of : O → ℕ) (limit total : ℕ) (marks : told → List SessionMarks) (doors others : List O) (went : Outcome)
-      (refusals : Vec (Option DeskError) Global) (is_broken : Bool) → AreServedDoors told given_of left_of faults_of back_of stands total marks doors others
-      → HasOutcome told left_of ends_of faults_of limit went total others → IsDone (end_of went refusals is_broken)
-      → All (λ door. left_of door ≡ 0) others
-      ⊎ ((sum_by given_of doors + limit ≤ sum_by given_of others + sum_by (λ door. one_if_any (ends_of door)) others)
-      × (sum_by given_of doors + limit < sum_by given_of others + length others))
-  ended_at t ends_of limit total marks doors others outcome.Served refusals is_broken served has done = by (has t)
+  pub ended_at : Door.tells
+      → (limit total : ℕ) (marks : Door.tells → List SessionMarks) (doors others : List O) (went : Outcome)
+      (refusals : Vec (Option DeskError) Global) (is_broken : Bool) → AreServedDoors Door stands total marks doors others
+      → HasOutcome Door limit went total others → IsDone (end_of went refusals is_broken)
+      → All (λ door. Door.left door ≡ 0) others
+      ⊎ ((sum_by Door.given doors + limit ≤ sum_by Door.given others + sum_by (λ door. one_if_any (Door.ends door)) others)
+      × (sum_by Door.given doors + limit < sum_by Door.given others + length others))
+  ended_at t limit total marks doors others outcome.Served refusals is_broken served has done = by (has t)
     where
-      by : All (λ door. left_of door ≡ 0) others
-          ⊎ ((limit ≤ total + sum_by (λ door. one_if_any (ends_of door)) others) × (limit < total + length others))
-          → All (λ door. left_of door ≡ 0) others
-          ⊎ ((sum_by given_of doors + limit ≤ sum_by given_of others + sum_by (λ door. one_if_any (ends_of door)) others)
-          × (sum_by given_of doors + limit < sum_by given_of others + length others))
+      by : All (λ door. Door.left door ≡ 0) others
+          ⊎ ((limit ≤ total + sum_by (λ door. one_if_any (Door.ends door)) others) × (limit < total + length others))
+          → All (λ door. Door.left door ≡ 0) others
+          ⊎ ((sum_by Door.given doors + limit ≤ sum_by Door.given others + sum_by (λ door. one_if_any (Door.ends door)) others)
+          × (sum_by Door.given doors + limit < sum_by Door.given others + length others))
       by (inl none) = inl none
       by (inr (most, more)) =
           let gave = doors_gave t total marks doors others served in
           inr (omega (arith, most, gave), omega (arith, more, gave))
-  ended_at t ends_of limit total marks doors others outcome.LinksFailed refusals is_broken served has done = absurd done
-  ended_at t ends_of limit total marks doors others outcome.Memory refusals is_broken served has done = absurd done
+  ended_at t limit total marks doors others outcome.LinksFailed refusals is_broken served has done = absurd done
+  ended_at t limit total marks doors others outcome.Memory refusals is_broken served has done = absurd done
 
-  pub failed_at : (ends_of : O → ℕ) (limit total : ℕ) (others : List O) (went : Outcome) (refusals : Vec (Option DeskError) Global) (is_broken : Bool)
-      → HasOutcome told left_of ends_of faults_of limit went total others → end_of went refusals is_broken ≡ LinksFault
-      → SomeFailed faults_of others
-  failed_at ends_of limit total others outcome.Served refusals is_broken has is = absurd cc
-  failed_at ends_of limit total others outcome.LinksFailed refusals is_broken has is = has
-  failed_at ends_of limit total others outcome.Memory refusals is_broken has is = absurd cc
+  pub failed_at : (limit total : ℕ) (others : List O) (went : Outcome) (refusals : Vec (Option DeskError) Global) (is_broken : Bool)
+      → HasOutcome Door limit went total others → end_of went refusals is_broken ≡ LinksFault
+      → SomeFailed Door.faults others
+  failed_at limit total others outcome.Served refusals is_broken has is = absurd cc
+  failed_at limit total others outcome.LinksFailed refusals is_broken has is = has
+  failed_at limit total others outcome.Memory refusals is_broken has is = absurd cc
 
 -- an end that says that an append failed came of desks of which one says so
 pub broken_end : (went : Outcome) (refusals : Vec (Option DeskError) Global) (is_broken : Bool) → IsBroken (end_of went refusals is_broken) → is_broken ≡ true
@@ -354,42 +444,42 @@ broken_end outcome.Served refusals is_broken is = is
 broken_end outcome.LinksFailed refusals is_broken is = absurd is
 broken_end outcome.Memory refusals is_broken is = absurd is
 
-module _ (schema : DatabaseSchema) (world : FactSet) (header : List ℕ) (journals : Journals) (users : List User) {O : Type 0} (told : Type 0)
-    (given_of left_of faults_of : O → ℕ) (back_of : O → List Visit) (doors doors' : List O) where
+module _ (schema : DatabaseSchema) (world : FactSet) (header : List ℕ) (journals : Journals) (users : List User) {O S K : Type 0} (Door : DoorGhosts O S K)
+    (doors doors' : List O) where
   -- each end of desks that were opened
-  pub ends_at : (ends_of : O → ℕ) (went : Outcome) (refusals : Vec (Option DeskError) Global) (is_broken : Bool)
-      (serves : ServesDoors schema world header journals users told given_of left_of faults_of back_of doors doors' refusals.items is_broken) (limit : ℕ)
-      → HasOutcome told left_of ends_of faults_of limit went serves.total doors'
-      → EndsDoors schema world header journals users told given_of left_of faults_of back_of doors doors' (end_of went refusals is_broken)
-  ends_at ends_of outcome.Served refusals is_broken serves limit has = serves
-  ends_at ends_of outcome.LinksFailed refusals is_broken serves limit has = inr (refusals.items, is_broken, serves)
-  ends_at ends_of outcome.Memory refusals is_broken serves limit has = inr (refusals.items, is_broken, serves, has)
+  pub ends_at : (went : Outcome) (refusals : Vec (Option DeskError) Global) (is_broken : Bool)
+      (serves : ServesDoors schema world header journals users Door doors doors' refusals.items is_broken) (limit : ℕ)
+      → HasOutcome Door limit went serves.total doors'
+      → EndsDoors schema world header journals users Door doors doors' (end_of went refusals is_broken)
+  ends_at outcome.Served refusals is_broken serves limit has = serves
+  ends_at outcome.LinksFailed refusals is_broken serves limit has = inr (refusals.items, is_broken, serves)
+  ends_at outcome.Memory refusals is_broken serves limit has = inr (refusals.items, is_broken, serves, has)
 
-module _ {D : Type 0} {g h : _} (told disk_told : Type 0) (reads : D → List ℕ) (image : D → List ℕ → Type 0) (faults : D → ℕ) (schema : DatabaseSchema)
+module _ {D : Type 0} {g h : _} (told disk_told : Type 0) (Disk : DiskGhosts D) (schema : DatabaseSchema)
     (world : FactSet) (header directory : List ℕ) (disk : Text → Option D) (count : Text → ℕ) where
   -- what holds of each seat that was just opened holds of all
   each : (P : DeskSeat D g h → Type 0)
-      → ((user : User) (seat : DeskSeat D g h) → IsSeatOf told reads image faults disk_told schema world header directory disk count user seat → P seat)
+      → ((user : User) (seat : DeskSeat D g h) → IsSeatOf told Disk disk_told schema world header directory disk count user seat → P seat)
       → (users : List User) (seats : List (DeskSeat D g h))
-      → AreSeatsOf told reads image faults disk_told schema world header directory disk count users seats → AllByRecursion P seats
+      → AreSeatsOf told Disk disk_told schema world header directory disk count users seats → AllByRecursion P seats
   each P holds [] [] opened = tt
   each P holds (user ∷ users) (seat ∷ seats) opened = (holds user seat opened.0, each P holds users seats opened.1)
   each P holds [] (seat ∷ seats) opened = absurd opened
   each P holds (user ∷ users) [] opened = absurd opened
 
   pub seats_fresh : (users : List User) (seats : List (DeskSeat D g h))
-      → AreSeatsOf told reads image faults disk_told schema world header directory disk count users seats → All IsFresh seats
-  seats_fresh users seats opened = All-from_recursion IsFresh seats (each IsFresh (λ user seat is. is.opened.fresh) users seats opened)
+      → AreSeatsOf told Disk disk_told schema world header directory disk count users seats → All IsSeatAsOpened seats
+  seats_fresh users seats opened = All-from_recursion IsSeatAsOpened seats (each IsSeatAsOpened (λ user seat is. is.opened.fresh) users seats opened)
 
   pub seats_turns : (users : List User) (seats : List (DeskSeat D g h))
-      → AreSeatsOf told reads image faults disk_told schema world header directory disk count users seats
+      → AreSeatsOf told Disk disk_told schema world header directory disk count users seats
       → All (λ (seat : DeskSeat D g h). turns (seat_pass seat) ≡ 65 * 2 ^ 57) seats
   seats_turns users seats opened =
       All-from_recursion (λ (seat : DeskSeat D g h). turns (seat_pass seat) ≡ 65 * 2 ^ 57) seats
       (each (λ (seat : DeskSeat D g h). turns (seat_pass seat) ≡ 65 * 2 ^ 57) (λ user seat is. is.opened.turns_are) users seats opened)
 
   pub seats_own : (users : List User) (seats : List (DeskSeat D g h))
-      → AreSeatsOf told reads image faults disk_told schema world header directory disk count users seats
+      → AreSeatsOf told Disk disk_told schema world header directory disk count users seats
       → All (λ (seat : DeskSeat D g h). mine (seat_pass seat) ≡ []) seats
   seats_own users seats opened =
       All-from_recursion (λ (seat : DeskSeat D g h). mine (seat_pass seat) ≡ []) seats
@@ -397,7 +487,7 @@ module _ {D : Type 0} {g h : _} (told disk_told : Type 0) (reads : D → List �
 
   -- each seat's desk is that of the user at its place
   pub seats_desks : (users : List User) (seats : List (DeskSeat D g h))
-      → AreSeatsOf told reads image faults disk_told schema world header directory disk count users seats → AreDesksOf users (map seat_kept seats)
+      → AreSeatsOf told Disk disk_told schema world header directory disk count users seats → AreDesksOf users (map seat_kept seats)
   seats_desks [] [] opened = refl
   seats_desks (user ∷ users) (seat ∷ seats) opened =
       let this : (seat_kept seat).user ≡ profile_of user = opened.0.opened.served.user_is ∙ ap profile_of opened.0.user_is in
@@ -409,7 +499,7 @@ module _ {D : Type 0} {g h : _} (told disk_told : Type 0) (reads : D → List �
   module _ (valid : is_valid_schema schema ≡ true) where
     -- what the pass of a seat that was just opened has seen is legal
     seat_legal : (user : User) (seat : DeskSeat D g h) → KeepsLimits schema (profile_of user)
-        → IsSeatOf told reads image faults disk_told schema world header directory disk count user seat → HasSeenLegal (seat_kept seat) (seat_pass seat)
+        → IsSeatOf told Disk disk_told schema world header directory disk count user seat → HasSeenLegal (seat_kept seat) (seat_pass seat)
     seat_legal user seat limits is =
         let kept = seat_kept seat in
         let served = is.opened.served in
@@ -419,15 +509,16 @@ module _ {D : Type 0} {g h : _} (told disk_told : Type 0) (reads : D → List �
           user_of = ap (λ s. is_user_of s kept.user) served.schema_is ∙ ap (is_user_of schema) user_is ∙ limits.sentences;
           admits = λ serves. ap (λ s. admitted s kept.world kept.user) served.schema_is ∙ ap (λ w. admitted schema w kept.user) served.world_is
               ∙ ap (admitted schema world) served.user_is
-              ∙ open_admits schema world (profile_of (seat_user seat)) disk_told header (reads is.taken) (seat_history seat) (faults is.taken)
-              (faults (seat_disk seat)) kept.standing is.opened.standing serves;
+              ∙ open_admits schema world (profile_of (seat_user seat)) disk_told header (Disk.reads is.taken) (seat_history seat) (Disk.faults is.taken)
+              (Disk.faults (seat_disk seat)) kept.standing is.opened.standing serves;
           legal = subst (λ s. IsLegal s kept.world kept.user (seat_history seat)) (sym served.schema_is)
               (subst (λ w. IsLegal schema w kept.user (seat_history seat)) (sym served.world_is)
               (subst (λ p. IsLegal schema world p (seat_history seat)) (sym served.user_is) is.opened.legal));
+          last = last_none (seen (seat_pass seat)) is.opened.fresh.none;
         }
 
     pub seats_legal : (users : List User) (seats : List (DeskSeat D g h)) → All (λ user. KeepsLimits schema (profile_of user)) users
-        → AreSeatsOf told reads image faults disk_told schema world header directory disk count users seats
+        → AreSeatsOf told Disk disk_told schema world header directory disk count users seats
         → HaveSeenLegal (map seat_kept seats) (map seat_pass seats)
     seats_legal [] [] limits opened = tt
     seats_legal (user ∷ users) (seat ∷ seats) limits opened = (

@@ -1,5 +1,5 @@
 -- The passes after a session.
-use Rattle.std.proofs.Common.{◌≡◌, ℕ, ◌≤◌, ◌+◌, ◌*◌, ◌/◌, ◌^◌, min, true, false, List, [], ◌∷◌, length, refl, sym, ap, ◌∙◌, subst, arith}
+use Rattle.std.proofs.Common.{◌≡◌, ℕ, ◌≤◌, ◌+◌, ◌*◌, ◌/◌, ◌^◌, min, true, false, List, [], ◌∷◌, ◌++◌, length, refl, sym, ap, ◌∙◌, subst, arith}
 use Rattle.std.specs.Prelude.{Option, Some, None}
 use Rattle.std.specs.List.{AllByRecursion, AllZip}
 use Rattle.std.proofs.lemmas.List.{append-nil, length-append}
@@ -13,16 +13,17 @@ use Rattle.turnstile.specs.Passes.{seen, turns}
 use Rattle.user_desk.specs.Standings.{standing_of}
 use Rattle.desk_counter.specs.declared.item.TurnItem.{TurnItem}
 use Rattle.desk_counter.specs.declared.item.Fixed.{Fixed}
-use Rattle.desk_counter.specs.Items.{history_of, has_broke}
+use Rattle.desk_counter.specs.Items.{history_of, has_broke, is_broke_last}
 use Rattle.session_core.specs.Replied.{Replied}
+use Rattle.session_core.specs.Members.{HaveSeenLegal}
 use Rattle.session_core.specs.Desks.{AsksAt, AsksOf}
 use Rattle.session_core.specs.Desks as desks
-use Rattle.session_core.proofs.Replying.{from_earlier, broke_on}
+use Rattle.session_core.proofs.Replying.{from_earlier, broke_on, none_after}
 use Rattle.desk_counter.proofs.Pairs.{history_all}
 use Rattle.serve_engine.specs.Served.{IsLater, RepliedAt, here, further, RepliedTo}
 use Rattle.serve_engine.specs.Members.{members_of, AreIn, HaveSeenOpenings, IsPassLater, room_in}
 use Rattle.serve_engine.specs.Keeping.{same_passes}
-use Rattle.serve_engine.proofs.Owning.{entries_at, entries_of}
+use Rattle.serve_engine.proofs.Owning.{entries_at, entries_of, flight_at, flight_of}
 
 -- ---- turns
 
@@ -102,30 +103,33 @@ module _ {D : Type 0} where
   openings_later (f ∷ fixeds) (p ∷ old) [] later openings = absurd later
 
   -- and by them each user is the same later
-  pub members_later : (fixeds : List (Fixed D)) (old new : List (Pass TurnItem (Fixed D))) → AllZip SeesMore old new
+  pub members_later : (fixeds : List (Fixed D)) (old new : List (Pass TurnItem (Fixed D))) → AllZip SeesMore old new → HaveSeenLegal fixeds new
       → AllZip IsLater (members_of fixeds old) (members_of fixeds new)
-  members_later [] old new later = tt
-  members_later (f ∷ fixeds) [] [] later = tt
-  members_later (f ∷ fixeds) (p ∷ old) (q ∷ new) later =
-      let more = later.0.0 in (
+  members_later [] old new later legal = tt
+  members_later (f ∷ fixeds) [] [] later legal = tt
+  members_later (f ∷ fixeds) (p ∷ old) (q ∷ new) later legal =
+      let more = later.0.0 in
+      let none : has_broke (seen p) ≡ true → more ≡ [] =
+      λ b. none_after (seen p) more (ap is_broke_last (sym later.0.1) ∙ legal.0.last) b in (
         record {
           profile = refl;
           standing = refl;
           opening = refl;
           further = (history_of more, ap history_of later.0.1 ∙ history_all (seen p) more);
           broke = λ b. ap has_broke later.0.1 ∙ broke_on (seen p) more b;
+          still = λ b. ap history_of (later.0.1 ∙ ap (λ l. seen p ++ l) (none b) ∙ append-nil (seen p));
         },
-        members_later fixeds old new later.1,
+        members_later fixeds old new later.1 legal.1,
       )
-  members_later (f ∷ fixeds) [] (q ∷ new) later = absurd later
-  members_later (f ∷ fixeds) (p ∷ old) [] later = absurd later
+  members_later (f ∷ fixeds) [] (q ∷ new) later legal = absurd later
+  members_later (f ∷ fixeds) (p ∷ old) [] later legal = absurd later
 
   -- ---- replies
 
   module _ (schema : DatabaseSchema) (world : FactSet) where
     at_replied : {place : ℕ} {fixeds : List (Fixed D)} {old new : List (Pass TurnItem (Fixed D))} {asks : List (Text × Reply)} → AreIn schema world fixeds
         → HaveSeenOpenings fixeds old → (is : AsksAt place fixeds old new asks)
-        → RepliedAt schema world place (members_of fixeds new) asks (entries_at is)
+        → RepliedAt schema world place (members_of fixeds new) asks (entries_at is) (flight_at is)
     at_replied within openings (desks.here {fixed = f} {old = p} {new = q} {asks = asks} is) =
         let never : false ≡ true → has_broke (seen p) ≡ true = λ e. absurd cc in
         here
@@ -140,6 +144,6 @@ module _ {D : Type 0} where
     pub of_replied : (who : Option ℕ) (fixeds : List (Fixed D)) (old new : List (Pass TurnItem (Fixed D))) (asks : List (Text × Reply))
         → AreIn schema world fixeds
         → HaveSeenOpenings fixeds old → (is : AsksOf who fixeds old new asks)
-        → RepliedTo schema world who (members_of fixeds new) asks (entries_of who fixeds old new asks is)
-    of_replied None fixeds old new asks within openings is = (is.1, refl)
+        → RepliedTo schema world who (members_of fixeds new) asks (entries_of who fixeds old new asks is) (flight_of who fixeds old new asks is)
+    of_replied None fixeds old new asks within openings is = (is.1, refl, refl)
     of_replied (Some place) fixeds old new asks within openings is = at_replied within openings is

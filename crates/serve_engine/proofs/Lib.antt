@@ -3,6 +3,7 @@ pub mod Growing
 pub mod Holding
 pub mod Later
 pub mod Owning
+pub mod Weighing
 pub mod Standing
 pub mod Visiting
 pub mod Reading
@@ -12,3 +13,4 @@ pub mod Apart
 pub mod Backing
 pub mod Histories
 pub mod Connections
+pub mod Joining

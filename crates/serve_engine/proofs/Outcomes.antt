@@ -8,16 +8,16 @@ use Rattle.std.proofs.lemmas.List.Sums.{sum_by-cons, sum_by-append}
 use Rattle.std.proofs.lemmas.List.Elements.{All-from_recursion, recursion_from_All, length_all_zip}
 use Rattle.outside.specs.Faults.{Rose}
 use Rattle.outside.specs.Visits.{Visit, one_if_any}
+use Rattle.outside.specs.declared.links.Door.{Ghosts as DoorGhosts}
 use Rattle.cqe_base.specs.Schema.{DatabaseSchema}
 use Rattle.cqe_base.specs.Facts.{FactSet}
-use Rattle.cqe_base.specs.History.{AnsweredQuery}
 use Rattle.turnstile.specs.declared.pass.Pass.{Pass}
 use Rattle.desk_counter.specs.declared.item.TurnItem.{TurnItem}
 use Rattle.desk_counter.specs.declared.item.Fixed.{Fixed}
 use Rattle.desk_counter.specs.declared.ticketed_desk.TicketedDesk.{TicketedDesk}
 use Rattle.session_core.specs.declared.counters.CountersOf.{CountersOf}
 use Rattle.session_core.specs.declared.counters.Passes.{Passes}
-use Rattle.session_core.specs.Members.{users_of, fixeds_of, passes_in}
+use Rattle.session_core.specs.Members.{users_of, fixeds_of, passes_in, HaveSeenLegal}
 use Rattle.worker_pool.specs.declared.worker.Worker.{Worker}
 use Rattle.worker_pool.specs.declared.worker.WorkerEnd.{WorkerEnd}
 use Rattle.worker_pool.specs.declared.worker.WorkerEnd.TheVariants.{LinksEnded, LimitReached, LinksFailed as LinksHaveFailed}
@@ -27,10 +27,10 @@ use Rattle.serve_engine.specs.declared.job.SessionJobOf.{SessionJobOf}
 use Rattle.serve_engine.specs.declared.serving.Outcome.{Outcome}
 use Rattle.serve_engine.specs.declared.serving.Outcome.TheVariants.{Served, LinksFailed}
 use Rattle.serve_engine.specs.Jobs.{job_counters, job_passes, job_runs}
-use Rattle.serve_engine.specs.Served.{SessionMarks, entries_told}
+use Rattle.serve_engine.specs.Served.{SessionMarks, items_told}
 use Rattle.serve_engine.specs.Members.{AreIn, IsServedBy, AreServedBy, IsPassLater, ArePassesLater, OwnMore, members_of, own_at, room_in}
-use Rattle.serve_engine.specs.Doors.{IsServedDoor, AreServedDoors, SomeFailed, HasOutcome, has_failed, outcome_of}
-use Rattle.serve_engine.specs.Passing.{AreOn, IsFresh, IsBack}
+use Rattle.serve_engine.specs.Doors.{IsServedDoor, AreServedDoors, SomeFailed, HasOutcome, has_links_failed, crew_outcome}
+use Rattle.serve_engine.specs.Passing.{AreOn, IsWorkerFresh, IsWorkerBack}
 use Rattle.serve_engine.proofs.Growing.{served_later}
 use Rattle.serve_engine.proofs.Later.{members_later}
 use Rattle.serve_engine.proofs.Owning.{own_weight, told_weight, weigh_more}
@@ -48,24 +48,24 @@ module _ {D : Type 0} where
   module _ {g h : _} (counters : CountersOf (TicketedDesk D g) TurnItem (Fixed D) h) where
     -- what was served by some passes is served by those that have seen more
     stay : (at : CountersOf (TicketedDesk D g) TurnItem (Fixed D) h) (passes final : Passes D) (visits : List Visit) (marks : List SessionMarks) → at ≡ counters
-        → AreOn passes final
+        → AreOn passes final → HaveSeenLegal (fixeds_of counters) (passes_in final)
         → AllZip (IsServedBy at passes) visits marks → AllZip (IsServedBy counters final) visits marks
-    stay at passes final visits marks same on stand =
+    stay at passes final visits marks same on legal stand =
         let still = λ (visit : Visit) (mark : SessionMarks) (stood : IsServedBy at passes visit mark)
         (schema : DatabaseSchema) (world : FactSet) (within : AreIn schema world (fixeds_of counters)).
         served_later schema world (users_of counters) (members_of (fixeds_of counters) (passes_in passes))
         (members_of (fixeds_of counters) (passes_in final)) visit mark
-        (members_later (fixeds_of counters) (passes_in passes) (passes_in final) on)
+        (members_later (fixeds_of counters) (passes_in passes) (passes_in final) on legal)
         (subst (λ c. IsServedBy c passes visit mark) same stood schema world within) in
         zip_still (IsServedBy at passes) (IsServedBy counters final) still visits marks stand
 
-module _ {O : Type 0} (told : Type 0) (left_of faults_of : O → ℕ) where
+module _ {O S K : Type 0} (Door : DoorGhosts O S K) where
   -- Workers that ended: where links of one failed, a door has; else no door has a connection left, or one came to the limit.
   abbrev Ended : Type 0 → Bool → List O → Type 0
-  Ended at_limit true doors = SomeFailed faults_of doors
-  Ended at_limit false doors = (told → AllByRecursion (λ door. left_of door ≡ 0) doors) ⊎ at_limit
+  Ended at_limit true doors = SomeFailed Door.faults doors
+  Ended at_limit false doors = (Door.tells → AllByRecursion (λ door. Door.left door ≡ 0) doors) ⊎ at_limit
 
-  at_end : (at_limit : Type 0) (any : Bool) (door : O) (doors : List O) → (told → left_of door ≡ 0) → Ended at_limit any doors
+  at_end : (at_limit : Type 0) (any : Bool) (door : O) (doors : List O) → (Door.tells → Door.left door ≡ 0) → Ended at_limit any doors
       → Ended at_limit any (door ∷ doors)
   at_end at_limit true door doors none others = inr others
   at_end at_limit false door doors none (inl all) = inl (λ t. (none t, all t))
@@ -111,10 +111,10 @@ neither : (a b : Bool) → a || b ≡ false → (a ≡ false) × (b ≡ false)
 neither true b is = absurd cc
 neither false b is = (refl, is)
 
-module _ {D G O : Type 0} {g h : _} (told : Type 0) (given_of left_of ends_of faults_of : O → ℕ) (back_of : O → List Visit) where
+module _ {D G O S K : Type 0} {g h : _} (Door : DoorGhosts O S K) where
   -- a worker before he served and after he ended
   abbrev pub Was : Worker (SessionJobOf (TicketedDesk D g) D G h) O → Worker (SessionJobOf (TicketedDesk D g) D G h) O → Type 0
-  Was = IsServed told given_of left_of ends_of faults_of back_of (λ job. room_in (passes_in (job_passes job))) job_runs (λ first job visits.
+  Was = IsServed Door.tells Door.given Door.left Door.ends Door.faults Door.back (λ job. room_in (passes_in (job_passes job))) job_runs (λ first job visits.
       AreServedBy (job_counters job) (job_passes first) (job_passes job) visits)
       (λ before after. (job_counters after ≡ job_counters before) × ArePassesLater (job_passes before) (job_passes after))
 
@@ -122,15 +122,15 @@ module _ {D G O : Type 0} {g h : _} (told : Type 0) (given_of left_of ends_of fa
   as_long before after was = length_all_zip Was before after was
 
   -- the marks of all their connections
-  abbrev all_told : told → (before after : List (Worker (SessionJobOf (TicketedDesk D g) D G h) O)) → AllZip Was before after → List SessionMarks
+  abbrev all_told : Door.tells → (before after : List (Worker (SessionJobOf (TicketedDesk D g) D G h) O)) → AllZip Was before after → List SessionMarks
   all_told t [] [] was = []
   all_told t (b ∷ before) (a ∷ after) was = (was.0.back t).stand.visit_marks ++ all_told t before after was.1
   all_told t [] (a ∷ after) was = []
   all_told t (b ∷ before) [] was = []
 
   -- are what the passes of workers have of their own that hadn't begun
-  all_own : (counters : CountersOf (TicketedDesk D g) TurnItem (Fixed D) h) (first : Passes D) (t : told) (weight : AnsweredQuery → ℕ) (place : ℕ)
-      (before after : List (Worker (SessionJobOf (TicketedDesk D g) D G h) O)) → AllByRecursion (IsFresh counters first) before
+  all_own : (counters : CountersOf (TicketedDesk D g) TurnItem (Fixed D) h) (first : Passes D) (t : Door.tells) (weight : TurnItem → ℕ) (place : ℕ)
+      (before after : List (Worker (SessionJobOf (TicketedDesk D g) D G h) O)) → AllByRecursion (IsWorkerFresh counters first) before
       → (was : AllZip Was before after)
       → sum_by (λ worker. own_weight weight place (passes_in (job_passes worker.job))) after ≡ told_weight weight place (all_told t before after was)
   all_own counters first t weight place [] [] fresh was = refl
@@ -138,11 +138,11 @@ module _ {D G O : Type 0} {g h : _} (told : Type 0) (given_of left_of ends_of fa
       let stand = (was.0.back t).stand in
       let none : own_weight weight place (passes_in (job_passes b.job)) ≡ 0 = ap (sum_by weight) (fresh.0.parts.none_own place) in
       let here = stand.own place weight
-      ∙ weigh_more weight (own_at place (passes_in (job_passes b.job))) (entries_told place) stand.visit_marks in
+      ∙ weigh_more weight (own_at place (passes_in (job_passes b.job))) (items_told place) stand.visit_marks in
       let rest = all_own counters first t weight place before after fresh.1 was.1 in
       let one =
       sum_by-cons (λ (worker : Worker (SessionJobOf (TicketedDesk D g) D G h) O). own_weight weight place (passes_in (job_passes worker.job))) a after in
-      let both = sum_by-append (λ marks. sum_by weight (entries_told place marks)) (was.0.back t).stand.visit_marks (all_told t before after was.1) in
+      let both = sum_by-append (λ marks. sum_by weight (items_told place marks)) (was.0.back t).stand.visit_marks (all_told t before after was.1) in
       omega (arith, none, here, rest, one, both)
   all_own counters first t weight place [] (a ∷ after) fresh was = absurd was
   all_own counters first t weight place (b ∷ before) [] fresh was = absurd was
@@ -151,8 +151,9 @@ module _ {D G O : Type 0} {g h : _} (told : Type 0) (given_of left_of ends_of fa
     -- ---- the jobs
 
     -- the workers' passes can be joined again
-    pub are_back : (first : Passes D) (before after : List (Worker (SessionJobOf (TicketedDesk D g) D G h) O)) → AllByRecursion (IsFresh counters first) before
-        → AllZip Was before after → AllByRecursion (IsBack counters) after
+    pub are_back : (first : Passes D) (before after : List (Worker (SessionJobOf (TicketedDesk D g) D G h) O))
+        → AllByRecursion (IsWorkerFresh counters first) before
+        → AllZip Was before after → AllByRecursion (IsWorkerBack counters) after
     are_back first [] [] fresh was = tt
     are_back first (b ∷ before) (a ∷ after) fresh was = (
       record {
@@ -166,11 +167,11 @@ module _ {D G O : Type 0} {g h : _} (told : Type 0) (given_of left_of ends_of fa
 
     -- ---- the doors
 
-    one_served : (first final : Passes D) (before after : Worker (SessionJobOf (TicketedDesk D g) D G h) O) → IsFresh counters first before
-        → AreOn (job_passes after.job) final → (was : Was before after)
-        → IsServedDoor told given_of left_of faults_of back_of (IsServedBy counters final) (job_runs after.job)
+    one_served : (first final : Passes D) (before after : Worker (SessionJobOf (TicketedDesk D g) D G h) O) → IsWorkerFresh counters first before
+        → AreOn (job_passes after.job) final → HaveSeenLegal (fixeds_of counters) (passes_in final) → (was : Was before after)
+        → IsServedDoor Door (IsServedBy counters final) (job_runs after.job)
         (λ t. (was.back t).stand.visit_marks) before.door after.door
-    one_served first final before after fresh on was = record {
+    one_served first final before after fresh on legal was = record {
       given = was.given;
       left = was.left;
       back = λ t. let v = was.back t in record {
@@ -178,37 +179,39 @@ module _ {D G O : Type 0} {g h : _} (told : Type 0) (given_of left_of ends_of fa
         behind = v.behind;
         many = v.many;
         stand =
-            stay counters (job_counters after.job) (job_passes after.job) final v.visits v.stand.visit_marks (was.keeps.0 ∙ fresh.counters_are) on v.stand.each;
+            stay counters (job_counters after.job) (job_passes after.job) final v.visits v.stand.visit_marks (was.keeps.0 ∙ fresh.counters_are) on legal
+            v.stand.each;
       };
       faults = was.faults;
     }
 
     -- the doors' connections are served by the passes that are joined in the end
     pub all_served : (first final : Passes D) (before after : List (Worker (SessionJobOf (TicketedDesk D g) D G h) O))
-        → AllByRecursion (IsFresh counters first) before
-        → AllByRecursion (λ worker. AreOn (job_passes worker.job) final) after → (was : AllZip Was before after)
-        → AreServedDoors told given_of left_of faults_of back_of (IsServedBy counters final) (sum_by (λ worker. job_runs worker.job) after)
+        → AllByRecursion (IsWorkerFresh counters first) before
+        → AllByRecursion (λ worker. AreOn (job_passes worker.job) final) after → HaveSeenLegal (fixeds_of counters) (passes_in final)
+        → (was : AllZip Was before after)
+        → AreServedDoors Door (IsServedBy counters final) (sum_by (λ worker. job_runs worker.job) after)
         (λ t. all_told t before after was) (map (λ worker. worker.door) before) (map (λ worker. worker.door) after)
-    all_served first final [] [] fresh on was = (refl, λ t. refl)
-    all_served first final (b ∷ before) (a ∷ after) fresh on was = (
+    all_served first final [] [] fresh on legal was = (refl, λ t. refl)
+    all_served first final (b ∷ before) (a ∷ after) fresh on legal was = (
       job_runs a.job,
       sum_by (λ worker. job_runs worker.job) after,
       sum_by-cons (λ (worker : Worker (SessionJobOf (TicketedDesk D g) D G h) O). job_runs worker.job) a after,
       λ t. (was.0.back t).stand.visit_marks,
       λ t. all_told t before after was.1,
       λ t. refl,
-      one_served first final b a fresh.0 on.0 was.0,
-      all_served first final before after fresh.1 on.1 was.1,
+      one_served first final b a fresh.0 on.0 legal was.0,
+      all_served first final before after fresh.1 on.1 legal was.1,
     )
-    all_served first final [] (a ∷ after) fresh on was = absurd was
-    all_served first final (b ∷ before) [] fresh on was = absurd was
+    all_served first final [] (a ∷ after) fresh on legal was = absurd was
+    all_served first final (b ∷ before) [] fresh on legal was = absurd was
 
   -- ---- the outcome
 
   have_ended : (at_limit : Type 0) (before after : List (Worker (SessionJobOf (TicketedDesk D g) D G h) O))
-      → AllByRecursion (λ worker. faults_of worker.door ≡ 0) before
+      → AllByRecursion (λ worker. Door.faults worker.door ≡ 0) before
       → AllByRecursion (λ worker. worker.ended ≡ Some LimitReached → at_limit) after → AllZip Was before after
-      → Ended told left_of faults_of at_limit (list_any (λ worker. has_failed worker.ended) after) (map (λ worker. worker.door) after)
+      → Ended Door at_limit (list_any (λ worker. has_links_failed worker.ended) after) (map (λ worker. worker.door) after)
   have_ended at_limit [] [] whole reached was = inl (λ t. tt)
   have_ended at_limit (b ∷ before) (a ∷ after) whole reached was = by_end a.ended refl was.0.ended (have_ended at_limit before after whole.1 reached.1 was.1)
     where
@@ -216,40 +219,40 @@ module _ {D G O : Type 0} {g h : _} (told : Type 0) (given_of left_of ends_of fa
       doors = map (λ worker. worker.door) after
 
       any : Bool
-      any = list_any (λ worker. has_failed worker.ended) after
+      any = list_any (λ worker. has_links_failed worker.ended) after
 
-      by_end : (end : Option WorkerEnd) → a.ended ≡ end → IsSome a.ended → Ended told left_of faults_of at_limit any doors
-          → Ended told left_of faults_of at_limit (has_failed a.ended || any) (a.door ∷ doors)
+      by_end : (end : Option WorkerEnd) → a.ended ≡ end → IsSome a.ended → Ended Door at_limit any doors
+          → Ended Door at_limit (has_links_failed a.ended || any) (a.door ∷ doors)
       by_end None is some rest = absurd (none_isnt a.ended is some)
       by_end (Some LinksEnded) is some rest =
-          subst (λ end. Ended told left_of faults_of at_limit (has_failed end || any) (a.door ∷ doors)) (sym is)
-          (at_end told left_of faults_of at_limit any a.door doors (was.0.at_end is).1 rest)
+          subst (λ end. Ended Door at_limit (has_links_failed end || any) (a.door ∷ doors)) (sym is)
+          (at_end Door at_limit any a.door doors (was.0.at_end is).1 rest)
       by_end (Some LimitReached) is some rest =
-          subst (λ end. Ended told left_of faults_of at_limit (has_failed end || any) (a.door ∷ doors)) (sym is)
-          (at_most told left_of faults_of at_limit any a.door doors (reached.0 is) rest)
+          subst (λ end. Ended Door at_limit (has_links_failed end || any) (a.door ∷ doors)) (sym is)
+          (at_most Door at_limit any a.door doors (reached.0 is) rest)
       by_end (Some LinksHaveFailed) is some rest =
-          subst (λ end. Ended told left_of faults_of at_limit (has_failed end || any) (a.door ∷ doors)) (sym is)
-          (inl (rose (faults_of b.door) (faults_of a.door) whole.0 (was.0.at_failure is)))
+          subst (λ end. Ended Door at_limit (has_links_failed end || any) (a.door ∷ doors)) (sym is)
+          (inl (rose (Door.faults b.door) (Door.faults a.door) whole.0 (was.0.at_failure is)))
   have_ended at_limit [] (a ∷ after) whole reached was = absurd was
   have_ended at_limit (b ∷ before) [] whole reached was = absurd was
 
   -- where no links failed, each number that was lost was drawn at a door that answered that no further connection comes
-  lost_at_ends : (before after : List (Worker (SessionJobOf (TicketedDesk D g) D G h) O)) → AllByRecursion (λ worker. ends_of worker.door ≡ 0) before
+  lost_at_ends : (before after : List (Worker (SessionJobOf (TicketedDesk D g) D G h) O)) → AllByRecursion (λ worker. Door.ends worker.door ≡ 0) before
       → AllZip Was before after
-      → list_any (λ worker. has_failed worker.ended) after ≡ false
-      → sum_by (λ worker. lost worker.ended) after ≤ sum_by (λ door. one_if_any (ends_of door)) (map (λ worker. worker.door) after)
+      → list_any (λ worker. has_links_failed worker.ended) after ≡ false
+      → sum_by (λ worker. lost worker.ended) after ≤ sum_by (λ door. one_if_any (Door.ends door)) (map (λ worker. worker.door) after)
   lost_at_ends [] [] unended was none = omega arith
   lost_at_ends (b ∷ before) (a ∷ after) unended was none =
-      let two = neither (has_failed a.ended) (list_any (λ worker. has_failed worker.ended) after) none in
+      let two = neither (has_links_failed a.ended) (list_any (λ worker. has_links_failed worker.ended) after) none in
       let here = by_end a.ended refl in
       let others = lost_at_ends before after unended.1 was.1 two.1 in
       let first = sum_by-cons (λ (worker : Worker (SessionJobOf (TicketedDesk D g) D G h) O). lost worker.ended) a after in
-      let second = sum_by-cons (λ (door : O). one_if_any (ends_of door)) a.door (map (λ worker. worker.door) after) in
+      let second = sum_by-cons (λ (door : O). one_if_any (Door.ends door)) a.door (map (λ worker. worker.door) after) in
       omega (arith, here two.0, others, first, second)
     where
-      by_end : (end : Option WorkerEnd) → a.ended ≡ end → has_failed end ≡ false → lost end ≤ one_if_any (ends_of a.door)
+      by_end : (end : Option WorkerEnd) → a.ended ≡ end → has_links_failed end ≡ false → lost end ≤ one_if_any (Door.ends a.door)
       by_end None is whole = omega arith
-      by_end (Some LinksEnded) is whole = once (ends_of a.door) (rose (ends_of b.door) (ends_of a.door) unended.0 (was.0.at_end is).0)
+      by_end (Some LinksEnded) is whole = once (Door.ends a.door) (rose (Door.ends b.door) (Door.ends a.door) unended.0 (was.0.at_end is).0)
       by_end (Some LimitReached) is whole = omega arith
       by_end (Some LinksHaveFailed) is whole = absurd cc
   lost_at_ends [] (a ∷ after) unended was none = absurd was
@@ -282,12 +285,12 @@ module _ {D G O : Type 0} {g h : _} (told : Type 0) (given_of left_of ends_of fa
 
   -- how the workers served together
   pub has_outcome : (limit : ℕ) (before after : List (Worker (SessionJobOf (TicketedDesk D g) D G h) O))
-      → AllByRecursion (λ worker. faults_of worker.door ≡ 0) before → AllByRecursion (λ worker. ends_of worker.door ≡ 0) before
+      → AllByRecursion (λ worker. Door.faults worker.door ≡ 0) before → AllByRecursion (λ worker. Door.ends worker.door ≡ 0) before
       → AllByRecursion (λ worker. worker.ended ≡ Some LimitReached
       → limit ≤ sum_by (λ other. job_runs other.job) after + sum_by (λ other. lost other.ended) after) after → AllZip Was before after
-      → HasOutcome told left_of ends_of faults_of limit (outcome_of after) (sum_by (λ worker. job_runs worker.job) after) (map (λ worker. worker.door) after)
+      → HasOutcome Door limit (crew_outcome after) (sum_by (λ worker. job_runs worker.job) after) (map (λ worker. worker.door) after)
   has_outcome limit before after whole unended reached was =
-      of_any (list_any (λ worker. has_failed worker.ended) after) refl
+      of_any (list_any (λ worker. has_links_failed worker.ended) after) refl
       (have_ended (AtLimit limit after) before after whole
       (every_both (λ worker. worker.ended ≡ Some LimitReached → limit ≤ sum_by (λ other. job_runs other.job) after + sum_by (λ other. lost other.ended) after)
       (λ worker. worker.ended ≡ Some LimitReached → 0 + sum_by (λ other. lost other.ended) after < 0 + length after)
@@ -295,12 +298,12 @@ module _ {D G O : Type 0} {g h : _} (told : Type 0) (given_of left_of ends_of fa
       (fewer_lost 0 0 (omega arith) after).1)
       was)
     where
-      of_any : (any : Bool) → list_any (λ worker. has_failed worker.ended) after ≡ any
-          → Ended told left_of faults_of (AtLimit limit after) any (map (λ worker. worker.door) after)
-          → HasOutcome told left_of ends_of faults_of limit (if any then LinksFailed else Served) (sum_by (λ worker. job_runs worker.job) after)
+      of_any : (any : Bool) → list_any (λ worker. has_links_failed worker.ended) after ≡ any
+          → Ended Door (AtLimit limit after) any (map (λ worker. worker.door) after)
+          → HasOutcome Door limit (if any then LinksFailed else Served) (sum_by (λ worker. job_runs worker.job) after)
           (map (λ worker. worker.door) after)
       of_any true is failed = failed
-      of_any false is (inl all) = λ t. inl (All-from_recursion (λ door. left_of door ≡ 0) (map (λ worker. worker.door) after) (all t))
+      of_any false is (inl all) = λ t. inl (All-from_recursion (λ door. Door.left door ≡ 0) (map (λ worker. worker.door) after) (all t))
       of_any false is (inr (most, fewer)) = λ t.
           let ends = lost_at_ends before after unended was is in
           let many = length-map after (λ (worker : Worker (SessionJobOf (TicketedDesk D g) D G h) O). worker.door) in
@@ -309,38 +312,40 @@ module _ {D G O : Type 0} {g h : _} (told : Type 0) (given_of left_of ends_of fa
   -- all that is said of doors whose workers served them
   pub served_together : (counters : CountersOf (TicketedDesk D g) TurnItem (Fixed D) h) (first final : Passes D) (limit : ℕ) (outcome : Outcome)
       (doors others : List O) (before after : List (Worker (SessionJobOf (TicketedDesk D g) D G h) O))
-      → map (λ worker. worker.door) before ≡ doors → others ≡ map (λ worker. worker.door) after → outcome ≡ outcome_of after
-      → All (λ door. faults_of door ≡ 0) doors → All (λ door. ends_of door ≡ 0) doors
-      → All (IsFresh counters first) before → All (λ worker. AreOn (job_passes worker.job) final) after
+      → map (λ worker. worker.door) before ≡ doors → others ≡ map (λ worker. worker.door) after → outcome ≡ crew_outcome after
+      → All (λ door. Door.faults door ≡ 0) doors → All (λ door. Door.ends door ≡ 0) doors
+      → All (IsWorkerFresh counters first) before → All (λ worker. AreOn (job_passes worker.job) final) after
+      → HaveSeenLegal (fixeds_of counters) (passes_in final)
       → All (λ worker. worker.ended ≡ Some LimitReached → limit ≤ sum_by (λ other. job_runs other.job) after + sum_by (λ other. lost other.ended) after) after
       → AllZip Was before after → sum_by (λ other. job_runs other.job) after ≤ limit
-      → ((weight : AnsweredQuery → ℕ) (place : ℕ)
+      → ((weight : TurnItem → ℕ) (place : ℕ)
       → own_weight weight place (passes_in final)
       ≡ own_weight weight place (passes_in first) + sum_by (λ worker. own_weight weight place (passes_in (job_passes worker.job))) after)
-      → (total : ℕ) × (marks : told → List SessionMarks)
-      × AreServedDoors told given_of left_of faults_of back_of (IsServedBy counters final) total marks doors others
-      × HasOutcome told left_of ends_of faults_of limit outcome total others × (total ≤ limit)
-      × ((t : told) → OwnMore (passes_in first) (passes_in final) (marks t))
-  served_together counters first final limit outcome doors others before after doors_are others_are outcome_is whole unended fresh on reached was below own =
+      → (total : ℕ) × (marks : Door.tells → List SessionMarks)
+      × AreServedDoors Door (IsServedBy counters final) total marks doors others
+      × HasOutcome Door limit outcome total others × (total ≤ limit)
+      × ((t : Door.tells) → OwnMore (passes_in first) (passes_in final) (marks t))
+  served_together counters first final limit outcome doors others before after doors_are others_are outcome_is whole unended fresh on legal reached was below
+      own =
       let total = sum_by (λ (worker : Worker (SessionJobOf (TicketedDesk D g) D G h) O). job_runs worker.job) after in
-      let marks : told → List SessionMarks = λ t. all_told t before after was in
-      let served = all_served counters first final before after (recursion_from_All (IsFresh counters first) before fresh)
-      (recursion_from_All (λ worker. AreOn (job_passes worker.job) final) after on) was in
-      let ended = has_outcome limit before after (by_door faults_of whole) (by_door ends_of unended)
+      let marks : Door.tells → List SessionMarks = λ t. all_told t before after was in
+      let served = all_served counters first final before after (recursion_from_All (IsWorkerFresh counters first) before fresh)
+      (recursion_from_All (λ worker. AreOn (job_passes worker.job) final) after on) legal was in
+      let ended = has_outcome limit before after (by_door Door.faults whole) (by_door Door.ends unended)
       (recursion_from_All (λ worker. worker.ended ≡ Some LimitReached
       → limit ≤ sum_by (λ other. job_runs other.job) after + sum_by (λ other. lost other.ended) after) after reached) was in (
         total,
         marks,
-        subst (λ ds. AreServedDoors told given_of left_of faults_of back_of (IsServedBy counters final) total marks ds others) doors_are
-            (subst (λ ds. AreServedDoors told given_of left_of faults_of back_of (IsServedBy counters final) total marks
+        subst (λ ds. AreServedDoors Door (IsServedBy counters final) total marks ds others) doors_are
+            (subst (λ ds. AreServedDoors Door (IsServedBy counters final) total marks
             (map (λ worker. worker.door) before) ds) (sym others_are) served),
-        subst (λ o. HasOutcome told left_of ends_of faults_of limit o total others) (sym outcome_is)
-            (subst (λ ds. HasOutcome told left_of ends_of faults_of limit (outcome_of after) total ds) (sym others_are) ended),
+        subst (λ o. HasOutcome Door limit o total others) (sym outcome_is)
+            (subst (λ ds. HasOutcome Door limit (crew_outcome after) total ds) (sym others_are) ended),
         below,
         λ t place weight.
             let all = own weight place in
-            let here = all_own counters first t weight place before after (recursion_from_All (IsFresh counters first) before fresh) was in
-            let told = weigh_more weight (own_at place (passes_in first)) (entries_told place) (all_told t before after was) in
+            let here = all_own counters first t weight place before after (recursion_from_All (IsWorkerFresh counters first) before fresh) was in
+            let told = weigh_more weight (own_at place (passes_in first)) (items_told place) (all_told t before after was) in
             omega (arith, all, here, told),
       )
     where

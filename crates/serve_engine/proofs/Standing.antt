@@ -3,14 +3,13 @@ use Rattle.std.proofs.Common.{◌≡◌, ℕ, ◌+◌, List, [], ◌∷◌, ◌+
 use Rattle.std.specs.List.{AllZip}
 use Rattle.std.proofs.lemmas.List.Sums.{sum_by_push}
 use Rattle.outside.specs.Visits.{Visit}
-use Rattle.cqe_base.specs.History.{AnsweredQuery}
 use Rattle.desk_counter.specs.declared.item.TurnItem.{TurnItem}
 use Rattle.desk_counter.specs.declared.item.Fixed.{Fixed}
 use Rattle.desk_counter.specs.declared.ticketed_desk.TicketedDesk.{TicketedDesk}
 use Rattle.session_core.specs.declared.counters.CountersOf.{CountersOf}
 use Rattle.session_core.specs.declared.counters.Passes.{Passes}
 use Rattle.session_core.specs.Members.{users_of, fixeds_of, passes_in}
-use Rattle.serve_engine.specs.Served.{SessionMarks, IsLater, entries_told}
+use Rattle.serve_engine.specs.Served.{SessionMarks, IsLater, items_told}
 use Rattle.serve_engine.specs.Members.{members_of, IsServedBy, AreServedBy, own_at}
 use Rattle.serve_engine.proofs.Owning.{own_weight, weigh_more}
 use Rattle.serve_engine.proofs.Growing.{served_later}
@@ -34,8 +33,8 @@ module _ {X Y : Type 0} where
 pub served_more : {D : Type 0} {g h : _} (counters : CountersOf (TicketedDesk D g) TurnItem (Fixed D) h) (first old new : Passes D) (visits : List Visit)
     (visit : Visit) (marks : SessionMarks) → AreServedBy counters first old visits
     → AllZip IsLater (members_of (fixeds_of counters) (passes_in old)) (members_of (fixeds_of counters) (passes_in new)) → IsServedBy counters new visit marks
-    → ((weight : AnsweredQuery → ℕ) (place : ℕ)
-    → own_weight weight place (passes_in new) ≡ own_weight weight place (passes_in old) + sum_by weight (entries_told place marks))
+    → ((weight : TurnItem → ℕ) (place : ℕ)
+    → own_weight weight place (passes_in new) ≡ own_weight weight place (passes_in old) + sum_by weight (items_told place marks))
     → AreServedBy counters first new (visits ++ visit ∷ [])
 served_more counters first old new visits visit marks stood later served own = record {
   visit_marks = stood.visit_marks ++ marks ∷ [];
@@ -49,8 +48,8 @@ served_more counters first old new visits visit marks stood later served own = r
   own = λ place weight.
       let more = own weight place in
       let before = stood.own place weight in
-      let told = weigh_more weight (own_at place (passes_in first)) (entries_told place) stood.visit_marks in
-      let then = weigh_more weight (own_at place (passes_in first)) (entries_told place) (stood.visit_marks ++ marks ∷ []) in
-      let all = sum_by_push (λ m. sum_by weight (entries_told place m)) stood.visit_marks marks in
+      let told = weigh_more weight (own_at place (passes_in first)) (items_told place) stood.visit_marks in
+      let then = weigh_more weight (own_at place (passes_in first)) (items_told place) (stood.visit_marks ++ marks ∷ []) in
+      let all = sum_by_push (λ m. sum_by weight (items_told place m)) stood.visit_marks marks in
       omega (arith, more, before, told, then, all);
 }

@@ -2,6 +2,8 @@
 use Rattle.std.specs.Prelude.{◌≡◌, ℕ, List, [], ◌∷◌, ◌++◌}
 use Rattle.outside.specs.Faults.{Rose}
 use Rattle.outside.specs.Visits.{Visit}
+use Rattle.outside.specs.declared.stream.Sink.{Ghosts as SinkGhosts}
+use Rattle.outside.specs.declared.stream.Source.{Ghosts as SourceGhosts}
 use Rattle.cqe_base.specs.declared.user.User.{User}
 use Rattle.turnstile.specs.declared.pass.Pass.{Pass}
 use Rattle.desk_counter.specs.declared.item.TurnItem.{TurnItem}
@@ -38,12 +40,13 @@ module _ {D G : Type 0} {g h : _} where
       → AreServedBy (job_counters after) (job_passes first) (job_passes after)
       (visits ++ visit ∷ [])
 
--- A run is one session: how it ended, and what it read, did with the passes and wrote; where a
--- stream failed, the count of its faults rose.
-pub record RunsSession {D : Type 0} (source_tells sink_tells : Type 0) (users : List User)
-    (fixeds : List (Fixed D)) (bytes : List ℕ) (old new : List (Pass TurnItem (Fixed D)))
-    (before after : List ℕ) (sources sources' sinks sinks' : ℕ) : Type 0 where
+-- A run is one session over a source and a sink: how it ended, and what it read, did with the
+-- passes and wrote; where a stream failed, the count of its faults rose.
+pub record RunsSession {S K D : Type 0} (Source : SourceGhosts S) (Sink : SinkGhosts K)
+    (users : List User) (fixeds : List (Fixed D)) (old new : List (Pass TurnItem (Fixed D)))
+    (source source' : S) (sink sink' : K) : Type 0 where
   pub ended : Ended
-  pub session : Session source_tells sink_tells users fixeds ended bytes old new before after
-  pub read_cause : ended ≡ ReadFault → Rose sources sources'
-  pub write_cause : ended ≡ WriteFault → Rose sinks sinks'
+  pub session : Session Source.tells Sink.tells users fixeds ended (Source.left source) old new
+      (Sink.written sink) (Sink.written sink')
+  pub read_cause : ended ≡ ReadFault → Rose (Source.faults source) (Source.faults source')
+  pub write_cause : ended ≡ WriteFault → Rose (Sink.faults sink) (Sink.faults sink')

@@ -9,3 +9,4 @@ pub mod Sharing
 pub mod Serving
 -- proofs, which ghost members of a job name; no definitions
 pub mod Keeping
+pub mod Joining

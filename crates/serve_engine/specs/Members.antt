@@ -4,7 +4,6 @@ use Rattle.std.specs.List.{AllByRecursion, AllZip, flat_map}
 use Rattle.outside.specs.Visits.{Visit}
 use Rattle.cqe_base.specs.Schema.{DatabaseSchema}
 use Rattle.cqe_base.specs.Facts.{FactSet}
-use Rattle.cqe_base.specs.History.{History}
 use Rattle.turnstile.specs.declared.pass.Pass.{Pass}
 use Rattle.turnstile.specs.History.{IsPrefix}
 use Rattle.turnstile.specs.Passes.{seen, mine, shares, turns}
@@ -12,11 +11,11 @@ use Rattle.user_desk.specs.Standings.{standing_of}
 use Rattle.desk_counter.specs.declared.item.TurnItem.{TurnItem}
 use Rattle.desk_counter.specs.declared.item.Fixed.{Fixed}
 use Rattle.desk_counter.specs.declared.ticketed_desk.TicketedDesk.{TicketedDesk}
-use Rattle.desk_counter.specs.Items.{history_of, has_broke}
+use Rattle.desk_counter.specs.Items.{history_of, flying, items_of}
 use Rattle.session_core.specs.declared.counters.CountersOf.{CountersOf}
 use Rattle.session_core.specs.declared.counters.Passes.{Passes}
 use Rattle.session_core.specs.Members.{users_of, fixeds_of, passes_in}
-use Rattle.serve_engine.specs.Served.{Member, SessionMarks, entries_told, SameEntries, Served}
+use Rattle.serve_engine.specs.Served.{Member, SessionMarks, items_told, SameEntries, Served}
 
 module _ {D : Type 0} where
   -- the user of a desk, by what a pass has seen of its entries
@@ -26,7 +25,7 @@ module _ {D : Type 0} where
     standing = standing_of fixed.standing;
     opening = fixed.opening;
     history = history_of (seen pass);
-    broke = has_broke (seen pass);
+    in_flight = flying (seen pass);
   }
 
   -- the users of all desks, each by the pass at his place
@@ -59,19 +58,19 @@ module _ {D : Type 0} where
   abbrev pub ArePassesLater : Passes D → Passes D → Type 0
   ArePassesLater before after = AllZip IsPassLater (passes_in before) (passes_in after)
 
-  -- the entries that the pass at this place has of its own
-  abbrev pub own_at : ℕ → List (Pass TurnItem (Fixed D)) → History
+  -- what the pass at this place has of its own
+  abbrev pub own_at : ℕ → List (Pass TurnItem (Fixed D)) → List TurnItem
   own_at place [] = []
-  own_at zero (pass ∷ passes) = history_of (mine pass)
+  own_at zero (pass ∷ passes) = items_of (mine pass)
   own_at (suc place) (pass ∷ passes) = own_at place passes
 
-  -- Each pass has of its own what it had, and the entries of the marks that were told to the user
-  -- at its place.
+  -- Each pass has of its own what it had, and the entries of the marks, and of the failed append,
+  -- that were told to the user at its place.
   abbrev pub OwnMore : List (Pass TurnItem (Fixed D)) → List (Pass TurnItem (Fixed D))
       → List SessionMarks → Type 0
   OwnMore before after visit_marks = (place : ℕ)
       → SameEntries (own_at place after)
-      (own_at place before ++ flat_map (entries_told place) visit_marks)
+      (own_at place before ++ flat_map (items_told place) visit_marks)
 
 module _ {D : Type 0} {g h : _} where
   -- A finished connection is served by the users of these desks, as the passes know them, wherever

@@ -48,7 +48,7 @@ module _ {D : Type 0} where
 
 module _ {D G O : Type 0} {g h : _} where
   -- a worker's job is at these counters, with such passes, and it hasn't begun
-  pub record IsFresh (counters : CountersOf (TicketedDesk D g) TurnItem (Fixed D) h)
+  pub record IsWorkerFresh (counters : CountersOf (TicketedDesk D g) TurnItem (Fixed D) h)
       (before : Passes D)
       (worker : Worker (SessionJobOf (TicketedDesk D g) D G h) O) : Type 0 where
     pub counters_are : job_counters worker.job ≡ counters
@@ -57,7 +57,7 @@ module _ {D G O : Type 0} {g h : _} where
     pub running : worker.ended ≡ None
 
   -- a worker's job is at these counters, and its passes have one share
-  pub record IsBack (counters : CountersOf (TicketedDesk D g) TurnItem (Fixed D) h)
+  pub record IsWorkerBack (counters : CountersOf (TicketedDesk D g) TurnItem (Fixed D) h)
       (worker : Worker (SessionJobOf (TicketedDesk D g) D G h) O) : Type 0 where
     pub counters_are : job_counters worker.job ≡ counters
     pub shares_are : HaveShares 1 (job_passes worker.job)

@@ -1,27 +1,29 @@
 -- What serving connections means for the users and for the connections.
 use Rattle.std.specs.Prelude.{◌≡◌, ◌⊎◌, ℕ, suc, ◌+◌, Bool, true, false, List, [], ◌∷◌, ◌++◌}
-use Rattle.std.specs.Prelude.{Option, Vec, is_some, string_bytes}
+use Rattle.std.specs.Prelude.{Option, Vec, string_bytes, not, length, option_to_list}
 use Rattle.std.specs.declared.alloc.Global.{Global}
 use Rattle.std.specs.List.{AllZip, list_any, flat_map}
 use Rattle.outside.specs.Faults.{Rose}
 use Rattle.outside.specs.Visits.{Visit}
+use Rattle.outside.specs.declared.links.Door.{Ghosts as DoorGhosts}
 use Rattle.cqe_base.specs.Schema.{DatabaseSchema}
 use Rattle.cqe_base.specs.Facts.{FactSet}
-use Rattle.cqe_base.specs.History.{AnsweredQuery, History, profile_of}
+use Rattle.cqe_base.specs.History.{History, profile_of}
 use Rattle.cqe_base.specs.Censor.{IsLegal, admitted}
 use Rattle.cqe_base.specs.Hiding.{Hides}
 use Rattle.cqe_base.specs.declared.user.User.{User}
-use Rattle.user_desk.specs.Causes.{IsStanding}
+use Rattle.user_desk.specs.Causes.{IsStanding, OpensWithin}
 use Rattle.user_desk.specs.Entries.{IsNoLonger}
 use Rattle.user_desk.specs.Lives.{Holds, shown}
 use Rattle.user_desk.specs.Standings.{standing_of, is_open, is_sealed}
 use Rattle.user_desk.specs.declared.standing.DeskError.{DeskError}
 use Rattle.user_desk.specs.declared.standing.Standing.{Standing}
 use Rattle.desk_crew.specs.Crew.{refusal_of}
-use Rattle.desk_crew.specs.Shelved.{Journals, KeepsJournal, KeepsJournals}
+use Rattle.desk_crew.specs.Shelved.{Journals, KeepsJournal, KeepsJournals, StandsAllAlong}
 use Rattle.worker_pool.specs.Workers.{HasVisits}
 use Rattle.serve_engine.specs.Doors.{AreServedDoors}
-use Rattle.serve_engine.specs.Served.{Member, SessionMarks, entries_told, SameEntries, Served}
+use Rattle.serve_engine.specs.Served.{Member, member_broke, SessionMarks, entries_told}
+use Rattle.serve_engine.specs.Served.{failures_told, SameEntries, Served}
 use Rattle.serve_engine.specs.declared.serving.Outcome.{Outcome}
 use Rattle.serve_engine.specs.declared.serving.Outcome.TheVariants as outcome
 use Rattle.serve_engine.specs.declared.run.ServeEnd.{ServeEnd}
@@ -37,10 +39,13 @@ pub record ServesNobody (journals : Journals) (given given' : ℕ) (back back' :
 
 -- Of each user, from this place on: his history has the entries of the opening, and those of the
 -- marks that connections told him. So behind the opening each of these stands once, and no other.
+-- Where an append of his failed, one connection told him so of one ask, whose entry is the one in
+-- flight, and no other did; where none failed, no connection told him that one did.
 abbrev pub AreAllTold : ℕ → List Member → List SessionMarks → Type 0
 AreAllTold place [] visit_marks = Unit {0}
 AreAllTold place (member ∷ members) visit_marks =
     SameEntries member.history (member.opening ++ flat_map (entries_told place) visit_marks)
+    × SameEntries (option_to_list member.in_flight) (flat_map (failures_told place) visit_marks)
     × AreAllTold (suc place) members visit_marks
 
 module _ (schema : DatabaseSchema) (world : FactSet) (header : List ℕ) (journals : Journals) where
@@ -64,27 +69,33 @@ module _ (schema : DatabaseSchema) (world : FactSet) (header : List ℕ) (journa
         → Hides schema world member.profile member.history
     -- unless his journal was refused, his disk reads as his history, and so does what a crash may
     -- leave of it; where an append failed, as that or as that with the entry in flight
-    pub in_flight : Option AnsweredQuery
-    pub broke_is : member.broke ≡ is_some in_flight
     pub reads : is_sealed standing ≡ false
-        → Holds schema world member.profile header (shown member.history member.standing in_flight)
+        → Holds schema world member.profile header
+        (shown member.history member.standing member.in_flight)
         (journals.reads (string_bytes user.name))
     pub stands : is_sealed standing ≡ false → (c : List ℕ)
         → journals.image (string_bytes user.name) c
         → Holds schema world member.profile header
-        (shown member.history member.standing in_flight) c
+        (shown member.history member.standing member.in_flight) c
     -- where no append failed, it has no more bytes than it had, or than his history needs
-    pub size : member.broke ≡ false → IsNoLonger (journals.bytes (string_bytes user.name))
-        member.history (journals.reads (string_bytes user.name))
+    pub size : member_broke member ≡ false
+        → IsNoLonger (journals.bytes (string_bytes user.name)) member.history
+        (journals.reads (string_bytes user.name))
     -- only where he is served has he entries, or did an append fail
-    pub idle : is_open standing ≡ false → (member.history ≡ []) × (member.broke ≡ false)
+    pub idle : is_open standing ≡ false → (member.history ≡ []) × (member_broke member ≡ false)
     -- where it was refused, or nothing was appended, it is as it was
     pub kept : (is_sealed standing ≡ true)
-        ⊎ ((member.history ≡ member.opening) × (member.broke ≡ false))
+        ⊎ ((member.history ≡ member.opening) × (member_broke member ≡ false))
         → KeepsJournal journals (string_bytes user.name)
     -- an append failed only where the count of his disk's faults rose
-    pub failed : member.broke ≡ true
+    pub failed : member_broke member ≡ true
         → Rose (journals.before (string_bytes user.name)) (journals.now (string_bytes user.name))
+    -- At each moment since his journal was opened each crash leaves a beginning of his history,
+    -- with the entry in flight, that has the entries of the opening; before that, and where it was
+    -- refused, nothing new.
+    pub moments : StandsAllAlong journals (string_bytes user.name) (not (is_sealed standing))
+        (OpensWithin schema world member.profile header (length member.opening)
+        (member.history ++ option_to_list member.in_flight))
 
   -- all users, each with the refusal of his journal, if it was refused
   abbrev pub HaveServed : List User → List Member → List (Option DeskError) → Type 0
@@ -100,7 +111,7 @@ module _ (schema : DatabaseSchema) (world : FactSet) (header : List ℕ) (journa
     pub record Serves (refusals : List (Option DeskError)) (is_broken : Bool) : Type 0 where
       pub members : List Member
       pub each_user : HaveServed users members refusals
-      pub broken_is : is_broken ≡ list_any (λ member. member.broke) members
+      pub broken_is : is_broken ≡ list_any member_broke members
       pub count : ℕ
       pub given_is : given' ≡ given + count
       pub visit_marks : List SessionMarks
@@ -128,7 +139,7 @@ module _ (schema : DatabaseSchema) (world : FactSet) (header : List ℕ) (journa
       (is_broken : Bool) : Type 0 where
     pub members : List Member
     pub each_user : HaveServed users members refusals
-    pub broken_is : is_broken ≡ list_any (λ member. member.broke) members
+    pub broken_is : is_broken ≡ list_any member_broke members
 
   -- they are so for some refusals
   abbrev pub LeavesSome : List User → Type 0
@@ -143,18 +154,18 @@ module _ (schema : DatabaseSchema) (world : FactSet) (header : List ℕ) (journa
   LeavesJournals users Memory = KeepsJournals journals ⊎ LeavesSome users
 
   -- The same of the doors through which they came.
-  module _ (users : List User) {O : Type 0} (told : Type 0) (given_of left_of faults_of : O → ℕ)
-      (back_of : O → List Visit) (doors doors' : List O) where
+  module _ (users : List User) {O S K : Type 0} (Door : DoorGhosts O S K)
+      (doors doors' : List O) where
     -- connections were served, each of the doors' among them
     pub record ServesDoors (refusals : List (Option DeskError)) (is_broken : Bool) : Type 0 where
       pub members : List Member
       pub each_user : HaveServed users members refusals
-      pub broken_is : is_broken ≡ list_any (λ member. member.broke) members
+      pub broken_is : is_broken ≡ list_any member_broke members
       pub total : ℕ
-      pub marks : told → List SessionMarks
-      pub served : AreServedDoors told given_of left_of faults_of back_of
+      pub marks : Door.tells → List SessionMarks
+      pub served : AreServedDoors Door
           (Served schema world users members) total marks doors doors'
-      pub all_told : (t : told) → AreAllTold 0 members (marks t)
+      pub all_told : (t : Door.tells) → AreAllTold 0 members (marks t)
 
     -- the doors are as they were, and so are all journals
     pub record ServesNoDoor : Type 0 where

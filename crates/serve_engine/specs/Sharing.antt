@@ -11,9 +11,10 @@ use Rattle.desk_counter.specs.declared.item.TurnItem.{TurnItem}
 use Rattle.desk_counter.specs.declared.item.Fixed.{Fixed}
 use Rattle.desk_counter.specs.declared.counter.CounterOf.{CounterOf}
 use Rattle.desk_counter.specs.declared.ticketed_desk.TicketedDesk.{TicketedDesk}
-use Rattle.desk_counter.specs.Counters.{first_history}
+use Rattle.desk_counter.specs.Items.{flying}
+use Rattle.desk_counter.specs.Counters.{first_pairs}
 use Rattle.desk_counter.specs.Sole.{counter_in, pass_in, pairs_of_sole}
-use Rattle.desk_crew.specs.Crew.{seat_user, seat_journal, seat_kept, seat_history, seat_broke}
+use Rattle.desk_crew.specs.Crew.{seat_user, seat_journal, seat_kept, seat_history}
 use Rattle.desk_crew.specs.Seats.{DeskSeat}
 use Rattle.serve_engine.specs.declared.sharing.Keeper.{Keeper}
 use Rattle.serve_engine.specs.Served.{Member, SessionMarks, Served}
@@ -43,7 +44,7 @@ module _ {D : Type 0} {g h : _} where
     standing = standing_of (seat_kept seat).standing;
     opening = (seat_kept seat).opening;
     history = seat_history seat;
-    broke = seat_broke seat;
+    in_flight = flying (pairs_of_sole seat.desk);
   }
 
   -- A seat before and after: the same user with the same journal at the same desk, whose pass has
@@ -53,7 +54,7 @@ module _ {D : Type 0} {g h : _} where
     pub journal_is : seat_journal after ≡ seat_journal before
     pub refusal_is : after.refusal ≡ before.refusal
     pub kept_is : seat_kept after ≡ seat_kept before
-    pub first_is : first_history (seat_counter after) ≡ first_history (seat_counter before)
+    pub first_is : first_pairs (seat_counter after) ≡ first_pairs (seat_counter before)
     pub on : IsPrefix (pairs_of_sole before.desk) (pairs_of_sole after.desk)
 
   -- all seats

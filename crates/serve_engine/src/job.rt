@@ -123,11 +123,9 @@ impl<'a, 'w, D: Disk, G: Gate, Src: Source, Snk: Sink> Job<Src, Snk>
             (Src.faults source.new) (Snk.faults sink.new)) }
 
         // It is one session, whatever its ends tell and have behind them.
-        ensures session { RunsSession Src.tells Snk.tells (users_of (job_counters self.old))
-            (fixeds_of (job_counters self.old)) (Src.left source.old)
-            (passes_in (job_passes self.old)) (passes_in (job_passes self.new))
-            (Snk.written sink.old) (Snk.written sink.new) (Src.faults source.old)
-            (Src.faults source.new) (Snk.faults sink.old) (Snk.faults sink.new) }
+        ensures session { RunsSession Src.Source Snk.Sink (users_of (job_counters self.old))
+            (fixeds_of (job_counters self.old)) (passes_in (job_passes self.old))
+            (passes_in (job_passes self.new)) source.old source.new sink.old sink.new }
     {
         let _ended = serve_session(
             rt,

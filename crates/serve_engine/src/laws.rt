@@ -1,8 +1,21 @@
 //! Laws of connections that were served. Each function computes nothing: its clause is the law.
 
 ghost use Rattle.serve_engine.specs.Served.{ServedStay};
+ghost use Rattle.cqe_base.specs.Schema.{Text};
+ghost use Rattle.desk_crew.specs.Shelved.{journals_on};
+ghost use Rattle.serve_engine.specs.Joining.{ServingsAreSpans};
+
+use outside::Shelf;
 
 /// A connection that was served stays so while histories get further entries and appends fail.
 pub fn law_served()
     ensures { ServedStay }
+{}
+
+/// Unless a user's journal was refused, a serving is a call to him over what his journal read as it
+/// began, whatever a crash leaves as it ends. So by `user_desk::laws::law_lives_join` his history
+/// over any list of servings, batches and crashes is one, which is legal and hides.
+pub fn law_servings_join<F: Shelf>(before: &F, behind: &F)
+    ensures { (directory : Text) → ServingsAreSpans
+        (journals_on F.Shelf F.D.Disk directory before.now behind.now) }
 {}

@@ -1,17 +1,13 @@
 //! Serving from the first listening to the last journal that is back.
-ghost use Rattle.std.specs.Prelude.{◌≡◌, ◌⊎◌, ◌<◌, ◌≤◌, ◌+◌, ◌-◌, ◌++◌, ◌∷◌, ◌^◌, [], false, All};
-ghost use Rattle.std.specs.Prelude.{length, map, sum_by};
+ghost use Rattle.std.specs.Prelude.{◌≡◌, ◌⊎◌, ◌<◌, ◌≤◌, ◌+◌, ◌-◌, ◌++◌, ◌∷◌, ◌^◌, [], All};
+ghost use Rattle.std.specs.Prelude.{length, sum_by};
 ghost use Rattle.std.specs.List.{flat_map};
 ghost use Rattle.outside.specs.Faults.{Rose};
 ghost use Rattle.outside.specs.Shelf.{SameNames, SameBeside, NoneOut, NoneFell, SomeRose};
 ghost use Rattle.outside.specs.Visits.{place_of, one_if_any};
-ghost use Rattle.cqe_base.specs.Schema.{has_duplicate};
-ghost use Rattle.cqe_base.specs.History.{profile_of};
-ghost use Rattle.cqe_base.specs.Limits.{KeepsLimits};
 ghost use Rattle.log_journal.specs.Opening.{header_bytes};
-ghost use Rattle.log_journal.specs.Names.{journal_name};
-ghost use Rattle.desk_crew.specs.Crew.{named_user};
 ghost use Rattle.desk_crew.specs.Shelved.{journals_on};
+ghost use Rattle.desk_crew.specs.Registered.{AllKeepLimits, registered_journals, HaveOwnNames};
 ghost use Rattle.serve_engine.specs.Doors.{SomeFailed};
 ghost use Rattle.serve_engine.specs.Serving.{EndsServing, EndsDoors, LeavesJournals, IsDone};
 ghost use Rattle.serve_engine.specs.Serving.{IsBroken};
@@ -70,10 +66,8 @@ pub fn run_serve<R: Threads + Wait + Sync, F: Shelf, L: Links, G: Gate + Sync>(
 ) -> ServeEnd
 where
     F::D: Send,
-    requires limits { All
-        (λ user. KeepsLimits registry.now.schema.now (profile_of user)) registry.now.users.now }
-    requires names { has_duplicate (map (λ user. user.name) (map named_user registry.now.users.now))
-        ≡ false }
+    requires limits { AllKeepLimits registry.now.schema.now registry.now.users.now }
+    requires names { HaveOwnNames registry.now.users.now }
     requires inside { NoneOut (F.is_out shelf.old) }
     requires some { 1 ≤ listening.workers }
     requires few { listening.workers ≤ 64 }
@@ -82,17 +76,14 @@ where
     // Each connection that was given is served, and each journal is as its user's one history says.
     ensures ends { F.tells → L.tells → EndsServing registry.now.schema.now registry.now.world.now
         (header_bytes registry.now.header.now)
-        (journals_on F.D.reads F.D.image registry.now.directory.now (F.disk shelf.old)
-        (F.disk shelf.new)
-        (F.disk_faults shelf.old) (F.disk_faults shelf.new))
+        (journals_on F.Shelf F.D.Disk registry.now.directory.now shelf.old shelf.new)
         registry.now.users.now (L.given links.old) (L.given links.new) (L.back links.old)
         (L.back links.new) result }
 
     // The same of the journals alone, where the connections aren't told.
     ensures journals { F.tells → LeavesJournals registry.now.schema.now registry.now.world.now
         (header_bytes registry.now.header.now)
-        (journals_on F.D.reads F.D.image registry.now.directory.now
-        (F.disk shelf.old) (F.disk shelf.new) (F.disk_faults shelf.old) (F.disk_faults shelf.new))
+        (journals_on F.Shelf F.D.Disk registry.now.directory.now shelf.old shelf.new)
         registry.now.users.now result }
 
     // It listens at that address alone, with a door for each worker, and before it opens a journal.
@@ -127,8 +118,8 @@ where
         < L.given links.new + listening.entry.workers)) }
 
     // No disk but the users' journals is touched, and all are back.
-    ensures disks { SameBeside (map (journal_name registry.now.directory.now)
-        (map (λ user. user.name) (map named_user registry.now.users.now))) (F.disk shelf.old)
+    ensures disks { SameBeside
+        (registered_journals registry.now.directory.now registry.now.users.now) (F.disk shelf.old)
         (F.disk shelf.new) }
     ensures inside { NoneOut (F.is_out shelf.new) }
     ensures files { SameNames (F.file shelf.old) (F.file shelf.new) }
@@ -167,10 +158,8 @@ fn serve_opened<R: Threads + Wait + Sync, F: Shelf, O: Door + Drop + Send, G: Ga
 ) -> (ServeEnd, Vec<O>)
 where
     F::D: Send,
-    requires limits { All
-        (λ user. KeepsLimits registry.now.schema.now (profile_of user)) registry.now.users.now }
-    requires names { has_duplicate (map (λ user. user.name) (map named_user registry.now.users.now))
-        ≡ false }
+    requires limits { AllKeepLimits registry.now.schema.now registry.now.users.now }
+    requires names { HaveOwnNames registry.now.users.now }
     requires inside { NoneOut (F.is_out shelf.old) }
     requires some { 1 ≤ length doors.items }
     requires few { length doors.items ≤ 64 }
@@ -179,10 +168,8 @@ where
     requires unended { All (λ door. O.ends door ≡ 0) doors.items }
     ensures ends { F.tells → EndsDoors registry.now.schema.now registry.now.world.now
         (header_bytes registry.now.header.now)
-        (journals_on F.D.reads F.D.image registry.now.directory.now (F.disk shelf.old)
-        (F.disk shelf.new)
-        (F.disk_faults shelf.old) (F.disk_faults shelf.new))
-        registry.now.users.now O.tells O.given O.left O.faults O.back doors.items result.1.items
+        (journals_on F.Shelf F.D.Disk registry.now.directory.now shelf.old shelf.new)
+        registry.now.users.now O.Door doors.items result.1.items
         result.0 }
     ensures ended { O.tells → IsDone result.0
         → All (λ door. O.left door ≡ 0) result.1.items
@@ -195,8 +182,8 @@ where
     ensures limited { O.tells → sum_by O.given result.1.items ≤ sum_by O.given doors.items + limit }
     ensures failed { result.0 ≡ ServeEnd.LinksFault → SomeFailed O.faults result.1.items }
     ensures doors { length result.1.items ≡ length doors.items }
-    ensures disks { SameBeside (map (journal_name registry.now.directory.now)
-        (map (λ user. user.name) (map named_user registry.now.users.now))) (F.disk shelf.old)
+    ensures disks { SameBeside
+        (registered_journals registry.now.directory.now registry.now.users.now) (F.disk shelf.old)
         (F.disk shelf.new) }
     ensures inside { NoneOut (F.is_out shelf.new) }
     ensures files { SameNames (F.file shelf.old) (F.file shelf.new) }

@@ -3,12 +3,13 @@ ghost use Rattle.std.specs.Prelude.{◌≡◌, ◌≤◌, ◌+◌, ◌*◌, ◌^
 ghost use Rattle.std.specs.Prelude.{vec_capacity, None, IfSome, IfNone};
 ghost use Rattle.std.specs.List.{flat_map};
 ghost use Rattle.session_core.specs.Members.{ArePassesOf, fixeds_of, passes_in};
-ghost use Rattle.serve_engine.specs.Doors.{AreServedDoors, HasOutcome, has_failed, outcome_of};
+ghost use Rattle.serve_engine.specs.Doors.{AreServedDoors, HasOutcome, has_links_failed};
+ghost use Rattle.serve_engine.specs.Doors.{crew_outcome};
 ghost use Rattle.serve_engine.specs.Jobs.{job_counters, job_passes};
 ghost use Rattle.serve_engine.specs.Served.{SessionMarks, SameEntries};
 ghost use Rattle.serve_engine.specs.Members.{HaveSeenOpenings, IsServedBy, OwnMore, own_at};
 ghost use Rattle.serve_engine.specs.Passing.{HaveShares, HaveTurns, AreOn, OwnAlike, NoneOwn};
-ghost use Rattle.serve_engine.specs.Passing.{AreParts, IsFresh, IsBack};
+ghost use Rattle.serve_engine.specs.Passing.{AreParts, IsWorkerFresh, IsWorkerBack};
 
 use crate::job::SessionJob;
 use desk_crew::room_for;
@@ -100,7 +101,7 @@ fn crew_of<'a, 'w, D: Disk, G: Gate, O: Door + Drop>(
         (λ part. HaveSeenOpenings (fixeds_of counters.now) (passes_in part)) parts.items }
     ensures doors { map (λ worker. worker.door) result.items ≡ doors.items }
     ensures fresh { (before : Passes D) → All (AreParts before) parts.items
-        → All (IsFresh counters.now before) result.items }
+        → All (IsWorkerFresh counters.now before) result.items }
 {
     let mut crew = room;
     let mut parts = parts;
@@ -126,7 +127,7 @@ fn dismiss<'a, 'w, D: Disk, G: Gate, O: Door + Drop>(
     requires these { ArePassesOf passes.old counters.now }
     requires room { length crew.items ≤ vec_capacity room }
     requires empty { room.items ≡ [] }
-    requires crew { All (IsBack counters.now) crew.items }
+    requires crew { All (IsWorkerBack counters.now) crew.items }
     requires rest { (n : ℕ) × HaveShares n passes.old × (n + length crew.items ≡ 65) }
     ensures doors { result.items ≡ map (λ worker. worker.door) crew.entry.items }
     ensures these { ArePassesOf passes.new counters.now }
@@ -147,7 +148,7 @@ fn dismiss<'a, 'w, D: Disk, G: Gate, O: Door + Drop>(
 
 /// Whether a worker's links failed.
 fn has_failed(ended: Option<WorkerEnd>) -> bool
-    ensures { result ≡ has_failed ended }
+    ensures { result ≡ has_links_failed ended }
 {
     match ended {
         Some(WorkerEnd::LinksFailed) => true,
@@ -157,7 +158,7 @@ fn has_failed(ended: Option<WorkerEnd>) -> bool
 
 /// How workers that have ended served.
 fn outcome_of<J, O>(crew: &[Worker<J, O>]) -> Outcome
-    ensures { result ≡ outcome_of crew.now }
+    ensures { result ≡ crew_outcome crew.now }
 {
     if crew.iter().any(|worker| has_failed(worker.ended)) {
         Outcome::LinksFailed
@@ -195,9 +196,9 @@ pub(crate) fn serve_doors<
     ensures on { AreOn passes.old passes.new }
     ensures shares { HaveShares 65 passes.new }
     ensures served { (total : ℕ) × (marks : O.tells → List SessionMarks)
-        × AreServedDoors O.tells O.given O.left O.faults O.back
+        × AreServedDoors O.Door
         (IsServedBy counters.now passes.new) total marks doors.items result.1.items
-        × HasOutcome O.tells O.left O.ends O.faults limit result.0 total result.1.items
+        × HasOutcome O.Door limit result.0 total result.1.items
         × (total ≤ limit)
         × ((t : O.tells) → OwnMore (passes_in passes.old) (passes_in passes.new) (marks t)) }
 {

@@ -3,7 +3,7 @@ ghost use Rattle.std.specs.Prelude.{◌≡◌, ◌≤◌, ◌*◌, ◌^◌, ℕ,
 ghost use Rattle.std.specs.Prelude.{vec_capacity, IfOk};
 ghost use Rattle.std.specs.List.{AllByRecursion};
 ghost use Rattle.turnstile.specs.Passes.{shares, turns};
-ghost use Rattle.desk_crew.specs.Crew.{seat_user, seat_kept, IsFresh};
+ghost use Rattle.desk_crew.specs.Crew.{seat_user, seat_kept, IsSeatAsOpened};
 ghost use Rattle.session_core.specs.Members.{AreDesksOf, HaveSeenLegal, ArePasses};
 ghost use Rattle.serve_engine.specs.Doors.{AreServedDoors, HasOutcome};
 ghost use Rattle.serve_engine.specs.Served.{SessionMarks};
@@ -125,7 +125,7 @@ pub(crate) fn serve_seats<
 ) -> (Outcome, Vec<DeskSeat<'w, D>>, Vec<O>)
     requires desks { AreDesksOf users.now (map seat_kept seats.items) }
     requires legal { HaveSeenLegal (map seat_kept seats.items) (map seat_pass seats.items) }
-    requires fresh { All IsFresh seats.items }
+    requires fresh { All IsSeatAsOpened seats.items }
     requires turns { All (λ seat. turns (seat_pass seat) ≡ 65 * 2 ^ 57) seats.items }
     requires some { 1 ≤ length doors.items }
     requires few { length doors.items ≤ 64 }
@@ -134,9 +134,9 @@ pub(crate) fn serve_seats<
     requires unended { All (λ door. O.ends door ≡ 0) doors.items }
     ensures on { AreSeatsOn seats.entry.items result.1.items }
     ensures served { (total : ℕ) × (marks : O.tells → List SessionMarks)
-        × AreServedDoors O.tells O.given O.left O.faults O.back
+        × AreServedDoors O.Door
         (IsServedAt users.now result.1.items) total marks doors.items result.2.items
-        × HasOutcome O.tells O.left O.ends O.faults limit result.0 total result.2.items
+        × HasOutcome O.Door limit result.0 total result.2.items
         × (total ≤ limit)
         × ((t : O.tells)
         → OwnMore (map seat_pass seats.entry.items) (map seat_pass result.1.items) (marks t)) }

@@ -16,7 +16,7 @@ use Rattle.desk_counter.specs.declared.item.Fixed.{Fixed}
 use Rattle.desk_counter.specs.declared.ticketed_desk.TicketedDesk.{TicketedDesk}
 use Rattle.desk_counter.specs.declared.counter.CounterOf.{CounterOf}
 use Rattle.desk_counter.specs.Counters.{kept_by}
-use Rattle.desk_counter.specs.Items.{history_of}
+use Rattle.desk_counter.specs.Items.{history_of, is_broke_last}
 use Rattle.desk_counter.specs.Tickets.{desk_of}
 use Rattle.session_core.specs.Owners.{owners_by}
 use Rattle.session_core.specs.Members.{AreDesksOf, HasSeenLegal, HaveSeenLegal, EachHides, ArePasses, AreSplit, AreMet}
@@ -33,6 +33,7 @@ module _ {D : Type 0} where
     user_of = legal.user_of;
     admits = legal.admits;
     legal = subst (λ ps. IsLegal fixed.schema fixed.world fixed.user (history_of ps)) (sym same) legal.legal;
+    last = ap is_broke_last same ∙ legal.last;
   }
 
   -- so has one that has seen the longer of what two have
@@ -67,14 +68,15 @@ module _ {D : Type 0} {g h : _} where
       (new : Pass TurnItem (Fixed D)) (c : CounterOf (TicketedDesk D g) TurnItem (Fixed D) h) → place < length counters
       → HaveSeenLegal (map kept_by counters) passes
       → IsLegal (kept_by (get_or counters place c)).schema (kept_by (get_or counters place c)).world (kept_by (get_or counters place c)).user
-      (history_of (seen new))
+      (history_of (seen new)) → is_broke_last (seen new) ≡ true
       → HaveSeenLegal (map kept_by counters) (slice_set passes place new)
-  legal_set [] [] place new c low legal is = absurd (omega (arith, low))
-  legal_set (d ∷ counters) (p ∷ passes) zero new c low legal is =
-      (record { valid = legal.0.valid; user_of = legal.0.user_of; admits = legal.0.admits; legal = is }, legal.1)
-  legal_set (d ∷ counters) (p ∷ passes) (suc place) new c low legal is = (legal.0, legal_set counters passes place new c (omega (arith, low)) legal.1 is)
-  legal_set [] (p ∷ passes) place new c low legal is = absurd legal
-  legal_set (d ∷ counters) [] place new c low legal is = absurd legal
+  legal_set [] [] place new c low legal is last = absurd (omega (arith, low))
+  legal_set (d ∷ counters) (p ∷ passes) zero new c low legal is last =
+      (record { valid = legal.0.valid; user_of = legal.0.user_of; admits = legal.0.admits; legal = is; last = last }, legal.1)
+  legal_set (d ∷ counters) (p ∷ passes) (suc place) new c low legal is last =
+      (legal.0, legal_set counters passes place new c (omega (arith, low)) legal.1 is last)
+  legal_set [] (p ∷ passes) place new c low legal is last = absurd legal
+  legal_set (d ∷ counters) [] place new c low legal is last = absurd legal
 
   -- Passes are at these counters, and have seen what is legal.
   pub record AreLegal (passes : List (Pass TurnItem (Fixed D))) (counters : List (CounterOf (TicketedDesk D g) TurnItem (Fixed D) h)) : Type 0 where

@@ -1,7 +1,6 @@
 -- What a session does with the passes.
-use Rattle.std.specs.Prelude.{◌≡◌, ℕ, zero, suc, ◌≤◌, ◌+◌, ◌*◌, List, [], ◌∷◌, ◌++◌, length}
+use Rattle.std.specs.Prelude.{◌≡◌, ℕ, zero, suc, ◌≤◌, ◌+◌, ◌*◌, true, List, [], ◌∷◌, ◌++◌, length}
 use Rattle.std.specs.Prelude.{Option, Some, None}
-use Rattle.std.specs.Option.{option_or}
 use Rattle.cqe_base.specs.Schema.{Text}
 use Rattle.cqe_base.specs.History.{AnsweredQuery, History}
 use Rattle.cqe_base.specs.Run.{Reply}
@@ -11,7 +10,7 @@ use Rattle.turnstile.specs.Passes.{seen, mine, shares, turns}
 use Rattle.user_desk.specs.Standings.{standing_of}
 use Rattle.desk_counter.specs.declared.item.TurnItem.{TurnItem}
 use Rattle.desk_counter.specs.declared.item.Fixed.{Fixed}
-use Rattle.desk_counter.specs.Items.{history_of, flying, has_broke}
+use Rattle.desk_counter.specs.Items.{history_of, has_broke, items_of, items_with}
 use Rattle.session_core.specs.Replied.{Replied}
 
 module _ {D : Type 0} where
@@ -23,18 +22,18 @@ module _ {D : Type 0} where
       (history_of (seen new)) (has_broke (seen new)) (length (history_of (seen old)))
       (has_broke (seen old)) asks entries in_flight
 
-  -- What asks do with a pass: they were replied to by what it has seen since; it has the entries
-  -- of their marks more of its own, in order, each once; and the entry in flight that it has of its
-  -- own is the one that it had, or else that of the very ask whose append failed.
+  -- What asks do with a pass: they were replied to by what it has seen since; and it has more of
+  -- its own the entries of their marks, in order, each once, and behind them the entry of the very
+  -- ask whose append failed, if one did. Where one had failed before, it has seen no more since.
   pub record Asks (fixed : Fixed D) (old new : Pass TurnItem (Fixed D))
       (asks : List (Text × Reply)) :
       Type 0 where
     pub entries : History
     pub in_flight : Option AnsweredQuery
     pub replied : AreReplied fixed old new asks entries in_flight
-    pub own : history_of (mine new) ≡ history_of (mine old) ++ entries
-    pub own_failed : flying (mine new) ≡ option_or (flying (mine old)) in_flight
+    pub own : items_of (mine new) ≡ items_of (mine old) ++ items_with entries in_flight
     pub later : IsPrefix (seen old) (seen new)
+    pub still : has_broke (seen old) ≡ true → seen new ≡ seen old
     pub same_shares : shares new ≡ shares old
     pub used : turns old ≤ turns new + 2 * length asks
 

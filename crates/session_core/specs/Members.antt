@@ -16,7 +16,7 @@ use Rattle.desk_counter.specs.declared.item.Fixed.{Fixed}
 use Rattle.desk_counter.specs.declared.ticketed_desk.TicketedDesk.{TicketedDesk}
 use Rattle.desk_counter.specs.declared.counter.CounterOf.{CounterOf}
 use Rattle.desk_counter.specs.Counters.{kept_by, IsPassOf}
-use Rattle.desk_counter.specs.Items.{history_of}
+use Rattle.desk_counter.specs.Items.{history_of, is_broke_last}
 use Rattle.session_core.specs.declared.counters.CountersOf.{CountersOf}
 use Rattle.session_core.specs.declared.counters.Passes.{Passes}
 
@@ -29,13 +29,14 @@ module _ {D : Type 0} where
   abbrev pub AreDesksOf : List User → List (Fixed D) → Type 0
   AreDesksOf users fixeds = map (λ fixed. fixed.user) fixeds ≡ map profile_of users
 
-  -- What the pass at a desk has seen is a legal history of its user. He is a user of the schema,
-  -- and served only where he is admitted.
+  -- What the pass at a desk has seen is a legal history of its user, and an entry in flight stands
+  -- last. He is a user of the schema, and served only where he is admitted.
   pub record HasSeenLegal (fixed : Fixed D) (pass : Pass TurnItem (Fixed D)) : Type 0 where
     pub valid : is_valid_schema fixed.schema ≡ true
     pub user_of : is_user_of fixed.schema fixed.user ≡ true
     pub admits : is_open fixed.standing ≡ true → admitted fixed.schema fixed.world fixed.user ≡ true
     pub legal : IsLegal fixed.schema fixed.world fixed.user (history_of (seen pass))
+    pub last : is_broke_last (seen pass) ≡ true
 
   -- what each pass has seen is legal
   abbrev pub HaveSeenLegal : List (Fixed D) → List (Pass TurnItem (Fixed D)) → Type 0

@@ -26,7 +26,8 @@ module _ (schema : DatabaseSchema) (world : FactSet) (user : UserProfile) (stand
   -- history, of which there are never fewer than at the ask before; a mark has its own entry just
   -- behind them, and the next ask has it among its own.
   -- That its append failed is told of an ask whose reply would be a mark, at a desk where none had
-  -- failed. Behind it all asks find it failed, and so it is in the end. The last list are the
+  -- failed. Behind it all asks find it failed, and so it is in the end. It and those that find it
+  -- failed are replied to by the whole history: no entry comes behind. The last list are the
   -- entries of the marks, and behind it stands the one entry whose append failed, if that was of
   -- one of these asks: the ask's query, the mark that its reply would be, and its text's length.
   pub data Replied : (least : ℕ) (failed : Bool) → List (Text × Reply) → History
@@ -44,15 +45,15 @@ module _ (schema : DatabaseSchema) (world : FactSet) (user : UserProfile) (stand
         {entries : History} {in_flight : Option AnsweredQuery} (before after : History)
         (failed_now : Bool)
         → least ≤ length before → history ≡ before ++ after → (failed ≡ true → failed_now ≡ true)
-        → IsUnmarked code → reply schema world user before standing failed_now text ≡ code
+        → (failed_now ≡ true → after ≡ []) → IsUnmarked code
+        → reply schema world user before standing failed_now text ≡ code
         → Replied (length before) failed_now asks entries in_flight
         → Replied least failed ((text, code) ∷ asks) entries in_flight
     append_failed : {least : ℕ} {text : Text} {asks : List (Text × Reply)} {entries : History}
-        {in_flight : Option AnsweredQuery} (before after : History) (entry : AnsweredQuery)
-        → least ≤ length before → history ≡ before ++ after
+        {in_flight : Option AnsweredQuery} (entry : AnsweredQuery) → least ≤ length history
         → reading schema text ≡ Ok entry.query → entry.length ≡ length text
-        → reply schema world user before standing false text ≡ marked entry.mark → broke ≡ true
-        → Replied (length before) true asks entries in_flight
+        → reply schema world user history standing false text ≡ marked entry.mark → broke ≡ true
+        → Replied (length history) true asks entries in_flight
         → Replied least false ((text, desk_broken) ∷ asks) entries (Some entry)
     wanted : {least : ℕ} {failed : Bool} {text : Text} {asks : List (Text × Reply)}
         {entries : History} {in_flight : Option AnsweredQuery}

@@ -8,3 +8,5 @@ pub mod Recording
 pub mod Since
 pub mod Deciding
 pub mod Sizes
+pub mod Within
+pub mod Joining

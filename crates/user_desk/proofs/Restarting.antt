@@ -72,7 +72,7 @@ module _ (schema : DatabaseSchema) (world : FactSet) (user : UserProfile) where
 
   -- ---- at rest
 
-  only_open : (standing : Standing) (entries : History) (in_flight : Option AnsweredQuery) → (is_open standing ≡ true → admitted schema world user ≡ true)
+  pub only_open : (standing : Standing) (entries : History) (in_flight : Option AnsweredQuery) → (is_open standing ≡ true → admitted schema world user ≡ true)
       → (is_open standing ≡ false → (entries ≡ []) × (in_flight ≡ None))
       → admitted schema world user ≡ false → entries ++ option_to_list in_flight ≡ []
   only_open standing entries in_flight admits idle isnt = by_standing (is_open standing) admits idle

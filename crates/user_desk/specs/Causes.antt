@@ -1,6 +1,6 @@
 -- Which bytes open a desk, and why other bytes are refused.
-use Rattle.std.specs.Prelude.{◌≡◌, ◌≢◌, ◌⊎◌, ℕ, Bool, true, false, ◌||◌, List, [], ◌∷◌, ◌++◌}
-use Rattle.std.specs.Prelude.{length, map, Some, Ok, Err}
+use Rattle.std.specs.Prelude.{◌≡◌, ◌≢◌, ◌⊎◌, ℕ, ◌≤◌, Bool, true, false, ◌||◌, List, [], ◌∷◌, ◌++◌}
+use Rattle.std.specs.Prelude.{length, map, take, Some, Ok, Err}
 use Rattle.cqe_base.specs.Schema.{DatabaseSchema}
 use Rattle.cqe_base.specs.Facts.{FactSet}
 use Rattle.cqe_base.specs.Formula.{Formula}
@@ -16,7 +16,7 @@ use Rattle.log_journal.specs.Opening as journal
 use Rattle.log_journal.specs.declared.header.Header.{Header}
 use Rattle.log_journal.specs.declared.header.OpenError.TheVariants.{DiskFault, Memory}
 use Rattle.censors.specs.Admitting.{admission_of}
-use Rattle.user_desk.specs.Entries.{mark_of, entry_of, StandsFor}
+use Rattle.user_desk.specs.Entries.{mark_of, entry_of, StandsFor, StandsWithin}
 use Rattle.user_desk.specs.declared.standing.DeskError.{DeskError}
 use Rattle.user_desk.specs.declared.standing.DeskError.TheVariants.{Journal, Stale, Unlawful, Size}
 use Rattle.user_desk.specs.declared.standing.DeskError.TheVariants.{NotAdmitted}
@@ -31,6 +31,13 @@ module _ (schema : DatabaseSchema) (world : FactSet) (user : UserProfile) where
     pub legal : IsLegal schema world user entries
     pub sizes : KeepsSizes schema user entries
     pub none : admitted schema world user ≡ false → entries ≡ []
+
+  -- the bytes open a desk with a beginning of these entries that has at least so many
+  pub record OpensWithin (header : List ℕ) (least : ℕ) (entries : History) (bytes : List ℕ) :
+      Type 0 where
+    pub count : ℕ
+    pub enough : least ≤ count
+    pub opens : Opens header (take count entries) bytes
 
   -- whether the history is full for a text of this length, or the view too large for its query
   abbrev pub is_beyond : History → ℕ → Formula → Bool
@@ -129,3 +136,13 @@ OpensUnrefused =
     (bytes : List ℕ) (entries : History) (why : DeskError)
     → Opens schema world user (journal.header_bytes header) entries bytes
     → Refuses schema world user (journal.header_bytes header) bytes why → ⊥
+
+-- bytes that stand for a beginning of a legal history within the limits, which is empty where the
+-- user isn't admitted, open a desk with that beginning
+abbrev pub OpensWhereStands : Type 0
+OpensWhereStands =
+    (schema : DatabaseSchema) (world : FactSet) (user : UserProfile) (header : List ℕ) (least : ℕ)
+    (entries : History) (bytes : List ℕ)
+    → StandsWithin schema header least entries bytes → IsLegal schema world user entries
+    → KeepsSizes schema user entries → (admitted schema world user ≡ false → entries ≡ [])
+    → OpensWithin schema world user header least entries bytes

@@ -9,3 +9,4 @@ pub mod Lives
 pub mod Desks
 pub mod Replays
 pub mod Replying
+pub mod Joining

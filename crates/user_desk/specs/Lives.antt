@@ -1,10 +1,11 @@
 -- A user's state over asks, crashes and restarts, and the bytes that stand for it.
-use Rattle.std.specs.Prelude.{◌≡◌, ℕ, Bool, true, false, List, Option, None, is_some}
+use Rattle.std.specs.Prelude.{◌≡◌, ℕ, Bool, true, false, List, [], ◌++◌, Option, None, is_some}
 use Rattle.cqe_base.specs.Schema.{DatabaseSchema, Text}
 use Rattle.cqe_base.specs.Facts.{FactSet}
 use Rattle.cqe_base.specs.History.{UserProfile, AnsweredQuery, History}
 use Rattle.cqe_base.specs.Run
-use Rattle.cqe_base.specs.Run.{Reply, UserState, Ending, failed, ask, restart, after_event}
+use Rattle.cqe_base.specs.Run.{Reply, UserState, Ending, Event, failed, ask, restart, after_event}
+use Rattle.cqe_base.specs.Run.{after_events}
 use Rattle.cqe_base.specs.Run.{reply_to_ask, entries_found, entry_at, standing_sealed}
 use Rattle.outside.specs.Faults.{Rose}
 use Rattle.user_desk.specs.Causes.{Opens}
@@ -34,6 +35,18 @@ module _ (schema : DatabaseSchema) (world : FactSet) (user : UserProfile) where
     pub found : Bool
     pub sought : found ≡ true → is_some state.pending ≡ true
     pub opens : Opens schema world user header (entries_found schema world user state found) bytes
+
+  -- the bytes hold the state behind the first of these events and some of those that come next
+  pub record HoldsFrom (header : List ℕ) (state : UserState) (front rest : List Event)
+      (bytes : List ℕ) : Type 0 where
+    pub more : List Event
+    pub further : List Event
+    pub split : rest ≡ more ++ further
+    pub holds : Holds header (after_events schema world user state (front ++ more)) bytes
+
+  -- the bytes hold the state behind some of these events, the first of them
+  abbrev pub HoldsAmid : List ℕ → UserState → List Event → List ℕ → Type 0
+  HoldsAmid header state events bytes = HoldsFrom header state [] events bytes
 
   -- an ask of the text, with some ending, leads from the state to one that is now, and has this
   -- reply; an append failed only where the count of faults rose

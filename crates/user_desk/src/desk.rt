@@ -59,7 +59,8 @@ pub struct Desk<'w, D: Disk> {
 impl<'w, D: Disk> Desk<'w, D> {
     ghost use Rattle.user_log.specs.Asked.{IsAnswer};
     ghost use Rattle.user_log.specs.Replies.{reply_of};
-    ghost use Rattle.user_desk.specs.Entries.{StandsFor, StandsWithin};
+    ghost use Rattle.user_desk.specs.Causes.{OpensWithin};
+    ghost use Rattle.user_desk.specs.Entries.{StandsFor};
     ghost use Rattle.user_desk.specs.Lives.{Holds, Settles, AnswersAll, AddsNone};
     ghost use Rattle.user_desk.specs.Desks.{desk_schema, desk_world, desk_user, desk_header};
     ghost use Rattle.user_desk.specs.Desks.{desk_standing, desk_history, desk_disk};
@@ -119,13 +120,14 @@ impl<'w, D: Disk> Desk<'w, D> {
         ensures none { is_open (desk_standing self.now) ≡ false → desk_history self.now ≡ [] }
         ensures idle { is_open (desk_standing self.now) ≡ false → is_broken_desk self.now ≡ false }
 
-        // Since the opening each image stands for a beginning of the entries, with the one in
-        // flight, that has the entries at the opening; where the journal was refused, or nothing
-        // was appended, the disk is as it was.
+        // Since the opening each image opens a desk with a beginning of the entries, with the one
+        // in flight, that has the entries at the opening; where the journal was refused, or
+        // nothing was appended, the disk is as it was.
         ensures begins { opening_count self.now ≤ length (desk_history self.now) }
         ensures since { D.tells → is_sealed (desk_standing self.now) ≡ false → (c : List ℕ)
             → D.image_since (desk_disk self.now) (D.moment (opening_disk self.now)) c
-            → StandsWithin (desk_schema self.now) (desk_header self.now) (opening_count self.now)
+            → OpensWithin (desk_schema self.now) (desk_world self.now) (desk_user self.now)
+            (desk_header self.now) (opening_count self.now)
             (desk_history self.now ++ option_to_list (entry_in_flight self.now)) c }
         ensures refused { is_sealed (desk_standing self.now) ≡ true
             → desk_disk self.now ≡ opening_disk self.now }

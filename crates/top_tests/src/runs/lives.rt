@@ -1,8 +1,10 @@
 //! Journals over lives: disks that fail, and what a crash leaves.
+use super::failing::ward_by;
 use super::ward::{
     FACTS, POLICY, batch, init, journal, journal_bytes, put_journal, shelf_of, ward,
 };
-use outside::{MemoryDisk, Plan};
+use outside::{MemoryDisk, MemoryShelf, Plan};
+use std::alloc::{AllocError, Global};
 use std::test::Fail;
 
 // The record of eve's ask `drug(ann)`, which is answered no, from byte 72 on.
@@ -85,6 +87,19 @@ fn a_disk_that_fails_is_told_to_its_user_alone(rt: HostRuntime) -> Result<(), Fa
     Ok(())
 }
 
+// An image that a crash may leave of a disk.
+fn image_of(
+    alloc: Global,
+    shelf: &MemoryShelf,
+    name: &str,
+    picked: u64,
+) -> Result<Vec<u8>, AllocError> {
+    match shelf.disk(name) {
+        Some(disk) => disk.crash_image(alloc, picked),
+        None => Ok(Vec::new(alloc)),
+    }
+}
+
 // A stop at each call of two asks: the disk fails every call from that one on. Each of its crash
 // images begins a new life, which finds the entries whose gates stand open. What an image has to
 // hold is said step by step, which makes it long.
@@ -108,10 +123,7 @@ fn a_crash_leaves_what_was_told(rt: HostRuntime) -> Result<(), Fail> {
         };
         run.check(&rt, status, output, complaint, output);
         for picked in 0..12 {
-            let image = match shelf.disk("d/eve.log") {
-                Some(disk) => disk.crash_image(alloc, picked)?,
-                None => Vec::new(alloc),
-            };
+            let image = image_of(alloc, &shelf, "d/eve.log", picked)?;
             let first = image.get(72) == Some(&1);
             let second = first && image.get(85) == Some(&1);
             assert!(rt;
@@ -144,6 +156,82 @@ fn a_crash_leaves_what_was_told(rt: HostRuntime) -> Result<(), Fail> {
                 Some(want.as_slice()),
                 "stop {stop}, image {picked}"
             );
+        }
+    }
+    Ok(())
+}
+
+// Kim's journal behind a new life that asks `hiv(ann)` of an image: with the record of her first
+// ask, with that of the second, and with the new one.
+fn kims_journal(alloc: Global, first: bool, second: bool) -> Result<Vec<u8>, AllocError> {
+    let mut bytes = journal(alloc, &[])?;
+    if first {
+        bytes.extend_from_slice(b"\x01\x01\x00\x14hiv(ann) or hiv(bob)")?;
+    }
+    if second {
+        bytes.extend_from_slice(b"\x01\x03\x00\x08hiv(ann)")?;
+    }
+    bytes.extend_from_slice(if first {
+        b"\x01\x03\x00\x08hiv(ann)\x00"
+    } else {
+        b"\x01\x02\x00\x08hiv(ann)\x00"
+    })?;
+    Ok(bytes)
+}
+
+// What kim is told of her two asks where her disk fails every call from this one on, with the
+// status and the complaint.
+fn told_before(stop: u64) -> (u8, &'static str, &'static str) {
+    match stop {
+        0..4 => (
+            10,
+            "kim 1 error 41\nkim 1 error 41\n",
+            "cqe: journal kim disk fault\n",
+        ),
+        4..8 => (11, "kim 1 error 40\nkim 1 error 40\n", "cqe: disk fault\n"),
+        8..12 => (11, "kim 1 yes\nkim 1 error 40\n", "cqe: disk fault\n"),
+        _ => (0, "kim 1 yes\nkim 1 refused\n", ""),
+    }
+}
+
+// A stop at each call of an opening and of two asks. Who has been told that one of both has hiv is
+// refused whether it is ann; who hasn't is told no. So a new life shows what it found: behind a
+// reply that was told its entry, and none that was never written.
+#[test]
+fn a_new_life_answers_by_what_it_finds(rt: HostRuntime) -> Result<(), Fail> {
+    let alloc = rt.alloc();
+    let script = "kim 1 ask hiv(ann) or hiv(bob)\nkim 1 ask hiv(ann)\n";
+    for stop in 0..13 {
+        let mut shelf = ward_by(alloc, Plan::Never)?;
+        let disk = MemoryDisk::with_plan(alloc, journal(alloc, &[0])?, Plan::From(stop))?;
+        shelf.put_disk(alloc, "d/kim.log", disk)?;
+        let run = batch(&rt, alloc, &mut shelf, script)?;
+        let (status, output, complaint) = told_before(stop);
+        run.check(&rt, status, output, complaint, output);
+        for picked in 0..12 {
+            let image = image_of(alloc, &shelf, "d/kim.log", picked)?;
+            let first = image.get(72) == Some(&1);
+            let second = first && image.get(96) == Some(&1);
+            assert!(rt;
+                if first { stop >= 6 } else { stop < 8 },
+                "stop {stop}, {picked}"
+            );
+            assert!(rt;
+                if second { stop >= 10 } else { stop < 12 },
+                "stop {stop}, {picked}"
+            );
+            let mut life = ward_by(alloc, Plan::Never)?;
+            put_journal(alloc, &mut life, "d/kim.log", image)?;
+            let run = batch(&rt, alloc, &mut life, "kim 1 ask hiv(ann)\n")?;
+            let reply = if first {
+                "kim 1 refused\n"
+            } else {
+                "kim 1 no\n"
+            };
+            run.check(&rt, 0, reply, "", "a new life");
+            let kept = kims_journal(alloc, first, second)?;
+            let found = journal_bytes(&life, "d/kim.log").get(..kept.len());
+            assert_eq!(rt; found, Some(kept.as_slice()), "stop {stop}, {picked}");
         }
     }
     Ok(())

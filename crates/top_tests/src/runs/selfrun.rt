@@ -1,5 +1,6 @@
 //! Workloads that the program makes and runs itself.
 use super::Run;
+use super::failing::{CALLS, failing};
 use outside::{MemoryShelf, MemorySink, MemorySource, Pieces, Plan};
 use std::alloc::{AllocError, Global};
 use std::sync::Wait;
@@ -11,12 +12,13 @@ const WORDS: [&str; 7] = ["selfrun", "--seed", "7", "--users", "3", "--asks", "6
 fn selfrun(
     rt: &(impl Threads + Wait + Sync),
     alloc: Global,
+    words: &[&str],
     sink: MemorySink,
 ) -> Result<Run, AllocError> {
     Run::new(
         rt,
         alloc,
-        &WORDS,
+        words,
         MemoryShelf::new(alloc),
         MemorySource::new(Vec::new(alloc)),
         sink,
@@ -35,8 +37,8 @@ fn number_in(line: &str) -> u64 {
 #[test]
 fn the_replies_of_a_workload_are_counted(rt: HostRuntime) -> Result<(), Fail> {
     let alloc = rt.alloc();
-    let run = selfrun(&rt, alloc, MemorySink::new(alloc))?;
-    let again = selfrun(&rt, alloc, MemorySink::new(alloc))?;
+    let run = selfrun(&rt, alloc, &WORDS, MemorySink::new(alloc))?;
+    let again = selfrun(&rt, alloc, &WORDS, MemorySink::new(alloc))?;
     assert_eq!(rt; run.status, 0);
     assert_eq!(rt; run.sink.bytes(), again.sink.bytes());
     let Ok(text) = str::from_utf8(run.sink.bytes()) else {
@@ -57,7 +59,7 @@ fn the_replies_of_a_workload_are_counted(rt: HostRuntime) -> Result<(), Fail> {
 fn a_summary_may_be_cut(rt: HostRuntime) -> Result<(), Fail> {
     let alloc = rt.alloc();
     let sink = MemorySink::with_plan(alloc, Pieces::Whole, Plan::From(2));
-    let run = selfrun(&rt, alloc, sink)?;
+    let run = selfrun(&rt, alloc, &WORDS, sink)?;
     run.check(
         &rt,
         7,
@@ -65,5 +67,25 @@ fn a_summary_may_be_cut(rt: HostRuntime) -> Result<(), Fail> {
         "cqe: write fault\n",
         "a sink that fails at its third call",
     );
+    Ok(())
+}
+
+// Each byte is written by a call of its own. What comes where one fails begins what comes where
+// none does.
+#[test]
+fn a_summary_may_be_cut_at_any_call(rt: HostRuntime) -> Result<(), Fail> {
+    let alloc = rt.alloc();
+    let words = ["selfrun", "--seed", "7", "--users", "1", "--asks", "1"];
+    let whole = selfrun(&rt, alloc, &words, MemorySink::new(alloc))?;
+    assert_eq!(rt; whole.status, 0);
+    assert!(rt; whole.sink.bytes().len() > 40);
+    for call in 0..CALLS {
+        let sink = MemorySink::with_plan(alloc, Pieces::UpTo(1), failing(alloc, call)?);
+        let run = selfrun(&rt, alloc, &words, sink)?;
+        assert_eq!(rt; run.status, 7);
+        assert_eq!(rt; run.complaints.bytes(), b"cqe: write fault\n".as_slice());
+        let part = whole.sink.bytes().get(..call as usize);
+        assert_eq!(rt; Some(run.sink.bytes()), part, "call {call}");
+    }
     Ok(())
 }

@@ -20,7 +20,7 @@ use std::thread;
 use std::thread::Threads;
 
 /// The words of `serve` without its numbers.
-const SERVE: [&str; 9] = [
+pub(super) const SERVE: [&str; 9] = [
     "serve",
     "--policy",
     "p",
@@ -53,7 +53,8 @@ fn serve_by(
     )
 }
 
-fn serve(
+/// `serve` with these further words on this shelf; each ask passes at once.
+pub(super) fn serve(
     rt: &(impl Threads + Wait + Sync),
     alloc: Global,
     numbers: &[&'static str],
@@ -66,8 +67,8 @@ fn serve(
     serve_by(rt, alloc, numbers, shelf, links, &OpenGate)
 }
 
-// Clients who send these texts.
-fn clients(alloc: Global, texts: &[&str]) -> Result<Vec<Connection>, AllocError> {
+/// Clients who send these texts.
+pub(super) fn clients(alloc: Global, texts: &[&str]) -> Result<Vec<Connection>, AllocError> {
     let mut clients = Vec::new(alloc);
     for text in texts {
         let source = MemorySource::new(joined(alloc, &[text])?);
@@ -76,8 +77,8 @@ fn clients(alloc: Global, texts: &[&str]) -> Result<Vec<Connection>, AllocError>
     Ok(clients)
 }
 
-// How many clients were served; each who sent the text of a row has got its answer.
-fn served(rt: &impl Abort, links: &MemoryLinks, rows: &[(&str, &str)]) -> usize {
+/// How many clients were served; each who sent the text of a row has got its answer.
+pub(super) fn served(rt: &impl Abort, links: &MemoryLinks, rows: &[(&str, &str)]) -> usize {
     let mut count: usize = 0;
     for door in links.doors_back() {
         for client in door.finished() {
@@ -92,9 +93,9 @@ fn served(rt: &impl Abort, links: &MemoryLinks, rows: &[(&str, &str)]) -> usize 
     count
 }
 
-// What clients of the ward send, in any order, and what they get: eve is told no of what is true
-// and would give her secret away, and no of what is false; ron has no token.
-const CLIENTS: [(&str, &str); 5] = [
+/// What clients of the ward send, in any order, and what they get: eve is told no of what is true
+/// and would give her secret away, and no of what is false; ron has no token.
+pub(super) const CLIENTS: [(&str, &str); 5] = [
     (
         "login eve abc\nask drug(ann)\nask hiv(bob)\nquit\nask true\n",
         "welcome\nno\nno\nbye\n",
@@ -111,7 +112,8 @@ const CLIENTS: [(&str, &str); 5] = [
     ("", ""),
 ];
 
-fn ward_clients(alloc: Global) -> Result<Vec<Connection>, AllocError> {
+/// These clients, in this order.
+pub(super) fn ward_clients(alloc: Global) -> Result<Vec<Connection>, AllocError> {
     clients(
         alloc,
         &[

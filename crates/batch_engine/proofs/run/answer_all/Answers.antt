@@ -18,7 +18,7 @@ loop-item-init g c =
     record {
       so_far =
           runs_first c.args.registry.now.schema.now c.args.registry.now.world.now
-          (header_bytes c.args.registry.now.header.now) g.F.D.Disk.tells g.F.D.Disk.reads g.F.D.Disk.image g.F.D.Disk.faults g.K.Sink.tells c.args.seats.items
+          (header_bytes c.args.registry.now.header.now) g.F.D.Disk.tells g.F.D.Disk g.K.Sink.tells c.args.seats.items
           (g.K.Sink.written c.args.sink.now);
       same = refl;
       later = omega arith;
@@ -27,25 +27,25 @@ loop-item-init g c =
 pub carry_out-requires-clause-limits : goal.carry_out-requires-clause-limits
 carry_out-requires-clause-limits g c =
     let so_far = c.loop-item.invariant.so_far in
-    let stay = stay_run _ _ _ _ _ _ _ _ _ _ _ _ so_far.runs in
+    let stay = stay_run _ _ _ _ _ _ _ _ _ _ so_far.runs in
     stay.limits c.requires.limits
 
 pub carry_out-requires-clause-served : goal.carry_out-requires-clause-served
 carry_out-requires-clause-served g c =
     let so_far = c.loop-item.invariant.so_far in
-    let stay = stay_run _ _ _ _ _ _ _ _ _ _ _ _ so_far.runs in
+    let stay = stay_run _ _ _ _ _ _ _ _ _ _ so_far.runs in
     stay.served c.requires.served
 
 pub carry_out-requires-clause-distinct : goal.carry_out-requires-clause-distinct
 carry_out-requires-clause-distinct g c =
     let so_far = c.loop-item.invariant.so_far in
-    let stay = stay_run _ _ _ _ _ _ _ _ _ _ _ _ so_far.runs in
+    let stay = stay_run _ _ _ _ _ _ _ _ _ _ so_far.runs in
     ap has_duplicate stay.names ∙ c.requires.distinct
 
 pub carry_out-requires-clause-out : goal.carry_out-requires-clause-out
 carry_out-requires-clause-out g c =
     let so_far = c.loop-item.invariant.so_far in
-    let stay = stay_run _ _ _ _ _ _ _ _ _ _ _ _ so_far.runs in
+    let stay = stay_run _ _ _ _ _ _ _ _ _ _ so_far.runs in
     let same = c.loop-item.invariant.same in
     subst (λ s. AllOut (journals c.loop-item.seats.items) (g.F.Shelf.is_out s)) (sym same)
     (subst (λ ns. AllOut ns (g.F.Shelf.is_out c.args.shelf.now)) (sym stay.names) c.requires.out)
@@ -53,7 +53,7 @@ carry_out-requires-clause-out g c =
 pub carry_out-requires-clause-later : goal.carry_out-requires-clause-later
 carry_out-requires-clause-later g c =
     let so_far = c.loop-item.invariant.so_far in
-    let stay = stay_run _ _ _ _ _ _ _ _ _ _ _ _ so_far.runs in
+    let stay = stay_run _ _ _ _ _ _ _ _ _ _ so_far.runs in
     let same = c.loop-item.invariant.same in
     stay.later (g.F.Shelf.disk_faults c.loop-item.shelf)
     (subst (λ s. AreLater g.F.D.Disk.faults (g.F.Shelf.disk_faults s) c.args.seats.items) (sym same) c.requires.later)
@@ -72,7 +72,7 @@ returns-in_default-clause-answered g c =
     let next = items_more items i c.item-item.result c.loop-item-test.true c.item-item.is in (
       c.loop-item.seats.items,
       runs_stopped c.args.registry.now.schema.now c.args.registry.now.world.now
-          (header_bytes c.args.registry.now.header.now) g.F.D.Disk.tells g.F.D.Disk.reads g.F.D.Disk.image g.F.D.Disk.faults g.K.Sink.tells
+          (header_bytes c.args.registry.now.header.now) g.F.D.Disk.tells g.F.D.Disk g.K.Sink.tells
           (items_of c.args.batch.now) (map item_in (take i items)) (map item_in (drop (i + 1) items))
           (item_in c.item-item.result) c.args.seats.items c.loop-item.seats.items c.loop-item.is_broken _ _ (sym c.items-item-items.ensures.items
           ∙ items_split items (i + 1) ∙ ap (λ l. l ++ map item_in (drop (i + 1) items)) next) c.in_default.ensures.restart so_far,
@@ -82,13 +82,13 @@ returns-in_default-clause-answered g c =
 pub returns-in_default-clause-inside : goal.returns-in_default-clause-inside
 returns-in_default-clause-inside g c =
     let so_far = c.loop-item.invariant.so_far in
-    let stay = stay_run _ _ _ _ _ _ _ _ _ _ _ _ so_far.runs in
+    let stay = stay_run _ _ _ _ _ _ _ _ _ _ so_far.runs in
     λ not. subst (λ ns. AllIn ns (g.F.Shelf.is_out c.carry_out.new.shelf)) stay.names c.in_default.ensures.inside
 
 pub returns-in_default-clause-others_out : goal.returns-in_default-clause-others_out
 returns-in_default-clause-others_out g c =
     let so_far = c.loop-item.invariant.so_far in
-    let stay = stay_run _ _ _ _ _ _ _ _ _ _ _ _ so_far.runs in
+    let stay = stay_run _ _ _ _ _ _ _ _ _ _ so_far.runs in
     let same = c.loop-item.invariant.same in
     subst (λ ns. SameBeside ns (g.F.Shelf.is_out c.args.shelf.now) (g.F.Shelf.is_out c.carry_out.new.shelf)) stay.names
     (subst (λ s. SameBeside (journals c.loop-item.seats.items) (g.F.Shelf.is_out s) (g.F.Shelf.is_out c.carry_out.new.shelf)) same
@@ -97,7 +97,7 @@ returns-in_default-clause-others_out g c =
 pub returns-in_default-clause-counts : goal.returns-in_default-clause-counts
 returns-in_default-clause-counts g c =
     let so_far = c.loop-item.invariant.so_far in
-    let stay = stay_run _ _ _ _ _ _ _ _ _ _ _ _ so_far.runs in
+    let stay = stay_run _ _ _ _ _ _ _ _ _ _ so_far.runs in
     let same = c.loop-item.invariant.same in
     subst (λ ns. SameBeside ns (g.F.Shelf.disk_faults c.args.shelf.now) (g.F.Shelf.disk_faults c.carry_out.new.shelf)) stay.names
     (subst (λ s. SameBeside (journals c.loop-item.seats.items) (g.F.Shelf.disk_faults s) (g.F.Shelf.disk_faults c.carry_out.new.shelf)) same
@@ -106,7 +106,7 @@ returns-in_default-clause-counts g c =
 pub returns-in_default-clause-disks : goal.returns-in_default-clause-disks
 returns-in_default-clause-disks g c =
     let so_far = c.loop-item.invariant.so_far in
-    let stay = stay_run _ _ _ _ _ _ _ _ _ _ _ _ so_far.runs in
+    let stay = stay_run _ _ _ _ _ _ _ _ _ _ so_far.runs in
     let same = c.loop-item.invariant.same in
     subst (λ ns. SameBeside ns (g.F.Shelf.disk c.args.shelf.now) (g.F.Shelf.disk c.carry_out.new.shelf)) stay.names
     (subst (λ s. SameBeside (journals c.loop-item.seats.items) (g.F.Shelf.disk s) (g.F.Shelf.disk c.carry_out.new.shelf)) same c.in_default.ensures.disks)
@@ -118,7 +118,7 @@ returns-in-Err-clause-answered g c =
     let i = c.loop-item.item-index in
     let next = items_more items i c.item-item.result c.loop-item-test.true c.item-item.is in
     runs_cut c.args.registry.now.schema.now c.args.registry.now.world.now
-    (header_bytes c.args.registry.now.header.now) g.F.D.Disk.tells g.F.D.Disk.reads g.F.D.Disk.image g.F.D.Disk.faults g.K.Sink.tells
+    (header_bytes c.args.registry.now.header.now) g.F.D.Disk.tells g.F.D.Disk g.K.Sink.tells
     (items_of c.args.batch.now) (map item_in (take i items)) (map item_in (drop (i + 1) items))
     (item_in c.item-item.result) c.args.seats.items c.loop-item.seats.items c.in-Some.next.items c.loop-item.is_broken c.in-Some.says_broken _ _ _
     c.in-Some.line (sym c.items-item-items.ensures.items ∙ items_split items (i + 1)
@@ -150,10 +150,10 @@ loop-item-preserved g c =
     record {
       so_far = subst (λ done.
           RunsAll c.args.registry.now.schema.now c.args.registry.now.world.now
-          (header_bytes c.args.registry.now.header.now) g.F.D.Disk.tells g.F.D.Disk.reads g.F.D.Disk.image g.F.D.Disk.faults g.K.Sink.tells done
+          (header_bytes c.args.registry.now.header.now) g.F.D.Disk.tells g.F.D.Disk g.K.Sink.tells done
           c.args.seats.items c.in-Some.next.items c.if-is_broken.is_broken (g.K.Sink.written c.args.sink.now) (g.K.Sink.written c.write_all.new.sink))
           (sym next) (runs_more c.args.registry.now.schema.now c.args.registry.now.world.now
-          (header_bytes c.args.registry.now.header.now) g.F.D.Disk.tells g.F.D.Disk.reads g.F.D.Disk.image g.F.D.Disk.faults g.K.Sink.tells
+          (header_bytes c.args.registry.now.header.now) g.F.D.Disk.tells g.F.D.Disk g.K.Sink.tells
           (map item_in (take i items))
           (item_in c.item-item.result) c.args.seats.items c.loop-item.seats.items c.in-Some.next.items c.loop-item.is_broken
           c.in-Some.says_broken c.if-is_broken.is_broken _ _ _ c.in-Some.line joined so_far c.in-Some.ensures.carried (λ told.
@@ -167,6 +167,6 @@ returns-clause-answered g c =
     let items = c.items-item-items.result.now in
     let i = c.loop-item.item-index in
     subst (λ done. RunsAll c.args.registry.now.schema.now c.args.registry.now.world.now
-    (header_bytes c.args.registry.now.header.now) g.F.D.Disk.tells g.F.D.Disk.reads g.F.D.Disk.image g.F.D.Disk.faults g.K.Sink.tells done
+    (header_bytes c.args.registry.now.header.now) g.F.D.Disk.tells g.F.D.Disk g.K.Sink.tells done
     c.args.seats.items c.loop-item.seats.items c.loop-item.is_broken (g.K.Sink.written c.args.sink.now) (g.K.Sink.written c.loop-item.sink))
     (ap (map item_in) (take_all i items (omega (arith, c.loop-item-test.false))) ∙ c.items-item-items.ensures.items) c.loop-item.invariant.so_far

@@ -8,7 +8,7 @@ use Rattle.batch_engine.proofs.run.answer_all.Given as goal
 abbrev pub invariant-loop-item : goal.invariant-loop-item
 invariant-loop-item g l = record {
   so_far : RunsAll l.registry.schema.now l.registry.world.now
-      (header_bytes l.registry.header.now) g.F.D.Disk.tells g.F.D.Disk.reads g.F.D.Disk.image g.F.D.Disk.faults
+      (header_bytes l.registry.header.now) g.F.D.Disk.tells g.F.D.Disk
       g.K.Sink.tells (map item_in (take l.item-index l.item-items)) l.fn.seats.items l.seats.items l.is_broken (g.K.Sink.written l.fn.sink)
       (g.K.Sink.written l.sink);
   same : l.shelf ≡ l.fn.shelf;

@@ -14,7 +14,7 @@ answer-reply-requires-clause-users g c =
 pub returns-in-Ask-clause-carried : goal.returns-in-Ask-clause-carried
 returns-in-Ask-clause-carried g c =
     subst (λ item. Carries c.args.registry.now.schema.now c.args.registry.now.world.now
-    (header_bytes c.args.registry.now.header.now) g.F.D.Disk.tells g.F.D.Disk.reads g.F.D.Disk.image g.F.D.Disk.faults (item_in item)
+    (header_bytes c.args.registry.now.header.now) g.F.D.Disk.tells g.F.D.Disk (item_in item)
     c.args.seats.items c.answer-reply.new.seats.items c.line_of.result c.is_broken_reply.result) (sym c.in-Ask.is) (
       option_map reply_of c.answer-reply.result,
       told_here c.args.registry.now.schema.now c.args.registry.now.world.now c.as_str-name.result.now c.as_str-text.result.now

@@ -1,7 +1,7 @@
 use Rattle.std.proofs.Common.{◌≡◌, sym, ap, ◌∙◌, map, string_bytes, Option}
 use Rattle.std.specs.Prelude.{Some, option_map}
 use Rattle.command_words.specs.Readings.{FileNames, reading_in, names_of_files, runs_selfrun}
-use Rattle.cqe_top.specs.Tasks.{reading_over, KeepsBounds}
+use Rattle.cqe_top.specs.Steps.{reading_over, KeepsBounds}
 use Rattle.cqe_top.specs.declared.over_files.Task.{Task}
 use Rattle.cqe_top.specs.declared.over_files.Task.TheVariants.{Init, Batch, Audit, Serve}
 use Rattle.cqe_top.proofs.Numbers.{Keeps, kept}

@@ -21,6 +21,6 @@ returns g c = record {
         (sym c.run-end.ensures.command.1) c.run-end.ensures.command.2;
     cause = c.run-end.ensures.cause;
     always = c.run-end.ensures.always;
-    complaints_later = c.complain.ensures.later;
+    complaints_faults = c.complain.ensures.later;
   };
 }

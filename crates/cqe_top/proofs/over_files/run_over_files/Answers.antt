@@ -16,7 +16,7 @@ use Rattle.cqe_top.specs.Init.{OfInit, RunsInit, change_on}
 use Rattle.cqe_top.specs.Scene.{Scene, scene_of, shelf_of, input_of, output_of, links_of}
 use Rattle.cqe_top.specs.Promise.{OfReading}
 use Rattle.cqe_top.specs.Serve.{OfServe, RunsServe}
-use Rattle.cqe_top.specs.Tasks.{reading_over}
+use Rattle.cqe_top.specs.Steps.{reading_over}
 use Rattle.cqe_top.specs.declared.end.CommandEnd.TheVariants as ends
 use Rattle.cqe_top.proofs.Causes.{files_cause, init_cause, batch_cause, audit_cause, serve_cause}
 use Rattle.cqe_top.proofs.Finding.{is_named, one_named, named_at, nobody_named}
@@ -52,7 +52,7 @@ returns-in-Err-clause-command g c =
     scene_of (shelf_of g.F.Shelf g.F.D.Disk c.args.shelf.now c.read_files.new.shelf) (input_of g.S.Source c.args.source.now c.args.source.now)
     (output_of g.K.Sink c.args.sink.now c.args.sink.now) (links_of g.L.Links c.args.links.now c.args.links.now) in
     unread scene (names_of_files c.args.files) c.args.task c.in-Err.end
-    (record { refused = c.in-Err.ensures.refused; looks = c.in-Err.ensures.looks; disks = c.in-Err.ensures.disks })
+    (record { refused = c.in-Err.ensures.refused; looks = c.in-Err.ensures.looks; disks = (c.in-Err.ensures.disks, c.in-Err.ensures.counts) })
     (files_cause scene c.in-Err.end c.in-Err.ensures.cause) refl refl refl
 
 -- ---- the making of journals
@@ -69,7 +69,7 @@ returns-in-Init-clause-cause g c =
     let made = init_over g.F.Shelf g.F.D.Disk c.args.shelf.now c.read_files.new.shelf c.run_init-end.new.shelf read.disks read.counts files
     (header_bytes inputs.header)
     inputs.policy c.as_slice.result.now c.run_init-end.result c.as_slice.ensures.value read.later ran.ends in
-    let caused = init_caused g.F.Shelf.tells g.F.D.Disk.reads g.F.D.Disk.image (header_bytes inputs.header) files.journals
+    let caused = init_caused g.F.Shelf.tells g.F.D.Disk.reads g.F.D.Disk.image (header_bytes inputs.header) files.directory
     (names_of (map policy_user_of inputs.policy.users.items))
     (change_on scene.shelf) c.run_init-end.result made in
     init_cause scene inputs.policy.users c.run_init-end.result caused.0 caused.1
@@ -86,7 +86,7 @@ returns-in-Init-clause-command g c =
     let made = init_over g.F.Shelf g.F.D.Disk c.args.shelf.now c.read_files.new.shelf c.run_init-end.new.shelf read.disks read.counts files
     (header_bytes inputs.header)
     inputs.policy c.as_slice.result.now c.run_init-end.result c.as_slice.ensures.value read.later ran.ends in
-    let caused = init_caused g.F.Shelf.tells g.F.D.Disk.reads g.F.D.Disk.image (header_bytes inputs.header) files.journals
+    let caused = init_caused g.F.Shelf.tells g.F.D.Disk.reads g.F.D.Disk.image (header_bytes inputs.header) files.directory
     (names_of (map policy_user_of inputs.policy.users.items))
     (change_on scene.shelf) c.run_init-end.result made in
     let runs : RunsInit scene.shelf files inputs.policy.users c.run_init-end.result = record {
@@ -102,8 +102,8 @@ returns-in-Init-clause-command g c =
       );
       looks = λ told. ran.looked ∙ read.both told;
       within =
-          one_of g.F.Shelf.tells g.F.D.Disk.reads g.F.D.Disk.image (header_bytes inputs.header) files.journals c.as_slice.result.now inputs.policy.users.items _
-          c.run_init-end.result c.as_slice.ensures.value ran.ends;
+          one_of g.F.Shelf.tells g.F.D.Disk.reads g.F.D.Disk.image (header_bytes inputs.header) files.directory c.as_slice.result.now inputs.policy.users.items
+          _ c.run_init-end.result c.as_slice.ensures.value ran.ends;
     } in
     let does : OfInit scene files (ends.Init inputs.policy.users c.run_init-end.result) = record {
       ends = runs;
@@ -161,7 +161,10 @@ returns-in-Batch-clause-command g c =
         },
       );
       looks = λ told. ran.looked ∙ read.both told;
-      unopened = λ is name. ap (λ shelf. g.F.Shelf.disk shelf name) (ran.unopened is) ∙ read.disks name;
+      unopened = λ is. (
+        λ name. ap (λ shelf. g.F.Shelf.disk shelf name) (ran.unopened is) ∙ read.disks name,
+        λ name. ap (λ shelf. g.F.Shelf.disk_faults shelf name) (ran.unopened is) ∙ read.counts name,
+      );
     } in
     let does : OfBatch scene files (ends.Batch inputs.policy.users c.run_batch-end.result) = record {
       ends = runs;
@@ -194,7 +197,7 @@ returns-in_default-clause-command g c =
             ∙ ap (position (is_named c.in-Audit.name.now)) c.as_slice.ensures.value),
       );
       looks = read.both;
-      disks = read.disks;
+      disks = (read.disks, read.counts);
       writes_nothing = refl;
     } in
     let does : OfAudit scene files c.in-Audit.name.now c.in-Audit.json ends.Nobody = record {
@@ -252,7 +255,7 @@ returns-in-Audit-clause-command g c =
       );
       looks = λ told. ran.looked ∙ read.both told;
       others = λ told.
-          others_over g.F.Shelf g.F.D.Disk c.args.shelf.now c.read_files.new.shelf c.run_audit.new.shelf read.disks read.counts files.journals name
+          others_over g.F.Shelf g.F.D.Disk c.args.shelf.now c.read_files.new.shelf c.run_audit.new.shelf read.disks read.counts files.directory name
           (string_bytes user.name) is ran.disks;
       bytes = λ told. bytes_over g.F.Shelf g.F.D.Disk c.args.shelf.now c.read_files.new.shelf c.run_audit.new.shelf read.disks read.counts (ran.bytes told);
       images = λ told. images_over g.F.Shelf g.F.D.Disk c.args.shelf.now c.read_files.new.shelf c.run_audit.new.shelf read.disks read.counts (ran.images told);
@@ -316,10 +319,13 @@ returns-clause-command g c =
       );
       looks = λ told. ran.looked ∙ read.both told;
       listens = ran.listens;
-      unheard = λ told same name. ap (λ shelf. g.F.Shelf.disk shelf name) (ran.unheard told same) ∙ read.disks name;
+      unheard = λ told same. (
+        λ name. ap (λ shelf. g.F.Shelf.disk shelf name) (ran.unheard told same) ∙ read.disks name,
+        λ name. ap (λ shelf. g.F.Shelf.disk_faults shelf name) (ran.unheard told same) ∙ read.counts name,
+      );
       heard = ran.heard;
       few_ended = ran.few_ended;
-      ends = λ told done. served_out scene.links listening.workers listening.sessions (ran.left told) (ran.ended told done);
+      ends = λ told done. served_out scene.links listening.workers listening.sessions (ran.ended told done);
       left = ran.left;
       limited = ran.limited;
     } in

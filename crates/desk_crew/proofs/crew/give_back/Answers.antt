@@ -4,19 +4,19 @@ use Rattle.desk_crew.proofs.Shelving.{given_none, given_out, given_later, given_
 use Rattle.desk_crew.proofs.crew.give_back.Goals as goal
 
 pub loop-seat-init : goal.loop-seat-init
-loop-seat-init g c = record { so_far = given_none _ _ _ _ _ _ _ _; faults = refl; looked = refl; files = λ name. refl; broke = broke_none c.args.seats.items }
+loop-seat-init g c = record { so_far = given_none _ _ _ _ _ _; faults = refl; looked = refl; files = λ name. refl; broke = broke_none c.args.seats.items }
 
 pub give_disk-requires-clause-out : goal.give_disk-requires-clause-out
 give_disk-requires-clause-out g c =
     let split = c.pop.ensures.items ∙ ap (λ o. c.pop.new.self.items ++ option_to_list o) c.in-Some.is in
     ap (g.F.Shelf.is_out c.loop-seat.shelf) c.as_str.ensures.value
-    ∙ given_out _ _ _ _ _ _ _ _ c.requires.distinct c.requires.out c.requires.later c.pop.new.self.items c.loop-seat.seats.items c.in-Some.seat _ _ _ split
+    ∙ given_out _ _ _ _ _ _ c.requires.distinct c.requires.out c.requires.later c.pop.new.self.items c.loop-seat.seats.items c.in-Some.seat _ _ _ split
     c.loop-seat.invariant.so_far
 
 pub give_disk-requires-clause-later : goal.give_disk-requires-clause-later
 give_disk-requires-clause-later g c =
     let split = c.pop.ensures.items ∙ ap (λ o. c.pop.new.self.items ++ option_to_list o) c.in-Some.is in
-    let least = given_later _ _ _ _ _ _ _ _ c.requires.distinct c.requires.out c.requires.later c.pop.new.self.items c.loop-seat.seats.items c.in-Some.seat _ _
+    let least = given_later _ _ _ _ _ _ c.requires.distinct c.requires.out c.requires.later c.pop.new.self.items c.loop-seat.seats.items c.in-Some.seat _ _
     _ split c.loop-seat.invariant.so_far in
     let closed = c.close_desk-disk.ensures.closed.later in
     subst (λ n. g.F.Shelf.disk_faults c.loop-seat.shelf n
@@ -28,12 +28,14 @@ loop-seat-preserved g c =
     let given = c.give_disk.ensures in
     let closed = c.close_desk-disk.ensures.closed in
     record {
-      so_far = given_more _ _ _ _ _ _ _ _ c.requires.distinct c.requires.out c.requires.later c.pop.new.self.items c.loop-seat.seats.items c.in-Some.seat
+      so_far = given_more _ g.F.D.Disk _ _ _ _ c.requires.distinct c.requires.out c.requires.later g.met.F.D.Disk.counts_now g.met.F.D.Disk.only_now
+          c.pop.new.self.items c.loop-seat.seats.items c.in-Some.seat
           c.close_desk-disk.result.0
           (record {
             holds = λ told. closed.holds (g.met.F.Shelf.tells_disks told);
             legal = closed.legal;
             added = closed.added;
+            items = closed.items;
             idle = closed.idle;
             later =
                 closed.later;
@@ -42,6 +44,8 @@ loop-seat-preserved g c =
             shut = closed.shut;
             still =
                 closed.still;
+            since = λ told. closed.since (g.met.F.Shelf.tells_disks told);
+            time = closed.time;
           }) _ _ _ _ _ _ c.as_str.result.now c.as_str.ensures.value split c.loop-seat.invariant.so_far
           (λ told. given.held told) given.disks given.back given.others_out given.count given.other_counts;
       faults = given.faults ∙ c.loop-seat.invariant.faults;

@@ -9,7 +9,7 @@ use Rattle.desk_crew.proofs.crew.give_back.Given as goal
 -- the disks of the last seats are back, and it is known whether an append failed at one of them
 abbrev pub invariant-loop-seat : goal.invariant-loop-seat
 invariant-loop-seat g l = record {
-  so_far : Given g.F.Shelf.tells g.F.D.Disk.reads g.F.D.Disk.image g.F.D.Disk.faults l.fn.seats.items (g.F.Shelf.disk l.fn.shelf) (g.F.Shelf.is_out l.fn.shelf)
+  so_far : Given g.F.Shelf.tells g.F.D.Disk l.fn.seats.items (g.F.Shelf.disk l.fn.shelf) (g.F.Shelf.is_out l.fn.shelf)
       (g.F.Shelf.disk_faults l.fn.shelf)
       l.seats.items (g.F.Shelf.disk l.shelf) (g.F.Shelf.is_out l.shelf) (g.F.Shelf.disk_faults l.shelf);
   broke : list_any seat_broke l.fn.seats.items ≡ (list_any seat_broke l.seats.items || l.is_broken);

@@ -15,7 +15,7 @@ use Rattle.desk_crew.proofs.crew.open_all.Goals as goal
 pub open_seat-requires-clause-inside : goal.open_seat-requires-clause-inside
 open_seat-requires-clause-inside g c =
     next_in c.args.registry.now.directory.now c.args.registry.now.schema.now c.args.registry.now.world.now
-    (header_bytes c.args.registry.now.header.now) g.F.Shelf.tells g.F.D.Disk.tells g.F.D.Disk.reads g.F.D.Disk.image g.F.D.Disk.faults
+    (header_bytes c.args.registry.now.header.now) g.F.Shelf.tells g.F.D.Disk.tells g.F.D.Disk
     (g.F.Shelf.disk c.args.shelf.now) (g.F.Shelf.disk_faults c.args.shelf.now) c.law_journals_differ.ensures
     c.args.registry.now.users.now c.requires.distinct c.loop-user.user-index c.user-item.result c.loop-user-test.true c.user-item.is c.loop-user.seats.items _ _
     _ c.loop-user.invariant.opened
@@ -23,7 +23,7 @@ open_seat-requires-clause-inside g c =
 pub give_back-requires-clause-distinct : goal.give_back-requires-clause-distinct
 give_back-requires-clause-distinct g c =
     seats_distinct c.args.registry.now.directory.now c.args.registry.now.schema.now c.args.registry.now.world.now
-    (header_bytes c.args.registry.now.header.now) g.F.Shelf.tells g.F.D.Disk.tells g.F.D.Disk.reads g.F.D.Disk.image g.F.D.Disk.faults
+    (header_bytes c.args.registry.now.header.now) g.F.Shelf.tells g.F.D.Disk.tells g.F.D.Disk
     (g.F.Shelf.disk c.args.shelf.now) (g.F.Shelf.disk_faults c.args.shelf.now) c.law_journals_differ.ensures
     (take c.loop-user.user-index c.args.registry.now.users.now) c.loop-user.seats.items c.loop-user.invariant.opened.are
     (first_distinct c.args.registry.now.users.now c.loop-user.user-index c.requires.distinct)
@@ -35,23 +35,23 @@ pub give_back-requires-clause-later : goal.give_back-requires-clause-later
 give_back-requires-clause-later g c =
     let so_far = c.loop-user.invariant.opened in
     let none = next_none c.args.registry.now.directory.now c.args.registry.now.schema.now c.args.registry.now.world.now
-    (header_bytes c.args.registry.now.header.now) g.F.Shelf.tells g.F.D.Disk.tells g.F.D.Disk.reads g.F.D.Disk.image g.F.D.Disk.faults
+    (header_bytes c.args.registry.now.header.now) g.F.Shelf.tells g.F.D.Disk.tells g.F.D.Disk
     (g.F.Shelf.disk c.args.shelf.now) (g.F.Shelf.disk_faults c.args.shelf.now) c.law_journals_differ.ensures
     c.args.registry.now.users.now c.requires.distinct c.loop-user.user-index c.user-item.result c.loop-user-test.true c.user-item.is c.loop-user.seats.items _ _
     _ so_far in
-    later_on g.F.Shelf.tells g.F.D.Disk.reads g.F.D.Disk.image g.F.D.Disk.faults (g.F.Shelf.disk_faults c.loop-user.shelf)
+    later_on g.F.Shelf.tells g.F.D.Disk (g.F.Shelf.disk_faults c.loop-user.shelf)
     (g.F.Shelf.disk_faults c.open_seat.new.shelf) c.loop-user.seats.items
     (beside_one _ (journals c.loop-user.seats.items) (g.F.Shelf.disk_faults c.loop-user.shelf)
     (g.F.Shelf.disk_faults c.open_seat.new.shelf) none c.in-Err.ensures.other_counts)
     (seats_later c.args.registry.now.directory.now c.args.registry.now.schema.now c.args.registry.now.world.now
-    (header_bytes c.args.registry.now.header.now) g.F.Shelf.tells g.F.D.Disk.tells g.F.D.Disk.reads g.F.D.Disk.image g.F.D.Disk.faults
+    (header_bytes c.args.registry.now.header.now) g.F.Shelf.tells g.F.D.Disk.tells g.F.D.Disk
     (g.F.Shelf.disk c.args.shelf.now) (g.F.Shelf.disk_faults c.args.shelf.now)
     (g.F.Shelf.disk_faults c.loop-user.shelf) (take c.loop-user.user-index c.args.registry.now.users.now) c.loop-user.seats.items so_far.counts so_far.are)
 
 pub returns-in-Err-clause-refused_out : goal.returns-in-Err-clause-refused_out
 returns-in-Err-clause-refused_out g c =
     none_out c.args.registry.now.directory.now c.args.registry.now.schema.now c.args.registry.now.world.now
-    (header_bytes c.args.registry.now.header.now) g.F.Shelf.tells g.F.D.Disk.tells g.F.D.Disk.reads g.F.D.Disk.image g.F.D.Disk.faults
+    (header_bytes c.args.registry.now.header.now) g.F.Shelf.tells g.F.D.Disk.tells g.F.D.Disk
     (g.F.Shelf.disk c.args.shelf.now) (g.F.Shelf.disk_faults c.args.shelf.now)
     c.loop-user.seats.items (g.F.Shelf.is_out c.open_seat.new.shelf) (g.F.Shelf.is_out c.give_back.new.shelf) (λ name. c.in-Err.ensures.refused_out name
     ∙ c.loop-user.invariant.opened.out name) c.give_back.ensures.inside c.give_back.ensures.others_out
@@ -60,7 +60,7 @@ pub returns-in-Err-clause-refused_bytes : goal.returns-in-Err-clause-refused_byt
 returns-in-Err-clause-refused_bytes g c = λ told name.
     let so_far = c.loop-user.invariant.opened in
     (all_same c.args.registry.now.directory.now c.args.registry.now.schema.now c.args.registry.now.world.now
-    (header_bytes c.args.registry.now.header.now) g.F.Shelf.tells g.F.D.Disk.tells g.F.D.Disk.reads g.F.D.Disk.image g.F.D.Disk.faults
+    (header_bytes c.args.registry.now.header.now) g.F.Shelf.tells g.F.D.Disk.tells g.F.D.Disk
     (g.F.Shelf.disk c.args.shelf.now) (g.F.Shelf.disk_faults c.args.shelf.now) told
     (take c.loop-user.user-index c.args.registry.now.users.now) c.loop-user.seats.items so_far.are (g.F.Shelf.disk c.give_back.new.shelf)
     (g.F.Shelf.disk_faults c.give_back.new.shelf) c.give_back.ensures.back
@@ -75,7 +75,7 @@ pub returns-in-Err-clause-refused_images : goal.returns-in-Err-clause-refused_im
 returns-in-Err-clause-refused_images g c = λ told name.
     let so_far = c.loop-user.invariant.opened in
     (all_same c.args.registry.now.directory.now c.args.registry.now.schema.now c.args.registry.now.world.now
-    (header_bytes c.args.registry.now.header.now) g.F.Shelf.tells g.F.D.Disk.tells g.F.D.Disk.reads g.F.D.Disk.image g.F.D.Disk.faults
+    (header_bytes c.args.registry.now.header.now) g.F.Shelf.tells g.F.D.Disk.tells g.F.D.Disk
     (g.F.Shelf.disk c.args.shelf.now) (g.F.Shelf.disk_faults c.args.shelf.now) told
     (take c.loop-user.user-index c.args.registry.now.users.now) c.loop-user.seats.items so_far.are (g.F.Shelf.disk c.give_back.new.shelf)
     (g.F.Shelf.disk_faults c.give_back.new.shelf) c.give_back.ensures.back
@@ -90,7 +90,7 @@ pub returns-in-Err-clause-disks : goal.returns-in-Err-clause-disks
 returns-in-Err-clause-disks g c = λ name none.
     let so_far = c.loop-user.invariant.opened in
     let apart = no_journal c.args.registry.now.directory.now c.args.registry.now.schema.now c.args.registry.now.world.now
-    (header_bytes c.args.registry.now.header.now) g.F.Shelf.tells g.F.D.Disk.tells g.F.D.Disk.reads g.F.D.Disk.image g.F.D.Disk.faults
+    (header_bytes c.args.registry.now.header.now) g.F.Shelf.tells g.F.D.Disk.tells g.F.D.Disk
     (g.F.Shelf.disk c.args.shelf.now) (g.F.Shelf.disk_faults c.args.shelf.now) c.law_journals_differ.ensures
     c.args.registry.now.users.now c.requires.distinct c.loop-user.user-index c.user-item.result c.loop-user-test.true c.user-item.is c.loop-user.seats.items _ _
     _ so_far name none in
@@ -102,7 +102,7 @@ returns-clause-disks g c = λ name none.
     so_far.disks name
     (ap (λ ns. is_among ns name)
     (seat_journals c.args.registry.now.directory.now c.args.registry.now.schema.now c.args.registry.now.world.now
-    (header_bytes c.args.registry.now.header.now) g.F.Shelf.tells g.F.D.Disk.tells g.F.D.Disk.reads g.F.D.Disk.image g.F.D.Disk.faults
+    (header_bytes c.args.registry.now.header.now) g.F.Shelf.tells g.F.D.Disk.tells g.F.D.Disk
     (g.F.Shelf.disk c.args.shelf.now) (g.F.Shelf.disk_faults c.args.shelf.now)
     (take c.loop-user.user-index c.args.registry.now.users.now) c.loop-user.seats.items so_far.are
     ∙ ap (λ us. map (journal_name c.args.registry.now.directory.now) (names us))
@@ -112,22 +112,22 @@ pub returns-in-Err-clause-fell : goal.returns-in-Err-clause-fell
 returns-in-Err-clause-fell g c = λ name.
     let so_far = c.loop-user.invariant.opened in
     let none = next_none c.args.registry.now.directory.now c.args.registry.now.schema.now c.args.registry.now.world.now
-    (header_bytes c.args.registry.now.header.now) g.F.Shelf.tells g.F.D.Disk.tells g.F.D.Disk.reads g.F.D.Disk.image g.F.D.Disk.faults
+    (header_bytes c.args.registry.now.header.now) g.F.Shelf.tells g.F.D.Disk.tells g.F.D.Disk
     (g.F.Shelf.disk c.args.shelf.now) (g.F.Shelf.disk_faults c.args.shelf.now) c.law_journals_differ.ensures
     c.args.registry.now.users.now c.requires.distinct c.loop-user.user-index c.user-item.result c.loop-user-test.true c.user-item.is c.loop-user.seats.items _ _
     _ so_far in
-    let later = later_on g.F.Shelf.tells g.F.D.Disk.reads g.F.D.Disk.image g.F.D.Disk.faults (g.F.Shelf.disk_faults c.loop-user.shelf)
+    let later = later_on g.F.Shelf.tells g.F.D.Disk (g.F.Shelf.disk_faults c.loop-user.shelf)
     (g.F.Shelf.disk_faults c.open_seat.new.shelf) c.loop-user.seats.items
     (beside_one _ (journals c.loop-user.seats.items) (g.F.Shelf.disk_faults c.loop-user.shelf)
     (g.F.Shelf.disk_faults c.open_seat.new.shelf) none c.in-Err.ensures.other_counts)
     (seats_later c.args.registry.now.directory.now c.args.registry.now.schema.now c.args.registry.now.world.now
-    (header_bytes c.args.registry.now.header.now) g.F.Shelf.tells g.F.D.Disk.tells g.F.D.Disk.reads g.F.D.Disk.image g.F.D.Disk.faults
+    (header_bytes c.args.registry.now.header.now) g.F.Shelf.tells g.F.D.Disk.tells g.F.D.Disk
     (g.F.Shelf.disk c.args.shelf.now) (g.F.Shelf.disk_faults c.args.shelf.now)
     (g.F.Shelf.disk_faults c.loop-user.shelf) (take c.loop-user.user-index c.args.registry.now.users.now) c.loop-user.seats.items so_far.counts so_far.are) in
     let first = so_far.counts name in
     let second = c.in-Err.ensures.fell name in
     let third = none_fell c.args.registry.now.directory.now c.args.registry.now.schema.now c.args.registry.now.world.now
-    (header_bytes c.args.registry.now.header.now) g.F.Shelf.tells g.F.D.Disk.tells g.F.D.Disk.reads g.F.D.Disk.image g.F.D.Disk.faults
+    (header_bytes c.args.registry.now.header.now) g.F.Shelf.tells g.F.D.Disk.tells g.F.D.Disk
     (g.F.Shelf.disk c.args.shelf.now) (g.F.Shelf.disk_faults c.args.shelf.now)
     (g.F.Shelf.disk_faults c.open_seat.new.shelf) (g.F.Shelf.disk_faults c.give_back.new.shelf) c.loop-user.seats.items later
     (g.F.Shelf.disk c.give_back.new.shelf) c.give_back.ensures.back c.give_back.ensures.counts name in
@@ -152,12 +152,12 @@ loop-user-preserved g c =
     record {
       opened = subst (λ l.
           Opened c.args.registry.now.directory.now c.args.registry.now.schema.now c.args.registry.now.world.now
-          (header_bytes c.args.registry.now.header.now) g.F.Shelf.tells g.F.D.Disk.tells g.F.D.Disk.reads g.F.D.Disk.image g.F.D.Disk.faults
+          (header_bytes c.args.registry.now.header.now) g.F.Shelf.tells g.F.D.Disk.tells g.F.D.Disk
           (g.F.Shelf.disk c.args.shelf.now) (g.F.Shelf.disk_faults c.args.shelf.now)
           c.args.registry.now.users.now (c.loop-user.user-index + 1) l (g.F.Shelf.disk c.open_seat.new.shelf) (g.F.Shelf.is_out c.open_seat.new.shelf)
           (g.F.Shelf.disk_faults c.open_seat.new.shelf)) (sym c.push_reserved.ensures.items)
           (opened_more c.args.registry.now.directory.now c.args.registry.now.schema.now c.args.registry.now.world.now
-          (header_bytes c.args.registry.now.header.now) g.F.Shelf.tells g.F.D.Disk.tells g.F.D.Disk.reads g.F.D.Disk.image g.F.D.Disk.faults
+          (header_bytes c.args.registry.now.header.now) g.F.Shelf.tells g.F.D.Disk.tells g.F.D.Disk
           (g.F.Shelf.disk c.args.shelf.now) (g.F.Shelf.disk_faults c.args.shelf.now) c.law_journals_differ.ensures
           c.args.registry.now.users.now c.requires.distinct c.loop-user.user-index c.user-item.result c.loop-user-test.true c.user-item.is
           c.loop-user.seats.items (g.F.Shelf.disk c.loop-user.shelf) (g.F.Shelf.is_out c.loop-user.shelf)
@@ -178,7 +178,7 @@ loop-user-init g c =
     let none = ap length c.in-Ok.ensures.empty in
     record {
       opened = opened_none c.args.registry.now.directory.now c.args.registry.now.schema.now c.args.registry.now.world.now
-          (header_bytes c.args.registry.now.header.now) g.F.Shelf.tells g.F.D.Disk.tells g.F.D.Disk.reads g.F.D.Disk.image g.F.D.Disk.faults
+          (header_bytes c.args.registry.now.header.now) g.F.Shelf.tells g.F.D.Disk.tells g.F.D.Disk
           (g.F.Shelf.disk c.args.shelf.now) (g.F.Shelf.disk_faults c.args.shelf.now) c.args.registry.now.users.now c.in-Ok.seats.items
           (g.F.Shelf.is_out c.args.shelf.now) c.in-Ok.ensures.empty c.requires.inside;
       room = c.in-Ok.ensures.room;

@@ -39,9 +39,9 @@ loop-alloc-preserved g c =
     let grown = c.push_reserved.ensures.len in
     let space = c.push_reserved.ensures.capacity in
     record {
-      half = subst (Halfway _ _ _ g.F.D.Disk.tells g.F.Shelf.tells g.F.D.Disk.reads g.F.D.Disk.image g.F.D.Disk.faults c.args.seats.items
+      half = subst (Halfway _ _ _ g.F.D.Disk.tells g.F.Shelf.tells g.F.D.Disk c.args.seats.items
           c.remove-seat.new.self.items) (sym c.push_reserved.ensures.items)
-          (halfway_more _ _ _ g.F.D.Disk.tells g.F.Shelf.tells g.F.D.Disk.reads g.F.D.Disk.image g.F.D.Disk.faults c.args.seats.items c.loop-alloc.seats.items
+          (halfway_more _ _ _ g.F.D.Disk.tells g.F.Shelf.tells g.F.D.Disk c.args.seats.items c.loop-alloc.seats.items
           c.remove-seat.new.self.items c.loop-alloc.reopened.items c.remove-seat.result c.in-Ok.seat first c.loop-alloc.invariant.half
           c.in-Ok.ensures.reopened);
       same = c.loop-alloc.invariant.same;
@@ -59,7 +59,7 @@ give_disk-requires-clause-out g c =
     let later = subst (λ s. AreLater g.F.D.Disk.faults (g.F.Shelf.disk_faults s) c.args.seats.items) (sym same) c.requires.later in
     let named = c.as_str.ensures.value ∙ c.in-Err.ensures.journal in
     ap (g.F.Shelf.is_out shelf) named
-    ∙ fail_out _ _ _ g.F.D.Disk.tells g.F.Shelf.tells g.F.D.Disk.reads g.F.D.Disk.image g.F.D.Disk.faults c.args.seats.items c.loop-alloc.seats.items
+    ∙ fail_out _ _ _ g.F.D.Disk.tells g.F.Shelf.tells g.F.D.Disk c.args.seats.items c.loop-alloc.seats.items
     c.remove-seat.new.self.items c.loop-alloc.reopened.items c.remove-seat.result first half (g.F.Shelf.disk shelf) (g.F.Shelf.is_out shelf)
     (g.F.Shelf.disk_faults shelf) c.requires.distinct out later
 
@@ -74,7 +74,7 @@ give_disk-requires-clause-later g c =
     let later = subst (λ s. AreLater g.F.D.Disk.faults (g.F.Shelf.disk_faults s) c.args.seats.items) (sym same) c.requires.later in
     let named = c.as_str.ensures.value ∙ c.in-Err.ensures.journal in
     let least : g.F.Shelf.disk_faults shelf (seat_journal c.remove-seat.result) ≤ g.F.D.Disk.faults (seat_disk c.remove-seat.result) =
-    fail_later _ _ _ g.F.D.Disk.tells g.F.Shelf.tells g.F.D.Disk.reads g.F.D.Disk.image g.F.D.Disk.faults c.args.seats.items c.loop-alloc.seats.items
+    fail_later _ _ _ g.F.D.Disk.tells g.F.Shelf.tells g.F.D.Disk c.args.seats.items c.loop-alloc.seats.items
     c.remove-seat.new.self.items c.loop-alloc.reopened.items c.remove-seat.result first half (g.F.Shelf.disk shelf) (g.F.Shelf.is_out shelf)
     (g.F.Shelf.disk_faults shelf) c.requires.distinct out later in
     let closed = c.in-Err.ensures.left.is_closed.later in
@@ -91,7 +91,7 @@ give_back-requires-in-Err-clause-distinct g c =
     let out = subst (λ s. AllOut (journals c.args.seats.items) (g.F.Shelf.is_out s)) (sym same) c.requires.out in
     let later = subst (λ s. AreLater g.F.D.Disk.faults (g.F.Shelf.disk_faults s) c.args.seats.items) (sym same) c.requires.later in
     let named = c.as_str.ensures.value ∙ c.in-Err.ensures.journal in
-    rest_distinct _ _ _ g.F.D.Disk.tells g.F.Shelf.tells g.F.D.Disk.reads g.F.D.Disk.image g.F.D.Disk.faults c.args.seats.items c.loop-alloc.seats.items
+    rest_distinct _ _ _ g.F.D.Disk.tells g.F.Shelf.tells g.F.D.Disk c.args.seats.items c.loop-alloc.seats.items
     c.remove-seat.new.self.items c.loop-alloc.reopened.items c.remove-seat.result first half (g.F.Shelf.disk shelf) (g.F.Shelf.is_out shelf)
     (g.F.Shelf.disk_faults shelf) c.requires.distinct out later c.in-Err.returned.disk (g.F.Shelf.disk c.give_disk.new.self)
     (g.F.Shelf.is_out c.give_disk.new.self)
@@ -109,7 +109,7 @@ give_back-requires-in-Err-clause-out g c =
     let out = subst (λ s. AllOut (journals c.args.seats.items) (g.F.Shelf.is_out s)) (sym same) c.requires.out in
     let later = subst (λ s. AreLater g.F.D.Disk.faults (g.F.Shelf.disk_faults s) c.args.seats.items) (sym same) c.requires.later in
     let named = c.as_str.ensures.value ∙ c.in-Err.ensures.journal in
-    rest_out _ _ _ g.F.D.Disk.tells g.F.Shelf.tells g.F.D.Disk.reads g.F.D.Disk.image g.F.D.Disk.faults c.args.seats.items c.loop-alloc.seats.items
+    rest_out _ _ _ g.F.D.Disk.tells g.F.Shelf.tells g.F.D.Disk c.args.seats.items c.loop-alloc.seats.items
     c.remove-seat.new.self.items c.loop-alloc.reopened.items c.remove-seat.result first half (g.F.Shelf.disk shelf) (g.F.Shelf.is_out shelf)
     (g.F.Shelf.disk_faults shelf) c.requires.distinct out later c.in-Err.returned.disk (g.F.Shelf.disk c.give_disk.new.self)
     (g.F.Shelf.is_out c.give_disk.new.self)
@@ -127,7 +127,7 @@ give_back-requires-in-Err-clause-later g c =
     let out = subst (λ s. AllOut (journals c.args.seats.items) (g.F.Shelf.is_out s)) (sym same) c.requires.out in
     let later = subst (λ s. AreLater g.F.D.Disk.faults (g.F.Shelf.disk_faults s) c.args.seats.items) (sym same) c.requires.later in
     let named = c.as_str.ensures.value ∙ c.in-Err.ensures.journal in
-    rest_later _ _ _ g.F.D.Disk.tells g.F.Shelf.tells g.F.D.Disk.reads g.F.D.Disk.image g.F.D.Disk.faults c.args.seats.items c.loop-alloc.seats.items
+    rest_later _ _ _ g.F.D.Disk.tells g.F.Shelf.tells g.F.D.Disk c.args.seats.items c.loop-alloc.seats.items
     c.remove-seat.new.self.items c.loop-alloc.reopened.items c.remove-seat.result first half (g.F.Shelf.disk shelf) (g.F.Shelf.is_out shelf)
     (g.F.Shelf.disk_faults shelf) c.requires.distinct out later c.in-Err.returned.disk (g.F.Shelf.disk c.give_disk.new.self)
     (g.F.Shelf.is_out c.give_disk.new.self)
@@ -145,7 +145,7 @@ give_back-requires-in-Err-2-clause-distinct g c =
     let out = subst (λ s. AllOut (journals c.args.seats.items) (g.F.Shelf.is_out s)) (sym same) c.requires.out in
     let later = subst (λ s. AreLater g.F.D.Disk.faults (g.F.Shelf.disk_faults s) c.args.seats.items) (sym same) c.requires.later in
     let named = c.as_str.ensures.value ∙ c.in-Err.ensures.journal in
-    done_distinct _ _ _ g.F.D.Disk.tells g.F.Shelf.tells g.F.D.Disk.reads g.F.D.Disk.image g.F.D.Disk.faults c.args.seats.items c.loop-alloc.seats.items
+    done_distinct _ _ _ g.F.D.Disk.tells g.F.Shelf.tells g.F.D.Disk c.args.seats.items c.loop-alloc.seats.items
     c.remove-seat.new.self.items c.loop-alloc.reopened.items c.remove-seat.result first half (g.F.Shelf.disk shelf) (g.F.Shelf.is_out shelf)
     (g.F.Shelf.disk_faults shelf) c.requires.distinct out later c.in-Err.returned.disk (g.F.Shelf.disk c.give_disk.new.self)
     (g.F.Shelf.is_out c.give_disk.new.self)
@@ -165,7 +165,7 @@ give_back-requires-in-Err-2-clause-out g c =
     let out = subst (λ s. AllOut (journals c.args.seats.items) (g.F.Shelf.is_out s)) (sym same) c.requires.out in
     let later = subst (λ s. AreLater g.F.D.Disk.faults (g.F.Shelf.disk_faults s) c.args.seats.items) (sym same) c.requires.later in
     let named = c.as_str.ensures.value ∙ c.in-Err.ensures.journal in
-    done_out _ _ _ g.F.D.Disk.tells g.F.Shelf.tells g.F.D.Disk.reads g.F.D.Disk.image g.F.D.Disk.faults c.args.seats.items c.loop-alloc.seats.items
+    done_out _ _ _ g.F.D.Disk.tells g.F.Shelf.tells g.F.D.Disk c.args.seats.items c.loop-alloc.seats.items
     c.remove-seat.new.self.items c.loop-alloc.reopened.items c.remove-seat.result first half (g.F.Shelf.disk shelf) (g.F.Shelf.is_out shelf)
     (g.F.Shelf.disk_faults shelf) c.requires.distinct out later c.in-Err.returned.disk (g.F.Shelf.disk c.give_disk.new.self)
     (g.F.Shelf.is_out c.give_disk.new.self)
@@ -185,7 +185,7 @@ give_back-requires-in-Err-2-clause-later g c =
     let out = subst (λ s. AllOut (journals c.args.seats.items) (g.F.Shelf.is_out s)) (sym same) c.requires.out in
     let later = subst (λ s. AreLater g.F.D.Disk.faults (g.F.Shelf.disk_faults s) c.args.seats.items) (sym same) c.requires.later in
     let named = c.as_str.ensures.value ∙ c.in-Err.ensures.journal in
-    done_later _ _ _ g.F.D.Disk.tells g.F.Shelf.tells g.F.D.Disk.reads g.F.D.Disk.image g.F.D.Disk.faults c.args.seats.items c.loop-alloc.seats.items
+    done_later _ _ _ g.F.D.Disk.tells g.F.Shelf.tells g.F.D.Disk c.args.seats.items c.loop-alloc.seats.items
     c.remove-seat.new.self.items c.loop-alloc.reopened.items c.remove-seat.result first half (g.F.Shelf.disk shelf) (g.F.Shelf.is_out shelf)
     (g.F.Shelf.disk_faults shelf) c.requires.distinct out later c.in-Err.returned.disk (g.F.Shelf.disk c.give_disk.new.self)
     (g.F.Shelf.is_out c.give_disk.new.self)
@@ -205,7 +205,7 @@ returns-in-Err-clause-back g c =
     let out = subst (λ s. AllOut (journals c.args.seats.items) (g.F.Shelf.is_out s)) (sym same) c.requires.out in
     let later = subst (λ s. AreLater g.F.D.Disk.faults (g.F.Shelf.disk_faults s) c.args.seats.items) (sym same) c.requires.later in
     let named = c.as_str.ensures.value ∙ c.in-Err.ensures.journal in
-    (failed _ _ _ g.F.D.Disk.tells g.F.Shelf.tells g.F.D.Disk.reads g.F.D.Disk.image g.F.D.Disk.faults c.args.seats.items c.loop-alloc.seats.items
+    (failed _ _ _ g.F.D.Disk.tells g.F.Shelf.tells g.F.D.Disk c.args.seats.items c.loop-alloc.seats.items
     c.remove-seat.new.self.items c.loop-alloc.reopened.items c.remove-seat.result first half (g.F.Shelf.disk shelf) (g.F.Shelf.is_out shelf)
     (g.F.Shelf.disk_faults shelf) c.requires.distinct out later c.in-Err.returned.disk (g.F.Shelf.disk c.give_disk.new.self)
     (g.F.Shelf.is_out c.give_disk.new.self)
@@ -229,7 +229,7 @@ returns-in-Err-clause-inside g c =
     let out = subst (λ s. AllOut (journals c.args.seats.items) (g.F.Shelf.is_out s)) (sym same) c.requires.out in
     let later = subst (λ s. AreLater g.F.D.Disk.faults (g.F.Shelf.disk_faults s) c.args.seats.items) (sym same) c.requires.later in
     let named = c.as_str.ensures.value ∙ c.in-Err.ensures.journal in
-    (failed _ _ _ g.F.D.Disk.tells g.F.Shelf.tells g.F.D.Disk.reads g.F.D.Disk.image g.F.D.Disk.faults c.args.seats.items c.loop-alloc.seats.items
+    (failed _ _ _ g.F.D.Disk.tells g.F.Shelf.tells g.F.D.Disk c.args.seats.items c.loop-alloc.seats.items
     c.remove-seat.new.self.items c.loop-alloc.reopened.items c.remove-seat.result first half (g.F.Shelf.disk shelf) (g.F.Shelf.is_out shelf)
     (g.F.Shelf.disk_faults shelf) c.requires.distinct out later c.in-Err.returned.disk (g.F.Shelf.disk c.give_disk.new.self)
     (g.F.Shelf.is_out c.give_disk.new.self)
@@ -254,7 +254,7 @@ returns-in-Err-clause-others_out g c =
     let later = subst (λ s. AreLater g.F.D.Disk.faults (g.F.Shelf.disk_faults s) c.args.seats.items) (sym same) c.requires.later in
     let named = c.as_str.ensures.value ∙ c.in-Err.ensures.journal in
     subst (λ s. SameBeside (journals c.args.seats.items) (g.F.Shelf.is_out s) (g.F.Shelf.is_out c.give_back-in-Err-2.new.shelf)) same
-    (failed _ _ _ g.F.D.Disk.tells g.F.Shelf.tells g.F.D.Disk.reads g.F.D.Disk.image g.F.D.Disk.faults c.args.seats.items c.loop-alloc.seats.items
+    (failed _ _ _ g.F.D.Disk.tells g.F.Shelf.tells g.F.D.Disk c.args.seats.items c.loop-alloc.seats.items
     c.remove-seat.new.self.items c.loop-alloc.reopened.items c.remove-seat.result first half (g.F.Shelf.disk shelf) (g.F.Shelf.is_out shelf)
     (g.F.Shelf.disk_faults shelf) c.requires.distinct out later c.in-Err.returned.disk (g.F.Shelf.disk c.give_disk.new.self)
     (g.F.Shelf.is_out c.give_disk.new.self)
@@ -279,7 +279,7 @@ returns-in-Err-clause-disks g c =
     let later = subst (λ s. AreLater g.F.D.Disk.faults (g.F.Shelf.disk_faults s) c.args.seats.items) (sym same) c.requires.later in
     let named = c.as_str.ensures.value ∙ c.in-Err.ensures.journal in
     subst (λ s. SameBeside (journals c.args.seats.items) (g.F.Shelf.disk s) (g.F.Shelf.disk c.give_back-in-Err-2.new.shelf)) same
-    (failed _ _ _ g.F.D.Disk.tells g.F.Shelf.tells g.F.D.Disk.reads g.F.D.Disk.image g.F.D.Disk.faults c.args.seats.items c.loop-alloc.seats.items
+    (failed _ _ _ g.F.D.Disk.tells g.F.Shelf.tells g.F.D.Disk c.args.seats.items c.loop-alloc.seats.items
     c.remove-seat.new.self.items c.loop-alloc.reopened.items c.remove-seat.result first half (g.F.Shelf.disk shelf) (g.F.Shelf.is_out shelf)
     (g.F.Shelf.disk_faults shelf) c.requires.distinct out later c.in-Err.returned.disk (g.F.Shelf.disk c.give_disk.new.self)
     (g.F.Shelf.is_out c.give_disk.new.self)
@@ -304,7 +304,7 @@ returns-in-Err-clause-counts g c =
     let later = subst (λ s. AreLater g.F.D.Disk.faults (g.F.Shelf.disk_faults s) c.args.seats.items) (sym same) c.requires.later in
     let named = c.as_str.ensures.value ∙ c.in-Err.ensures.journal in
     subst (λ s. SameBeside (journals c.args.seats.items) (g.F.Shelf.disk_faults s) (g.F.Shelf.disk_faults c.give_back-in-Err-2.new.shelf)) same
-    (failed _ _ _ g.F.D.Disk.tells g.F.Shelf.tells g.F.D.Disk.reads g.F.D.Disk.image g.F.D.Disk.faults c.args.seats.items c.loop-alloc.seats.items
+    (failed _ _ _ g.F.D.Disk.tells g.F.Shelf.tells g.F.D.Disk c.args.seats.items c.loop-alloc.seats.items
     c.remove-seat.new.self.items c.loop-alloc.reopened.items c.remove-seat.result first half (g.F.Shelf.disk shelf) (g.F.Shelf.is_out shelf)
     (g.F.Shelf.disk_faults shelf) c.requires.distinct out later c.in-Err.returned.disk (g.F.Shelf.disk c.give_disk.new.self)
     (g.F.Shelf.is_out c.give_disk.new.self)
@@ -320,6 +320,6 @@ returns-in-Err-clause-counts g c =
 
 pub returns-clause-reopened : goal.returns-clause-reopened
 returns-clause-reopened g c =
-    halfway_all _ _ _ g.F.D.Disk.tells g.F.Shelf.tells g.F.D.Disk.reads g.F.D.Disk.image g.F.D.Disk.faults c.args.seats.items c.loop-alloc.seats.items
+    halfway_all _ _ _ g.F.D.Disk.tells g.F.Shelf.tells g.F.D.Disk c.args.seats.items c.loop-alloc.seats.items
     c.loop-alloc.reopened.items
     (none_left c.loop-alloc.seats.items (ap (λ n. n == 0) (sym c.loop-alloc.seats.ok.0) ∙ sym c.loop-alloc-test.ensures)) c.loop-alloc.invariant.half

@@ -1,14 +1,14 @@
 use Rattle.std.proofs.Common.{◌≡◌, ◌∙◌, ap, sym, subst, map, false, length, codes}
 use Rattle.std.specs.List.{list_any}
 use Rattle.std.specs.Prelude.{is_some}
-use Rattle.outside.specs.MemoryDisk.{memory_bytes, IsMemoryImage}
+use Rattle.outside.specs.MemoryDisk.{memory_bytes, memory_moment, IsMemoryImage, IsMemoryImageSince}
 use Rattle.outside.specs.MemoryShelves.{disk_named, disk_faults_of}
 use Rattle.outside.specs.MemoryStreams.{sink_written, source_left}
 use Rattle.cqe_base.specs.Schema.{has_duplicate}
 use Rattle.log_journal.specs.Opening.{header_bytes}
 use Rattle.init_engine.specs.Disks.{user_names, Readies}
 use Rattle.desk_crew.specs.Crew.{named_user}
-use Rattle.desk_crew.specs.Shelved.{journals_on}
+use Rattle.desk_crew.specs.Shelved.{journals_by}
 use Rattle.selfrun_engine.proofs.Workloads.{batch_names_are, all_empty}
 use Rattle.selfrun_engine.proofs.Undisturbed.{batch_undisturbed}
 use Rattle.selfrun_engine.proofs.run.answers.Goals as goal
@@ -25,7 +25,8 @@ returns-in-Done-run_batch g c = λ items read named.
     let same = c.as_slice-users.ensures.value in
     let header = header_bytes c.args.header.now in
     let made = disk_named c.run_init.new.shelf in
-    let journals = journals_on memory_bytes IsMemoryImage (codes "journals") made (disk_named c.run_batch.new.shelf) (disk_faults_of c.run_init.new.shelf)
+    let journals = journals_by memory_bytes IsMemoryImage memory_moment IsMemoryImageSince (codes "journals") made (disk_named c.run_batch.new.shelf)
+    (disk_faults_of c.run_init.new.shelf)
     (disk_faults_of c.run_batch.new.shelf) in
     let ready = subst (λ us.
     Readies memory_bytes IsMemoryImage header (codes "journals") (user_names us) (disk_named c.new-shelf.result) made (length (user_names us))

@@ -2,7 +2,7 @@ use Rattle.std.proofs.Common.{inr, ◌++◌, ◌+◌, ap, sym, ◌∙◌, arith}
 use Rattle.std.specs.List.{sum_by, flat_map}
 use Rattle.outside.specs.Visits.{one_if_any}
 use Rattle.log_journal.specs.Opening.{header_bytes}
-use Rattle.desk_crew.specs.Shelved.{journals_on}
+use Rattle.desk_crew.specs.Shelved.{journals_by}
 use Rattle.serve_engine.proofs.Connections.{ends_of, new_given, at_end, leaves_journals, few_ended, not_longer}
 use Rattle.serve_engine.proofs.run.run_serve.Goals as goal
 
@@ -12,9 +12,9 @@ returns-clause-ends g c shelf_told links_told =
     let back = c.take_back_all.ensures in
     let door_told = g.met.L.Links.tells_doors links_told in
     ends_of c.args.registry.now.schema.now c.args.registry.now.world.now (header_bytes c.args.registry.now.header.now)
-    (journals_on g.F.D.Disk.reads g.F.D.Disk.image c.args.registry.now.directory.now (g.F.Shelf.disk c.args.shelf.now)
+    (journals_by g.F.D.Disk.reads g.F.D.Disk.image g.F.D.Disk.moment g.F.D.Disk.image_since c.args.registry.now.directory.now (g.F.Shelf.disk c.args.shelf.now)
     (g.F.Shelf.disk c.serve_opened-end.new.shelf) (g.F.Shelf.disk_faults c.args.shelf.now) (g.F.Shelf.disk_faults c.serve_opened-end.new.shelf))
-    c.args.registry.now.users.now g.L.D.Door.tells door_told g.L.D.Door.given g.L.D.Door.left g.L.D.Door.faults g.L.D.Door.back c.in-Ok.doors.items
+    c.args.registry.now.users.now g.L.D.Door door_told c.in-Ok.doors.items
     c.serve_opened-end.result.1.items (heard.fresh links_told)
     (g.L.Links.given c.args.links.now) (g.L.Links.given c.take_back_all.new.links) (g.L.Links.back c.args.links.now) (g.L.Links.back c.take_back_all.new.links)
     (back.given links_told ∙ ap (λ n. n + sum_by g.L.D.Door.given c.serve_opened-end.result.1.items) (heard.given links_told))
@@ -26,7 +26,7 @@ returns-clause-ended g c links_told done =
     let heard = c.in-Ok.ensures in
     let back = c.take_back_all.ensures in
     let some = c.requires.some in
-    let none = new_given g.L.D.Door.given g.L.D.Door.back c.in-Ok.doors.items (heard.fresh links_told) in
+    let none = new_given g.L.D.Door c.in-Ok.doors.items (heard.fresh links_told) in
     let gave = back.given links_told ∙ ap (λ n. n + sum_by g.L.D.Door.given c.serve_opened-end.result.1.items) (heard.given links_told) in
     let ended = back.ended ∙ ap (λ n. n + sum_by (λ door. one_if_any (g.L.D.Door.ends door)) c.serve_opened-end.result.1.items) heard.ended in
     at_end g.L.D.Door.left c.serve_opened-end.result.1.items (g.L.Links.at_hand c.take_back_all.new.links) (heard.all links_told (omega (arith, some)))
@@ -42,7 +42,7 @@ pub returns-clause-left : goal.returns-clause-left
 returns-clause-left g c links_told all =
     let heard = c.in-Ok.ensures in
     let back = c.take_back_all.ensures in
-    let none = new_given g.L.D.Door.given g.L.D.Door.back c.in-Ok.doors.items (heard.fresh links_told) in
+    let none = new_given g.L.D.Door c.in-Ok.doors.items (heard.fresh links_told) in
     let spread = heard.spread links_told in
     let same = heard.left links_told in
     let served = c.serve_opened-end.ensures.left (g.met.L.Links.tells_doors links_told) in
@@ -53,7 +53,7 @@ returns-clause-left g c links_told all =
 pub returns-clause-limited : goal.returns-clause-limited
 returns-clause-limited g c links_told =
     let heard = c.in-Ok.ensures in
-    let none = new_given g.L.D.Door.given g.L.D.Door.back c.in-Ok.doors.items (heard.fresh links_told) in
+    let none = new_given g.L.D.Door c.in-Ok.doors.items (heard.fresh links_told) in
     let gave = c.take_back_all.ensures.given links_told ∙ ap (λ n. n + sum_by g.L.D.Door.given c.serve_opened-end.result.1.items) (heard.given links_told) in
     let most = c.serve_opened-end.ensures.limited (g.met.L.Links.tells_doors links_told) in
     omega (arith, none, gave, most)
@@ -67,10 +67,10 @@ returns-clause-heard g c links_told done = c.take_back_all.ensures.listened link
 pub returns-clause-journals : goal.returns-clause-journals
 returns-clause-journals g c shelf_told =
     leaves_journals c.args.registry.now.schema.now c.args.registry.now.world.now (header_bytes c.args.registry.now.header.now)
-    (journals_on g.F.D.Disk.reads g.F.D.Disk.image c.args.registry.now.directory.now (g.F.Shelf.disk c.args.shelf.now)
+    (journals_by g.F.D.Disk.reads g.F.D.Disk.image g.F.D.Disk.moment g.F.D.Disk.image_since c.args.registry.now.directory.now (g.F.Shelf.disk c.args.shelf.now)
     (g.F.Shelf.disk c.serve_opened-end.new.shelf)
-    (g.F.Shelf.disk_faults c.args.shelf.now) (g.F.Shelf.disk_faults c.serve_opened-end.new.shelf)) c.args.registry.now.users.now g.L.D.Door.tells
-    g.L.D.Door.given g.L.D.Door.left g.L.D.Door.faults g.L.D.Door.back c.in-Ok.doors.items c.serve_opened-end.result.1.items
+    (g.F.Shelf.disk_faults c.args.shelf.now) (g.F.Shelf.disk_faults c.serve_opened-end.new.shelf)) c.args.registry.now.users.now g.L.D.Door
+    c.in-Ok.doors.items c.serve_opened-end.result.1.items
     c.serve_opened-end.result.0 (c.serve_opened-end.ensures.ends shelf_told)
 
 pub returns-clause-unheard : goal.returns-clause-unheard

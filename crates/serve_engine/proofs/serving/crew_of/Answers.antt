@@ -4,7 +4,7 @@ use Rattle.std.proofs.lemmas.List.Elements.{All-push, All-same, All-rest, All-he
 use Rattle.session_core.specs.Members.{ArePassesOf, passes_in, fixeds_of}
 use Rattle.worker_pool.proofs.Seating.{read_on}
 use Rattle.serve_engine.specs.Members.{HaveSeenOpenings}
-use Rattle.serve_engine.specs.Passing.{AreParts, IsFresh}
+use Rattle.serve_engine.specs.Passing.{AreParts, IsWorkerFresh}
 use Rattle.serve_engine.proofs.Reading.{taken_first, regrown}
 use Rattle.serve_engine.proofs.serving.crew_of.Goals as goal
 
@@ -54,8 +54,8 @@ loop-door-preserved g c =
           let both = so_far.fresh before parts in
           let here = All-head (AreParts before) c.remove-part.result c.remove-part.new.self.items
           (All-same (AreParts before) (c.remove-part.result ∷ c.remove-part.new.self.items) c.loop-door.parts.items (sym first) both.1) in (
-            All-same (IsFresh c.args.counters.now before) c.push_reserved.new.self.items _ added
-                (All-push (IsFresh c.args.counters.now before) c.loop-door.crew.items _ both.0
+            All-same (IsWorkerFresh c.args.counters.now before) c.push_reserved.new.self.items _ added
+                (All-push (IsWorkerFresh c.args.counters.now before) c.loop-door.crew.items _ both.0
                 (record {
                   counters_are = c.new-job.ensures.counters;
                   parts = subst (AreParts before) (sym c.new-job.ensures.passes) here;

@@ -3,7 +3,7 @@ use Rattle.std.specs.Vec.Iter.{into_iter_items}
 use Rattle.session_core.specs.Members.{ArePassesOf, fixeds_of, passes_in}
 use Rattle.session_core.specs.declared.counters.Passes.{Passes}
 use Rattle.serve_engine.specs.Members.{HaveSeenOpenings}
-use Rattle.serve_engine.specs.Passing.{AreParts, IsFresh}
+use Rattle.serve_engine.specs.Passing.{AreParts, IsWorkerFresh}
 use Rattle.serve_engine.proofs.serving.crew_of.Given as goal
 
 -- the doors so far have their workers
@@ -14,7 +14,7 @@ invariant-loop-door g l = record {
   count : length l.parts.items ≡ length (into_iter_items l.door-iterator);
   those : All (λ part. ArePassesOf part l.counters) l.parts.items;
   opened : All (λ part. HaveSeenOpenings (fixeds_of l.counters) (passes_in part)) l.parts.items;
-  fresh : (before : Passes g.row.D.Denot) → All (AreParts before) l.fn.parts.items → All (IsFresh l.counters before) l.crew.items
+  fresh : (before : Passes g.row.D.Denot) → All (AreParts before) l.fn.parts.items → All (IsWorkerFresh l.counters before) l.crew.items
       × All (AreParts before) l.parts.items;
   room : vec_capacity l.crew ≡ vec_capacity l.initial.crew;
 }

@@ -7,7 +7,7 @@ use Rattle.worker_pool.proofs.Seating.{read_on, next_of}
 use Rattle.serve_engine.specs.Jobs.{job_passes}
 use Rattle.std.proofs.lemmas.List.Sums.{sum_by_push}
 use Rattle.serve_engine.specs.Members.{own_at}
-use Rattle.serve_engine.specs.Passing.{HaveShares, AreOn, IsBack}
+use Rattle.serve_engine.specs.Passing.{HaveShares, AreOn, IsWorkerBack}
 use Rattle.serve_engine.proofs.Owning.{own_weight, own_met, weigh_more}
 use Rattle.serve_engine.proofs.Meeting.{on_same, on_then, have_met}
 use Rattle.serve_engine.proofs.Reading.{grown}
@@ -31,7 +31,7 @@ loop-worker-init g c =
 pub meet-requires-clause-those : goal.meet-requires-clause-those
 meet-requires-clause-those g c =
     let back = next_of
-    (IsBack c.args.counters.now) c.args.crew.items c.loop-worker.yielded _ _ c.in-Some.worker c.loop-worker.invariant.rest c.in-Some.ensures.steps.0
+    (IsWorkerBack c.args.counters.now) c.args.crew.items c.loop-worker.yielded _ _ c.in-Some.worker c.loop-worker.invariant.rest c.in-Some.ensures.steps.0
     c.requires.crew in
     subst (ArePassesOf c.into_passes.result) back.counters_are c.into_passes.ensures.passes
 
@@ -40,7 +40,7 @@ loop-worker-preserved g c =
     let so_far = c.loop-worker.invariant in
     let step = c.in-Some.ensures.steps.0 in
     let next = ap length step in
-    let back = next_of (IsBack c.args.counters.now) c.args.crew.items c.loop-worker.yielded _ _ c.in-Some.worker so_far.rest step c.requires.crew in
+    let back = next_of (IsWorkerBack c.args.counters.now) c.args.crew.items c.loop-worker.yielded _ _ c.in-Some.worker so_far.rest step c.requires.crew in
     let first = passes_in c.args.passes.now in
     let old = passes_in c.loop-worker.passes in
     let new = passes_in c.meet.new.passes in

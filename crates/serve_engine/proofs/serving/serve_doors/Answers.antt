@@ -8,9 +8,9 @@ use Rattle.session_core.specs.Members.{passes_in, fixeds_of}
 use Rattle.serve_engine.specs.Doors.{AreServedDoors}
 use Rattle.serve_engine.specs.Jobs.{job_passes, job_runs}
 use Rattle.serve_engine.specs.Members.{HaveSeenOpenings, IsServedBy, own_at, room_in}
-use Rattle.serve_engine.specs.Served.{entries_told}
+use Rattle.serve_engine.specs.Served.{items_told}
 use Rattle.serve_engine.proofs.Owning.{own_weight, weigh_more}
-use Rattle.serve_engine.specs.Passing.{AreParts, IsFresh, IsBack}
+use Rattle.serve_engine.specs.Passing.{AreParts, IsWorkerFresh, IsWorkerBack}
 use Rattle.serve_engine.proofs.Crossing.{job_send}
 use Rattle.serve_engine.proofs.Apart.{none_served}
 use Rattle.serve_engine.proofs.Connections.{sum_none}
@@ -29,24 +29,24 @@ pub returns-in_default-clause-served : goal.returns-in_default-clause-served
 returns-in_default-clause-served g c = (
   0,
   λ t. [],
-  none_served g.O.Door.tells g.O.Door.given g.O.Door.left g.O.Door.faults g.O.Door.back
+  none_served g.O.Door
       (IsServedBy c.args.counters.now c.args.passes.now) c.args.doors.items,
   refl,
   omega arith,
-  λ t place weight. let none = weigh_more weight (own_at place (passes_in c.args.passes.now)) (entries_told place) [] in omega (arith, none),
+  λ t place weight. let none = weigh_more weight (own_at place (passes_in c.args.passes.now)) (items_told place) [] in omega (arith, none),
 )
 
 pub returns-in_default-split_all-clause-served : goal.returns-in_default-split_all-clause-served
 returns-in_default-split_all-clause-served g c = (
   0,
   λ t. [],
-  none_served g.O.Door.tells g.O.Door.given g.O.Door.left g.O.Door.faults g.O.Door.back
+  none_served g.O.Door
       (IsServedBy c.args.counters.now c.split_all.new.passes) c.args.doors.items,
   refl,
   omega arith,
   λ t place weight.
       let same = c.split_all.ensures.own place weight in
-      let none = weigh_more weight (own_at place (passes_in c.args.passes.now)) (entries_told place) [] in
+      let none = weigh_more weight (own_at place (passes_in c.args.passes.now)) (items_told place) [] in
       omega (arith, same, none),
 )
 
@@ -59,18 +59,18 @@ crew_of-crew-requires-clause-opened g c κs within =
 
 pub serve_all-requires-clause-running : goal.serve_all-requires-clause-running
 serve_all-requires-clause-running g c κs within =
-    All-weaker (IsFresh c.args.counters.now c.args.passes.now) (λ worker. worker.ended ≡ None) (λ worker is. is.running) c.crew_of-crew.result.items
+    All-weaker (IsWorkerFresh c.args.counters.now c.args.passes.now) (λ worker. worker.ended ≡ None) (λ worker is. is.running) c.crew_of-crew.result.items
     (c.crew_of-crew.ensures.fresh c.args.passes.now c.in-Some.ensures.parts)
 
 pub serve_all-requires-clause-none : goal.serve_all-requires-clause-none
 serve_all-requires-clause-none g c κs within =
-    All-weaker (IsFresh c.args.counters.now c.args.passes.now) (λ worker. job_runs worker.job ≡ 0) (λ worker is. is.none) c.crew_of-crew.result.items
+    All-weaker (IsWorkerFresh c.args.counters.now c.args.passes.now) (λ worker. job_runs worker.job ≡ 0) (λ worker is. is.none) c.crew_of-crew.result.items
     (c.crew_of-crew.ensures.fresh c.args.passes.now c.in-Some.ensures.parts)
 
 pub serve_all-requires-clause-room : goal.serve_all-requires-clause-room
 serve_all-requires-clause-room g c κs within =
     let most = c.requires.limit in
-    All-weaker (IsFresh c.args.counters.now c.args.passes.now) (λ worker. c.args.limit ≤ room_in (passes_in (job_passes worker.job)))
+    All-weaker (IsWorkerFresh c.args.counters.now c.args.passes.now) (λ worker. c.args.limit ≤ room_in (passes_in (job_passes worker.job)))
     (λ worker is. let enough = room_enough (passes_in (job_passes worker.job)) is.parts.turns_are in omega (arith, most, enough))
     c.crew_of-crew.result.items (c.crew_of-crew.ensures.fresh c.args.passes.now c.in-Some.ensures.parts)
 
@@ -80,7 +80,7 @@ dismiss-requires-clause-room g c κs within =
     let items = c.args.doors.ok.0 in
     let doors = ap length c.crew_of-crew.ensures.doors in
     let crew = length-map c.crew_of-crew.result.items (λ worker. worker.door) in
-    let same = as_long g.O.Door.tells g.O.Door.given g.O.Door.left g.O.Door.ends g.O.Door.faults g.O.Door.back c.crew_of-crew.result.items c.in-Ok.crew.items
+    let same = as_long g.O.Door c.crew_of-crew.result.items c.in-Ok.crew.items
     c.in-Ok.ensures.served in
     let space = c.in-Ok-Ok.ensures'.room in
     omega (arith, counted, items, doors, crew, same, space)
@@ -89,10 +89,10 @@ pub dismiss-requires-clause-crew : goal.dismiss-requires-clause-crew
 dismiss-requires-clause-crew g c κs within =
     let first = c.args.passes.now in
     let counters = c.args.counters.now in
-    All-from_recursion (IsBack counters) c.in-Ok.crew.items
-    (are_back g.O.Door.tells g.O.Door.given g.O.Door.left g.O.Door.ends g.O.Door.faults g.O.Door.back counters first c.crew_of-crew.result.items
+    All-from_recursion (IsWorkerBack counters) c.in-Ok.crew.items
+    (are_back g.O.Door counters first c.crew_of-crew.result.items
     c.in-Ok.crew.items
-    (recursion_from_All (IsFresh counters first) c.crew_of-crew.result.items (c.crew_of-crew.ensures.fresh first c.in-Some.ensures.parts))
+    (recursion_from_All (IsWorkerFresh counters first) c.crew_of-crew.result.items (c.crew_of-crew.ensures.fresh first c.in-Some.ensures.parts))
     c.in-Ok.ensures.served)
 
 pub dismiss-requires-clause-rest : goal.dismiss-requires-clause-rest
@@ -101,7 +101,7 @@ dismiss-requires-clause-rest g c κs within =
     let items = c.args.doors.ok.0 in
     let doors = ap length c.crew_of-crew.ensures.doors in
     let crew = length-map c.crew_of-crew.result.items (λ worker. worker.door) in
-    let same = as_long g.O.Door.tells g.O.Door.given g.O.Door.left g.O.Door.ends g.O.Door.faults g.O.Door.back c.crew_of-crew.result.items c.in-Ok.crew.items
+    let same = as_long g.O.Door c.crew_of-crew.result.items c.in-Ok.crew.items
     c.in-Ok.ensures.served in
     let rest = c.in-Some.ensures.rest in
     let total = rest.2 in
@@ -112,8 +112,8 @@ dismiss-requires-in-Err-clause-crew g c κs within =
     let first = c.args.passes.now in
     let counters = c.args.counters.now in
     let same : c.in-Err.crew.items ≡ c.crew_of-crew.result.items = cc (c.in-Err.ensures.refused) in
-    All-same (IsBack counters) c.in-Err.crew.items c.crew_of-crew.result.items same
-    (All-weaker (IsFresh counters first) (IsBack counters) (λ worker is.
+    All-same (IsWorkerBack counters) c.in-Err.crew.items c.crew_of-crew.result.items same
+    (All-weaker (IsWorkerFresh counters first) (IsWorkerBack counters) (λ worker is.
     record { counters_are = is.counters_are; shares_are = is.parts.shares_are }) c.crew_of-crew.result.items
     (c.crew_of-crew.ensures.fresh first c.in-Some.ensures.parts))
 
@@ -136,10 +136,11 @@ returns-in-Ok-clause-on g c =
 pub returns-in-Ok-clause-served : goal.returns-in-Ok-clause-served
 returns-in-Ok-clause-served g c =
     let first = c.args.passes.now in
-    served_together g.O.Door.tells g.O.Door.given g.O.Door.left g.O.Door.ends g.O.Door.faults g.O.Door.back c.args.counters.now first c.dismiss.new.passes
+    served_together g.O.Door c.args.counters.now first c.dismiss.new.passes
     c.args.limit c.outcome_of-outcome.result c.args.doors.items c.dismiss.result.items
     c.crew_of-crew.result.items c.in-Ok.crew.items c.crew_of-crew.ensures.doors c.dismiss.ensures.doors (search rules) c.requires.whole c.requires.unended
-    (c.crew_of-crew.ensures.fresh first c.in-Some.ensures.parts) c.dismiss.ensures.all_on c.in-Ok.ensures.reached c.in-Ok.ensures.served
+    (c.crew_of-crew.ensures.fresh first c.in-Some.ensures.parts) c.dismiss.ensures.all_on c.dismiss.ensures.these.legal c.in-Ok.ensures.reached
+    c.in-Ok.ensures.served
     c.in-Ok.ensures.limit
     (λ weight place.
     let all = c.dismiss.ensures.own place weight
@@ -160,8 +161,8 @@ returns-in-Err-clause-served g c =
     let fresh = c.crew_of-crew.ensures.fresh c.args.passes.now c.in-Some.ensures.parts in (
       0,
       λ t. [],
-      subst (λ ds. AreServedDoors g.O.Door.tells g.O.Door.given g.O.Door.left g.O.Door.faults g.O.Door.back stands 0 (λ t. []) c.args.doors.items ds) (sym back)
-          (none_served g.O.Door.tells g.O.Door.given g.O.Door.left g.O.Door.faults g.O.Door.back stands c.args.doors.items),
+      subst (λ ds. AreServedDoors g.O.Door stands 0 (λ t. []) c.args.doors.items ds) (sym back)
+          (none_served g.O.Door stands c.args.doors.items),
       refl,
       omega arith,
       λ t place weight.
@@ -169,10 +170,10 @@ returns-in-Err-clause-served g c =
           ∙ weigh_more weight (own_at place (passes_in c.split_all.new.passes)) (λ worker. own_at place (passes_in (job_passes worker.job)))
           c.in-Err.crew.items in
           let rest = c.split_all.ensures.own place weight in
-          let told = weigh_more weight (own_at place (passes_in c.args.passes.now)) (entries_told place) [] in
+          let told = weigh_more weight (own_at place (passes_in c.args.passes.now)) (items_told place) [] in
           let none = sum_none (λ worker. own_weight weight place (passes_in (job_passes worker.job))) c.in-Err.crew.items
           (All-same (λ worker. own_weight weight place (passes_in (job_passes worker.job)) ≡ 0) c.in-Err.crew.items c.crew_of-crew.result.items same
-          (All-weaker (IsFresh c.args.counters.now c.args.passes.now) (λ worker. own_weight weight place (passes_in (job_passes worker.job))
+          (All-weaker (IsWorkerFresh c.args.counters.now c.args.passes.now) (λ worker. own_weight weight place (passes_in (job_passes worker.job))
           ≡ 0) (λ worker is. ap (sum_by weight) (is.parts.none_own place)) c.crew_of-crew.result.items fresh)) in
           omega (arith, all, rest, none, told),
     )

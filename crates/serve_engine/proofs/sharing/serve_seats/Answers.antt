@@ -92,7 +92,7 @@ returns-clause-served g c =
     let served = c.serve_doors-outcome.ensures.served in (
       served.0,
       served.1,
-      served_still g.O.Door.tells g.O.Door.given g.O.Door.left g.O.Door.faults g.O.Door.back _ (IsServedAt c.args.users.now c.put_together-seats.result.items)
+      served_still g.O.Door _ (IsServedAt c.args.users.now c.put_together-seats.result.items)
           (λ visit marks is.
           served_at c.args.users.now c.put_together-seats.result.items
           (map kept_by c.new-counters.result.0.counters.items) c.serve_doors-outcome.new.passes.passes.items
@@ -116,7 +116,7 @@ pub returns-in_default-clause-served : goal.returns-in_default-clause-served
 returns-in_default-clause-served g c = (
   0,
   λ t. [],
-  none_served g.O.Door.tells g.O.Door.given g.O.Door.left g.O.Door.faults g.O.Door.back
+  none_served g.O.Door
       (IsServedAt c.args.users.now c.args.seats.items) c.args.doors.items,
   refl,
   omega arith,

@@ -7,6 +7,7 @@ use Rattle.user_log.specs.Replies.{reply_of}
 use Rattle.desk_counter.specs.Counters.{kept_by, IsPassOf}
 use Rattle.desk_counter.specs.Items.{history_of}
 use Rattle.session_core.specs.Desks.{Asks}
+use Rattle.desk_counter.proofs.Pairs.{broke_last}
 use Rattle.session_core.proofs.Replying.{asks_once}
 use Rattle.session_core.proofs.Legality.{legal_set}
 use Rattle.session_core.proofs.Passing.{passes_many, pass_at, passes_set, asked_at, turns_at}
@@ -46,7 +47,7 @@ returns-clause-passes g c =
           (subst (λ d. IsPassOf c.ask.new.pass d) c.index-counter.ensures c.ask.ensures.pass);
       legal = legal_set counters passes c.args.place c.ask.new.pass desk low c.requires.passes.legal
           (subst (λ d. IsLegal (kept_by d).schema (kept_by d).world (kept_by d).user (history_of (seen c.ask.new.pass))) c.index-counter.ensures
-          c.ask.ensures.legal);
+          c.ask.ensures.legal) (broke_last (seen c.ask.new.pass) c.ask.ensures.last);
     }
 
 pub returns-clause-asked : goal.returns-clause-asked
@@ -62,4 +63,4 @@ returns-clause-asked g c =
     c.index-counter.ensures
     (subst (λ p. Asks (kept_by c.index-counter.result.now) p c.ask.new.pass ((c.args.text.now, reply_of c.ask.result) ∷ [])) c.index_mut-pass.ensures.value
     (asks_once (kept_by c.index-counter.result.now) c.index_mut-pass.result.now c.ask.new.pass c.args.text.now c.ask.result asked.asked asked.used.0
-    asked.used.1)))
+    asked.used.1 asked.last)))

@@ -1,18 +1,17 @@
 use Rattle.std.proofs.Common.{ap, sym, ◌∙◌, subst, ◌≡◌, ℕ, List, ◌++◌, false, length}
 use Rattle.std.specs.Prelude.{option_to_list}
-use Rattle.user_desk.specs.Entries.{StandsWithin}
+use Rattle.user_desk.specs.Causes.{OpensWithin}
 use Rattle.user_desk.specs.Standings.{is_sealed}
 use Rattle.user_desk.specs.declared.desk.Desk.{Desk}
 use Rattle.user_desk.specs.Desks.{desk_history, desk_disk, entry_in_flight}
-use Rattle.turnstile.specs.Passes.{first_value, seen, mine}
+use Rattle.turnstile.specs.Passes.{seen}
 use Rattle.desk_counter.specs.declared.item.Fixed.{Fixed}
-use Rattle.desk_counter.specs.Items.{history_of, flying}
+use Rattle.desk_counter.specs.Items.{history_of, flying, items_of, items_with}
 use Rattle.desk_counter.specs.Desks.{fixed_of}
-use Rattle.desk_counter.specs.Tickets.{fixed_in, pairs_in}
+use Rattle.desk_counter.specs.Tickets.{fixed_in}
 use Rattle.desk_counter.specs.Counters.{kept_by}
 use Rattle.desk_counter.proofs.Asking.{one_fixed}
-use Rattle.desk_counter.proofs.Pairs.{history_all}
-use Rattle.desk_counter.proofs.DeskSettles.{history_in, flying_in}
+use Rattle.desk_counter.proofs.DeskSettles.{history_in, flying_in, items_in}
 use Rattle.desk_counter.proofs.Closing.{closed_legal, closed_sizes, closed_whole, closed_images, closed_since, closed_cause, closed_size, closed_idle}
 use Rattle.desk_counter.proofs.Closing.{closed_still}
 use Rattle.desk_counter.proofs.counter.CounterOf+TicketedDesk+D.close.Goals as goal
@@ -23,9 +22,10 @@ returns-clause-history g c =
     ∙ ap (λ ps. history_of ps) c.close.ensures.entries
 
 pub returns-clause-added : goal.returns-clause-added
-returns-clause-added g c =
-    ap (λ ps. history_of ps) (sym c.close.ensures.entries ∙ c.close.ensures.added)
-    ∙ history_all (pairs_in (first_value c.args.self.turnstile)) (mine c.args.pass)
+returns-clause-added g c = sym c.close.ensures.entries ∙ c.close.ensures.added
+
+pub returns-clause-items : goal.returns-clause-items
+returns-clause-items g c = subst (λ ps. items_of ps ≡ items_with (history_of ps) (flying ps)) c.close.ensures.entries (items_in c.close.result)
 
 pub returns-clause-in_flight : goal.returns-clause-in_flight
 returns-clause-in_flight g c =
@@ -74,7 +74,8 @@ returns-clause-since g c =
     subst
     (λ (f : Fixed g.row.D.Denot).
     g.D.Disk.tells → is_sealed kept.standing ≡ false → (i : List ℕ) → g.D.Disk.image_since (desk_disk c.into_desk-desk.result) (g.D.Disk.moment f.disk) i
-    → StandsWithin kept.schema kept.header (length kept.opening) (history_of (seen c.args.pass) ++ option_to_list (flying (seen c.args.pass))) i) same
+    → OpensWithin kept.schema kept.world kept.user kept.header (length kept.opening)
+    (history_of (seen c.args.pass) ++ option_to_list (flying (seen c.args.pass))) i) same
     (closed_since c.into_desk-desk.result kept (seen c.args.pass) same (returns-clause-history g c) (returns-clause-in_flight g c) g.D.Disk.tells
     (λ i. g.D.Disk.image_since (desk_disk c.into_desk-desk.result) (g.D.Disk.moment (fixed_of c.into_desk-desk.result).disk) i) c.known.ensures.begins
     c.known.ensures.since)

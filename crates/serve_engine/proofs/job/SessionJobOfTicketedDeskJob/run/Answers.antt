@@ -64,7 +64,7 @@ returns-clause-visit g c =
     let new = passes_in now.passes in
     let says = c.serve_session-ended.ensures in
     let session = says.session in
-    let later = members_later fixeds old new (sees_more old new (of_passes session.who fixeds old new session.asks session.desks)) in
+    let later = members_later fixeds old new (sees_more old new (of_passes session.who fixeds old new session.asks session.desks)) says.passes.legal in
     let openings = have_opened old counters (are_passes old counters job.many job.held) job.opened in
     λ untouched first visits stood.
     served_more job.counters.now first.passes job.passes now.passes visits _ (marks_of session.who fixeds old new session.asks session.desks) stood later

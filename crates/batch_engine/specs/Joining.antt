@@ -1,0 +1,118 @@
+-- Batches over the same files, of which each begins with what the one before left.
+use Rattle.std.specs.Prelude.{◌≡◌, ℕ, Bool, true, List, [], ◌∷◌, ◌++◌, Option, Some, find, bytes_eq}
+use Rattle.std.specs.List.{list_any}
+use Rattle.cqe_base.specs.Schema.{Text, DatabaseSchema}
+use Rattle.cqe_base.specs.Facts.{FactSet}
+use Rattle.cqe_base.specs.Run.{Event, UserState, replies}
+use Rattle.cqe_base.specs.Transcript.{NamedUser, ScriptEvent, own_events, own_replies, transcript}
+use Rattle.cqe_base.specs.Transcript.{state_after}
+use Rattle.user_desk.specs.Joining.{Call, IsCallOver, AreOneRun, Span, IsSpanOver}
+use Rattle.user_desk.specs.declared.standing.DeskError.{DeskError}
+use Rattle.desk_crew.specs.Shelved.{Journals}
+use Rattle.batch_engine.specs.Batch.{ServesUser, AppendsAll, with_opening}
+use Rattle.batch_engine.specs.BatchLines.{BatchItem}
+use Rattle.batch_engine.specs.Lives.{is_opened}
+
+-- a batch as a call to one user, which left these bytes of his journal
+abbrev pub call_of : DatabaseSchema → FactSet → List NamedUser → List ScriptEvent → NamedUser
+    → List ℕ → Call
+call_of schema world users script user left = record {
+  opened = user.opened;
+  events = own_events user.name script;
+  told = own_replies user.name (transcript schema world users script);
+  left = left;
+}
+
+-- a batch as a part of his history, by the state with which it ended
+abbrev pub span_of : UserState → NamedUser → List ℕ → Span
+span_of state user left = record {
+  opened = user.opened;
+  entries = state.entries;
+  pending = state.pending;
+  left = left;
+}
+
+-- a batch that was cut, as a call to one user: he was told the replies to these of his events
+abbrev pub cut_call_of : DatabaseSchema → FactSet → NamedUser → List Event → List ℕ → Call
+cut_call_of schema world user front left = record {
+  opened = user.opened;
+  events = front;
+  told = replies schema world user.profile user.opened front;
+  left = left;
+}
+
+module _ (journals : Journals) where
+  -- Where an opening of his journal held, a batch is a call over what his journal read as it began,
+  -- whatever a crash leaves of it as the batch ends.
+  abbrev pub BatchesAreCalls : Type 0
+  BatchesAreCalls =
+      (schema : DatabaseSchema) (world : FactSet) (header : List ℕ) (users : List NamedUser)
+      (script : List ScriptEvent) (user : NamedUser)
+      → ServesUser schema world header journals users script user
+      → list_any is_opened (own_events user.name script) ≡ true
+      → (left : List ℕ) → journals.image user.name left
+      → IsCallOver schema world user.profile header (journals.bytes user.name)
+      (call_of schema world users script user left)
+
+  -- so it is as a part of his one history over calls of any kinds
+  abbrev pub BatchesAreSpans : Type 0
+  BatchesAreSpans =
+      (schema : DatabaseSchema) (world : FactSet) (header : List ℕ) (users : List NamedUser)
+      (script : List ScriptEvent) (user : NamedUser)
+      → ServesUser schema world header journals users script user
+      → list_any is_opened (own_events user.name script) ≡ true
+      → (left : List ℕ) → journals.image user.name left
+      → IsSpanOver schema world user.profile header (journals.bytes user.name)
+      (span_of (state_after schema world user script) user left)
+
+  -- A batch was cut at a moment at which a crash could leave these bytes: it is a call with some of
+  -- his events, the first.
+  pub record IsCutBatch (schema : DatabaseSchema) (world : FactSet) (header : List ℕ)
+      (script : List ScriptEvent) (user : NamedUser) (left : List ℕ) : Type 0 where
+    pub front : List Event
+    pub rest : List Event
+    pub split : own_events user.name script ≡ front ++ rest
+    pub over : IsCallOver schema world user.profile header (journals.bytes user.name)
+        (cut_call_of schema world user front left)
+
+  -- so it is at each moment since his journal was first opened
+  abbrev pub CutBatchesAreCalls : Type 0
+  CutBatchesAreCalls =
+      (schema : DatabaseSchema) (world : FactSet) (header : List ℕ) (users : List NamedUser)
+      (script : List ScriptEvent) (user : NamedUser)
+      (serves : ServesUser schema world header journals users script user)
+      → list_any is_opened (own_events user.name script) ≡ true
+      → (left : List ℕ) → journals.since user.name serves.moments.opening left
+      → IsCutBatch schema world header script user left
+
+-- the user of a name among others
+abbrev pub IsNamed : Text → List NamedUser → NamedUser → Type 0
+IsNamed name users user = find (λ u. bytes_eq u.name name) users ≡ Some user
+
+module _ (schema : DatabaseSchema) (world : FactSet) (header : List ℕ)
+    (policy : List NamedUser) where
+  -- what a batch that was answered is to the user of a name in whose script an opening of his
+  -- journal held, and to whom a crash left these bytes
+  pub record IsAnsweredTo (journals : Journals) {items : List BatchItem} {old new : List ℕ}
+      {refusals : List (Option DeskError)} {is_broken : Bool}
+      (all : AppendsAll schema world header journals policy items old new refusals is_broken)
+      (name : Text) (left : List ℕ) (user : NamedUser) (call : Call) : Type 0 where
+    pub named : IsNamed name all.answers.users user
+    pub held : list_any is_opened (own_events user.name
+        (with_opening all.answers.found all.answers.opened all.answers.events)) ≡ true
+    pub leaves : journals.image name left
+    pub call_is : call ≡ call_of schema world all.answers.users
+        (with_opening all.answers.found all.answers.opened all.answers.events) user left
+
+  -- Two batches of one policy were answered, the second over what a crash left as the first ended.
+  -- All that both told a user are the replies of one run, whose history is legal and hides.
+  abbrev pub BatchesJoin : Journals → Journals → Type 0
+  BatchesJoin journals journals' =
+      (items items' : List BatchItem) (old new old' new' : List ℕ)
+      (refusals refusals' : List (Option DeskError)) (is_broken is_broken' : Bool)
+      (one : AppendsAll schema world header journals policy items old new refusals is_broken)
+      (two : AppendsAll schema world header journals' policy items' old' new' refusals' is_broken')
+      (name : Text) (left : List ℕ) (first second : NamedUser) (call call' : Call)
+      → IsAnsweredTo journals one name (journals'.bytes name) first call
+      → IsAnsweredTo journals' two name left second call'
+      → AreOneRun schema world first.profile header first.opened (call ∷ call' ∷ [])

@@ -1,0 +1,74 @@
+-- Steps of the proof: what functions of this crate promise one another. Nothing of the promise
+-- stands here.
+use Rattle.std.specs.Prelude.{◌≡◌, ℕ, ◌^◌, ◌≤◌, List, Option, None, Result, Err}
+use Rattle.cqe_base.specs.Facts.{FactSet}
+use Rattle.cqe_base.specs.Schema.{Text}
+use Rattle.command_words.specs.Readings.{Reading, FileNames, names_of_files, runs_case, runs_init}
+use Rattle.command_words.specs.Readings.{runs_batch, runs_audit, runs_selfrun, runs_serve}
+use Rattle.policy_files.specs.declared.error.PolicyError.{PolicyError}
+use Rattle.policy_files.specs.declared.error.FactsError.{FactsError}
+use Rattle.policy_files.specs.Policies.{PolicyValue}
+use Rattle.cqe_top.specs.declared.end.FileKind.{FileKind}
+use Rattle.cqe_top.specs.declared.end.FilesEnd.{FilesEnd}
+use Rattle.cqe_top.specs.declared.end.FilesEnd.TheVariants.{Missing, ShelfFault, Policy}
+use Rattle.cqe_top.specs.declared.end.FilesEnd.TheVariants.{Facts, Memory}
+use Rattle.cqe_top.specs.declared.over_files.Task.{Task}
+use Rattle.cqe_top.specs.declared.over_files.Task.TheVariants.{Init, Batch, Audit, Serve}
+use Rattle.cqe_top.specs.declared.part.Part.{Part}
+use Rattle.cqe_top.specs.declared.part.Part.TheVariants.{Case, Selfrun, OverFiles}
+
+-- ---- why one file wasn't read
+
+-- a file, of this kind and with this name, is not there; or the shelf failed at it
+abbrev pub RefusesFile : FileKind → Text → Option (List ℕ) → FilesEnd → Type 0
+RefusesFile file_kind name file (Missing missing) = (file ≡ None) × (missing.now ≡ name)
+RefusesFile file_kind name file (ShelfFault failed) = failed ≡ file_kind
+RefusesFile file_kind name file Memory = Unit {0}
+RefusesFile file_kind name file end = ⊥
+
+-- why bytes weren't read as a policy
+abbrev pub RefusesPolicy : Result PolicyValue PolicyError → FilesEnd → Type 0
+RefusesPolicy read (Policy why) = read ≡ Err why
+RefusesPolicy read Memory = Unit {0}
+RefusesPolicy read end = ⊥
+
+-- why bytes weren't read as facts
+abbrev pub RefusesFacts : Result FactSet FactsError → FilesEnd → Type 0
+RefusesFacts read (Facts why) = read ≡ Err why
+RefusesFacts read Memory = Unit {0}
+RefusesFacts read end = ⊥
+
+-- the shelf failed
+abbrev pub IsShelfFault : FilesEnd → Type 0
+IsShelfFault (ShelfFault kind) = Unit {0}
+IsShelfFault end = ⊥
+
+-- ---- what is done over files, as the words say it
+
+-- the reading that a task over these files stands for
+abbrev pub reading_over : FileNames → Task → Reading
+reading_over files Init = runs_init files
+reading_over files Batch = runs_batch files
+reading_over files (Audit user json) = runs_audit files user.now json
+reading_over files (Serve listening) =
+    runs_serve files listening.address.now listening.workers listening.sessions
+
+-- the reading that a part of a command stands for
+abbrev pub reading_of_part : Part → Reading
+reading_of_part Case = runs_case
+reading_of_part (Selfrun words) = runs_selfrun words.seed words.users words.asks
+reading_of_part (OverFiles files task) = reading_over (names_of_files files) task
+
+-- the limits of the workers and of their connections
+pub record ServesBounds (workers sessions : ℕ) : Type 0 where
+  pub some_worker : 1 ≤ workers
+  pub few_workers : workers ≤ 64
+  pub some_session : 1 ≤ sessions
+  pub few_sessions : sessions ≤ 2 ^ 30
+
+-- a server's numbers are within them
+abbrev pub KeepsBounds : Task → Type 0
+KeepsBounds Init = Unit {0}
+KeepsBounds Batch = Unit {0}
+KeepsBounds (Audit user json) = Unit {0}
+KeepsBounds (Serve listening) = ServesBounds listening.workers listening.sessions

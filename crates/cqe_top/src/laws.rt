@@ -1,0 +1,40 @@
+//! A law of calls. The function computes nothing: its clause is the law.
+ghost use Rattle.cqe_top.specs.Lives.{BatchCallsJoin};
+ghost use Rattle.cqe_top.specs.Scene.{input_of, links_of, output_of, scene_of, shelf_of};
+
+use outside::{Links, Shelf, Sink, Source};
+
+/// The objects of a call of `top`, as they were before it and as they are behind it.
+pub struct Seen<'a, F, S, K, E, L> {
+    pub shelf: &'a F,
+    pub shelf_behind: &'a F,
+    pub source: &'a S,
+    pub source_behind: &'a S,
+    pub sink: &'a K,
+    pub sink_behind: &'a K,
+    pub complaints: &'a E,
+    pub complaints_behind: &'a E,
+    pub links: &'a L,
+    pub links_behind: &'a L,
+}
+
+/// Two calls of `batch` over the same files, of which the second began with what a crash left as
+/// the first ended, are one run for each user: by what `top` promises of both, all that they told
+/// him are its replies, and its history is legal and hides. By `user_desk::laws::law_lives_join` so
+/// are more of them.
+pub fn law_calls_join<F: Shelf, S: Source, K: Sink, E: Sink, L: Links>(
+    first: &Seen<'_, F, S, K, E, L>,
+    second: &Seen<'_, F, S, K, E, L>,
+)
+    ensures { BatchCallsJoin
+        (scene_of (shelf_of F.Shelf F.D.Disk first.now.shelf.now first.now.shelf_behind.now)
+        (input_of S.Source first.now.source.now first.now.source_behind.now)
+        (output_of K.Sink first.now.sink.now first.now.sink_behind.now)
+        (links_of L.Links first.now.links.now first.now.links_behind.now))
+        (output_of E.Sink first.now.complaints.now first.now.complaints_behind.now)
+        (scene_of (shelf_of F.Shelf F.D.Disk second.now.shelf.now second.now.shelf_behind.now)
+        (input_of S.Source second.now.source.now second.now.source_behind.now)
+        (output_of K.Sink second.now.sink.now second.now.sink_behind.now)
+        (links_of L.Links second.now.links.now second.now.links_behind.now))
+        (output_of E.Sink second.now.complaints.now second.now.complaints_behind.now) }
+{}

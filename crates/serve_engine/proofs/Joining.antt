@@ -1,0 +1,44 @@
+-- A serving is a part of a user's one history over all calls.
+use Rattle.std.proofs.Common.{◌≡◌, ℕ, Bool, true, false, List}
+use Rattle.std.specs.Prelude.{Option, string_bytes}
+use Rattle.cqe_base.specs.Schema.{DatabaseSchema}
+use Rattle.cqe_base.specs.Facts.{FactSet}
+use Rattle.cqe_base.specs.History.{UserProfile, AnsweredQuery, History}
+use Rattle.cqe_base.specs.Run
+use Rattle.cqe_base.specs.Run.{standing_open}
+use Rattle.user_desk.specs.Causes.{Opens, IsStanding}
+use Rattle.user_desk.specs.Lives.{Holds, shown}
+use Rattle.user_desk.specs.Standings.{is_sealed}
+use Rattle.user_desk.specs.declared.standing.Standing.{Standing}
+use Rattle.user_desk.specs.declared.standing.Standing.TheVariants.{Open, Closed, Sealed}
+use Rattle.desk_crew.specs.Shelved.{Journals}
+use Rattle.serve_engine.specs.Joining.{ServingsAreSpans}
+
+-- bytes open a desk that isn't sealed
+opened_by : (schema : DatabaseSchema) (world : FactSet) (user : UserProfile) (header bytes : List ℕ) (entries : History) (before now : ℕ) (standing : Standing)
+    → IsStanding schema world user (Unit {0}) header bytes entries before now standing → is_sealed standing ≡ false
+    → Opens schema world user header entries bytes
+opened_by schema world user header bytes entries before now Open is served = is.1 tt
+opened_by schema world user header bytes entries before now (Closed admission) is served = is.3 tt
+opened_by schema world user header bytes entries before now (Sealed why) is served = absurd cc
+
+-- what holds a state holds it at any standing
+held_anyhow : (schema : DatabaseSchema) (world : FactSet) (user : UserProfile) (header c : List ℕ) (entries : History) (standing : Run.Standing)
+    (in_flight : Option AnsweredQuery) → Holds schema world user header (shown entries standing in_flight) c
+    → Holds schema world user header (shown entries standing_open in_flight) c
+held_anyhow schema world user header c entries standing in_flight holds = by holds.found holds.sought holds.opens
+  where
+    by : (found : Bool) → (found ≡ true → (shown entries standing in_flight).broken ≡ true)
+        → Opens schema world user header (Run.entries_found schema world user (shown entries standing in_flight) found) c
+        → Holds schema world user header (shown entries standing_open in_flight) c
+    by true sought opens = record { found = true; sought = sought; opens = opens }
+    by false sought opens = record { found = false; sought = sought; opens = opens }
+
+pub servings_are_spans : (journals : Journals) → ServingsAreSpans journals
+servings_are_spans journals schema world header user member refusal served unsealed left at = record {
+  opens = opened_by schema world member.profile header (journals.bytes (string_bytes user.name)) member.opening (journals.before (string_bytes user.name))
+      (journals.now (string_bytes user.name)) served.standing served.cause unsealed;
+  goes_on = served.goes_on;
+  legal = served.legal;
+  holds = held_anyhow schema world member.profile header left member.history member.standing member.in_flight (served.stands unsealed left at);
+}
