@@ -394,4 +394,6 @@ signs_from f (x ∷ xs) s (suc n) low at =
 
 pub signs_are : (n : ℕ) (t : List Assigned) (signs : List Bool) → n ≤ length signs → ((v : ℕ) → get_or signs v false ≡ is_true t (Positive v))
     → take n signs ≡ signs_of t n
-signs_are n t signs room at = signs_from (λ v. is_true t (Positive v)) signs 0 n room at
+signs_are n t signs room at =
+    signs_from (λ v. is_true t (Positive v)) signs 0 n room
+    (λ i. at i ∙ ap (λ v. is_true t (Positive v)) (let e : i ≡ 0 + i = omega arith in e))

@@ -6,17 +6,17 @@ use Rattle.clause_solver.specs.Watching.{StaysBelow, StaysOrBelow, watches_below
 use Rattle.clause_solver.proofs.LeavingWatches.{put_here, put_others}
 use Rattle.clause_solver.proofs.watches.keep_literal_below.Goals as goal
 
-pub returns-then-place-ge-len-clause-here : goal.returns-then-place-ge-len-clause-here
-returns-then-place-ge-len-clause-here c =
+pub returns-then-place-len-clause-here : goal.returns-then-place-len-clause-here
+returns-then-place-len-clause-here c =
     let vs = c.args.lists.now.items in
     let lists : List (List Watch) = map (λ v. v.items) vs in
     let k = code_of c.args.literal in
     let past : get_or lists k [] ≡ [] = get_or_past lists k [] (let e = length-map vs (λ v. v.items) in let ok = c.args.lists.now.ok.0 in
-    let is = c.code-place.ensures in omega (arith, c.len.ensures, c.if-place-ge-len.true)) in
+    let is = c.code-place.ensures in omega (arith, c.len.ensures, c.if-place-len.true)) in
     past ∙ sym (ap (watches_below c.args.clauses) past)
 
-pub returns-then-place-ge-len-clause-others : goal.returns-then-place-ge-len-clause-others
-returns-then-place-ge-len-clause-others c = λ k. inl refl
+pub returns-then-place-len-clause-others : goal.returns-then-place-len-clause-others
+returns-then-place-len-clause-others c = λ k. inl refl
 
 pub returns-clause-here : goal.returns-clause-here
 returns-clause-here c =
@@ -26,7 +26,7 @@ returns-clause-here c =
     let count = c.args.clauses in
     let lists : List (List Watch) = map (λ v. v.items) vs in
     let ys = c.keep_list_below.new.list.items in
-    let within : j < length vs = (let ok = c.args.lists.now.ok.0 in omega (arith, c.len.ensures, c.if-place-ge-len.false)) in
+    let within : j < length vs = (let ok = c.args.lists.now.ok.0 in omega (arith, c.len.ensures, c.if-place-len.false)) in
     let low : j < length lists = (let e = length-map vs (λ v. v.items) in omega arith) in
     let is : ys ≡ watches_below count (get_or lists j []) =
     c.keep_list_below.ensures
@@ -42,7 +42,7 @@ returns-clause-others c =
     let count = c.args.clauses in
     let lists : List (List Watch) = map (λ v. v.items) vs in
     let ys = c.keep_list_below.new.list.items in
-    let within : j < length vs = (let ok = c.args.lists.now.ok.0 in omega (arith, c.len.ensures, c.if-place-ge-len.false)) in
+    let within : j < length vs = (let ok = c.args.lists.now.ok.0 in omega (arith, c.len.ensures, c.if-place-len.false)) in
     let low : j < length lists = (let e = length-map vs (λ v. v.items) in omega arith) in
     let is : ys ≡ watches_below count (get_or lists j []) =
     c.keep_list_below.ensures
