@@ -1,9 +1,9 @@
-use Rattle.std.proofs.Common.{◌≡◌, ◌≤◌, Some, true, nat_le, sym, subst, ap, ◌∙◌}
+use Rattle.std.proofs.Common.{◌≤◌, Some, nat_le, sym, subst, ap, ◌∙◌}
 use Rattle.std.proofs.lemmas.Bool.{leb-true}
 use Rattle.cqe_base.specs.Formula.{formula_of, nodes, is_sentence_of}
 use Rattle.entailment.specs.Logs.{log_nodes}
 use Rattle.entailment.specs.Views.{schema_of, log_of}
-use Rattle.censors.specs.Admitting.{probe_objection, secrets_objection}
+use Rattle.censors.specs.Admitting.{probe_objection}
 use Rattle.censors.proofs.Probing.{each_passes}
 use Rattle.censors.proofs.Objections.{objection_here, silent_before-more}
 use Rattle.censors.proofs.admittance.first_objection.Goals as goal

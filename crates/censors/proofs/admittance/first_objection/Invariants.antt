@@ -1,5 +1,5 @@
 use Rattle.std.proofs.Common.{◌≡◌}
-use Rattle.entailment.specs.Views.{schema_of, log_of}
+use Rattle.entailment.specs.Views.{log_of}
 use Rattle.censors.proofs.Objections.{SilentBefore}
 use Rattle.censors.proofs.admittance.first_objection.Given as goal
 
