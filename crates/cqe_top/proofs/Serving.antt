@@ -24,7 +24,7 @@ use Rattle.policy_files.specs.Policies.{PolicyUser, PolicyValue}
 use Rattle.policy_files.specs.Policy.{policy_in}
 use Rattle.policy_files.specs.declared.error.FactsError.{FactsError}
 use Rattle.policy_files.specs.declared.error.PolicyError.{PolicyError}
-use Rattle.serve_engine.specs.Served.{Member}
+use Rattle.serve_engine.specs.Served.{Member, member_broke}
 use Rattle.serve_engine.specs.Serving as serving
 use Rattle.serve_engine.specs.declared.run.ServeEnd.{ServeEnd}
 use Rattle.serve_engine.specs.declared.run.ServeEnd.TheVariants as serve_end
@@ -128,17 +128,17 @@ module _ (schema : DatabaseSchema) (world : FactSet) (header : List ℕ) (journa
 
   none_broke : (users : List User) (members : List Member) (refusals : List (Option DeskError))
       → serving.HaveServed schema world header journals users members refusals
-      → AllByRecursion IsReady (map policy_user_of users) → list_any (λ member. member.broke) members ≡ true → ⊥
+      → AllByRecursion IsReady (map policy_user_of users) → list_any member_broke members ≡ true → ⊥
   none_broke [] [] refusals served ready says = let clash : false ≡ true = says in cc
   none_broke [] (member ∷ members) refusals served ready says = served
   none_broke (user ∷ users) [] refusals served ready says = served
   none_broke (user ∷ users) (member ∷ members) [] served ready says = served
   none_broke (user ∷ users) (member ∷ members) (refusal ∷ refusals) served ready says =
-      by member.broke refl (none_broke users members refusals served.1 ready.1)
+      by (member_broke member) refl (none_broke users members refusals served.1 ready.1)
     where
-      by : (broke : Bool) → member.broke ≡ broke → (list_any (λ one. one.broke) members ≡ true → ⊥) → ⊥
+      by : (broke : Bool) → member_broke member ≡ broke → (list_any member_broke members ≡ true → ⊥) → ⊥
       by true is further = ready.0.1 (served.0.failed is)
-      by false is further = further (sym (ap (λ b. b || list_any (λ one. one.broke) members) is) ∙ says)
+      by false is further = further (sym (ap (λ b. b || list_any member_broke members) is) ∙ says)
 
 module _ (law : OpensUnrefused) (s : Scene) (files : FileNames) (address : Text) (workers sessions : ℕ) where
   pub serve_succeeds : (users : Vec User Global) (end : ServeEnd) → RunsServe s.shelf s.links files address workers sessions users end

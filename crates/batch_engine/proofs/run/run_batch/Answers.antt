@@ -252,22 +252,24 @@ returns-in-Cut-clause-ends g c =
     let reads = c.in-Whole.ensures.reads source_told in
     let is = sym (batch_begins _ _ c.new.ensures) ∙ reads.0 in (
       reads.1,
-      items_of c.in-Whole.batch,
-      is,
-      finish_some c.args.registry.now.schema.now c.args.registry.now.world.now
-          (header_bytes c.args.registry.now.header.now) c.args.registry.now.directory.now g.F.D.Disk.tells g.F.Shelf.tells
-          (g.met.F.Shelf.tells_disks shelf_told) shelf_told g.F.D.Disk
-          g.met.F.D.Disk.read_is_image g.met.F.D.Disk.only_now
-          (g.F.Shelf.disk c.args.shelf.now) (g.F.Shelf.disk c.give_back-in-Cut.new.shelf) (g.F.Shelf.disk_faults c.args.shelf.now)
-          (g.F.Shelf.disk_faults c.give_back-in-Cut.new.shelf) (λ (user : UserProfile) entries bytes why.
-          c.law_openings.ensures.unrefused c.args.registry.now.schema.now c.args.registry.now.world.now user c.args.registry.now.header.now
-          bytes entries why) (λ (user : UserProfile) bytes.
-          c.law_openings.ensures.decided c.args.registry.now.schema.now c.args.registry.now.world.now user
-          (header_bytes c.args.registry.now.header.now) bytes) c.law_legal_grows.ensures.empty c.law_runs_legal.ensures
-          c.law_scripts_hide.ensures c.law_private.ensures c.known.ensures c.args.registry.now.users.now c.requires.limits
-          c.requires.names c.in-Ok-open_all.seats.items c.in-Ok-open_all.ensures.opened g.K.Sink.tells sink_told
-          (items_of c.in-Whole.batch) c.in-Cut.seats.items _ _ c.in-Cut.ensures.answered
-          c.give_back-in-Cut.ensures.back,
+      (
+        items_of c.in-Whole.batch,
+        is,
+        finish_some c.args.registry.now.schema.now c.args.registry.now.world.now
+            (header_bytes c.args.registry.now.header.now) c.args.registry.now.directory.now g.F.D.Disk.tells g.F.Shelf.tells
+            (g.met.F.Shelf.tells_disks shelf_told) shelf_told g.F.D.Disk
+            g.met.F.D.Disk.read_is_image g.met.F.D.Disk.only_now
+            (g.F.Shelf.disk c.args.shelf.now) (g.F.Shelf.disk c.give_back-in-Cut.new.shelf) (g.F.Shelf.disk_faults c.args.shelf.now)
+            (g.F.Shelf.disk_faults c.give_back-in-Cut.new.shelf) (λ (user : UserProfile) entries bytes why.
+            c.law_openings.ensures.unrefused c.args.registry.now.schema.now c.args.registry.now.world.now user c.args.registry.now.header.now
+            bytes entries why) (λ (user : UserProfile) bytes.
+            c.law_openings.ensures.decided c.args.registry.now.schema.now c.args.registry.now.world.now user
+            (header_bytes c.args.registry.now.header.now) bytes) c.law_legal_grows.ensures.empty c.law_runs_legal.ensures
+            c.law_scripts_hide.ensures c.law_private.ensures c.known.ensures c.args.registry.now.users.now c.requires.limits
+            c.requires.names c.in-Ok-open_all.seats.items c.in-Ok-open_all.ensures.opened g.K.Sink.tells sink_told
+            (items_of c.in-Whole.batch) c.in-Cut.seats.items _ _ c.in-Cut.ensures.answered
+            c.give_back-in-Cut.ensures.back,
+      ),
     )
 
 pub returns-in-Cut-clause-inside : goal.returns-in-Cut-clause-inside
@@ -339,21 +341,23 @@ returns-clause-ends g c =
     let left = c.in-Memory-answer_all.ensures.answered in
     inr (
       reads.1,
-      items_of c.in-Whole.batch,
-      is,
-      finish_to c.args.registry.now.schema.now c.args.registry.now.world.now
-          (header_bytes c.args.registry.now.header.now) c.args.registry.now.directory.now g.F.D.Disk.tells g.F.Shelf.tells
-          (g.met.F.Shelf.tells_disks shelf_told) shelf_told g.F.D.Disk
-          g.met.F.D.Disk.read_is_image g.met.F.D.Disk.only_now
-          (g.F.Shelf.disk c.args.shelf.now) (g.F.Shelf.disk c.answer_all.new.shelf) (g.F.Shelf.disk_faults c.args.shelf.now)
-          (g.F.Shelf.disk_faults c.answer_all.new.shelf) (λ (user : UserProfile) entries bytes why.
-          c.law_openings.ensures.unrefused c.args.registry.now.schema.now c.args.registry.now.world.now user c.args.registry.now.header.now
-          bytes entries why) (λ (user : UserProfile) bytes.
-          c.law_openings.ensures.decided c.args.registry.now.schema.now c.args.registry.now.world.now user
-          (header_bytes c.args.registry.now.header.now) bytes) c.law_legal_grows.ensures.empty c.law_runs_legal.ensures
-          c.law_scripts_hide.ensures c.law_private.ensures c.known.ensures c.args.registry.now.users.now c.requires.limits
-          c.requires.names c.in-Ok-open_all.seats.items c.in-Ok-open_all.ensures.opened g.K.Sink.tells sink_told
-          (items_of c.in-Whole.batch) left.0 _ _ left.1 left.2,
+      (
+        items_of c.in-Whole.batch,
+        is,
+        finish_to c.args.registry.now.schema.now c.args.registry.now.world.now
+            (header_bytes c.args.registry.now.header.now) c.args.registry.now.directory.now g.F.D.Disk.tells g.F.Shelf.tells
+            (g.met.F.Shelf.tells_disks shelf_told) shelf_told g.F.D.Disk
+            g.met.F.D.Disk.read_is_image g.met.F.D.Disk.only_now
+            (g.F.Shelf.disk c.args.shelf.now) (g.F.Shelf.disk c.answer_all.new.shelf) (g.F.Shelf.disk_faults c.args.shelf.now)
+            (g.F.Shelf.disk_faults c.answer_all.new.shelf) (λ (user : UserProfile) entries bytes why.
+            c.law_openings.ensures.unrefused c.args.registry.now.schema.now c.args.registry.now.world.now user c.args.registry.now.header.now
+            bytes entries why) (λ (user : UserProfile) bytes.
+            c.law_openings.ensures.decided c.args.registry.now.schema.now c.args.registry.now.world.now user
+            (header_bytes c.args.registry.now.header.now) bytes) c.law_legal_grows.ensures.empty c.law_runs_legal.ensures
+            c.law_scripts_hide.ensures c.law_private.ensures c.known.ensures c.args.registry.now.users.now c.requires.limits
+            c.requires.names c.in-Ok-open_all.seats.items c.in-Ok-open_all.ensures.opened g.K.Sink.tells sink_told
+            (items_of c.in-Whole.batch) left.0 _ _ left.1 left.2,
+      ),
     )
 
 pub returns-in-All-clause-disks : goal.returns-in-All-clause-disks
