@@ -1,5 +1,5 @@
 -- What stays of the first clauses under the oldest entries of a trail, and what is left where a state goes back to them.
-use Rattle.std.proofs.Common.{◌≡◌, ℕ, zero, suc, ◌+◌, ◌-◌, ◌<◌, ◌≤◌, Bool, true, false, cond, leb, ltb, eqb, List, [], ◌∷◌, ◌++◌, length, get_or, set, take}
+use Rattle.std.proofs.Common.{◌≡◌, ℕ, zero, suc, ◌-◌, ◌<◌, ◌≤◌, Bool, true, false, cond, leb, ltb, eqb, List, [], ◌∷◌, ◌++◌, length, get_or, set, take}
 use Rattle.std.proofs.Common.{drop, Option, Some, None, refl, sym, ap, ◌∙◌, subst, inl, inr, ⊎_elim, arith, append-nil}
 use Rattle.std.specs.Prelude.{IfSome, IfNone}
 use Rattle.std.specs.List.{AllByRecursion, list_all}
@@ -17,11 +17,12 @@ use Rattle.clause_store.specs.Codes.{code_of}
 use Rattle.clause_solver.specs.Assigning.{Assigning}
 use Rattle.clause_solver.specs.Beginnings.{EndsWith}
 use Rattle.clause_solver.specs.Watching.{IsAnswered, satisfied, is_unit, is_falsified, IsWatched, IsWatching, IsWatchOf, WatchesBeside, HaveSameLiterals}
-use Rattle.clause_solver.specs.Watching.{has_clause, has_number, is_caught, no_pair, watches_below}
+use Rattle.clause_solver.specs.Watching.{has_clause, has_number, is_caught, no_pair, watches_below, StaysBelow, times_listed, times_watched}
 use Rattle.clause_solver.specs.WatchesInside.{units_of}
 use Rattle.clause_solver.specs.Bases.{Base, StandsOn}
 use Rattle.clause_solver.specs.KeptStates.{IsSettled}
 use Rattle.clause_solver.proofs.Trails.{cut-low}
+use Rattle.clause_solver.proofs.Listed.{below_few}
 use Rattle.clause_solver.proofs.Visits.{IsNext}
 
 -- ---- the oldest entries of a trail
@@ -191,24 +192,10 @@ kept_whole count (w ∷ watches) e =
     ap (λ rest. w ∷ rest) (kept_whole count watches parts.1)
     ∙ sym (ap (λ b. cond b (w ∷ watches_below count watches) (watches_below count watches)) parts.0)
 
--- one list after the other
-module _ (count : ℕ) (lists old : List (List Watch)) (j : ℕ) (ys : List Watch) (here : j < length lists) (is : ys ≡ watches_below count (get_or lists j []))
-    (done : (k : ℕ) → k < j → get_or lists k [] ≡ watches_below count (get_or old k []))
-    (left : (k : ℕ) → j ≤ k → get_or lists k [] ≡ get_or old k []) where
-  pub below_done : (k : ℕ) → k < j + 1 → get_or (set lists j ys) k [] ≡ watches_below count (get_or old k [])
-  below_done k lt = elim (cases_eq k j) [
-    | inl same ↦ ap (λ m. get_or (set lists j ys) m []) same ∙ get_or-set_same lists j ys [] here ∙ is
-        ∙ ap (watches_below count) (left j (omega arith)) ∙ ap (λ m. watches_below count (get_or old m [])) (sym same)
-    | inr ne ↦ get_or-set_other lists j k ys [] ne ∙ done k (omega arith)
-  ]
-
-  pub below_left : (k : ℕ) → j + 1 ≤ k → get_or (set lists j ys) k [] ≡ get_or old k []
-  below_left k ge = get_or-set_other lists j k ys [] (λ same. absurd (omega arith)) ∙ left k (omega arith)
-
 module _ (n : ℕ) (t oldest : List Assigned) (cs : List (List Literal)) (lists lists' : List (List Watch)) (pairs : List Pair) (units : List ℕ)
     (falsified : Option ℕ) (g : Literal) (count : ℕ) (before : IsWatching n t cs lists pairs units falsified g []) (within : count ≤ length cs)
     (under : Under oldest count cs pairs) (room : length lists' ≡ length lists)
-    (kept : (k : ℕ) → get_or lists' k [] ≡ watches_below count (get_or lists k [])) where
+    (kept : (l : Literal) → StaysBelow count lists lists' (code_of l)) where
   taken : length (take count cs) ≡ count
   taken = length-take-le count cs within
 
@@ -222,14 +209,14 @@ module _ (n : ℕ) (t oldest : List Assigned) (cs : List (List Literal)) (lists 
   pair_at i lt = get_or-take count pairs i no_pair lt
 
   still : (i : ℕ) (l : Literal) → i < count → has_clause (get_or lists (code_of l) []) i ≡ true → has_clause (get_or lists' (code_of l) []) i ≡ true
-  still i l lt h = ap (λ ws. has_clause ws i) (kept (code_of l)) ∙ has_below count (get_or lists (code_of l) []) i lt h
+  still i l lt h = ap (λ ws. has_clause ws i) (kept l) ∙ has_below count (get_or lists (code_of l) []) i lt h
 
   pub gone_back : IsWatching n oldest (take count cs) lists' (take count pairs) [] None g []
   gone_back = record {
     below = take_below n count cs before.below;
     lists_room = room ∙ before.lists_room;
     pairs_room = length-take-le count pairs (let e = before.pairs_room in omega arith) ∙ sym taken;
-    watches = λ l. subst (AllByRecursion (IsWatchOf (take count cs))) (sym (kept (code_of l)))
+    watches = λ l. subst (AllByRecursion (IsWatchOf (take count cs))) (sym (kept l))
         (all_below count (IsWatchOf cs) (IsWatchOf (take count cs)) (λ w lt h. record {
           within = let e = taken in omega arith;
           blocker = ap (λ c. has_literal c w.blocker) (clause_at w.clause lt) ∙ h.blocker;
@@ -238,6 +225,10 @@ module _ (n : ℕ) (t oldest : List Assigned) (cs : List (List Literal)) (lists 
         (still i _ (low i lt) (before.first_listed i (let a = low i lt in omega arith) (subst (λ c. 0 < length c) (clause_at i (low i lt)) pos)));
     second_listed = λ i lt pos. subst (λ p. has_clause (get_or lists' (code_of p.second) []) i ≡ true) (sym (pair_at i (low i lt)))
         (still i _ (low i lt) (before.second_listed i (let a = low i lt in omega arith) (subst (λ c. 0 < length c) (clause_at i (low i lt)) pos)));
+    few = λ i l lt. subst (λ p. times_listed (get_or lists' (code_of l) []) i ≤ times_watched p l) (sym (pair_at i (low i lt)))
+        (subst (λ zs. times_listed zs i ≤ times_watched (get_or pairs i no_pair) l) (sym (kept l))
+        (below_few count (get_or lists (code_of l) []) i (times_watched (get_or pairs i no_pair) l)
+        (before.few i l (let a = low i lt in omega arith))));
     each = λ i lt. inl (subst (λ c. IsWatched oldest c (get_or (take count pairs) i no_pair) false false) (sym (clause_at i (low i lt)))
         (subst (λ p. IsWatched oldest (get_or cs i []) p false false) (sym (pair_at i (low i lt))) (under i (low i lt))));
     units_are = λ i h. absurd (both_ways false refl h);

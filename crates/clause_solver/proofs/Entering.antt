@@ -15,10 +15,11 @@ use Rattle.clause_solver.specs.declared.watches.Watch.{Watch}
 use Rattle.clause_solver.specs.declared.watches.Watches.{Watches}
 use Rattle.clause_store.specs.Codes.{code_of}
 use Rattle.clause_solver.specs.Watching.{IsAnswered, satisfied, is_unit, is_falsified, IsWatched, IsWatching, IsWatchOf, AllFalseBut, has_number, has_clause}
-use Rattle.clause_solver.specs.Watching.{is_caught, lowest, no_pair, HaveSameLiterals}
+use Rattle.clause_solver.specs.Watching.{is_caught, lowest, no_pair, one_if, times_listed, times_watched, HaveSameLiterals}
 use Rattle.clause_solver.specs.WatchesInside.{lists_of}
 use Rattle.clause_store.proofs.Marking.{code_of-below}
 use Rattle.clause_solver.proofs.Watching.{watched_more}
+use Rattle.clause_solver.proofs.Listed.{none_listed, other_more, pushed_times}
 use Rattle.clause_solver.proofs.Looks.{watch_of, more_at, more_has, more_all, last_has}
 use Rattle.clause_solver.proofs.Visits.{lowest_more, lowest_caught, lowest_is}
 
@@ -93,7 +94,9 @@ module _ (n : ℕ) (t : List Assigned) (cs : List (List Literal)) (lists : List 
       (caught_kept : (i : ℕ) → is_caught falsified i ≡ true → is_caught falsified' i ≡ true)
       (now : IsWatched t c p (has_number units' m) (is_caught falsified' m))
       (units_now : (i : ℕ) → has_number units' i ≡ true → (has_number units i ≡ true) ⊎ ((i ≡ m) × (l : Literal) × AllFalseBut t l c))
-      (falsified_now : IfSome falsified' (λ i. (i < length cs') × (list_all (is_false t) (get_or cs' i []) ≡ true))) where
+      (falsified_now : IfSome falsified' (λ i. (i < length cs') × (list_all (is_false t) (get_or cs' i []) ≡ true)))
+      (few_before : (i : ℕ) (l : Literal) → i < length cs → times_listed (get_or lists' (code_of l) []) i ≡ times_listed (get_or lists (code_of l) []) i)
+      (few_now : (l : Literal) → times_listed (get_or lists' (code_of l) []) m ≤ times_watched p l) where
     abbrev pairs' : List Pair
     pairs' = pairs ++ p ∷ []
 
@@ -120,6 +123,13 @@ module _ (n : ℕ) (t : List Assigned) (cs : List (List Literal)) (lists : List 
             subst (λ x. has_clause (get_or lists' (code_of x.second) []) i ≡ true) (sym (new_pair i e))
             (subst (λ j. has_clause (get_or lists' (code_of p.second) []) j ≡ true) (sym e) (second_now (subst (λ x. 0 < length x) (new_clause i e) pos)))
       ];
+      few = λ i l lt. elim (cases_lt i (length cs)) [
+        | inl old ↦ subst (λ x. times_listed (get_or lists' (code_of l) []) i ≤ times_watched x l) (sym (old_pair i old))
+            (subst (λ k. k ≤ times_watched (get_or pairs i no_pair) l) (sym (few_before i l old)) (before.few i l old))
+        | inr ge ↦ let e = last i lt ge in
+            subst (λ x. times_listed (get_or lists' (code_of l) []) i ≤ times_watched x l) (sym (new_pair i e))
+            (subst (λ j. times_listed (get_or lists' (code_of l) []) j ≤ times_watched p l) (sym e) (few_now l))
+      ];
       each = λ i lt. inl (elim (cases_lt i (length cs)) [
         | inl old ↦
             subst (λ x. IsWatched t x (get_or pairs' i no_pair) (has_number units' i) (is_caught falsified' i)) (sym (old_clause i old))
@@ -142,6 +152,13 @@ module _ (n : ℕ) (t : List Assigned) (cs : List (List Literal)) (lists : List 
   falsified_before None h = tt
   falsified_before (Some i) h = let lt = h.0 in let e = size in (omega arith, ap (list_all (is_false t)) (old_clause i h.0) ∙ h.1)
 
+  -- the clause had no watch before
+  not_listed : (l : Literal) → times_listed (get_or lists (code_of l) []) m ≡ 0
+  not_listed l = none_listed cs (get_or lists (code_of l) []) m (omega arith) (before.watches l)
+
+  no_less : (k : ℕ) → 0 ≤ k
+  no_less k = omega arith
+
   -- a clause with no literal
   pub entered_empty : length c ≡ 0 → level t ≡ 0 → IsWatching n t cs' lists (pairs ++ p ∷ []) units (lowest falsified m) g []
   entered_empty none base =
@@ -157,6 +174,8 @@ module _ (n : ℕ) (t : List Assigned) (cs : List (List Literal)) (lists : List 
             omega arith,
         ap (list_all (is_false t)) (new_clause m refl) ∙ no_literal c none,
       ))
+      (λ i l lt. refl)
+      (λ l. subst (λ k. k ≤ times_watched p l) (sym (not_listed l)) (no_less (times_watched p l)))
     where
       none_watched : IsWatched t c p (has_number units m) (is_caught (lowest falsified m) m)
       none_watched = record {
@@ -204,6 +223,24 @@ module _ (n : ℕ) (t : List Assigned) (cs : List (List Literal)) (lists : List 
     is_watch : (b : Literal) → has_literal c b ≡ true → IsWatchOf cs' (watch_of m b)
     is_watch b h = record { within = let e = size in omega arith; blocker = ap (λ x. has_literal x b) (new_clause m refl) ∙ h }
 
+    earlier : (i : ℕ) → i < length cs → i ≡ m → ⊥
+    earlier i lt e = omega arith
+
+    same_times : (i : ℕ) (l : Literal) → i < length cs → times_listed (get_or lists2 (code_of l) []) i ≡ times_listed (get_or lists (code_of l) []) i
+    same_times i l lt =
+        more_both (λ zs. times_listed zs i ≡ times_listed (get_or lists (code_of l) []) i) (λ zs e. other_more zs v1 i (earlier i lt) ∙ e)
+        (λ zs e. other_more zs v2 i (earlier i lt) ∙ e) (code_of l) refl
+
+    times_now : (l : Literal) → times_listed (get_or lists2 (code_of l) []) m ≤ times_watched p l
+    times_now l =
+        let none = not_listed l in
+        let one : times_listed (get_or lists1 (code_of l) []) m ≤ one_if (same_literal p.first l) + times_listed (get_or lists (code_of l) []) m =
+        pushed_times lists p.first l v1 first_room m in
+        let two : times_listed (get_or lists2 (code_of l) []) m ≤ one_if (same_literal p.second l) + times_listed (get_or lists1 (code_of l) []) m =
+        pushed_times lists1 p.second l v2 second1 m in
+        let both : times_listed (get_or lists2 (code_of l) []) m ≤ one_if (same_literal p.first l) + one_if (same_literal p.second l) = omega arith in
+        both
+
     pub entered_watched : IsWatching n t cs' lists2 (pairs ++ p ∷ []) units' falsified g []
     entered_watched =
         entered lists2 units' falsified
@@ -225,6 +262,7 @@ module _ (n : ℕ) (t : List Assigned) (cs : List (List Literal)) (lists : List 
         inr (sym (eqb-true m i parts.1), p.first, only parts.0))
         (or_cases _ _ (sym (units_are i) ∙ h)))
         (falsified_before falsified before.falsified_is)
+        same_times times_now
 
 -- ---- the same literals in each clause, with one more
 

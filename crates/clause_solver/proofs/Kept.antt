@@ -1,13 +1,13 @@
 -- What is kept of a trail stays that of the trail.
 use Rattle.std.proofs.Common.{◌≡◌, ℕ, zero, suc, ◌+◌, ◌-◌, ◌*◌, ◌<◌, ◌≤◌, min, Bool, true, false, cond, not, ◌&&◌, ◌||◌, eqb, List, [], ◌∷◌, ◌++◌, length}
-use Rattle.std.proofs.Common.{reverse, get_or, set, replicate, Option, Some, None, refl, sym, ap, ◌∙◌, subst, inl, inr, ⊎_elim, ◌⊎◌, arith}
+use Rattle.std.proofs.Common.{reverse, get_or, set, map, take, replicate, Option, Some, None, refl, sym, ap, ◌∙◌, subst, inl, inr, ⊎_elim, ◌⊎◌, arith}
 use Rattle.std.specs.Prelude.{unwrap_or, IfSome}
 use Rattle.std.specs.List.{find, range_with_len}
 use Rattle.std.proofs.lemmas.Bool.{both_ways, cases_eq, cases_lt, false_from_ne_true, true_from_ne_false, or_left, or_right, eq-eqb, ne_eqb, and_from, and_left}
 use Rattle.std.proofs.lemmas.Bool.{and_right}
 use Rattle.std.proofs.lemmas.List.{get_or-set_same, get_or-set_other, length-set, get_or_past, get_or-replicate, length-replicate, reverse-append}
 use Rattle.cqe_base.specs.Literal.{Literal, Positive, Negative, variable_of, same_literal}
-use Rattle.cqe_base.specs.Machine.{Assigned, assigned_literal, is_true, level, level_of, first_unassigned}
+use Rattle.cqe_base.specs.Machine.{Assigned, assigned_literal, is_true, level, level_of, signs_of, first_unassigned}
 use Rattle.cqe_base.specs.MachineStates.{is_assigned, IsDistinct}
 use Rattle.cqe_base.proofs.ClauseTruth.{same_literal-true, same_literal-same}
 use Rattle.cqe_base.proofs.Trails.{true_is_assigned}
@@ -84,8 +84,8 @@ module _ (p : ℕ → Bool) where
         ∙ find_range-some n (s + 1) i (omega arith) (omega arith) e (λ k l2 h2. h k (omega arith) h2)
   ]
 
-module _ (n : ℕ) (t : List Assigned) (truths : List Bool) (levels places : List ℕ) (decisions next : ℕ)
-    (kept : IsKept n t truths levels places decisions next) where
+module _ (n : ℕ) (t : List Assigned) (truths signs : List Bool) (levels places : List ℕ) (decisions next : ℕ)
+    (kept : IsKept n t truths signs levels places decisions next) where
   -- a variable whose place isn't 0 is assigned
   placed : (v : ℕ) → (get_or places v 0 ≡ 0 → ⊥) → is_assigned t v ≡ true
   placed v h = true_from_ne_false _ (λ e. h (kept.place_at v ∙ unassigned-place t v e))
@@ -116,13 +116,15 @@ module _ (n : ℕ) (t : List Assigned) (truths : List Bool) (levels places : Lis
   first_free None h = tt
   first_free (Some i) h = unplaced i h.2
 
-  pub first_kept : (r : Option ℕ) → IsFirstZero places next n r → IsKept n t truths levels places decisions (unwrap_or r n)
+  pub first_kept : (r : Option ℕ) → IsFirstZero places next n r → IsKept n t truths signs levels places decisions (unwrap_or r n)
   first_kept None h = record {
     once = kept.once;
     truths_room = kept.truths_room;
+    signs_room = kept.signs_room;
     levels_room = kept.levels_room;
     places_room = kept.places_room;
     true_at = kept.true_at;
+    sign_at = kept.sign_at;
     level_at = kept.level_at;
     place_at = kept.place_at;
     level_is = kept.level_is;
@@ -135,9 +137,11 @@ module _ (n : ℕ) (t : List Assigned) (truths : List Bool) (levels places : Lis
   first_kept (Some i) h = record {
     once = kept.once;
     truths_room = kept.truths_room;
+    signs_room = kept.signs_room;
     levels_room = kept.levels_room;
     places_room = kept.places_room;
     true_at = kept.true_at;
+    sign_at = kept.sign_at;
     level_at = kept.level_at;
     place_at = kept.place_at;
     level_is = kept.level_is;
@@ -148,13 +152,20 @@ module _ (n : ℕ) (t : List Assigned) (truths : List Bool) (levels places : Lis
     ];
   }
 
+  or_false : (b : Bool) → (b || false) ≡ b
+  or_false true = refl
+  or_false false = refl
+
   -- one more entry
-  pub kept_push : (a : Assigned) (c v size more : ℕ) → c ≡ code_of (assigned_literal a) → v ≡ variable_of (assigned_literal a) → size ≡ length t + 1
-      → more ≡ level (a ∷ t) → v < n → is_assigned t v ≡ false
-      → IsKept n (a ∷ t) (set truths c true) (set levels v more) (set places v size) more next
-  kept_push a c v size more ec ev es em low free = record {
+  pub kept_push : (a : Assigned) (c v size more : ℕ) (sign : Bool) → c ≡ code_of (assigned_literal a) → v ≡ variable_of (assigned_literal a)
+      → size ≡ length t + 1
+      → more ≡ level (a ∷ t) → sign ≡ same_literal (Positive (variable_of (assigned_literal a))) (assigned_literal a) → v < n
+      → is_assigned t v ≡ false
+      → IsKept n (a ∷ t) (set truths c true) (set signs v sign) (set levels v more) (set places v size) more next
+  kept_push a c v size more sign ec ev es em eg low free = record {
     once = (subst (λ x. x < n) ev low, subst (λ x. is_assigned t x ≡ false) ev free, kept.once);
     truths_room = let e = length-set truths c true in let r = kept.truths_room in omega arith;
+    signs_room = let e = length-set signs v sign in let r = kept.signs_room in omega arith;
     levels_room = let e = length-set levels v more in let r = kept.levels_room in omega arith;
     places_room = let e = length-set places v size in let r = kept.places_room in omega arith;
     true_at = λ l. elim (cases_eq (code_of l) c) [
@@ -162,6 +173,16 @@ module _ (n : ℕ) (t : List Assigned) (truths : List Bool) (levels places : Lis
           ∙ sym (or_left _ _ (subst (λ m. same_literal l m ≡ true) (code_of-injective l (assigned_literal a) (same ∙ ec)) (same_literal-same l)))
       | inr other ↦ get_or-set_other truths c (code_of l) true false other ∙ kept.true_at l
           ∙ sym (ap (λ b. b || is_true t l) (false_from_ne_true _ (λ s. other (ap code_of (same_literal-true l (assigned_literal a) s) ∙ sym ec))))
+    ];
+    sign_at = λ w. elim (cases_eq w v) [
+      | inl same ↦ subst (λ x. get_or (set signs v sign) x false ≡ sign) (sym same) (get_or-set_same signs v sign false in_signs) ∙ eg
+          ∙ ap (λ x. same_literal (Positive x) (assigned_literal a)) (sym (same ∙ ev))
+          ∙ sym (or_false (same_literal (Positive w) (assigned_literal a)))
+          ∙ ap (λ b. same_literal (Positive w) (assigned_literal a) || b)
+          (sym (unassigned-true t (Positive w) (subst (λ x. is_assigned t x ≡ false) (sym same) free)))
+      | inr other ↦ get_or-set_other signs v w sign false other ∙ kept.sign_at w
+          ∙ sym (ap (λ b. b || is_true t (Positive w))
+          (false_from_ne_true _ (λ s. other (ap variable_of (same_literal-true (Positive w) (assigned_literal a) s) ∙ sym ev))))
     ];
     level_at = λ w. elim (cases_eq w v) [
       | inl same ↦ subst (λ x. get_or (set levels v more) x 0 ≡ more) (sym same) (get_or-set_same levels v more 0 in_levels) ∙ em
@@ -183,6 +204,9 @@ module _ (n : ℕ) (t : List Assigned) (truths : List Bool) (levels places : Lis
       in_truths : c < length truths
       in_truths = let h = code_of-below n (assigned_literal a) (subst (λ x. x < n) ev low) in let r = kept.truths_room in omega arith
 
+      in_signs : v < length signs
+      in_signs = let r = kept.signs_room in omega arith
+
       in_levels : v < length levels
       in_levels = let r = kept.levels_room in omega arith
 
@@ -193,13 +217,14 @@ module _ (n : ℕ) (t : List Assigned) (truths : List Bool) (levels places : Lis
       assigned_more w e = or_right _ _ e
 
 -- without the latest entry
-pub kept_pop : (n : ℕ) (a : Assigned) (t : List Assigned) (truths : List Bool) (levels places : List ℕ) (decisions next c v less low : ℕ)
-    → IsKept n (a ∷ t) truths levels places decisions next → c ≡ code_of (assigned_literal a) → v ≡ variable_of (assigned_literal a)
+pub kept_pop : (n : ℕ) (a : Assigned) (t : List Assigned) (truths signs : List Bool) (levels places : List ℕ) (decisions next c v less low : ℕ)
+    → IsKept n (a ∷ t) truths signs levels places decisions next → c ≡ code_of (assigned_literal a) → v ≡ variable_of (assigned_literal a)
     → less ≡ cond (is_decided a) (decisions - 1) decisions → low ≡ min next v
-    → IsKept n t (set truths c false) (set levels v 0) (set places v 0) less low
-kept_pop n a t truths levels places decisions next c v less low kept ec ev el ew = record {
+    → IsKept n t (set truths c false) (set signs v false) (set levels v 0) (set places v 0) less low
+kept_pop n a t truths signs levels places decisions next c v less low kept ec ev el ew = record {
   once = kept.once.2;
   truths_room = let e = length-set truths c false in let r = kept.truths_room in omega arith;
+  signs_room = let e = length-set signs v false in let r = kept.signs_room in omega arith;
   levels_room = let e = length-set levels v 0 in let r = kept.levels_room in omega arith;
   places_room = let e = length-set places v 0 in let r = kept.places_room in omega arith;
   true_at = λ l. elim (cases_eq (code_of l) c) [
@@ -207,6 +232,13 @@ kept_pop n a t truths levels places decisions next c v less low kept ec ev el ew
         ∙ sym (unassigned-true t l (subst (λ m. is_assigned t (variable_of m) ≡ false) (sym (code_of-injective l (assigned_literal a) (same ∙ ec))) free))
     | inr other ↦ get_or-set_other truths c (code_of l) false false other ∙ kept.true_at l
         ∙ ap (λ b. b || is_true t l) (false_from_ne_true _ (λ s. other (ap code_of (same_literal-true l (assigned_literal a) s) ∙ sym ec)))
+  ];
+  sign_at = λ w. elim (cases_eq w v) [
+    | inl same ↦ subst (λ x. get_or (set signs v false) x false ≡ false) (sym same) (get_or-set_same signs v false false in_signs)
+        ∙ sym (unassigned-true t (Positive w) (subst (λ x. is_assigned t x ≡ false) (sym (same ∙ ev)) free))
+    | inr other ↦ get_or-set_other signs v w false false other ∙ kept.sign_at w
+        ∙ ap (λ b. b || is_true t (Positive w))
+        (false_from_ne_true _ (λ s. other (ap variable_of (same_literal-true (Positive w) (assigned_literal a) s) ∙ sym ev)))
   ];
   level_at = λ w. elim (cases_eq w v) [
     | inl same ↦ subst (λ x. get_or (set levels v 0) x 0 ≡ 0) (sym same) (get_or-set_same levels v 0 0 in_levels)
@@ -235,6 +267,9 @@ kept_pop n a t truths levels places decisions next c v less low kept ec ev el ew
     in_truths : c < length truths
     in_truths = let h = code_of-below n (assigned_literal a) below in let r = kept.truths_room in omega arith
 
+    in_signs : v < length signs
+    in_signs = let r = kept.signs_room in let b = below in omega arith
+
     in_levels : v < length levels
     in_levels = let r = kept.levels_room in let b = below in omega arith
 
@@ -256,13 +291,15 @@ room_of : {X : Type 0} (n : ℕ) (x : X) → n ≤ length (replicate n x)
 room_of n x = let e = length-replicate n x in omega arith
 
 -- nothing is assigned
-pub kept_none : (n : ℕ) → IsKept n [] (replicate (2 * n) false) (replicate n 0) (replicate n 0) 0 0
+pub kept_none : (n : ℕ) → IsKept n [] (replicate (2 * n) false) (replicate n false) (replicate n 0) (replicate n 0) 0 0
 kept_none n = record {
   once = tt;
   truths_room = room_of (2 * n) false;
+  signs_room = room_of n false;
   levels_room = room_of n 0;
   places_room = room_of n 0;
   true_at = λ l. replicate_at (2 * n) (code_of l) false;
+  sign_at = λ v. replicate_at n v false;
   level_at = λ v. replicate_at n v 0;
   place_at = λ v. replicate_at n v 0;
   level_is = refl;
@@ -277,18 +314,21 @@ above n (a ∷ t) v d le =
     ap (λ b. b || is_assigned t v) (ne_eqb v (variable_of (assigned_literal a)) (λ e. let lt = d.0 in omega arith)) ∙ above n t v d.2 le
 
 -- the same with more room
-pub kept_grown : (n : ℕ) (t : List Assigned) (truths truths' : List Bool) (levels levels' places places' : List ℕ) (decisions next : ℕ)
-    → IsKept n t truths levels places decisions next
+pub kept_grown : (n : ℕ) (t : List Assigned) (truths truths' signs signs' : List Bool) (levels levels' places places' : List ℕ) (decisions next : ℕ)
+    → IsKept n t truths signs levels places decisions next
     → length truths ≤ length truths' → ((i : ℕ) → get_or truths' i false ≡ get_or truths i false)
+    → length signs ≤ length signs' → ((i : ℕ) → get_or signs' i false ≡ get_or signs i false)
     → length levels ≤ length levels' → ((i : ℕ) → get_or levels' i 0 ≡ get_or levels i 0)
     → length places ≤ length places' → ((i : ℕ) → get_or places' i 0 ≡ get_or places i 0)
-    → IsKept n t truths' levels' places' decisions next
-kept_grown n t truths truths' levels levels' places places' decisions next kept t_more t_same l_more l_same p_more p_same = record {
+    → IsKept n t truths' signs' levels' places' decisions next
+kept_grown n t truths truths' signs signs' levels levels' places places' decisions next kept t_more t_same s_more s_same l_more l_same p_more p_same = record {
   once = kept.once;
   truths_room = let r = kept.truths_room in omega arith;
+  signs_room = let r = kept.signs_room in omega arith;
   levels_room = let r = kept.levels_room in omega arith;
   places_room = let r = kept.places_room in omega arith;
   true_at = λ l. t_same (code_of l) ∙ kept.true_at l;
+  sign_at = λ v. s_same v ∙ kept.sign_at v;
   level_at = λ v. l_same v ∙ kept.level_at v;
   place_at = λ v. p_same v ∙ kept.place_at v;
   level_is = kept.level_is;
@@ -297,15 +337,17 @@ kept_grown n t truths truths' levels levels' places places' decisions next kept 
 }
 
 -- and over another number of variables
-pub kept_over : (n m : ℕ) (t : List Assigned) (truths : List Bool) (levels places : List ℕ) (decisions next low : ℕ)
-    → IsKept n t truths levels places decisions next → IsDistinct m t → 2 * m ≤ length truths → m ≤ length levels → m ≤ length places
-    → low ≡ min next m → IsKept m t truths levels places decisions low
-kept_over n m t truths levels places decisions next low kept once t_room l_room p_room e = record {
+pub kept_over : (n m : ℕ) (t : List Assigned) (truths signs : List Bool) (levels places : List ℕ) (decisions next low : ℕ)
+    → IsKept n t truths signs levels places decisions next → IsDistinct m t → 2 * m ≤ length truths → m ≤ length signs → m ≤ length levels → m ≤ length places
+    → low ≡ min next m → IsKept m t truths signs levels places decisions low
+kept_over n m t truths signs levels places decisions next low kept once t_room s_room l_room p_room e = record {
   once = once;
   truths_room = t_room;
+  signs_room = s_room;
   levels_room = l_room;
   places_room = p_room;
   true_at = kept.true_at;
+  sign_at = kept.sign_at;
   level_at = kept.level_at;
   place_at = kept.place_at;
   level_is = kept.level_is;
@@ -318,21 +360,40 @@ pub reverse_push : {X : Type 0} (xs : List X) (x : X) → reverse (xs ++ x ∷ [
 reverse_push xs x = reverse-append xs (x ∷ [])
 
 -- the same of fields
-pub kept_with : (n : ℕ) (t u : List Assigned) (truths : List Bool) (levels places : List ℕ) (decisions next : ℕ) → t ≡ u
-    → IsKept n t truths levels places decisions next → IsKept n u truths levels places decisions next
-kept_with n t u truths levels places decisions next e h = subst (λ w. IsKept n w truths levels places decisions next) e h
+pub kept_with : (n : ℕ) (t u : List Assigned) (truths signs : List Bool) (levels places : List ℕ) (decisions next : ℕ) → t ≡ u
+    → IsKept n t truths signs levels places decisions next → IsKept n u truths signs levels places decisions next
+kept_with n t u truths signs levels places decisions next e h = subst (λ w. IsKept n w truths signs levels places decisions next) e h
 
-pub pop_kept : (n : ℕ) (a : Assigned) (xs t : List Assigned) (truths : List Bool) (levels places : List ℕ) (decisions next c v less low : ℕ)
-    → reverse xs ≡ a ∷ t → IsKept n (reverse xs) truths levels places decisions next → c ≡ code_of (assigned_literal a) → v ≡ variable_of (assigned_literal a)
+pub pop_kept : (n : ℕ) (a : Assigned) (xs t : List Assigned) (truths signs : List Bool) (levels places : List ℕ) (decisions next c v less low : ℕ)
+    → reverse xs ≡ a ∷ t → IsKept n (reverse xs) truths signs levels places decisions next → c ≡ code_of (assigned_literal a)
+    → v ≡ variable_of (assigned_literal a)
     → less ≡ cond (is_decided a) (decisions - 1) decisions → low ≡ min next v
-    → IsKept n t (set truths c false) (set levels v 0) (set places v 0) less low
-pop_kept n a xs t truths levels places decisions next c v less low e kept =
-    kept_pop n a t truths levels places decisions next c v less low (kept_with n (reverse xs) (a ∷ t) truths levels places decisions next e kept)
+    → IsKept n t (set truths c false) (set signs v false) (set levels v 0) (set places v 0) less low
+pop_kept n a xs t truths signs levels places decisions next c v less low e kept =
+    kept_pop n a t truths signs levels places decisions next c v less low (kept_with n (reverse xs) (a ∷ t) truths signs levels places decisions next e kept)
 
-pub push_kept : (n : ℕ) (t : List Assigned) (truths : List Bool) (levels places : List ℕ) (decisions next : ℕ) → IsKept n t truths levels places decisions next
-    → (a : Assigned) (xs : List Assigned) (c v size more : ℕ) → xs ≡ a ∷ t → c ≡ code_of (assigned_literal a) → v ≡ variable_of (assigned_literal a)
-    → size ≡ length t + 1 → more ≡ level (a ∷ t) → v < n → is_assigned t v ≡ false
-    → IsKept n xs (set truths c true) (set levels v more) (set places v size) more next
-push_kept n t truths levels places decisions next kept a xs c v size more e ec ev es em low free =
-    kept_with n (a ∷ t) xs (set truths c true) (set levels v more) (set places v size) more next (sym e)
-    (kept_push n t truths levels places decisions next kept a c v size more ec ev es em low free)
+pub push_kept : (n : ℕ) (t : List Assigned) (truths signs : List Bool) (levels places : List ℕ) (decisions next : ℕ)
+    → IsKept n t truths signs levels places decisions next
+    → (a : Assigned) (xs : List Assigned) (c v size more : ℕ) (sign : Bool) → xs ≡ a ∷ t → c ≡ code_of (assigned_literal a)
+    → v ≡ variable_of (assigned_literal a)
+    → size ≡ length t + 1 → more ≡ level (a ∷ t) → sign ≡ same_literal (Positive (variable_of (assigned_literal a))) (assigned_literal a) → v < n
+    → is_assigned t v ≡ false
+    → IsKept n xs (set truths c true) (set signs v sign) (set levels v more) (set places v size) more next
+push_kept n t truths signs levels places decisions next kept a xs c v size more sign e ec ev es em eg low free =
+    kept_with n (a ∷ t) xs (set truths c true) (set signs v sign) (set levels v more) (set places v size) more next (sym e)
+    (kept_push n t truths signs levels places decisions next kept a c v size more sign ec ev es em eg low free)
+
+-- the first signs, so many, are those of the variables
+signs_from : (f : ℕ → Bool) (xs : List Bool) (s n : ℕ) → n ≤ length xs → ((i : ℕ) → get_or xs i false ≡ f (s + i))
+    → take n xs ≡ map f (range_with_len s n)
+signs_from f xs s zero low at = refl
+signs_from f [] s (suc n) low at = absurd (omega arith)
+signs_from f (x ∷ xs) s (suc n) low at =
+    ap (λ y. y ∷ take n xs) (at 0 ∙ ap f (let e : s + 0 ≡ s = omega arith in e))
+    ∙ ap (λ ys. f s ∷ ys) (signs_from f xs (s + 1) n (omega arith) (λ i. at (suc i) ∙ ap f (let e : s + suc i ≡ s + 1 + i = omega arith in e)))
+
+pub signs_are : (n : ℕ) (t : List Assigned) (signs : List Bool) → n ≤ length signs → ((v : ℕ) → get_or signs v false ≡ is_true t (Positive v))
+    → take n signs ≡ signs_of t n
+signs_are n t signs room at =
+    signs_from (λ v. is_true t (Positive v)) signs 0 n room
+    (λ i. at i ∙ ap (λ v. is_true t (Positive v)) (let e : i ≡ 0 + i = omega arith in e))

@@ -1,6 +1,6 @@
 -- What is kept of all clauses: a look at one watch after the other, one more entry of the trail, and a cut.
-use Rattle.std.proofs.Common.{◌≡◌, ℕ, ◌<◌, true, false, eqb, List, [], ◌∷◌, ◌++◌, length, get_or, set, map, Option, Some, None, refl, sym, ap, ◌∙◌, subst, inl}
-use Rattle.std.proofs.Common.{inr, ⊎_elim, ◌⊎◌, arith}
+use Rattle.std.proofs.Common.{◌≡◌, ℕ, ◌<◌, ◌≤◌, true, false, eqb, List, [], ◌∷◌, ◌++◌, length, get_or, set, map, Option, Some, None, refl, sym, ap, ◌∙◌, subst}
+use Rattle.std.proofs.Common.{inl, inr, ⊎_elim, ◌⊎◌, arith}
 use Rattle.std.specs.Prelude.{IfSome}
 use Rattle.std.specs.List.{list_all, AllByRecursion}
 use Rattle.std.proofs.lemmas.Bool.{both_ways, cases_eq, cases_lt, or_cases, or_left, or_right, eq-eqb, eqb-true, and_parts, and_from}
@@ -13,10 +13,12 @@ use Rattle.clause_solver.specs.declared.watches.Pair.{Pair}
 use Rattle.clause_solver.specs.declared.watches.Watch.{Watch}
 use Rattle.clause_solver.specs.declared.watches.Watches.{Watches}
 use Rattle.clause_store.specs.Codes.{code_of}
-use Rattle.clause_solver.specs.Watching.{IsWatched, IsHalfWatched, IsWatching, IsWatchOf, AllFalseBut, has_number, has_clause, is_caught, no_pair}
+use Rattle.clause_solver.specs.Watching.{IsWatched, IsHalfWatched, IsWatching, IsWatchOf, WatchesBeside, AllFalseBut, has_number, has_clause, is_caught}
+use Rattle.clause_solver.specs.Watching.{no_pair, times_listed, times_watched}
 use Rattle.clause_store.proofs.Marking.{code_of-injective}
 use Rattle.clause_solver.proofs.Watching.{which, watched_more, half_more, IsSteady, watched_push, half_push, none_push, watched_cut}
 use Rattle.clause_solver.specs.WatchesInside.{lists_of}
+use Rattle.clause_solver.proofs.Listed.{keep_few, drop_few, other_few, moved_times}
 
 -- a code that has a list has one among the lists
 pub low_listed : (w : Watches) (k : ℕ) → k < length w.lists.items → k < length (lists_of w)
@@ -138,6 +140,8 @@ module _ (n : ℕ) (t : List Assigned) (cs : List (List Literal)) (lists : List 
           λ i lt pos. put_list (λ zs. has_clause zs i ≡ true) lists (code_of f) low xs ys (keep_has kept rest i j b b') _ (before.first_listed i lt pos);
       second_listed =
           λ i lt pos. put_list (λ zs. has_clause zs i ≡ true) lists (code_of f) low xs ys (keep_has kept rest i j b b') _ (before.second_listed i lt pos);
+      few = λ i l lt. put_list (λ zs. times_listed zs i ≤ times_watched (get_or pairs i no_pair) l) lists (code_of f) low xs ys
+          (keep_few kept rest (watch_of j b) (watch_of j b') i (times_watched (get_or pairs i no_pair) l) refl) (code_of l) (before.few i l lt);
       each = λ i lt. ⊎_elim
           (λ w. inl (watched_more t _ _ _ _ _ _ (more_units i) (more_caught i) w))
           (λ h. elim (cases_eq i j) [
@@ -153,7 +157,8 @@ module _ (n : ℕ) (t : List Assigned) (cs : List (List Literal)) (lists : List 
   module _ (next other : Literal) (room : code_of next < length lists) (apart : next ≡ f → ⊥) (elsewhere : other ≡ f → ⊥)
       (has : has_literal (get_or cs j []) other ≡ true)
       (listed : has_clause (get_or (set lists (code_of f) xs) (code_of other) []) j ≡ true)
-      (now : IsWatched t (get_or cs j []) (record { first = next; second = other }) (has_number units j) (is_caught falsified j)) where
+      (now : IsWatched t (get_or cs j []) (record { first = next; second = other }) (has_number units j) (is_caught falsified j))
+      (beside : WatchesBeside (get_or pairs j no_pair) f other) where
     abbrev pair : Pair
     pair = record { first = next; second = other }
 
@@ -185,6 +190,18 @@ module _ (n : ℕ) (t : List Assigned) (cs : List (List Literal)) (lists : List 
     has_second = put_elsewhere (λ zs. has_clause zs j ≡ true) lists (code_of f) low (code_of next) (watch_of j other) room
         (λ zs. more_has zs (watch_of j other) j) xs (kept ++ rest) (code_of other) (λ e. elsewhere (code_of-injective other f e)) listed
 
+    few_now : (l : Literal) → times_listed (get_or (set lists' (code_of f) (kept ++ rest)) (code_of l) []) j ≤ times_watched pair l
+    few_now l = moved_times lists kept rest (get_or pairs j no_pair) f other next (watch_of j b) (watch_of j other) low room beside elsewhere
+        (λ m. before.few j m looked_watch.within) l
+
+    few_other : (i : ℕ) (l : Literal) → (i ≡ j → ⊥)
+        → times_listed (get_or (set lists (code_of f) xs) (code_of l) []) i ≤ times_watched (get_or pairs i no_pair) l
+        → times_listed (get_or (set lists' (code_of f) (kept ++ rest)) (code_of l) []) i ≤ times_watched (get_or pairs i no_pair) l
+    few_other i l ne h =
+        let most = times_watched (get_or pairs i no_pair) l in
+        put_both (λ zs. times_listed zs i ≤ most) lists (code_of f) low (code_of next) (watch_of j other) room
+        (λ zs. other_few zs (watch_of j other) i most ne) xs (kept ++ rest) (drop_few kept rest (watch_of j b) i most) (code_of l) h
+
     pub looked_gone : IsWatching n t cs (set lists' (code_of f) (kept ++ rest)) (set pairs j pair) units falsified f rest
     looked_gone = record {
       below = before.below;
@@ -206,6 +223,12 @@ module _ (n : ℕ) (t : List Assigned) (cs : List (List Literal)) (lists : List 
             (subst (λ m. has_clause (get_or (set lists' (code_of f) (kept ++ rest)) (code_of other) []) m ≡ true) (sym same) has_second)
         | inr ne ↦ subst (λ m. has_clause (get_or (set lists' (code_of f) (kept ++ rest)) (code_of m.second) []) i
             ≡ true) (sym (pair_other i ne)) (has_other i _ ne (before.second_listed i lt pos))
+      ];
+      few = λ i l lt. elim (cases_eq i j) [
+        | inl same ↦ subst (λ m. times_listed (get_or (set lists' (code_of f) (kept ++ rest)) (code_of l) []) i ≤ times_watched m l) (sym (pair_same i same))
+            (subst (λ m. times_listed (get_or (set lists' (code_of f) (kept ++ rest)) (code_of l) []) m ≤ times_watched pair l) (sym same) (few_now l))
+        | inr ne ↦ subst (λ m. times_listed (get_or (set lists' (code_of f) (kept ++ rest)) (code_of l) []) i ≤ times_watched m l) (sym (pair_other i ne))
+            (few_other i l ne (before.few i l lt))
       ];
       each = λ i lt. elim (cases_eq i j) [
         | inl same ↦ inl
@@ -241,6 +264,8 @@ module _ (n : ℕ) (t : List Assigned) (cs : List (List Literal)) (lists : List 
         has_still i (get_or pairs i no_pair).second (λ same e.
         (free (subst (λ m. 0 < length (get_or cs m [])) same pos)).1 (ap (λ m. (get_or pairs m no_pair).second) (sym same) ∙ e))
         (before.second_listed i lt pos);
+    few = λ i l lt. put_list (λ zs. times_listed zs i ≤ times_watched (get_or pairs i no_pair) l) lists (code_of f) low xs (kept ++ rest)
+        (drop_few kept rest (watch_of j b) i (times_watched (get_or pairs i no_pair) l)) (code_of l) (before.few i l lt);
     each = λ i lt. elim (cases_eq i j) [
       | inl same ↦ inl (subst (λ m. IsWatched t (get_or cs m []) (get_or pairs m no_pair) (has_number units m) (is_caught falsified m)) (sym same) now)
       | inr ne ↦ ⊎_elim (λ w. inl w) (λ h. inr (rest_has rest i j b ne h.0, h.1)) (before.each i lt)
@@ -287,6 +312,7 @@ module _ (n : ℕ) (a : Assigned) (t : List Assigned) (d : IsDistinct n (a ∷ t
     watches = before.watches;
     first_listed = before.first_listed;
     second_listed = before.second_listed;
+    few = before.few;
     each = λ i lt. ⊎_elim (λ w. now i lt w) (λ h. absurd (both_ways false refl h.0)) (before.each i lt);
     units_are = λ i h. let u = before.units_are i h in (u.0, u.1, false_but u.1 _ u.2);
     falsified_is = if_falsified falsified before.falsified_is;
@@ -330,6 +356,7 @@ module _ (n : ℕ) (t : List Assigned) (cs : List (List Literal)) (lists : List 
     watches = before.watches;
     first_listed = before.first_listed;
     second_listed = before.second_listed;
+    few = before.few;
     each = λ i lt. ⊎_elim (λ w. inl w) (λ h. absurd (both_ways false refl h.0)) (before.each i lt);
     units_are = before.units_are;
     falsified_is = before.falsified_is;
@@ -343,6 +370,7 @@ module _ (n : ℕ) (t : List Assigned) (cs : List (List Literal)) (lists : List 
     watches = before.watches;
     first_listed = before.first_listed;
     second_listed = before.second_listed;
+    few = before.few;
     each = λ i lt. ⊎_elim (λ w. inl (watched_cut n k t d _ _ _ _ _ lower _ w)) (λ h. absurd (both_ways false refl h.0)) (before.each i lt);
     units_are = λ i h. absurd (both_ways false refl h);
     falsified_is = tt;

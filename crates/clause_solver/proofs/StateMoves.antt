@@ -1,5 +1,5 @@
 -- A kept state in another place, over another number of variables, and with more clauses.
-use Rattle.std.proofs.Common.{◌≡◌, ℕ, zero, suc, ◌+◌, ◌-◌, ◌*◌, min, ◌<◌, ◌^◌, Bool, true, false, cond, ◌||◌, List, [], ◌∷◌, ◌++◌, length, get_or, take}
+use Rattle.std.proofs.Common.{◌≡◌, ℕ, zero, suc, ◌+◌, ◌-◌, ◌*◌, min, ◌<◌, ◌≤◌, ◌^◌, Bool, true, false, cond, ◌||◌, List, [], ◌∷◌, ◌++◌, length, get_or, take}
 use Rattle.std.proofs.Common.{map, Option}
 use Rattle.std.proofs.Common.{Some, None, refl, sym}
 use Rattle.std.proofs.Common.{ap, ◌∙◌, subst, inl, inr, ⊎_elim, arith}
@@ -21,7 +21,7 @@ use Rattle.clause_solver.specs.declared.watches.Pair.{Pair}
 use Rattle.clause_solver.specs.declared.watches.Watch.{Watch}
 use Rattle.clause_store.specs.Codes.{code_of}
 use Rattle.clause_store.proofs.Marking.{code_of-below}
-use Rattle.clause_solver.specs.Watching.{IsWatching, IsWatchOf, HaveSameLiterals, has_clause, no_pair}
+use Rattle.clause_solver.specs.Watching.{IsWatching, IsWatchOf, HaveSameLiterals, has_clause, no_pair, times_listed, times_watched}
 use Rattle.clause_solver.specs.WatchesInside.{AreWatches, units_of}
 use Rattle.clause_solver.specs.IndexedStates.{plain_of, IsLookedAt, IsIndexed}
 use Rattle.clause_solver.specs.KeptStates.{IsKeptState, IsSettled}
@@ -54,6 +54,9 @@ module _ (n m : ℕ) (t : List Assigned) (cs : List (List Literal)) (lists lists
       → has_clause (get_or lists' (code_of l) []) i ≡ true
   still i l has h = subst (λ zs. has_clause zs i ≡ true) (sym (same (code_of l) (listed_code i l has))) h
 
+  no_less : (k : ℕ) → 0 ≤ k
+  no_less k = omega arith
+
   pub resized : IsWatching m t cs lists' pairs units falsified g []
   resized = record {
     below = low;
@@ -67,6 +70,11 @@ module _ (n m : ℕ) (t : List Assigned) (cs : List (List Literal)) (lists lists
         (⊎_elim (λ w. w.first_in pos) (λ h. absurd (both_ways false refl h.0)) (before.each i lt)) (before.first_listed i lt pos);
     second_listed = λ i lt pos. still i (get_or pairs i no_pair).second
         (⊎_elim (λ w. w.second_in pos) (λ h. absurd (both_ways false refl h.0)) (before.each i lt)) (before.second_listed i lt pos);
+    few = λ i l lt. elim (cases_lt (code_of l) (2 * m)) [
+      | inl lo ↦ subst (λ zs. times_listed zs i ≤ times_watched (get_or pairs i no_pair) l) (sym (same (code_of l) lo)) (before.few i l lt)
+      | inr hi ↦ subst (λ zs. times_listed zs i ≤ times_watched (get_or pairs i no_pair) l) (sym (get_or_past lists' (code_of l) [] (omega arith)))
+          (no_less (times_watched (get_or pairs i no_pair) l))
+    ];
     each = before.each;
     units_are = before.units_are;
     falsified_is = before.falsified_is;

@@ -314,6 +314,7 @@ module _ (n : ℕ) (t : List Assigned) (d : IsDistinct n t) (cs ds : List (List 
     watches = w.watches;
     first_listed = w.first_listed;
     second_listed = w.second_listed;
+    few = w.few;
     each = λ k lt. inl (elim (cases_eq k i) [
       | inl e ↦ settled n t d _ _ _ _ (watched k lt) (subst (λ m. HasTrue t (level t) (get_or ds m [])) (sym e) h) (has_number units' k)
       | inr ne ↦ watched_more t _ _ _ _ _ _ (others k ne) (λ x. x) (watched k lt)

@@ -212,4 +212,4 @@ module _ (n : ℕ) (t : List Assigned) (cs : List (List Literal)) (lists : List 
           (set pairs j (record { first = next; second = other })) units falsified f rest
       visited_next =
           looked_gone n t cs lists pairs units falsified f kept rest j b low before next other room next_apart other_apart other_in listed
-          (looked_moved t c f current other u q next found.has found.free found.apart (λ e. other_apart (sym e)) half)
+          (looked_moved t c f current other u q next found.has found.free found.apart (λ e. other_apart (sym e)) half) beside

@@ -17,15 +17,17 @@ place_of [] v = 0
 place_of (a ∷ trail) v =
     if v == variable_of (assigned_literal a) then suc (length trail) else place_of trail v
 
--- the truth of each literal, the level and the place of each variable, the level, and a number
--- below which each variable is assigned are those of the trail
-pub record IsKept (n : ℕ) (trail : List Assigned) (truths : List Bool) (levels places : List ℕ)
-    (decisions next : ℕ) : Type 0 where
+-- the truth of each literal, the sign, the level and the place of each variable, the level, and a
+-- number below which each variable is assigned are those of the trail
+pub record IsKept (n : ℕ) (trail : List Assigned) (truths signs : List Bool)
+    (levels places : List ℕ) (decisions next : ℕ) : Type 0 where
   pub once : IsDistinct n trail
   pub truths_room : 2 * n ≤ length truths
+  pub signs_room : n ≤ length signs
   pub levels_room : n ≤ length levels
   pub places_room : n ≤ length places
   pub true_at : (l : Literal) → slice_index_or truths (code_of l) false ≡ is_true trail l
+  pub sign_at : (v : ℕ) → slice_index_or signs v false ≡ is_true trail (Positive v)
   pub level_at : (v : ℕ) → slice_index_or levels v 0 ≡ level_of trail (Positive v)
   pub place_at : (v : ℕ) → slice_index_or places v 0 ≡ place_of trail v
   pub level_is : decisions ≡ level trail

@@ -10,4 +10,5 @@ assigning_inside a = record { variables = a.variables; trail = reverse a.trail.i
 -- what is kept is that of the trail
 abbrev pub KeepsTrail : Inside → Type 0
 KeepsTrail a = IsKept a.variables
-    (reverse a.trail.items) a.truths.items a.levels.items a.places.items a.decisions a.next
+    (reverse a.trail.items) a.truths.items a.signs.items a.levels.items a.places.items a.decisions
+    a.next

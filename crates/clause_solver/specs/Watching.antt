@@ -1,10 +1,10 @@
 -- Two watched literals of each clause under a trail.
 use Rattle.std.specs.Prelude.{◌≡◌, ◌⊎◌, ◌&&◌, ◌||◌, not, ℕ, ◌<◌, ◌≤◌, ◌*◌, ◌==◌, nat_le, nat_lt}
-use Rattle.std.specs.Prelude.{min, Bool}
+use Rattle.std.specs.Prelude.{◌+◌, min, Bool}
 use Rattle.std.specs.Prelude.{true, false, List, [], ◌∷◌, ◌++◌, length, Option, Some, None, IfSome}
 use Rattle.std.specs.Prelude.{slice_index_or}
 use Rattle.std.specs.List.{list_any, list_all, filter, AllByRecursion}
-use Rattle.cqe_base.specs.Literal.{Literal, Positive, has_literal, ClausesBelow}
+use Rattle.cqe_base.specs.Literal.{Literal, Positive, has_literal, same_literal, ClausesBelow}
 use Rattle.cqe_base.specs.Machine.{Assigned, is_true, is_false, level, level_of}
 use Rattle.clause_store.specs.Codes.{code_of}
 use Rattle.clause_solver.specs.declared.watches.Pair.{Pair}
@@ -117,6 +117,20 @@ pub record IsWatchOf (cs : List (List Literal)) (w : Watch) : Type 0 where
 abbrev pub no_pair : Pair
 no_pair = record { first = Positive 0; second = Positive 0 }
 
+-- 1 where this is so, and else 0
+abbrev pub one_if : Bool → ℕ
+one_if true = 1
+one_if false = 0
+
+-- how many watches in a list are of a clause
+abbrev pub times_listed : List Watch → ℕ → ℕ
+times_listed [] i = 0
+times_listed (w ∷ watches) i = one_if (w.clause == i) + times_listed watches i
+
+-- how many of the two watched literals are this one
+abbrev pub times_watched : Pair → Literal → ℕ
+times_watched pair l = one_if (same_literal pair.first l) + one_if (same_literal pair.second l)
+
 -- What is kept of clauses under a trail, while the watches of a literal that became false are
 -- looked at; those that are left are listed. The numbers are those of the clauses that may be unit.
 pub record IsWatching (n : ℕ) (t : List Assigned) (cs : List (List Literal))
@@ -132,6 +146,9 @@ pub record IsWatching (n : ℕ) (t : List Assigned) (cs : List (List Literal))
   pub second_listed : (i : ℕ) → i < length cs → 0 < length (slice_index_or cs i [])
       → has_clause (slice_index_or lists (code_of (slice_index_or pairs i no_pair).second) []) i
       ≡ true
+  pub few : (i : ℕ) (l : Literal) → i < length cs
+      → times_listed (slice_index_or lists (code_of l) []) i
+      ≤ times_watched (slice_index_or pairs i no_pair) l
   pub each : (i : ℕ) → i < length cs →
       IsWatched t (slice_index_or cs i []) (slice_index_or pairs i no_pair) (has_number units i)
       (is_caught falsified i)
@@ -142,6 +159,25 @@ pub record IsWatching (n : ℕ) (t : List Assigned) (cs : List (List Literal))
       × AllFalseBut t l (slice_index_or cs i [])
   pub falsified_is : IfSome falsified (λ i. (i < length cs)
       × (list_all (is_false t) (slice_index_or cs i []) ≡ true))
+
+-- of the watches in the list of this code those of the first clauses, so many, stay
+abbrev pub StaysBelow : ℕ → (old new : List (List Watch)) → ℕ → Type 0
+StaysBelow count old new k =
+    slice_index_or new k [] ≡ watches_below count (slice_index_or old k [])
+
+-- or all of them stay
+abbrev pub StaysOrBelow : ℕ → (old new : List (List Watch)) → ℕ → Type 0
+StaysOrBelow count old new k =
+    (slice_index_or new k [] ≡ slice_index_or old k []) ⊎ StaysBelow count old new k
+
+-- The clauses from this number on leave the lists of the literals that they watch. No list loses
+-- a watch of another clause.
+pub record HaveLeft (count : ℕ) (pairs : List Pair) (old new : List (List Watch)) : Type 0 where
+  pub first : (i : ℕ) → count ≤ i → i < length pairs
+      → StaysBelow count old new (code_of (slice_index_or pairs i no_pair).first)
+  pub second : (i : ℕ) → count ≤ i → i < length pairs
+      → StaysBelow count old new (code_of (slice_index_or pairs i no_pair).second)
+  pub others : (k : ℕ) → StaysOrBelow count old new k
 
 -- a clause watches this literal and that other one
 abbrev pub WatchesBeside : Pair → Literal → Literal → Type 0

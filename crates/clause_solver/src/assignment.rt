@@ -2,11 +2,11 @@
 //! place of each variable.
 
 ghost use Rattle.std.specs.Prelude.{◌≡◌, ◌<◌, ◌≤◌, ◌^◌, ◌+◌, ◌-◌, ◌*◌, ℕ, false, [], ◌∷◌};
-ghost use Rattle.std.specs.Prelude.{length, slice_index_or};
+ghost use Rattle.std.specs.Prelude.{length, take, slice_index_or};
 ghost use Rattle.std.specs.Prelude.{reverse, IfOk, IfSome, IfNone, if◌then◌else◌};
-ghost use Rattle.cqe_base.specs.Literal.{variable_of};
+ghost use Rattle.cqe_base.specs.Literal.{Positive, variable_of, same_literal};
 ghost use Rattle.cqe_base.specs.Machine.{Assigned, assigned_literal, is_true, is_false, level};
-ghost use Rattle.cqe_base.specs.Machine.{level_of, is_current, first_unassigned};
+ghost use Rattle.cqe_base.specs.Machine.{level_of, is_current, signs_of, first_unassigned};
 ghost use Rattle.cqe_base.specs.KeptTrail.{place_against, latest_place};
 ghost use Rattle.cqe_base.specs.MachineStates.{is_assigned, IsDistinct};
 ghost use Rattle.clause_solver.specs.Entries.{is_decided};
@@ -26,6 +26,8 @@ pub struct Assignment {
     trail: Vec<TrailEntry>,
     /// Whether each literal is true, by its code.
     truths: Vec<bool>,
+    /// Whether each variable is true.
+    signs: Vec<bool>,
     /// The level of each variable, 0 where it isn't assigned.
     levels: Vec<usize>,
     /// The place of each variable on the trail, counted from 1, and 0 where it isn't assigned.
@@ -58,6 +60,7 @@ impl Assignment {
             variables,
             trail: Vec::with_capacity(alloc, size)?,
             truths: vec![in alloc; false; 2 * size]?,
+            signs: vec![in alloc; false; size]?,
             levels: vec![in alloc; 0; size]?,
             places: vec![in alloc; 0; size]?,
             decisions: 0,
@@ -80,6 +83,7 @@ impl Assignment {
     {
         let size = variables as usize;
         grow(&mut self.truths, 2 * size, false)?;
+        grow(&mut self.signs, size, false)?;
         grow(&mut self.levels, size, 0)?;
         grow(&mut self.places, size, 0)?;
         self.next = self.next.min(variables);
@@ -184,6 +188,14 @@ impl Assignment {
         latest
     }
 
+    /// The signs of the variables, and behind them perhaps more.
+    pub fn signs(&self) -> &[bool]
+        ensures { take self.now.variables result.now
+            ≡ signs_of self.now.trail self.now.variables }
+    {
+        self.signs.as_slice()
+    }
+
     /// An entry joins the trail.
     pub fn push(&mut self, entry: TrailEntry) -> Result<(), AllocError>
         requires below { variable_of (assigned_literal entry) < self.old.variables }
@@ -196,7 +208,9 @@ impl Assignment {
         let size = self.trail.len();
         let decisions = level_with(self.decisions, entry);
         self.decisions = decisions;
+        let sign = sign_of(literal);
         self.truths[code(literal)] = true;
+        self.signs[variable] = sign;
         self.levels[variable] = decisions;
         self.places[variable] = size;
         Ok(())
@@ -215,6 +229,7 @@ impl Assignment {
         let variable = literal.variable();
         self.decisions = level_without(self.decisions, entry);
         self.truths[code(literal)] = false;
+        self.signs[variable as usize] = false;
         self.levels[variable as usize] = 0;
         self.places[variable as usize] = 0;
         self.next = self.next.min(variable);
@@ -232,6 +247,13 @@ impl Assignment {
         self.next = found.unwrap_or(self.variables);
         found
     }
+}
+
+/// Whether a literal isn't negated.
+fn sign_of(literal: Lit) -> bool
+    ensures { result ≡ same_literal (Positive (variable_of literal)) literal }
+{
+    Lit::positive(literal.variable()).is(literal)
 }
 
 /// The level with one more entry.

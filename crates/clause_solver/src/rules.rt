@@ -125,10 +125,8 @@ fn signs_of(alloc: Global, assignment: &Assignment, variables: u32) -> Result<Ve
     requires same { assignment.now.variables ≡ variables }
     ensures { IfOk result (λ signs. signs.items ≡ signs_of assignment.now.trail variables) }
 {
-    let mut signs = Vec::with_capacity(alloc, variables as usize)?;
-    for v in 0..variables {
-        signs.push_reserved(assignment.holds(Lit::positive(v)));
-    }
+    let mut signs = Vec::from_slice(alloc, assignment.signs())?;
+    signs.truncate(variables as usize);
     Ok(signs)
 }
 

@@ -11,6 +11,7 @@ ghost use Rattle.clause_solver.specs.Watching.{IsWatching, IsWatched, HaveSameLi
 ghost use Rattle.clause_solver.specs.Watching.{WatchesBeside, kept_with, no_pair, lowest};
 ghost use Rattle.clause_solver.specs.Watching.{is_caught, has_number, IsLeast, DropsLeast};
 ghost use Rattle.clause_solver.specs.Watching.{IsOpenOf, AreClosed, AllFalseBut, watches_below};
+ghost use Rattle.clause_solver.specs.Watching.{StaysBelow, StaysOrBelow, HaveLeft};
 ghost use Rattle.clause_solver.specs.WatchesInside.{AreWatches, lists_of, units_of};
 ghost use Rattle.clause_solver.specs.WatchesInside.{AreWatchedUnder, KeepsWatched};
 ghost use Rattle.std.specs.Prelude.{true, false, not, ◌&&◌, ◌||◌, ◌==◌, List, None, map, replicate};
@@ -355,9 +356,9 @@ impl Watches {
         ensures falsified { self.new.falsified ≡ None }
     {
         self.clear();
+        leave(&mut self.lists, &self.pairs, clauses);
         self.pairs.truncate(clauses);
         self.sorted.truncate(clauses);
-        keep_below(&mut self.lists, clauses);
     }
 }
 
@@ -428,18 +429,48 @@ fn sort_clause(sorted: &mut Vec<Lit>, clause: &[Lit]) -> Result<(), AllocError>
     Ok(())
 }
 
-/// Of the watches in each list those of the first clauses, so many, stay.
-fn keep_below(lists: &mut Vec<Vec<Watch>>, clauses: usize)
-    ensures kept { (k : ℕ) → slice_index_or (map (λ v. v.items) lists.new.items) k []
-        ≡ watches_below clauses (slice_index_or (map (λ v. v.items) lists.old.items) k []) }
+/// The clauses from this number on leave the lists of the literals that they watch. No other list
+/// is looked at.
+fn leave(lists: &mut Vec<Vec<Watch>>, pairs: &Vec<Pair>, clauses: usize)
+    ensures left { HaveLeft clauses pairs.now.items (map (λ v. v.items) lists.old.items)
+        (map (λ v. v.items) lists.new.items) }
     ensures length { length lists.new.items ≡ length lists.old.items }
 {
-    for literal in 0..lists.len() {
-        keep_list_below(&mut lists[literal], clauses);
+    for i in clauses..pairs.len() {
+        keep_pair_below(lists, &pairs[i], clauses);
     }
 }
 
-/// The same in one list.
+/// Of the watches of two literals those of the first clauses, so many, stay.
+fn keep_pair_below(lists: &mut Vec<Vec<Watch>>, pair: &Pair, clauses: usize)
+    ensures first { StaysBelow clauses (map (λ v. v.items) lists.old.items)
+        (map (λ v. v.items) lists.new.items) (code_of pair.now.first) }
+    ensures second { StaysBelow clauses (map (λ v. v.items) lists.old.items)
+        (map (λ v. v.items) lists.new.items) (code_of pair.now.second) }
+    ensures others { (k : ℕ) → StaysOrBelow clauses (map (λ v. v.items) lists.old.items)
+        (map (λ v. v.items) lists.new.items) k }
+    ensures length { length lists.new.items ≡ length lists.old.items }
+{
+    keep_literal_below(lists, pair.first, clauses);
+    keep_literal_below(lists, pair.second, clauses);
+}
+
+/// The same of one literal, which may have no list.
+fn keep_literal_below(lists: &mut Vec<Vec<Watch>>, literal: Lit, clauses: usize)
+    ensures here { StaysBelow clauses (map (λ v. v.items) lists.old.items)
+        (map (λ v. v.items) lists.new.items) (code_of literal) }
+    ensures others { (k : ℕ) → StaysOrBelow clauses (map (λ v. v.items) lists.old.items)
+        (map (λ v. v.items) lists.new.items) k }
+    ensures length { length lists.new.items ≡ length lists.old.items }
+{
+    let place = code(literal);
+    if place >= lists.len() {
+        return;
+    }
+    keep_list_below(&mut lists[place], clauses);
+}
+
+/// Of the watches in a list those of the first clauses, so many, stay.
 fn keep_list_below(list: &mut Vec<Watch>, clauses: usize)
     ensures { list.new.items ≡ watches_below clauses list.old.items }
 {

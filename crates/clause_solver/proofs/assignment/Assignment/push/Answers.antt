@@ -1,6 +1,6 @@
 use Rattle.std.proofs.Common.{◌≡◌, ◌<◌, ◌+◌, false, length, reverse, cond, ◌∷◌, sym, ap, ◌∙◌, arith}
 use Rattle.std.proofs.lemmas.List.{length-reverse}
-use Rattle.cqe_base.specs.Literal.{variable_of}
+use Rattle.cqe_base.specs.Literal.{Positive, variable_of, same_literal}
 use Rattle.cqe_base.specs.Machine.{assigned_literal, level}
 use Rattle.cqe_base.specs.MachineStates.{is_assigned}
 use Rattle.clause_solver.specs.Entries.{is_decided}
@@ -35,8 +35,9 @@ invariant_of-self-2 c =
     ∙ ap (λ (s : Assigning). is_assigned s.trail (variable_of (assigned_literal c.args.entry))) c.self.view_is ∙ c.requires.free in
     let size : c.len-size.result ≡ length t + 1 =
     (let e = length-reverse a.trail.items in let ok = a.trail.ok.0 in let more_items = c.in_ok-push.ensures.len in omega (arith, c.len-size.ensures)) in
-    push_kept a.variables t a.truths.items a.levels.items a.places.items a.decisions a.next c.self.invariant c.args.entry
-    (reverse c.push.new.self.items) c.code.result c.variable-variable.result c.len-size.result c.level_with-decisions.result
+    push_kept a.variables t a.truths.items a.signs.items a.levels.items a.places.items a.decisions a.next c.self.invariant c.args.entry
+    (reverse c.push.new.self.items) c.code.result c.variable-variable.result c.len-size.result c.level_with-decisions.result c.sign_of-sign.result
     (ap reverse c.in_ok-push.ensures.items
     ∙ reverse_push a.trail.items c.args.entry) (c.code.ensures ∙ ap code_of literal)
-    (c.variable-variable.ensures.variable ∙ ap variable_of literal) size more below free
+    (c.variable-variable.ensures.variable ∙ ap variable_of literal) size more
+    (c.sign_of-sign.ensures ∙ ap (λ l. same_literal (Positive (variable_of l)) l) literal) below free
