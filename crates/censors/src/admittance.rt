@@ -1,6 +1,6 @@
 //! Who is admitted, and which test fails first.
 
-ghost use Rattle.std.specs.Prelude.{◌≡◌, ◌≤◌, true, ◌↔◌, map, length, None, IfOk};
+ghost use Rattle.std.specs.Prelude.{◌≡◌, ◌≤◌, true, ◌↔◌, map, length, nat_le, None, IfOk};
 ghost use Rattle.std.specs.List.{list_all};
 ghost use Rattle.cqe_base.specs.Formula.{formula_of, nodes, is_sentence_of};
 ghost use Rattle.cqe_base.specs.History.{profile_of, known, disjunction_of};
@@ -133,9 +133,29 @@ fn secrets_objection(
 {
     law_limits();
     let mut view = View::new(alloc, schema, user)?;
-    for (number, secret) in user.secrets.iter().enumerate() {
+    let found = first_objection(alloc, schema, &mut view, user.secrets.as_slice())?;
+    Ok(found)
+}
+
+/// The first probe of the log against a secret that isn't open.
+fn first_objection(
+    alloc: Global,
+    schema: &Schema,
+    view: &mut View<'_>,
+    secrets: &[Sentence],
+) -> Result<Option<Admission>, AllocError>
+    requires schema { schema_of view.old ≡ schema.now }
+    requires sentences { list_all (is_sentence_of schema.now) (map formula_of secrets.now) ≡ true }
+    requires secret_nodes { list_all (λ secret. nat_le (nodes schema.now secret) 40000)
+        (map formula_of secrets.now) ≡ true }
+    requires few { length secrets.now ≤ 256 }
+    requires log_nodes { log_nodes schema.now (log_of view.old) ≤ 40000 }
+    ensures { IfOk result (λ found. found
+        ≡ secrets_objection schema.now (log_of view.old) 0 (map formula_of secrets.now)) }
+{
+    for (number, secret) in secrets.iter().enumerate() {
         let goal = secret.copy(alloc)?;
-        let found = probe_objection(alloc, schema, &mut view, goal, Some(number as u32))?;
+        let found = probe_objection(alloc, schema, view, goal, Some(number as u32))?;
         if found.is_some() {
             return Ok(found);
         }
