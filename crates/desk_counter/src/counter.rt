@@ -21,8 +21,8 @@ use user_log::{Examined, Examiner, Reply};
 /// A turnstile has so many shares.
 const ALL_SHARES: u64 = 65;
 
-/// A value that threads share, with what examines the texts of the user whose it is. It stands for a `Counter` wherever a
-/// thread is to take it, since it says nothing of the value's type.
+/// A value that threads share, with what examines the texts of the user whose it is. It stands for
+/// a `Counter` wherever a thread is to take it, since it says nothing of the value's type.
 #[derive(Drop)]
 pub struct CounterOf<'w, V: Owned> {
     turnstile: Turnstile<V>,

@@ -48,7 +48,8 @@ returns-clause-asked g c =
     Adds (fixed_in value) t c.args.text.now (pairs_in value) (pairs_in c.settle-reply.new.self) c.settle-reply.result) c.ticket-ticket.ensures.0
     c.settle-reply.ensures.adds in
     asked_in_turn kept c.enter-turn.result.ticket (pairs_in value)
-    (pairs_in c.settle-reply.new.self) _ c.examined-examined.ensures.looked entered.view entered.later entered.whole entered.fresh entered.mine c.leave.ensures.view c.leave.ensures.mine
+    (pairs_in c.settle-reply.new.self) _ c.examined-examined.ensures.looked entered.view entered.later entered.whole entered.fresh entered.mine
+    c.leave.ensures.view c.leave.ensures.mine
     (subst (λ f. Adds f c.enter-turn.result.ticket c.args.text.now (pairs_in value) (pairs_in c.settle-reply.new.self) c.settle-reply.result) same adds)
 
 pub returns-clause-reply : goal.returns-clause-reply
