@@ -10,11 +10,13 @@ returns-in-Some-clause-within c log all = (All-pop (IsViewWithin c.args.schema.n
 pub returns-in-Some-clause-left : goal.returns-in-Some-clause-left
 returns-in-Some-clause-left c log all = (All-pop (IsViewWithin c.args.schema.now log) _ _ (Some c.in-Some.view) c.in-Some.ensures.items all).0
 
-pub returns-in-None-clause-within : goal.returns-in-None-clause-within
-returns-in-None-clause-within c log all = none-within c.args.schema.now log c.in_ok-view.view c.in_ok-view.ensures.schema c.in_ok-view.ensures.log
+pub returns-in_ok-view-in-None-clause-within : goal.returns-in_ok-view-in-None-clause-within
+returns-in_ok-view-in-None-clause-within c log all =
+    let made = c.in_ok-view-in-None in
+    none-within c.args.schema.now log made.view made.ensures.schema made.ensures.log
 
-pub returns-in-None-clause-left : goal.returns-in-None-clause-left
-returns-in-None-clause-left c log all = (All-pop (IsViewWithin c.args.schema.now log) _ _ None c.in-None.ensures.items all).0
+pub returns-in_ok-view-in-None-clause-left : goal.returns-in_ok-view-in-None-clause-left
+returns-in_ok-view-in-None-clause-left c log all = (All-pop (IsViewWithin c.args.schema.now log) _ _ None c.in-None.ensures.items all).0
 
-pub returns-in_err-view-clause-left : goal.returns-in_err-view-clause-left
-returns-in_err-view-clause-left c log all = (All-pop (IsViewWithin c.args.schema.now log) _ _ None c.in-None.ensures.items all).0
+pub returns-in_err-view-in-None-clause-left : goal.returns-in_err-view-in-None-clause-left
+returns-in_err-view-in-None-clause-left c log all = (All-pop (IsViewWithin c.args.schema.now log) _ _ None c.in-None.ensures.items all).0
