@@ -71,7 +71,7 @@ returns-in-Init-clause-cause g c =
     let made = init_over g.F.Shelf g.F.D.Disk c.args.shelf.now c.read_files.new.shelf c.run_init-end.new.shelf read.disks read.counts files
     (header_bytes inputs.header)
     inputs.policy c.as_slice.result.now c.run_init-end.result c.as_slice.ensures.value read.later ran.ends in
-    let caused = init_caused g.F.Shelf.tells g.F.D.Disk.reads g.F.D.Disk.image (header_bytes inputs.header) files.directory
+    let caused = init_caused g.F.Shelf.tells g.F.D.Disk (header_bytes inputs.header) files.directory
     (names_of (map policy_user_of inputs.policy.users.items))
     (change_on scene.shelf) c.run_init-end.result made in
     init_cause scene inputs.policy.users c.run_init-end.result caused.0 caused.1
@@ -99,7 +99,7 @@ returns-in-Init-clause-command g c =
       );
       looks = λ told. ran.looked ∙ read.both told;
       within =
-          one_of g.F.Shelf.tells g.F.D.Disk.reads g.F.D.Disk.image (header_bytes inputs.header) files.directory c.as_slice.result.now inputs.policy.users.items
+          one_of g.F.Shelf.tells g.F.D.Disk (header_bytes inputs.header) files.directory c.as_slice.result.now inputs.policy.users.items
           _ c.run_init-end.result c.as_slice.ensures.value ran.ends;
     } in
     let does : OfInit scene files (ends.Init inputs.policy.users c.run_init-end.result) = record {
