@@ -33,10 +33,8 @@ pub type DeskPass<D> = Pass<TurnItem, Fixed<D>>;
 
 impl<'w, D: Disk> CounterOf<'w, TicketedDesk<'w, D>> {
     ghost use Rattle.std.specs.Prelude.{◌⊎◌, ℕ, ◌^◌, ◌+◌, ◌*◌, ◌≤◌, ◌<◌, ◌↔◌, IsTrue, true, false};
-    ghost use Rattle.std.specs.Prelude.{List, [], ◌++◌, length, option_to_list, None, IfOk, IfErr};
+    ghost use Rattle.std.specs.Prelude.{List, [], length, IfOk, IfErr};
     ghost use Rattle.std.specs.Prelude.{OnOk};
-    ghost use Rattle.outside.specs.Disk.{Elapses};
-    ghost use Rattle.outside.specs.Faults.{Rose};
     ghost use Rattle.cqe_base.specs.Censor.{IsLegal};
     ghost use Rattle.cqe_base.specs.Limits.{KeepsSizes};
     ghost use Rattle.turnstile.specs.declared.pass.PassError.TheVariants.{TooMany};
@@ -45,16 +43,15 @@ impl<'w, D: Disk> CounterOf<'w, TicketedDesk<'w, D>> {
     ghost use Rattle.turnstile.specs.Views.{remaining_view, split_off_view, view_of_both};
     ghost use Rattle.turnstile.specs.Views.{DrewEachOnce};
     ghost use Rattle.turnstile.specs.Passes.{view_of, seen, tickets, mine, shares, turns};
-    ghost use Rattle.user_desk.specs.Causes.{OpensWithin};
-    ghost use Rattle.user_desk.specs.Entries.{StandsFor, IsNoLonger};
-    ghost use Rattle.user_desk.specs.Lives.{Holds};
-    ghost use Rattle.user_desk.specs.Standings.{is_open, is_sealed};
+    ghost use Rattle.user_desk.specs.Entries.{StandsFor};
+    ghost use Rattle.user_desk.specs.Standings.{is_sealed};
     ghost use Rattle.user_desk.specs.Desks.{desk_history, desk_disk, entry_in_flight};
     ghost use Rattle.desk_counter.specs.Items.{history_of, flying, has_broke, BrokeIsLast};
-    ghost use Rattle.desk_counter.specs.Items.{items_of, items_with, is_broke_last};
-    ghost use Rattle.desk_counter.specs.Desks.{fixed_of, state_shown};
+    ghost use Rattle.desk_counter.specs.Items.{is_broke_last};
+    ghost use Rattle.desk_counter.specs.Desks.{fixed_of};
     ghost use Rattle.desk_counter.specs.Asks.{NoMark, Asked, IsReply, TellsMark, AddsNoEntry};
     ghost use Rattle.desk_counter.specs.Counters.{kept_by, first_pairs, IsPassOf};
+    ghost use Rattle.desk_counter.specs.Closed.{IsClosed};
 
     /// Puts a desk under a counter. The pass has all 65 shares and 65 * 2^57 turns, and has seen
     /// the desk's entries, with ticket 0. For want of memory the desk comes back.
@@ -188,53 +185,20 @@ impl<'w, D: Disk> CounterOf<'w, TicketedDesk<'w, D>> {
 
         // They are the pairs that the desk was put under the counter with, and behind them the
         // pass's own: so an append failed where one had failed before, or one of the pass's own.
-        ensures added { seen pass ≡ first_pairs self.entry ++ mine pass }
-        ensures items { items_of (seen pass)
-            ≡ items_with (history_of (seen pass)) (flying (seen pass)) }
+        // What was seen is a legal history within the limits, and what became of its disk since the
+        // desk's opening.
+        ensures closed { IsClosed D.tells D.Disk (kept_by self.entry) (first_pairs self.entry)
+            (mine pass) (seen pass) (desk_disk result) }
         ensures drew { DrewEachOnce (view_of pass) }
-
-        // What was seen is a legal history within the limits, and each crash leaves just that;
-        // where an append failed, that or one entry more, and the disk's count of faults rose since
-        // the desk's opening; where none did, the disk has grown for the entries alone. Only a user
-        // who is served has any.
-        ensures legal { IsLegal (kept_by self.entry).schema (kept_by self.entry).world
-            (kept_by self.entry).user
-            (history_of (seen pass)) }
         ensures sizes { KeepsSizes (kept_by self.entry).schema (kept_by self.entry).user
             (history_of (seen pass)) }
-        ensures idle { is_open (kept_by self.entry).standing ≡ false
-            → (history_of (seen pass) ≡ []) × (flying (seen pass) ≡ None) }
+
+        // Where no append failed, each crash leaves just that history.
         ensures whole { D.tells → is_sealed (kept_by self.entry).standing ≡ false
             → has_broke (seen pass) ≡ false
             → (c : List ℕ) → D.image (desk_disk result) c
             → StandsFor (kept_by self.entry).schema (kept_by self.entry).header
             (history_of (seen pass)) c }
-        ensures images { D.tells → is_sealed (kept_by self.entry).standing ≡ false → (c : List ℕ)
-            → D.image (desk_disk result) c
-            → Holds (kept_by self.entry).schema (kept_by self.entry).world (kept_by self.entry).user
-            (kept_by self.entry).header (state_shown (kept_by self.entry) (seen pass)) c }
-        ensures cause { has_broke (seen pass) ≡ true
-            → Rose (D.faults (kept_by self.entry).disk) (D.faults (desk_disk result)) }
-        ensures size { D.tells → has_broke (seen pass) ≡ false
-            → IsNoLonger (D.reads (kept_by self.entry).disk) (history_of (seen pass))
-            (D.reads (desk_disk result)) }
-        ensures count { D.faults (kept_by self.entry).disk ≤ D.faults (desk_disk result) }
-
-        // Since the opening each image opens a desk with a beginning of it that has all entries at
-        // the opening; and where the journal was refused, or nothing was appended, the disk is as
-        // it was.
-        ensures since { D.tells → is_sealed (kept_by self.entry).standing ≡ false → (c : List ℕ)
-            → D.image_since (desk_disk result) (D.moment (kept_by self.entry).disk) c
-            → OpensWithin (kept_by self.entry).schema (kept_by self.entry).world
-            (kept_by self.entry).user (kept_by self.entry).header
-            (length (kept_by self.entry).opening)
-            (history_of (seen pass) ++ option_to_list (flying (seen pass))) c }
-        ensures refused { is_sealed (kept_by self.entry).standing ≡ true
-            → desk_disk result ≡ (kept_by self.entry).disk }
-        ensures still { length (history_of (seen pass)) ≡ length (kept_by self.entry).opening
-            → flying (seen pass) ≡ None → desk_disk result ≡ (kept_by self.entry).disk }
-        ensures time { Elapses (D.moment (kept_by self.entry).disk) (D.moment (desk_disk result))
-            (D.image_since (kept_by self.entry).disk) (D.image_since (desk_disk result)) }
     {
         let desk = self.turnstile.close(pass).into_desk();
         desk.known();

@@ -3,4 +3,5 @@ pub mod Keeping
 pub mod Asking
 mod Costs
 mod SameLogs
+mod TwoDigits
 pub mod Crossing

@@ -3,6 +3,7 @@
 //! `UserLog::weigh` gives the reply to a text by the user's own history, without adding anything;
 //! `UserLog::ask` adds the entry of a mark as well, and `UserLog::prepare` and `UserLog::commit` do
 //! that in two steps, of which the second takes no memory.
+//! `line_reply` is a reply in the words of the line protocol.
 //! The type keeps that the entries are legal and were added within the limits.
 //! Read `reply` first, then `log`.
 #![tactic(auto)]
@@ -13,4 +14,4 @@ mod reply;
 
 pub use log::UserLog;
 pub use prepared::Prepared;
-pub use reply::{Reply, Weighed};
+pub use reply::{Reply, Weighed, line_reply};

@@ -2,8 +2,8 @@ use Rattle.std.proofs.Common.{sym, ap, ◌∙◌, ◌++◌, arith}
 use Rattle.std.specs.Prelude.{codes}
 use Rattle.cqe_base.specs.Transcript.{reply_text}
 use Rattle.user_log.specs.Replies.{reply_of}
-use Rattle.case_engine.proofs.TwoDigits.{two_digits}
-use Rattle.case_engine.proofs.answering.line_reply.Goals as goal
+use Rattle.user_log.proofs.TwoDigits.{two_digits}
+use Rattle.user_log.proofs.reply.line_reply.Goals as goal
 
 pub returns-in-Size : goal.returns-in-Size
 returns-in-Size c = ap (λ digits. codes "error " ++ digits) (two_digits 21 (omega arith) (omega arith)) ∙ sym (ap (λ r. reply_text (reply_of r)) c.in-Size.is)
