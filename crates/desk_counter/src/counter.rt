@@ -41,15 +41,10 @@ pub type DeskPass<D> = Pass<TurnItem, Fixed<D>>;
 
 impl<'w, D: Disk> CounterOf<'w, TicketedDesk<'w, D>> {
     ghost use Rattle.std.specs.Prelude.{◌⊎◌, ℕ, ◌^◌, ◌+◌, ◌*◌, ◌≤◌, ◌<◌, ◌↔◌, IsTrue, true, false};
-<<<<<<< 1e23ba3d58ec391c3ea9458ed60bd67cb157388f
-    ghost use Rattle.std.specs.Prelude.{List, [], length, IfOk, IfErr};
-    ghost use Rattle.std.specs.Prelude.{OnOk};
-=======
     ghost use Rattle.std.specs.Prelude.{List, [], ◌++◌, length, option_to_list, None, IfOk, IfErr};
     ghost use Rattle.std.specs.Prelude.{OnOk, IfSome};
     ghost use Rattle.outside.specs.Disk.{Elapses};
     ghost use Rattle.outside.specs.Faults.{Rose};
->>>>>>> 6ab6981e3fe0a8afbbde54e9b402c1a5e1940903
     ghost use Rattle.cqe_base.specs.Censor.{IsLegal};
     ghost use Rattle.cqe_base.specs.History.{profile_of};
     ghost use Rattle.cqe_base.specs.Limits.{KeepsSizes};

@@ -3,13 +3,10 @@
 //! `UserLog::weigh` gives the reply to a text by the user's own history, without adding anything;
 //! `UserLog::ask` adds the entry of a mark as well, and `UserLog::prepare` and `UserLog::commit` do
 //! that in two steps, of which the second takes no memory.
-<<<<<<< 1e23ba3d58ec391c3ea9458ed60bd67cb157388f
-//! `line_reply` is a reply in the words of the line protocol.
-=======
 //! A text may be examined before it is weighed: `UserLog::lend` lends a view of the log, `Examiner`
 //! makes the probes after that, outside of the log, and `weigh` takes what they found where the log
 //! is still the same.
->>>>>>> 6ab6981e3fe0a8afbbde54e9b402c1a5e1940903
+//! `line_reply` is a reply in the words of the line protocol.
 //! The type keeps that the entries are legal and were added within the limits.
 //! Read `reply` first, then `examiner` and `log`.
 #![tactic(auto)]
