@@ -18,6 +18,10 @@ use Rattle.entailment.proofs.LogNodes.{sentence_nodes-le}
 abbrev told : Told → Signed
 told t = (formula_of t.sentence, t.yes)
 
+-- as many as the log in memory has
+pub told-count : (log : List Told) → length (told_log log) ≡ length log
+told-count log = length-map log told
+
 -- what each part passes, this one passes
 passes : (p : Signed → Bool) (log : List Told) (i : ℕ) (t : Told) → i < length log → t ≡ get_or log i t → list_all p (told_log log) ≡ true → p (told t) ≡ true
 passes p log i t below is h =

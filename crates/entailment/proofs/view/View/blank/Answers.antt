@@ -1,4 +1,4 @@
-use Rattle.std.proofs.Common.{[], sym, ap, subst, arith}
+use Rattle.std.proofs.Common.{sym, ap, subst, arith}
 use Rattle.entailment.specs.Logs.{IsSmallLog, told_log}
 use Rattle.entailment.proofs.KeptClauses.{none-begins}
 use Rattle.entailment.proofs.ViewForms.{small-none}

@@ -27,8 +27,8 @@ invariant_of-self-2 c =
     let log = told_log c.self.inside.log.items in
     record { small = c.self.invariant.small; spares = c.take_view.ensures.left log c.self.invariant.spares }
 
-pub invariant_of-self-3 : goal.invariant_of-self-3
-invariant_of-self-3 c =
+pub invariant_of-self-in_err-follow : goal.invariant_of-self-in_err-follow
+invariant_of-self-in_err-follow c =
     let log = told_log c.self.inside.log.items in
     record { small = c.self.invariant.small; spares = c.take_view.ensures.left log c.self.invariant.spares }
 

@@ -10,6 +10,6 @@ invariant_of-self c =
     let within = subst (λ (w : LogView). IsViewWithin w.schema w.log c.args.view) (sym c.self.view_is) c.requires in
     record {
       small = c.self.invariant.small;
-      spares = pushed-within v.schema.now (told_log v.log.items) v.spares.items _ c.args.view c.push-_kept.result c.push-_kept.ensures.items
+      spares = pushed-within v.schema.now (told_log v.log.items) v.spares.items _ c.args.view c.push-kept.result c.push-kept.ensures.items
           c.self.invariant.spares within;
     }
