@@ -1,6 +1,6 @@
 -- The later clauses leave the lists of the literals that they watch: as many watches go as they have, so none is left.
-use Rattle.std.proofs.Common.{◌≡◌, ℕ, zero, suc, ◌+◌, ◌<◌, ◌≤◌, Bool, true, false, cond, not, eqb, ltb, List, [], ◌∷◌, ◌++◌, length, get_or, set, take, drop, Option, refl}
-use Rattle.std.proofs.Common.{sym, ap, ◌∙◌, subst, inl, inr, arith}
+use Rattle.std.proofs.Common.{◌≡◌, ℕ, zero, suc, ◌+◌, ◌<◌, ◌≤◌, Bool, true, false, cond, not, eqb, ltb, List, [], ◌∷◌, length, get_or, set, drop, Option}
+use Rattle.std.proofs.Common.{refl, sym, ap, ◌∙◌, subst, inl, inr, arith}
 use Rattle.std.specs.List.{AllByRecursion, remove}
 use Rattle.std.proofs.lemmas.Bool.{both_ways, cases_eq, cases_lt, lt-ltb, le-ltb, ltb-true, ltb-false, eq-eqb, ne_eqb}
 use Rattle.std.proofs.lemmas.List.{get_or-set_same, get_or-set_other, get_or-drop, get_or_past, length-drop}
@@ -45,10 +45,10 @@ removed count (w ∷ ws) zero at =
           ∙ sym (ap (λ b. one_if (not b) + times_later count ws) high),
     )
 removed count (w ∷ ws) (suc place) at =
-    let rest = removed count ws place (record { within = (let lt = at.within in omega arith); later = at.later }) in (
+    let rest = removed count ws place (record { within = (let lt = at.within in omega arith); later = at.later }) in
+    let here : ℕ = one_if (not (ltb w.clause count)) in (
       ap (λ vs. cond (ltb w.clause count) (w ∷ vs) vs) rest.0,
-      (let here = rest.1 in
-          let e : one_if (not (ltb w.clause count)) + times_later count (remove ws place) + 1 ≡ one_if (not (ltb w.clause count)) + times_later count ws = omega arith in e),
+      (let fewer = rest.1 in let e : here + times_later count (remove ws place) + 1 ≡ here + times_later count ws = omega arith in e),
     )
 
 pub loses_one : (count : ℕ) (ws vs : List Watch) (place : ℕ) → IsLater count ws place → vs ≡ remove ws place → LosesLater count 1 ws vs
@@ -67,8 +67,9 @@ none_behind count w ws low none =
 -- a list that has lost all of them
 pub none_later : (count : ℕ) (ws : List Watch) → times_later count ws ≤ 0 → ws ≡ watches_below count ws
 none_later count [] none = refl
-none_later count (w ∷ ws) none = step (ltb w.clause count) (none_later count ws (let all : one_if (not (ltb w.clause count)) + times_later count ws ≤ 0 = none in omega arith))
-    none
+none_later count (w ∷ ws) none =
+    let rest : times_later count ws ≤ 0 = (let all : one_if (not (ltb w.clause count)) + times_later count ws ≤ 0 = none in omega arith) in
+    step (ltb w.clause count) (none_later count ws rest) none
   where
     step : (b : Bool) → ws ≡ watches_below count ws → one_if (not b) + times_later count ws ≤ 0
         → w ∷ ws ≡ cond b (w ∷ watches_below count ws) (watches_below count ws)
@@ -80,13 +81,16 @@ none_later count (w ∷ ws) none = step (ltb w.clause count) (none_later count w
 module _ (count : ℕ) (lists : List (List Watch)) (literal : Literal) (ys : List Watch) (low : code_of literal < length lists)
     (lost : LosesLater count 1 (get_or lists (code_of literal) []) ys) where
   pub put_lost : HaveLeft count (λ l. one_if (same_literal literal l)) lists (set lists (code_of literal) ys)
-  put_lost l = elim (cases_eq (code_of l) (code_of literal)) [
-    | inl same ↦ subst (λ k. LosesLater count (one_if (same_literal literal l)) (get_or lists k []) (get_or (set lists (code_of literal) ys) k [])) (sym same)
-        (subst (LosesLater count (one_if (same_literal literal l)) (get_or lists (code_of literal) [])) (sym (get_or-set_same lists (code_of literal) ys [] low))
-        (loses_less count (same_literal literal l) (get_or lists (code_of literal) []) ys lost))
-    | inr ne ↦ subst (LosesLater count (one_if (same_literal literal l)) (get_or lists (code_of l) []))
-        (sym (get_or-set_other lists (code_of literal) (code_of l) ys [] ne)) (other l ne (same_literal literal l) refl)
-  ]
+  put_lost l =
+      let b : Bool = same_literal literal l in
+      let new : List (List Watch) = set lists (code_of literal) ys in
+      elim (cases_eq (code_of l) (code_of literal)) [
+        | inl same ↦ subst (λ k. LosesLater count (one_if b) (get_or lists k []) (get_or new k [])) (sym same)
+            (subst (LosesLater count (one_if b) (get_or lists (code_of literal) [])) (sym (get_or-set_same lists (code_of literal) ys [] low))
+            (loses_less count b (get_or lists (code_of literal) []) ys lost))
+        | inr ne ↦ subst (LosesLater count (one_if b) (get_or lists (code_of l) []))
+            (sym (get_or-set_other lists (code_of literal) (code_of l) ys [] ne)) (other l ne b refl)
+      ]
     where
       other : (l : Literal) → (code_of l ≡ code_of literal → ⊥) → (b : Bool) → same_literal literal l ≡ b
           → LosesLater count (one_if b) (get_or lists (code_of l) []) (get_or lists (code_of l) [])

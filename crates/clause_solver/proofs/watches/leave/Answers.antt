@@ -32,7 +32,8 @@ returns-clause-left c =
     let v = c.loop-i.invariant in
     let i = c.loop-i.i in
     let ps = c.args.pairs.now.items in
-    let past : drop i ps ≡ [] = drop_of_length-le ps (let end = c.loop-i-test.false in let all = c.len-i-end.ensures in let ok = c.args.pairs.now.ok.0 in omega arith) in
+    let end : length ps ≤ i = (let past = c.loop-i-test.false in let all = c.len-i-end.ensures in let ok = c.args.pairs.now.ok.0 in omega arith) in
+    let past : drop i ps ≡ [] = drop_of_length-le ps end in
     λ m. record {
       below = v.below m;
       fewer = λ left h. let had = v.fewer m left h in let none = ap (λ qs. times_watched_by qs m) past in omega arith;
