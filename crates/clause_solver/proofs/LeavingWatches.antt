@@ -2,7 +2,7 @@
 use Rattle.std.proofs.Common.{◌≡◌, ℕ, zero, suc, ◌+◌, ◌<◌, ◌≤◌, Bool, true, false, cond, not, eqb, ltb, List, [], ◌∷◌, length, get_or, set, drop, Option}
 use Rattle.std.proofs.Common.{refl, sym, ap, ◌∙◌, subst, inl, inr, arith}
 use Rattle.std.specs.List.{AllByRecursion, remove}
-use Rattle.std.proofs.lemmas.Bool.{both_ways, cases_eq, cases_lt, lt-ltb, le-ltb, ltb-true, ltb-false, eq-eqb, ne_eqb}
+use Rattle.std.proofs.lemmas.Bool.{cases_eq, cases_lt, lt-ltb, le-ltb, eq-eqb, ne_eqb}
 use Rattle.std.proofs.lemmas.List.{get_or-set_same, get_or-set_other, get_or-drop, get_or_past, length-drop}
 use Rattle.cqe_base.specs.Literal.{Literal, same_literal}
 use Rattle.cqe_base.specs.Machine.{Assigned}
@@ -12,7 +12,6 @@ use Rattle.clause_solver.specs.declared.watches.Watch.{Watch}
 use Rattle.clause_store.specs.Codes.{code_of}
 use Rattle.clause_solver.specs.Watching.{IsWatching, IsWatchOf, StaysBelow, IsLater, LosesLater, HaveLeft, no_pair, one_if, times_listed, times_watched}
 use Rattle.clause_solver.specs.Watching.{times_watched_by, times_later, watches_below}
-use Rattle.clause_solver.proofs.Listed.{none_listed}
 
 -- ---- one list loses watches
 

@@ -1,7 +1,7 @@
-use Rattle.std.proofs.Common.{◌≡◌, ◌+◌, ◌<◌, ◌≤◌, [], ◌∷◌, drop, length, refl, sym, ap, ◌∙◌, subst, arith}
+use Rattle.std.proofs.Common.{◌≡◌, ◌+◌, ◌<◌, ◌≤◌, [], ◌∷◌, drop, length, refl, sym, ap, ◌∙◌, arith}
 use Rattle.std.proofs.lemmas.List.{get_or_read, drop_more}
 use Rattle.std.proofs.Math.ListN.{drop_of_length-le}
-use Rattle.clause_solver.specs.Watching.{no_pair, times_watched, times_watched_by}
+use Rattle.clause_solver.specs.Watching.{no_pair, times_watched_by}
 use Rattle.clause_solver.proofs.watches.leave.Goals as goal
 
 pub loop-i-init : goal.loop-i-init

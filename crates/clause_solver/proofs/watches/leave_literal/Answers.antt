@@ -1,5 +1,5 @@
-use Rattle.std.proofs.Common.{◌≡◌, ◌<◌, ◌≤◌, List, [], length, map, get_or, set, sym, ap, ◌∙◌, subst, arith, inl, inr}
-use Rattle.std.proofs.lemmas.List.{length-map, length-set, get_or_past, get_or-map, map-set}
+use Rattle.std.proofs.Common.{◌≡◌, ◌<◌, List, [], length, map, get_or, set, sym, ap, ◌∙◌, subst, arith}
+use Rattle.std.proofs.lemmas.List.{length-map, length-set, get_or-map, map-set}
 use Rattle.cqe_base.specs.Literal.{same_literal}
 use Rattle.clause_solver.specs.declared.watches.Watch.{Watch}
 use Rattle.clause_store.specs.Codes.{code_of}
