@@ -3,7 +3,7 @@ use Rattle.std.proofs.lemmas.Grind.{common_steps}
 use Rattle.cqe_base.specs.Formula.{formula_of, nodes, is_sentence_of}
 use Rattle.cqe_base.specs.History.{log, told_by, signed_nodes}
 use Rattle.entailment.specs.Logs.{log_nodes}
-use Rattle.entailment.specs.Views.{schema_of, log_of}
+use Rattle.entailment.specs.Views.{log_of}
 use Rattle.user_log.specs.Prepared.{prepared_entry}
 use Rattle.user_log.specs.UserLogs.{kept_schema, kept_user, kept_history}
 use Rattle.user_log.proofs.Keeping.{kept_push}
