@@ -115,8 +115,11 @@ module _ (journals : Journals) (policy : PolicyValue) (world : FactSet) (header 
     ended : (held : Bool) → list_any is_opened (own_events user.name script) ≡ held → (left : List ℕ) → journals.image user.name left
         → LeavesPart journals policy world header (record { name = user.name; profile = user.profile; token = None }) left
     ended true held left at =
-        inr (batch.span_of (state_after policy.schema world user script) user left, refl,
-          batches_are_spans journals policy.schema world header users script user serves held left at)
+        inr (
+          batch.span_of (state_after policy.schema world user script) user left,
+          refl,
+          batches_are_spans journals policy.schema world header users script user serves held left at,
+        )
     ended false none left at = inl ((serves.kept (ap (λ b. b && list_any is_ask (own_events user.name script)) none)).1 left at)
 
     amid : (held : Bool) → list_any is_opened (own_events user.name script) ≡ held → (left : List ℕ)
@@ -163,9 +166,12 @@ module _ (journals : Journals) (policy : PolicyValue) (world : FactSet) (header 
         → LeavesPart journals policy world header (policy_user_of user) left
     serving_ended true sealed left at = inl ((served.kept (inl sealed)).1 left at)
     serving_ended false unsealed left at =
-        inr (serve.span_of member left, refl,
+        inr (
+          serve.span_of member left,
+          refl,
           as_his (serve.span_of member left)
-              (servings_are_spans journals policy.schema world header user member refusal served unsealed left at))
+              (servings_are_spans journals policy.schema world header user member refusal served unsealed left at),
+        )
 
     serving_amid : (sealed : Bool) → is_sealed served.standing ≡ sealed → (left : List ℕ)
         → journals.image_before (string_bytes user.name) left ⊎ journals.since (string_bytes user.name) served.moments.opening left
