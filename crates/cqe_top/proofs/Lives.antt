@@ -7,8 +7,8 @@ use Rattle.outside.specs.Shelf.{bytes_on, image_on}
 use Rattle.outside.specs.declared.disk.Disk.{Ghosts as DiskGhosts}
 use Rattle.outside.specs.declared.shelf.Shelf.{Ghosts as ShelfGhosts}
 use Rattle.cqe_base.specs.Facts.{FactSet}
-use Rattle.cqe_base.specs.History.{UserProfile, profile_of}
-use Rattle.cqe_base.specs.Schema.{Text, DatabaseSchema}
+use Rattle.cqe_base.specs.History.{profile_of}
+use Rattle.cqe_base.specs.Schema.{Text}
 use Rattle.cqe_base.specs.Transcript.{NamedUser, ScriptEvent, own_events, state_after}
 use Rattle.cqe_base.specs.declared.user.User.{User}
 use Rattle.user_desk.specs.Joining.{Span, IsSpanOver}
@@ -38,7 +38,7 @@ use Rattle.cqe_top.specs.declared.end.CommandEnd.TheVariants as end
 use Rattle.cqe_top.specs.Audit.{AuditEnds, OfAudit}
 use Rattle.cqe_top.specs.Batch.{BatchEnds, RunsBatch, OfBatch, AnswersOverFiles}
 use Rattle.cqe_top.specs.Files.{both, said_on, SayOn, journals_of, new_user, new_users}
-use Rattle.cqe_top.specs.Lives.{TellsAll, IsEndOf, AreJoined, BatchCallsJoin, IsLeft, LeavesPart, LeavesParts, UsesJournals, CallsAreParts}
+use Rattle.cqe_top.specs.Lives.{TellsAll, IsEndOf, BatchCallsJoin, IsLeft, LeavesPart, LeavesParts, UsesJournals, CallsAreParts}
 use Rattle.cqe_top.specs.Promise.{Promise, OfReading}
 use Rattle.cqe_top.specs.Scene.{Scene, ShelfScene, Input, Output, LinksScene, SameDisks, shelf_of, scene_of}
 use Rattle.cqe_top.specs.Serve.{ServeEnds, OfServe, ServesOverFiles}
@@ -148,7 +148,7 @@ module _ (journals : Journals) (policy : PolicyValue) (world : FactSet) (header 
 
   -- what each end of a batch leaves
   batch_leaves : (e : BatchEnd) → LeavesJournals policy.schema world header journals (new_users policy) e → LeavesParts journals policy world header
-  batch_leaves (batch_end.Done refusals is_broken) (items, written, all) = batch_parts items written all.answers
+  batch_leaves (batch_end.Done refusals is_broken) (items, written, all) = batch_parts items all.written all.answers
   batch_leaves (batch_end.Script refusal) kept = inl kept
   batch_leaves batch_end.ReadFault kept = inl kept
   batch_leaves batch_end.WriteFault (items, written, some) = batch_parts some.front _ some.answers
