@@ -142,7 +142,8 @@ module _ (journals : Journals) (policy : PolicyValue) (world : FactSet) (header 
   batch_parts items written answers =
       let script = with_opening answers.found answers.opened answers.events in
       let each : AllByRecursion OfNamed answers.users =
-      all_of (ServesUser policy.schema world header journals answers.users script) OfNamed (batch_of_user answers.users script) answers.users answers.each_user in
+      all_of (ServesUser policy.schema world header journals answers.users script) OfNamed (batch_of_user answers.users script) answers.users
+      answers.each_user in
       inr (unmapped new_user OfNamed policy.users
       (subst (AllByRecursion OfNamed) answers.of_policy (mapped unopened OfNamed answers.users each)))
 
