@@ -8,7 +8,7 @@ pub use Rattle.user_log.proofs.Crossing.{user_sync}
 use Rattle.user_log.proofs.Crossing.{sentence_send, log_send, examiner_sync}
 use Rattle.log_journal.proofs.header.Header.TheSendSync as header
 use Rattle.user_desk.proofs.standing.Standing.TheSendSync as standing
-use Rattle.user_desk.proofs.medium.Medium.TheSendSync as medium
+use Rattle.user_desk.proofs.store.Medium.TheSendSync as medium
 use Rattle.user_desk.specs.contracts.store.Store as Store
 use Rattle.user_desk.specs.contracts.desk.Desk as Desk
 use Rattle.turnstile.specs.declared.steps.Recorded as recorded

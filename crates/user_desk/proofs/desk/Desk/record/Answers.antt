@@ -18,16 +18,17 @@ use Rattle.user_desk.proofs.Sizes.{size_added}
 use Rattle.user_desk.proofs.Since.{split_moments, since_added, since_flying, some_not_none}
 use Rattle.user_desk.proofs.desk.Desk.record.Given.{Over}
 use Rattle.user_desk.proofs.desk.Desk.record.Goals as goal
+use Rattle.user_desk.proofs.desk.Desk.record.Goals.{After-append}
 
 -- ---- what is appended
 
-abbrev entry : (g : Over) → goal.After-append g → AnsweredQuery
+abbrev entry : (g : Over) → After-append g → AnsweredQuery
 entry g c = record { query = formula_of c.args.query; mark = c.args.mark; length = length c.args.text.now }
 
-abbrev next : (g : Over) → goal.After-append g → Recorded
+abbrev next : (g : Over) → After-append g → Recorded
 next g c = (c.kind_of.result, c.as_bytes.result.now)
 
-grows : (g : Over) (c : goal.After-append g)
+grows : (g : Over) (c : After-append g)
     → IsGrowing g.D.Disk.tells (λ i. g.D.Disk.image (stored_disk c.args.self.now.store) i) (kept_schema c.args.self.now.log)
     (kept_world c.args.self.now.log) (kept_user c.args.self.now.log) (header_bytes c.args.self.now.header) c.args.self.now.standing
     (kept_history c.args.self.now.log) (entry_in_flight c.args.self.now) (entry g c) (next g c) (g.D.Disk.reads (stored_disk c.reserve.new.self))
@@ -46,7 +47,7 @@ grows g c =
     c.as_bytes.ensures.value c.kind_of.ensures.back c.requires.answer.read)
 
 -- each image since the opening was one before, or has the record or not
-split : (g : Over) (c : goal.After-append g) (told : g.D.Disk.tells) (i : List ℕ)
+split : (g : Over) (c : After-append g) (told : g.D.Disk.tells) (i : List ℕ)
     → g.D.Disk.image_since (stored_disk c.append.new.self) (g.D.Disk.moment (opened_disk c.append.new.self)) i
     → g.D.Disk.image_since (stored_disk c.args.self.now.store) (g.D.Disk.moment (opened_disk c.args.self.now.store)) i
     ⊎ KeepsOrAdds (g.D.Disk.reads (stored_disk c.reserve.new.self)) (next g c) i
