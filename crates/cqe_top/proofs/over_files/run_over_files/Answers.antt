@@ -27,8 +27,8 @@ use Rattle.cqe_top.proofs.Serving.{serve_succeeds, served_out}
 use Rattle.cqe_top.proofs.Users.{batch_names_are}
 use Rattle.cqe_top.proofs.over_files.run_over_files.Given.{Over}
 use Rattle.cqe_top.proofs.over_files.run_over_files.Goals as goal
-use Rattle.cqe_top.proofs.over_files.run_over_files.Goals.{After-drop-inputs-5, After-drop-inputs-in-Audit-5, After-drop-inputs-in-Batch-4, After-drop-inputs-in-Init-3}
-use Rattle.cqe_top.proofs.over_files.run_over_files.Goals.{After-drop-inputs-in_default-5, In-Err}
+use Rattle.cqe_top.proofs.over_files.run_over_files.Goals.{After-drop-inputs-5, After-drop-inputs-in-Audit-5, After-drop-inputs-in-Batch-4}
+use Rattle.cqe_top.proofs.over_files.run_over_files.Goals.{After-drop-inputs-in-Init-3, After-drop-inputs-in_default-5, In-Err}
 
 pub run_batch-end-requires-clause-names : goal.run_batch-end-requires-clause-names
 run_batch-end-requires-clause-names g c =
