@@ -39,6 +39,7 @@ impl<'w, D: Disk> SoleOf<'w, TicketedDesk<'w, D>> {
     ghost use Rattle.desk_counter.specs.Items.{history_of, flying};
     ghost use Rattle.desk_counter.specs.Desks.{fixed_of};
     ghost use Rattle.desk_counter.specs.Lives.{IsAskOf};
+    ghost use Rattle.desk_counter.specs.Closed.{IsClosed};
     ghost use Rattle.desk_counter.specs.Counters.{first_pairs, IsPassOf};
     ghost use Rattle.desk_counter.specs.Sole.{counter_in, pass_in, kept_in, pairs_of_sole};
     ghost use Rattle.desk_counter.specs.Sole.{IsSoleIn};

@@ -14,6 +14,8 @@ use Rattle.desk_crew.proofs.Opening.{seats_limits, length-journals, AllSeated, a
 use Rattle.batch_engine.proofs.Ending.{batch_begins, all_of, Finishes, finishes, some_alone, to_alone, told_all}
 use Rattle.batch_engine.proofs.run.run_batch.Given.{Over}
 use Rattle.batch_engine.proofs.run.run_batch.Goals as goal
+use Rattle.batch_engine.proofs.run.run_batch.Goals.{After-drop-batch-2, After-drop-batch-in-All, After-drop-batch-in-Cut, After-give_back-arg-1}
+use Rattle.batch_engine.proofs.run.run_batch.Goals.{After-give_back-arg-in-Cut-1, In-Ok-open_all}
 
 pub returns-in-Refused-clause-ends : goal.returns-in-Refused-clause-ends
 returns-in-Refused-clause-ends g c =
@@ -23,7 +25,7 @@ returns-in-Refused-clause-ends g c =
 
 -- ---- what follows from the opening of all journals
 
-seated : (g : Over) (c : goal.In-Ok-open_all g)
+seated : (g : Over) (c : In-Ok-open_all g)
     → AllSeated c.args.registry.now.directory.now c.args.registry.now.schema.now c.args.registry.now.world.now (header_bytes c.args.registry.now.header.now)
     g.F.Shelf.tells g.F.D.Disk.tells g.F.D.Disk c.args.registry.now.users.now c.in-Ok-open_all.seats.items (g.F.Shelf.disk c.args.shelf.now)
     (g.F.Shelf.disk c.open_all.new.shelf) (g.F.Shelf.is_out c.open_all.new.shelf) (g.F.Shelf.disk_faults c.args.shelf.now)
@@ -33,7 +35,7 @@ seated g c =
     c.open_all.ensures.disks c.in-Ok-open_all.ensures.counts
 
 -- what runs from there make of the journals, where the shelf is this one behind them
-ending : (g : Over) (c : goal.In-Ok-open_all g) (told : g.F.Shelf.tells) (after : _)
+ending : (g : Over) (c : In-Ok-open_all g) (told : g.F.Shelf.tells) (after : _)
     → Finishes c.args.registry.now.schema.now c.args.registry.now.world.now (header_bytes c.args.registry.now.header.now) g.F.D.Disk.tells g.F.Shelf.tells
     g.F.D.Disk (journals_on g.F.Shelf g.F.D.Disk c.args.registry.now.directory.now c.args.shelf.now after)
     (map named_user c.args.registry.now.users.now) c.in-Ok-open_all.seats.items (g.F.Shelf.disk after) (g.F.Shelf.disk_faults after)
@@ -77,7 +79,7 @@ refusals_of-refusals-requires-clause-room g c =
 
 -- ---- where all items were answered
 
-all_can : (g : Over) (c : goal.After-give_back-arg-1 g)
+all_can : (g : Over) (c : After-give_back-arg-1 g)
     → CanGive g.F.D.Disk c.in-All.seats.items (g.F.Shelf.is_out c.answer_all.new.shelf) (g.F.Shelf.disk_faults c.answer_all.new.shelf)
 all_can g c =
     let stay = stay_run _ _ _ _ _ _ _ _ _ _ c.in-All.ensures.answered.runs in
@@ -94,7 +96,7 @@ give_back-requires-clause-out g c = (all_can g c).out
 pub give_back-requires-clause-later : goal.give_back-requires-clause-later
 give_back-requires-clause-later g c = (all_can g c).later
 
-all_given : (g : Over) (c : goal.After-drop-batch-in-All g)
+all_given : (g : Over) (c : After-drop-batch-in-All g)
     → AllReturned (registered_journals c.args.registry.now.directory.now c.args.registry.now.users.now) (g.F.Shelf.disk c.args.shelf.now)
     (g.F.Shelf.disk c.give_back.new.shelf) (g.F.Shelf.is_out c.give_back.new.shelf) (g.F.Shelf.disk_faults c.args.shelf.now)
     (g.F.Shelf.disk_faults c.give_back.new.shelf)
@@ -157,7 +159,7 @@ returns-in-All-clause-disk_cause g c = λ broken.
 
 -- ---- where a write failed
 
-cut_can : (g : Over) (c : goal.After-give_back-arg-in-Cut-1 g)
+cut_can : (g : Over) (c : After-give_back-arg-in-Cut-1 g)
     → CanGive g.F.D.Disk c.in-Cut.seats.items (g.F.Shelf.is_out c.answer_all.new.shelf) (g.F.Shelf.disk_faults c.answer_all.new.shelf)
 cut_can g c =
     let stay = stay_run _ _ _ _ _ _ _ _ _ _ c.in-Cut.ensures.answered.runs in
@@ -174,7 +176,7 @@ give_back-requires-in-Cut-clause-out g c = (cut_can g c).out
 pub give_back-requires-in-Cut-clause-later : goal.give_back-requires-in-Cut-clause-later
 give_back-requires-in-Cut-clause-later g c = (cut_can g c).later
 
-cut_given : (g : Over) (c : goal.After-drop-batch-in-Cut g)
+cut_given : (g : Over) (c : After-drop-batch-in-Cut g)
     → AllReturned (registered_journals c.args.registry.now.directory.now c.args.registry.now.users.now) (g.F.Shelf.disk c.args.shelf.now)
     (g.F.Shelf.disk c.give_back-in-Cut.new.shelf) (g.F.Shelf.is_out c.give_back-in-Cut.new.shelf) (g.F.Shelf.disk_faults c.args.shelf.now)
     (g.F.Shelf.disk_faults c.give_back-in-Cut.new.shelf)
@@ -223,7 +225,7 @@ returns-in-Cut-clause-ends g c = λ shelf_told source_told sink_told.
 
 -- ---- where memory was wanting at a restart, and all disks are back
 
-memory_given : (g : Over) (c : goal.After-drop-batch-2 g)
+memory_given : (g : Over) (c : After-drop-batch-2 g)
     → AllReturned (registered_journals c.args.registry.now.directory.now c.args.registry.now.users.now) (g.F.Shelf.disk c.args.shelf.now)
     (g.F.Shelf.disk c.answer_all.new.shelf) (g.F.Shelf.is_out c.answer_all.new.shelf) (g.F.Shelf.disk_faults c.args.shelf.now)
     (g.F.Shelf.disk_faults c.answer_all.new.shelf)

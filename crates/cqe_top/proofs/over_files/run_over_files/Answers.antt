@@ -27,6 +27,8 @@ use Rattle.cqe_top.proofs.Serving.{serve_succeeds, served_out}
 use Rattle.cqe_top.proofs.Users.{batch_names_are}
 use Rattle.cqe_top.proofs.over_files.run_over_files.Given.{Over}
 use Rattle.cqe_top.proofs.over_files.run_over_files.Goals as goal
+use Rattle.cqe_top.proofs.over_files.run_over_files.Goals.{After-drop-inputs-5, After-drop-inputs-in-Audit-5, After-drop-inputs-in-Batch-4}
+use Rattle.cqe_top.proofs.over_files.run_over_files.Goals.{After-drop-inputs-in-Init-3, After-drop-inputs-in_default-5, In-Err}
 
 pub run_batch-end-requires-clause-names : goal.run_batch-end-requires-clause-names
 run_batch-end-requires-clause-names g c =
@@ -40,7 +42,7 @@ run_serve-end-requires-clause-names g c κs within =
 
 -- ---- files that weren't read
 
-abbrev unread_scene : (g : Over) → goal.In-Err g → Scene
+abbrev unread_scene : (g : Over) → In-Err g → Scene
 unread_scene g c =
     scene_of (shelf_of g.F.Shelf g.F.D.Disk c.args.shelf.now c.read_files.new.shelf) (input_of g.S.Source c.args.source.now c.args.source.now)
     (output_of g.K.Sink c.args.sink.now c.args.sink.now) (links_of g.L.Links c.args.links.now c.args.links.now)
@@ -56,7 +58,7 @@ returns-in-Err-clause-command g c =
 
 -- ---- the making of journals
 
-abbrev init_scene : (g : Over) → goal.After-drop-inputs-in-Init-3 g → Scene
+abbrev init_scene : (g : Over) → After-drop-inputs-in-Init-3 g → Scene
 init_scene g c =
     scene_of (shelf_of g.F.Shelf g.F.D.Disk c.args.shelf.now c.run_init-end.new.shelf) (input_of g.S.Source c.args.source.now c.args.source.now)
     (output_of g.K.Sink c.args.sink.now c.args.sink.now) (links_of g.L.Links c.args.links.now c.args.links.now)
@@ -113,7 +115,7 @@ returns-in-Init-clause-command g c =
 
 -- ---- a batch
 
-abbrev batch_scene : (g : Over) → goal.After-drop-inputs-in-Batch-4 g → Scene
+abbrev batch_scene : (g : Over) → After-drop-inputs-in-Batch-4 g → Scene
 batch_scene g c =
     scene_of (shelf_of g.F.Shelf g.F.D.Disk c.args.shelf.now c.run_batch-end.new.shelf) (input_of g.S.Source c.args.source.now c.run_batch-end.new.source)
     (output_of g.K.Sink c.args.sink.now c.run_batch-end.new.sink) (links_of g.L.Links c.args.links.now c.args.links.now)
@@ -171,7 +173,7 @@ returns-in-Batch-clause-command g c =
 
 -- ---- an audit
 
-abbrev nobody_scene : (g : Over) → goal.After-drop-inputs-in_default-5 g → Scene
+abbrev nobody_scene : (g : Over) → After-drop-inputs-in_default-5 g → Scene
 nobody_scene g c =
     scene_of (shelf_of g.F.Shelf g.F.D.Disk c.args.shelf.now c.read_files.new.shelf) (input_of g.S.Source c.args.source.now c.args.source.now)
     (output_of g.K.Sink c.args.sink.now c.args.sink.now) (links_of g.L.Links c.args.links.now c.args.links.now)
@@ -203,7 +205,7 @@ returns-in_default-clause-command g c =
     } in
     subst (λ task. OfReading scene (Some (reading_over files task)) (ends.Nobody)) (sym c.in-Audit.is) does
 
-abbrev audit_scene : (g : Over) → goal.After-drop-inputs-in-Audit-5 g → Scene
+abbrev audit_scene : (g : Over) → After-drop-inputs-in-Audit-5 g → Scene
 audit_scene g c =
     scene_of (shelf_of g.F.Shelf g.F.D.Disk c.args.shelf.now c.run_audit.new.shelf) (input_of g.S.Source c.args.source.now c.args.source.now)
     (output_of g.K.Sink c.args.sink.now c.run_audit.new.sink) (links_of g.L.Links c.args.links.now c.args.links.now)
@@ -265,7 +267,7 @@ returns-in-Audit-clause-command g c =
 
 -- ---- a server
 
-abbrev serve_scene : (g : Over) → goal.After-drop-inputs-5 g → Scene
+abbrev serve_scene : (g : Over) → After-drop-inputs-5 g → Scene
 serve_scene g c =
     scene_of (shelf_of g.F.Shelf g.F.D.Disk c.args.shelf.now c.run_serve-end.new.shelf) (input_of g.S.Source c.args.source.now c.args.source.now)
     (output_of g.K.Sink c.args.sink.now c.args.sink.now) (links_of g.L.Links c.args.links.now c.run_serve-end.new.links)

@@ -11,6 +11,7 @@ use Rattle.desk_crew.proofs.Giving.{CanGive, IsRefused, AreUnopened}
 use Rattle.desk_crew.proofs.Opening.{Opened, names, seat_journals, opened_none, next_in, opened_more, refused_can, refused_back}
 use Rattle.desk_crew.proofs.crew.open_all.Given.{Over}
 use Rattle.desk_crew.proofs.crew.open_all.Goals as goal
+use Rattle.desk_crew.proofs.crew.open_all.Goals.{After-give_back, In-Err}
 
 pub open_seat-requires-clause-inside : goal.open_seat-requires-clause-inside
 open_seat-requires-clause-inside g c =
@@ -21,7 +22,7 @@ open_seat-requires-clause-inside g c =
     _ c.loop-user.invariant.opened
 
 -- a journal was refused
-refused : (g : Over) (c : goal.In-Err g)
+refused : (g : Over) (c : In-Err g)
     → IsRefused g.F.Shelf.tells g.F.D.Disk (journal_name c.args.registry.now.directory.now (string_bytes c.user-item.result.name))
     (g.F.Shelf.disk c.loop-user.shelf) (g.F.Shelf.disk c.open_seat.new.shelf) (g.F.Shelf.is_out c.loop-user.shelf) (g.F.Shelf.is_out c.open_seat.new.shelf)
     (g.F.Shelf.disk_faults c.loop-user.shelf) (g.F.Shelf.disk_faults c.open_seat.new.shelf)
@@ -35,23 +36,23 @@ refused g c = record {
 }
 
 -- those that are open can be given back
-can : (g : Over) (c : goal.After-give_back-arg-1 g)
+can : (g : Over) (c : In-Err g)
     → CanGive g.F.D.Disk c.loop-user.seats.items (g.F.Shelf.is_out c.open_seat.new.shelf) (g.F.Shelf.disk_faults c.open_seat.new.shelf)
 can g c =
     refused_can c.law_journals_differ.ensures c.requires.distinct c.loop-user-test.true c.user-item.is c.loop-user.invariant.opened
-    (refused g (goal.at.give_back-requires-clause-out g c).In-Err)
+    (refused g c)
 
 pub give_back-requires-clause-distinct : goal.give_back-requires-clause-distinct
-give_back-requires-clause-distinct g c = (can g c).distinct
+give_back-requires-clause-distinct g c = (can g (goal.at.give_back-requires-clause-distinct g c).In-Err).distinct
 
 pub give_back-requires-clause-out : goal.give_back-requires-clause-out
-give_back-requires-clause-out g c = (can g c).out
+give_back-requires-clause-out g c = (can g (goal.at.give_back-requires-clause-out g c).In-Err).out
 
 pub give_back-requires-clause-later : goal.give_back-requires-clause-later
-give_back-requires-clause-later g c = (can g c).later
+give_back-requires-clause-later g c = (can g (goal.at.give_back-requires-clause-later g c).In-Err).later
 
 -- and then all disks are as they were
-left : (g : Over) (c : goal.After-give_back g)
+left : (g : Over) (c : After-give_back g)
     → AreUnopened g.F.Shelf.tells g.F.D.Disk (registered_journals c.args.registry.now.directory.now c.args.registry.now.users.now)
     (g.F.Shelf.disk c.args.shelf.now) (g.F.Shelf.disk c.give_back.new.shelf) (g.F.Shelf.is_out c.give_back.new.shelf)
     (g.F.Shelf.disk_faults c.args.shelf.now) (g.F.Shelf.disk_faults c.give_back.new.shelf)

@@ -11,15 +11,17 @@ use Rattle.desk_crew.proofs.Shelving.{first_removed, none_left}
 use Rattle.desk_crew.proofs.Reopening.{Halfway, halfway_more, halfway_all, fail_out, fail_later, rest_can, done_can, all_given}
 use Rattle.desk_crew.proofs.crew.reopen_all.Given.{Over}
 use Rattle.desk_crew.proofs.crew.reopen_all.Goals as goal
+use Rattle.desk_crew.proofs.crew.reopen_all.Goals.{After-as_str, After-drop-returned, After-give_back-arg-in-Err-1, After-give_back-arg-in-Err-2-1}
+use Rattle.desk_crew.proofs.crew.reopen_all.Goals.{After-give_back-in-Err, After-give_disk, After-remove-seat}
 
 -- the seats that were left are the one that is taken out, and the rest
-first : (g : Over) (c : goal.After-remove-seat g) → c.loop-alloc.seats.items ≡ c.remove-seat.result ∷ c.remove-seat.new.self.items
+first : (g : Over) (c : After-remove-seat g) → c.loop-alloc.seats.items ≡ c.remove-seat.result ∷ c.remove-seat.new.self.items
 first g c =
     first_removed _ _ _ c.remove-seat.ensures.value c.remove-seat.ensures.items
     (ap (λ n. n == 0) (sym c.loop-alloc.seats.ok.0) ∙ sym c.loop-alloc-test.ensures)
 
 -- all seats are those that are done, this one, and the rest
-split : (g : Over) (c : goal.After-remove-seat g)
+split : (g : Over) (c : After-remove-seat g)
     → c.args.seats.items ≡ c.loop-alloc.invariant.half.done ++ c.remove-seat.result ∷ c.remove-seat.new.self.items
 split g c = c.loop-alloc.invariant.half.split ∙ ap (λ l. c.loop-alloc.invariant.half.done ++ l) (first g c)
 
@@ -52,13 +54,13 @@ loop-alloc-preserved g c =
 -- ---- memory was wanting at one seat
 
 -- all seats can be given back as the shelf is
-can : (g : Over) (c : goal.After-as_str g)
+can : (g : Over) (c : After-as_str g)
     → CanGive g.F.D.Disk c.args.seats.items (g.F.Shelf.is_out c.loop-alloc.shelf) (g.F.Shelf.disk_faults c.loop-alloc.shelf)
 can g c =
     subst (λ s. CanGive g.F.D.Disk c.args.seats.items (g.F.Shelf.is_out s) (g.F.Shelf.disk_faults s)) (sym c.loop-alloc.invariant.same)
     (record { distinct = c.requires.distinct; out = c.requires.out; later = c.requires.later })
 
-named : (g : Over) (c : goal.After-as_str g) → c.as_str.result.now ≡ seat_journal c.remove-seat.result
+named : (g : Over) (c : After-as_str g) → c.as_str.result.now ≡ seat_journal c.remove-seat.result
 named g c = c.as_str.ensures.value ∙ c.in-Err.ensures.journal
 
 pub give_disk-requires-clause-out : goal.give_disk-requires-clause-out
@@ -75,7 +77,7 @@ give_disk-requires-clause-later g c =
     subst (λ n. g.F.Shelf.disk_faults c.loop-alloc.shelf n ≤ g.F.D.Disk.faults c.in-Err.returned.disk) (sym (named g c)) (omega (arith, least, closed, on))
 
 -- its disk was given back
-given : (g : Over) (c : goal.After-give_disk g)
+given : (g : Over) (c : After-give_disk g)
     → IsGiven g.F.Shelf.tells g.F.D.Disk c.as_str.result.now c.in-Err.returned.disk (g.F.Shelf.disk c.loop-alloc.shelf) (g.F.Shelf.disk c.give_disk.new.self)
     (g.F.Shelf.is_out c.loop-alloc.shelf) (g.F.Shelf.is_out c.give_disk.new.self) (g.F.Shelf.disk_faults c.loop-alloc.shelf)
     (g.F.Shelf.disk_faults c.give_disk.new.self)
@@ -91,7 +93,7 @@ given g c =
     }
 
 -- so can those behind it
-rest : (g : Over) (c : goal.After-give_back-arg-in-Err-1 g)
+rest : (g : Over) (c : After-give_back-arg-in-Err-1 g)
     → CanGive g.F.D.Disk c.remove-seat.new.self.items (g.F.Shelf.is_out c.give_disk.new.self) (g.F.Shelf.disk_faults c.give_disk.new.self)
 rest g c =
     rest_can (first g (goal.at.give_back-requires-in-Err-clause-out g c).After-remove-seat) c.loop-alloc.invariant.half
@@ -107,7 +109,7 @@ give_back-requires-in-Err-clause-out g c = (rest g c).out
 pub give_back-requires-in-Err-clause-later : goal.give_back-requires-in-Err-clause-later
 give_back-requires-in-Err-clause-later g c = (rest g c).later
 
-rest_given : (g : Over) (c : goal.After-give_back-in-Err g)
+rest_given : (g : Over) (c : After-give_back-in-Err g)
     → AreGiven g.F.Shelf.tells g.F.D.Disk c.remove-seat.new.self.items (g.F.Shelf.disk c.give_disk.new.self) (g.F.Shelf.disk c.give_back-in-Err.new.shelf)
     (g.F.Shelf.is_out c.give_disk.new.self) (g.F.Shelf.is_out c.give_back-in-Err.new.shelf) (g.F.Shelf.disk_faults c.give_disk.new.self)
     (g.F.Shelf.disk_faults c.give_back-in-Err.new.shelf)
@@ -116,7 +118,7 @@ rest_given g c =
     record { back = given.back; inside = given.inside; others_out = given.others_out; disks = given.disks; counts = given.counts }
 
 -- and those before it
-done : (g : Over) (c : goal.After-give_back-arg-in-Err-2-1 g)
+done : (g : Over) (c : After-give_back-arg-in-Err-2-1 g)
     → CanGive g.F.D.Disk c.loop-alloc.reopened.items (g.F.Shelf.is_out c.give_back-in-Err.new.shelf) (g.F.Shelf.disk_faults c.give_back-in-Err.new.shelf)
 done g c =
     done_can (first g (goal.at.give_back-requires-in-Err-2-clause-out g c).After-remove-seat) c.loop-alloc.invariant.half
@@ -134,7 +136,7 @@ pub give_back-requires-in-Err-2-clause-later : goal.give_back-requires-in-Err-2-
 give_back-requires-in-Err-2-clause-later g c = (done g c).later
 
 -- then all are back
-all_back : (g : Over) (c : goal.After-drop-returned g)
+all_back : (g : Over) (c : After-drop-returned g)
     → AreGiven g.F.Shelf.tells g.F.D.Disk c.args.seats.items (g.F.Shelf.disk c.args.shelf.now) (g.F.Shelf.disk c.give_back-in-Err-2.new.shelf)
     (g.F.Shelf.is_out c.args.shelf.now) (g.F.Shelf.is_out c.give_back-in-Err-2.new.shelf) (g.F.Shelf.disk_faults c.args.shelf.now)
     (g.F.Shelf.disk_faults c.give_back-in-Err-2.new.shelf)

@@ -13,10 +13,11 @@ use Rattle.serve_engine.proofs.Histories.{broken_end, have_served, all_in_world,
 use Rattle.serve_engine.proofs.Histories.{ended_at, failed_at, ends_at, own_from, all_told, AreReady, all_ready, served_can, served_returned}
 use Rattle.serve_engine.proofs.run.serve_opened.Given.{Over}
 use Rattle.serve_engine.proofs.run.serve_opened.Goals as goal
+use Rattle.serve_engine.proofs.run.serve_opened.Goals.{After-end_of, After-give_back-arg-1, In-Ok-open_all}
 
 -- ---- what follows from the opening of all journals
 
-seated : (g : Over) (c : goal.In-Ok-open_all g)
+seated : (g : Over) (c : In-Ok-open_all g)
     → AllSeated c.args.registry.now.directory.now c.args.registry.now.schema.now c.args.registry.now.world.now (header_bytes c.args.registry.now.header.now)
     g.F.Shelf.tells g.F.D.Disk.tells g.F.D.Disk c.args.registry.now.users.now c.in-Ok-open_all.seats.items (g.F.Shelf.disk c.args.shelf.now)
     (g.F.Shelf.disk c.open_all.new.shelf) (g.F.Shelf.is_out c.open_all.new.shelf) (g.F.Shelf.disk_faults c.args.shelf.now)
@@ -25,7 +26,7 @@ seated g c =
     all_seated _ _ _ _ _ _ _ _ _ _ _ _ _ _ c.law_journals_differ.ensures c.requires.names c.in-Ok-open_all.ensures.opened c.in-Ok-open_all.ensures.out
     c.open_all.ensures.disks c.in-Ok-open_all.ensures.counts
 
-ready : (g : Over) (c : goal.In-Ok-open_all g) → AreReady c.args.registry.now.users.now c.in-Ok-open_all.seats.items
+ready : (g : Over) (c : In-Ok-open_all g) → AreReady c.args.registry.now.users.now c.in-Ok-open_all.seats.items
 ready g c = all_ready (seated g c) c.known.ensures c.requires.limits
 
 pub refusals_of-refusals-requires-clause-room : goal.refusals_of-refusals-requires-clause-room
@@ -49,7 +50,7 @@ serve_seats-outcome-requires-clause-turns g c κs within = (ready g (goal.at.ser
 
 -- ---- the disks go back
 
-can : (g : Over) (c : goal.After-give_back-arg-1 g)
+can : (g : Over) (c : After-give_back-arg-1 g)
     → CanGive g.F.D.Disk c.serve_seats-outcome.result.1.items (g.F.Shelf.is_out c.open_all.new.shelf) (g.F.Shelf.disk_faults c.open_all.new.shelf)
 can g c =
     served_can (seated g (goal.at.give_back-is_broken-requires-clause-out g c).In-Ok-open_all) c.serve_seats-outcome.result.1.items
@@ -64,7 +65,7 @@ give_back-is_broken-requires-clause-out g c = (can g c).out
 pub give_back-is_broken-requires-clause-later : goal.give_back-is_broken-requires-clause-later
 give_back-is_broken-requires-clause-later g c = (can g c).later
 
-returned : (g : Over) (c : goal.After-end_of g)
+returned : (g : Over) (c : After-end_of g)
     → AllReturned (registered_journals c.args.registry.now.directory.now c.args.registry.now.users.now) (g.F.Shelf.disk c.args.shelf.now)
     (g.F.Shelf.disk c.give_back-is_broken.new.shelf) (g.F.Shelf.is_out c.give_back-is_broken.new.shelf) (g.F.Shelf.disk_faults c.args.shelf.now)
     (g.F.Shelf.disk_faults c.give_back-is_broken.new.shelf)
