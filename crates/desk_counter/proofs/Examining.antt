@@ -38,8 +38,8 @@ pub examined_behind : {D : Type 0} (kept : Fixed D) (pairs : Entries TurnItem) (
     → ((later : Entries TurnItem) → IsPrefix pairs later → IfSome examined (IsExamined schema user (history_of later) text))
     → IfSome examined (IsExaminedBehind kept pairs text)
 examined_behind kept pairs text None schema user same_schema same_user found = tt
-examined_behind kept pairs text (Some examined) schema user same_schema same_user found later prefix =
-    subst (λ s. IsExamined s kept.user (history_of later) text examined) same_schema
+examined_behind kept pairs text (Some examined) schema user same_schema same_user found =
+    λ later prefix. subst (λ s. IsExamined s kept.user (history_of later) text examined) same_schema
     (subst (λ u. IsExamined schema u (history_of later) text examined) same_user (found later prefix))
 
 -- what was examined behind some pairs was so for the pairs of a later turn

@@ -12,8 +12,8 @@ use Rattle.desk_counter.proofs.Asking.{looked_not}
 use Rattle.desk_counter.proofs.Examining.{log_behind, examined_behind}
 use Rattle.desk_counter.proofs.counter.CounterOf+TicketedDesk+D.examined.Goals as goal
 
-pub returns-then-shares-eq65-clause-looked : goal.returns-then-shares-eq65-clause-looked
-returns-then-shares-eq65-clause-looked g c = looked_not (kept_by c.args.self.now) c.args.pass.now
+pub returns-then-shares-eq-ALL_SHARES-clause-looked : goal.returns-then-shares-eq-ALL_SHARES-clause-looked
+returns-then-shares-eq-ALL_SHARES-clause-looked g c = looked_not (kept_by c.args.self.now) c.args.pass.now
 
 pub returns-in_err-query-clause-looked : goal.returns-in_err-query-clause-looked
 returns-in_err-query-clause-looked g c = looked_not (kept_by c.args.self.now) c.args.pass.now
